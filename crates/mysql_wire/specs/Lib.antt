@@ -1,0 +1,12 @@
+pub mod Fault
+pub mod Reading
+pub mod Form
+pub mod Int
+pub mod Skip
+pub mod Constant
+pub mod LenEnc
+pub mod Writing
+pub mod Spelling
+pub mod Seq
+pub mod Null
+pub mod Again

@@ -1,0 +1,16 @@
+-- Skipped bytes.
+use Rattle.std.specs.Prelude.{◌≡◌, ℕ, List, Option, Some, refl}
+use Rattle.mysql_wire.specs.Form.{Form, map, bytes}
+use Rattle.mysql_wire.specs.declared.skip.Skip.{Skip}
+
+-- the skipped bytes leave nothing
+abbrev pub skipped : {N : ℕ} → List ℕ → Skip N
+skipped inside = record {}
+
+-- bytes that may have any value
+unfoldable pub skip : (n : ℕ) → Form (Skip n)
+skip n = map skipped (bytes n)
+
+pub size-skip : (n : ℕ) → (skip n).size ≡ Some n
+unfolding skip bytes
+size-skip n = refl

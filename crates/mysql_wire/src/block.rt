@@ -1,0 +1,32 @@
+//! A block of so many bytes.
+
+ghost use Rattle.std.specs.Prelude.{false, ◌≡◌, ◌+◌, ◌++◌, [], ◌∷◌, replicate, ◌≤◌, length, List, ℕ, Option, Some, None, refl};
+ghost use Rattle.mysql_wire.specs.Form.{Form, bytes};
+ghost use Rattle.mysql_wire.specs.Reading.{Answers, IsTail, HasBytes};
+
+use crate::buf::ParseBuf;
+use crate::fault::FaultOf;
+use crate::proto::{AnyWidth, MyDeserialize};
+
+/// A block of so many bytes.
+impl<'de> MyDeserialize<'de> for ParseBuf<'de> {
+    const SIZE: Option<usize> = None;
+
+    type Size = AnyWidth;
+
+    ghost takes_memory = { false };
+
+    type Ctx = usize;
+
+    ghost use Rattle.mysql_wire.specs.Form.{unsized};
+
+    ghost form = { λ n. unsized (bytes n) };
+
+    #[tactic(auto, unfolding(crate::specs::Form::bytes))]
+    fn deserialize<'s>(n: usize, buf: &mut ParseBuf<'de>) -> Result<Self, FaultOf<'s>> {
+        let front = buf.checked_eat(n).ok_or(FaultOf::UnexpectedEof)?;
+        Ok(ParseBuf::new(buf.alloc(), front))
+    }
+
+    ghost size_is = { λ _. refl };
+}

@@ -1,0 +1,165 @@
+//! Byte strings in their wire forms.
+
+ghost use Rattle.std.specs.Prelude.{false, ◌≡◌, ◌+◌, ◌++◌, vec_len, vec_capacity, ◌≤◌, ◌↔◌, length, List, [], ℕ, Option, Some, None, OnErr, IfOk, IsTrue, refl};
+ghost use Rattle.std.specs.Cow.{cow_slice_items};
+ghost use Rattle.mysql_wire.specs.Writing.{saturated};
+ghost use Rattle.mysql_wire.specs.Form.{Form};
+ghost use Rattle.mysql_wire.specs.Reading.{Answers, IsTail, HasBytes};
+
+use crate::buf::ParseBuf;
+use crate::fault::FaultOf;
+use crate::proto::{AnyWidth, MyDeserialize, MySerialize};
+use std::alloc::{AllocError, Global};
+use std::borrow::CowSlice;
+use std::fmt;
+use std::fmt::Debug;
+use std::hash::{Hash, Hasher};
+use std::marker::{Model, PhantomData};
+
+/// How a byte string lies in the bytes.
+pub trait BytesRepr {
+    /// What a reading is told beside the bytes.
+    type Ctx: Drop;
+
+    /// How a content is spelled.
+    ghost form: { Self.Ctx → Form (List ℕ) };
+
+    /// Reads a content from the front.
+    fn deserialize<'s, 'de>(
+        ctx: Self::Ctx,
+        buf: &mut ParseBuf<'de>,
+    ) -> Result<ParseBuf<'de>, FaultOf<'s>>
+        ensures value { Answers false result buf.new ((form ctx).reads buf.old) }
+        ensures tail { OnErr result (IsTail buf.new buf.old) };
+
+    /// The bytes that a content is written as.
+    ghost written: { List ℕ → List ℕ };
+
+    fn written_len(content: &[u8]) -> usize
+        ensures { result ≡ saturated (length (written content.now)) };
+
+    fn append(content: &[u8], out: &mut Vec<u8>)
+        requires { vec_len out.old + length (written content.now) ≤ vec_capacity out.old }
+        ensures items { out.new.items ≡ out.old.items ++ written content.now }
+        ensures room { vec_capacity out.old ≤ vec_capacity out.new };
+
+    /// No form of bytes has a constant size.
+    ghost size_is: { (ctx : Self.Ctx) → (form ctx).size ≡ None };
+}
+
+/// A byte string in a wire form, borrowed or owned.
+#[derive(Drop)]
+pub struct RawBytes<'a, R>(CowSlice<'a, u8>, PhantomData<R>);
+
+impl<'a, R> Model for RawBytes<'a, R> {
+    ghost use Rattle.std.specs.Prelude.{ℕ, List};
+    ghost use Rattle.std.specs.Cow.{cow_slice_items};
+
+    ghost Value = { List ℕ };
+
+    ghost view = { λ b. cow_slice_items b.0 };
+}
+
+impl<'a, R> RawBytes<'a, R> {
+    pub fn new(content: CowSlice<'a, u8>) -> Self
+        ensures { result ≡ cow_slice_items content.entry }
+    {
+        RawBytes(content, PhantomData)
+    }
+
+    /// The content.
+    pub fn as_bytes(&self) -> &[u8]
+        ensures value { result.now ≡ self.now }
+    {
+        self.0.as_slice()
+    }
+
+    /// The same content, on memory of its own.
+    pub fn into_owned(self, alloc: Global) -> Result<RawBytes<'static, R>, AllocError>
+        ensures { IfOk result (λ owned. owned ≡ self.entry) }
+    {
+        let content = self.0.into_owned(alloc)?;
+        Ok(RawBytes(CowSlice::Owned(content), PhantomData))
+    }
+}
+
+impl<R> Clone for RawBytes<'_, R> {
+    ghost is_clone = { λ b copy. copy ≡ b };
+
+    fn clone(&self) -> Result<Self, AllocError> {
+        Ok(RawBytes(self.0.clone()?, PhantomData))
+    }
+}
+
+impl<R> PartialEq for RawBytes<'_, R> {
+    ghost use Rattle.std.specs.Prelude.{nat_eq};
+    ghost use Rattle.std.specs.Cmp.Lexicographic.{pointwise};
+    ghost use Rattle.std.proofs.Common.{rules};
+    ghost use Rattle.std.specs.Cmp.Rules.{comparing};
+
+    ghost eq = { pointwise nat_eq };
+
+    ghost laws = { Prim.search (comparing, rules) };
+
+    fn eq(&self, other: &Self) -> bool {
+        self.as_bytes() == other.as_bytes()
+    }
+}
+
+impl<R> Eq for RawBytes<'_, R> {
+    ghost use Rattle.std.proofs.Common.{rules};
+    ghost use Rattle.std.specs.Cmp.Rules.{comparing};
+
+    ghost laws = { Prim.search (comparing, rules) };
+}
+
+impl<R> Hash for RawBytes<'_, R> {
+    ghost use Rattle.std.proofs.Common.{rules};
+    ghost use Rattle.std.specs.Hash as fed;
+    ghost use Rattle.std.specs.Hash.{items_Alike};
+
+    ghost hash_input = { fed.slice fed.u8 };
+
+    ghost respects_eq = { Prim.search rules };
+
+    fn hash<H: Hasher>(&self, state: &mut H) {
+        self.as_bytes().hash(state);
+    }
+}
+
+impl<R> Debug for RawBytes<'_, R> {
+    fn fmt<W: fmt::Write>(&self, f: &mut fmt::Formatter<W>) -> fmt::Result {
+        self.as_bytes().fmt(f)
+    }
+}
+
+impl<'de, R: BytesRepr> MyDeserialize<'de> for RawBytes<'de, R> {
+    const SIZE: Option<usize> = None;
+
+    type Size = AnyWidth;
+
+    ghost takes_memory = { false };
+
+    type Ctx = R::Ctx;
+
+    ghost form = { λ ctx. R.form ctx };
+
+    fn deserialize<'s>(ctx: R::Ctx, buf: &mut ParseBuf<'de>) -> Result<Self, FaultOf<'s>> {
+        let mut content = R::deserialize(ctx, buf)?;
+        Ok(RawBytes(CowSlice::Borrowed(content.eat_all()), PhantomData))
+    }
+
+    ghost size_is = { λ ctx. R.size_is ctx };
+}
+
+impl<R: BytesRepr> MySerialize for RawBytes<'_, R> {
+    ghost bytes = { λ content. R.written content };
+
+    fn defined_len(&self) -> usize {
+        R::written_len(self.as_bytes())
+    }
+
+    fn append(&self, out: &mut Vec<u8>) {
+        R::append(self.as_bytes(), out)
+    }
+}

@@ -1,0 +1,43 @@
+//! Byte strings that run to the end of the packet.
+
+ghost use Rattle.std.specs.Prelude.{false, ◌≡◌, ◌+◌, ◌++◌, vec_len, vec_capacity, ◌≤◌, ◌↔◌, length, List, [], ℕ, Option, Some, None, OnErr, IfOk, IsTrue, refl};
+ghost use Rattle.std.specs.Cow.{cow_slice_items};
+ghost use Rattle.mysql_wire.specs.Writing.{saturated};
+ghost use Rattle.mysql_wire.specs.Form.{Form};
+ghost use Rattle.mysql_wire.specs.Reading.{Answers, IsTail, HasBytes};
+
+use crate::buf::ParseBuf;
+use crate::bytes::BytesRepr;
+use crate::fault::FaultOf;
+
+/// All the bytes that are left.
+#[derive(Clone, Copy, Debug)]
+pub struct EofBytes;
+
+impl BytesRepr for EofBytes {
+    type Ctx = ();
+
+    ghost use Rattle.mysql_wire.specs.Form.{all_left};
+
+    ghost form = { λ _. all_left };
+
+    fn deserialize<'s, 'de>(
+        _ctx: (),
+        buf: &mut ParseBuf<'de>,
+    ) -> Result<ParseBuf<'de>, FaultOf<'s>> {
+        Ok(ParseBuf::new(buf.alloc(), buf.eat_all()))
+    }
+
+    ghost written = { λ content. content };
+
+    #[tactic(auto, unfolding(crate::specs::Writing::saturated))]
+    fn written_len(content: &[u8]) -> usize {
+        content.len()
+    }
+
+    fn append(content: &[u8], out: &mut Vec<u8>) {
+        out.extend_from_slice(content).unwrap();
+    }
+
+    ghost size_is = { λ _. refl };
+}

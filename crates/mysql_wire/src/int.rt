@@ -1,0 +1,103 @@
+//! Integers of fixed widths.
+
+ghost use Rattle.std.specs.Prelude.{false, ◌≡◌, ◌+◌, ◌++◌, vec_len, vec_capacity, ◌≤◌, length, List, ℕ, Option, Some, None, OnErr, refl};
+ghost use Rattle.mysql_wire.specs.Writing.{le_bytes, saturated};
+ghost use Rattle.mysql_wire.specs.Form.{Form, number, size-number};
+ghost use Rattle.mysql_wire.specs.Reading.{Answers, IsTail, HasBytes};
+
+use crate::buf::ParseBuf;
+use crate::fault::FaultOf;
+use crate::proto::{MyDeserialize, MySerialize, Width};
+use std::fmt::Debug;
+use std::hash::Hash;
+use std::marker::PhantomData;
+
+/// How an integer lies in the bytes.
+pub trait IntRepr {
+    /// The number that is spelled.
+    type Primitive: Copy + Eq + Hash + Debug;
+
+    /// The bytes that it takes, where that is a constant.
+    const SIZE: Option<usize>;
+
+    ghost SIZE: { Option ℕ };
+
+    /// How a number is spelled.
+    ghost form: { Form Self.Primitive };
+
+    /// Reads a number from the front.
+    fn deserialize<'s>(buf: &mut ParseBuf<'_>) -> Result<Self::Primitive, FaultOf<'s>>
+        requires { HasBytes SIZE buf.old }
+        ensures value { Answers false result buf.new (form.reads buf.old) }
+        ensures tail { OnErr result (IsTail buf.new buf.old) };
+
+    /// The bytes that a number is written as.
+    ghost written: { Self.Primitive → List ℕ };
+
+    fn written_len(value: Self::Primitive) -> usize
+        ensures { result ≡ length (written value) };
+
+    fn append(value: Self::Primitive, out: &mut Vec<u8>)
+        requires { vec_len out.old + length (written value) ≤ vec_capacity out.old }
+        ensures items { out.new.items ≡ out.old.items ++ written value }
+        ensures room { vec_capacity out.old ≤ vec_capacity out.new };
+
+    /// The form has that size.
+    ghost size_is: { form.size ≡ SIZE };
+}
+
+/// An integer in its wire form.
+#[derive(Drop)]
+#[derive_where(Clone, PartialEq, Eq, Hash, Debug)]
+pub struct RawInt<R: IntRepr>(pub R::Primitive, PhantomData<R>);
+
+impl<R: IntRepr> RawInt<R> {
+    pub fn new(value: R::Primitive) -> Self
+        ensures { result.0 ≡ value }
+    {
+        RawInt(value, PhantomData)
+    }
+}
+
+/// The width of an integer's form.
+pub struct IntWidth<R>(PhantomData<R>);
+
+impl<R: IntRepr> Width for IntWidth<R> {
+    ghost SIZE = { R.SIZE };
+
+    const SIZE: Option<usize> = R::SIZE;
+}
+
+impl<'de, R: IntRepr> MyDeserialize<'de> for RawInt<R> {
+    const SIZE: Option<usize> = R::SIZE;
+
+    type Size = IntWidth<R>;
+
+    ghost takes_memory = { false };
+
+    type Ctx = ();
+
+    ghost use Rattle.mysql_wire.specs.Int.{raw, size-raw};
+
+    ghost form = { λ _. raw R.form };
+
+    #[tactic(auto, unfolding(crate::specs::Int::raw))]
+    fn deserialize<'s>(_ctx: (), buf: &mut ParseBuf<'de>) -> Result<Self, FaultOf<'s>> {
+        Ok(RawInt::new(R::deserialize(buf)?))
+    }
+
+    ghost size_is = { λ _. size-raw _ R.form R.SIZE R.size_is };
+}
+
+impl<R: IntRepr> MySerialize for RawInt<R> {
+    ghost bytes = { λ n. R.written n.0 };
+
+    #[tactic(auto, unfolding(crate::specs::Writing::saturated))]
+    fn defined_len(&self) -> usize {
+        R::written_len(self.0)
+    }
+
+    fn append(&self, out: &mut Vec<u8>) {
+        R::append(self.0, out)
+    }
+}

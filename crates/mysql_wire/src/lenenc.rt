@@ -1,0 +1,120 @@
+//! Length-encoded integers and byte strings.
+
+ghost use Rattle.std.specs.Prelude.{false, ◌≡◌, ◌+◌, ◌++◌, vec_len, vec_capacity, ◌≤◌, length, List, ℕ, Option, Some, None, OnErr, refl};
+ghost use Rattle.mysql_wire.specs.Writing.{le_bytes, saturated};
+ghost use Rattle.mysql_wire.specs.Form.{Form, number, size-number};
+ghost use Rattle.mysql_wire.specs.Reading.{Answers, IsTail, HasBytes};
+
+use crate::buf::ParseBuf;
+use crate::bytes::BytesRepr;
+use crate::fault::FaultOf;
+use crate::int::{IntRepr, RawInt};
+use crate::little_endian::{LeU16, LeU24, LeU64};
+
+/// A length-encoded integer: a byte below 251, or a byte that says how many follow.
+///
+/// As bytes, the content behind its length-encoded length.
+#[derive(Clone, Copy, Debug)]
+pub struct LenEnc;
+
+impl IntRepr for LenEnc {
+    type Primitive = u64;
+
+    const SIZE: Option<usize> = None;
+
+    ghost SIZE = { None };
+
+    ghost use Rattle.mysql_wire.specs.LenEnc.{lenenc, size-lenenc};
+
+    ghost form = { lenenc };
+
+    #[tactic(auto, using(crate::proofs::Tails::tails), unfolding(crate::specs::LenEnc::lenenc))]
+    fn deserialize<'s>(buf: &mut ParseBuf<'_>) -> Result<u64, FaultOf<'s>> {
+        let first: RawInt<u8> = buf.parse(())?;
+        match first.0 {
+            0..=250 => Ok(u64::from(first.0)),
+            252 => {
+                let number: RawInt<LeU16> = buf.parse(())?;
+                Ok(u64::from(number.0))
+            }
+            253 => {
+                let number: RawInt<LeU24> = buf.parse(())?;
+                Ok(u64::from(number.0))
+            }
+            254 => {
+                let number: RawInt<LeU64> = buf.parse(())?;
+                Ok(number.0)
+            }
+            _ => Err(FaultOf::InvalidData("Invalid length-encoded integer")),
+        }
+    }
+
+    ghost use Rattle.mysql_wire.specs.LenEnc.{lenenc_bytes};
+
+    ghost written = { lenenc_bytes };
+
+    #[tactic(auto, unfolding(crate::specs::Writing::le_bytes, crate::specs::LenEnc::lenenc_bytes))]
+    fn written_len(value: u64) -> usize {
+        match value {
+            0..251 => 1,
+            251..0x1_0000 => 3,
+            0x1_0000..0x100_0000 => 4,
+            _ => 9,
+        }
+    }
+
+    #[tactic(auto, unfolding(crate::specs::Writing::le_bytes, crate::specs::LenEnc::lenenc_bytes))]
+    fn append(value: u64, out: &mut Vec<u8>) {
+        match value {
+            0..251 => out.push(value as u8).unwrap(),
+            251..0x1_0000 => {
+                out.push(252).unwrap();
+                <LeU16 as IntRepr>::append(value as u16, out);
+            }
+            0x1_0000..0x100_0000 => {
+                out.push(253).unwrap();
+                <LeU24 as IntRepr>::append(value as u32, out);
+            }
+            _ => {
+                out.push(254).unwrap();
+                <LeU64 as IntRepr>::append(value, out);
+            }
+        }
+    }
+
+    ghost size_is = { size-lenenc };
+}
+
+impl BytesRepr for LenEnc {
+    type Ctx = ();
+
+    ghost use Rattle.mysql_wire.specs.LenEnc.{lenenc_string, size-lenenc_string};
+
+    ghost form = { λ _. lenenc_string };
+
+    #[tactic(auto, using(crate::proofs::Tails::tails), unfolding(crate::specs::LenEnc::lenenc_string))]
+    fn deserialize<'s, 'de>(
+        _ctx: (),
+        buf: &mut ParseBuf<'de>,
+    ) -> Result<ParseBuf<'de>, FaultOf<'s>> {
+        let length: RawInt<LenEnc> = buf.parse(())?;
+        buf.parse(length.0 as usize)
+    }
+
+    ghost use Rattle.mysql_wire.specs.LenEnc.{lenenc_string_bytes};
+
+    ghost written = { lenenc_string_bytes };
+
+    #[tactic(auto, unfolding(crate::specs::Writing::saturated, crate::specs::LenEnc::lenenc_string_bytes, crate::specs::LenEnc::lenenc_bytes, crate::specs::Writing::le_bytes))]
+    fn written_len(content: &[u8]) -> usize {
+        <LenEnc as IntRepr>::written_len(content.len() as u64).saturating_add(content.len())
+    }
+
+    #[tactic(auto, unfolding(crate::specs::LenEnc::lenenc_string_bytes))]
+    fn append(content: &[u8], out: &mut Vec<u8>) {
+        <LenEnc as IntRepr>::append(content.len() as u64, out);
+        out.extend_from_slice(content).unwrap();
+    }
+
+    ghost size_is = { λ _. size-lenenc_string };
+}

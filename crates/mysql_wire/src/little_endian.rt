@@ -1,0 +1,173 @@
+//! Integers of fixed widths, the low byte first.
+
+ghost use Rattle.std.specs.Prelude.{false, ◌≡◌, ◌+◌, ◌++◌, vec_len, vec_capacity, ◌≤◌, length, List, ℕ, Option, Some, None, OnErr, refl};
+ghost use Rattle.mysql_wire.specs.Writing.{le_bytes, saturated};
+ghost use Rattle.mysql_wire.specs.Form.{Form, number, size-number};
+ghost use Rattle.mysql_wire.specs.Reading.{Answers, IsTail, HasBytes};
+
+use crate::buf::ParseBuf;
+use crate::fault::FaultOf;
+use crate::int::IntRepr;
+
+/// Two bytes, the low one first.
+#[derive(Clone, Copy, Debug)]
+pub struct LeU16;
+
+impl IntRepr for LeU16 {
+    type Primitive = u16;
+
+    const SIZE: Option<usize> = Some(2);
+
+    ghost SIZE = { Some 2 };
+
+    ghost form = { number 2 };
+
+    fn deserialize<'s>(buf: &mut ParseBuf<'_>) -> Result<u16, FaultOf<'s>> {
+        let front = buf.eat(2);
+        Ok(u16::from_le_bytes([front[0], front[1]]))
+    }
+
+    ghost written = { le_bytes 2 };
+
+    #[tactic(auto, unfolding(crate::specs::Writing::le_bytes))]
+    fn written_len(_value: u16) -> usize {
+        2
+    }
+
+    #[tactic(auto, unfolding(crate::specs::Writing::le_bytes))]
+    fn append(value: u16, out: &mut Vec<u8>) {
+        out.extend_from_slice(&value.to_le_bytes()).unwrap();
+    }
+
+    ghost size_is = { size-number 2 };
+}
+
+/// Four bytes, the low one first.
+#[derive(Clone, Copy, Debug)]
+pub struct LeU32;
+
+impl IntRepr for LeU32 {
+    type Primitive = u32;
+
+    const SIZE: Option<usize> = Some(4);
+
+    ghost SIZE = { Some 4 };
+
+    ghost form = { number 4 };
+
+    fn deserialize<'s>(buf: &mut ParseBuf<'_>) -> Result<u32, FaultOf<'s>> {
+        let front = buf.eat(4);
+        Ok(u32::from_le_bytes([front[0], front[1], front[2], front[3]]))
+    }
+
+    ghost written = { le_bytes 4 };
+
+    #[tactic(auto, unfolding(crate::specs::Writing::le_bytes))]
+    fn written_len(_value: u32) -> usize {
+        4
+    }
+
+    #[tactic(auto, unfolding(crate::specs::Writing::le_bytes))]
+    fn append(value: u32, out: &mut Vec<u8>) {
+        out.extend_from_slice(&value.to_le_bytes()).unwrap();
+    }
+
+    ghost size_is = { size-number 4 };
+}
+
+/// Three bytes, the low one first.
+#[derive(Clone, Copy, Debug)]
+pub struct LeU24;
+
+impl IntRepr for LeU24 {
+    type Primitive = u32;
+
+    const SIZE: Option<usize> = Some(3);
+
+    ghost SIZE = { Some 3 };
+
+    ghost form = { number 3 };
+
+    fn deserialize<'s>(buf: &mut ParseBuf<'_>) -> Result<u32, FaultOf<'s>> {
+        let front = buf.eat(3);
+        Ok(u32::from_le_bytes([front[0], front[1], front[2], 0]))
+    }
+
+    ghost written = { le_bytes 3 };
+
+    #[tactic(auto, unfolding(crate::specs::Writing::le_bytes))]
+    fn written_len(_value: u32) -> usize {
+        3
+    }
+
+    #[tactic(auto, unfolding(crate::specs::Writing::le_bytes))]
+    fn append(value: u32, out: &mut Vec<u8>) {
+        let [low, middle, high, _top] = value.to_le_bytes();
+        out.extend_from_slice(&[low, middle, high]).unwrap();
+    }
+
+    ghost size_is = { size-number 3 };
+}
+
+/// Eight bytes, the low one first.
+#[derive(Clone, Copy, Debug)]
+pub struct LeU64;
+
+impl IntRepr for LeU64 {
+    type Primitive = u64;
+
+    const SIZE: Option<usize> = Some(8);
+
+    ghost SIZE = { Some 8 };
+
+    ghost form = { number 8 };
+
+    fn deserialize<'s>(buf: &mut ParseBuf<'_>) -> Result<u64, FaultOf<'s>> {
+        let front = buf.eat(8);
+        Ok(u64::from_le_bytes([
+            front[0], front[1], front[2], front[3], front[4], front[5], front[6], front[7],
+        ]))
+    }
+
+    ghost written = { le_bytes 8 };
+
+    #[tactic(auto, unfolding(crate::specs::Writing::le_bytes))]
+    fn written_len(_value: u64) -> usize {
+        8
+    }
+
+    #[tactic(auto, unfolding(crate::specs::Writing::le_bytes))]
+    fn append(value: u64, out: &mut Vec<u8>) {
+        out.extend_from_slice(&value.to_le_bytes()).unwrap();
+    }
+
+    ghost size_is = { size-number 8 };
+}
+
+impl IntRepr for u8 {
+    type Primitive = u8;
+
+    const SIZE: Option<usize> = Some(1);
+
+    ghost SIZE = { Some 1 };
+
+    ghost form = { number 1 };
+
+    fn deserialize<'s>(buf: &mut ParseBuf<'_>) -> Result<u8, FaultOf<'s>> {
+        Ok(buf.eat(1)[0])
+    }
+
+    ghost written = { le_bytes 1 };
+
+    #[tactic(auto, unfolding(crate::specs::Writing::le_bytes))]
+    fn written_len(_value: u8) -> usize {
+        1
+    }
+
+    #[tactic(auto, unfolding(crate::specs::Writing::le_bytes))]
+    fn append(value: u8, out: &mut Vec<u8>) {
+        out.push(value).unwrap();
+    }
+
+    ghost size_is = { size-number 1 };
+}

@@ -1,0 +1,47 @@
+//! Bytes that are skipped.
+
+ghost use Rattle.std.specs.Prelude.{false, ◌≡◌, ◌+◌, ◌++◌, [], ◌∷◌, replicate, ◌≤◌, length, List, ℕ, Option, Some, None, refl};
+ghost use Rattle.mysql_wire.specs.Form.{Form, bytes};
+ghost use Rattle.mysql_wire.specs.Reading.{Answers, IsTail, HasBytes};
+
+use crate::buf::ParseBuf;
+use crate::fault::FaultOf;
+use crate::proto::{Fixed, MyDeserialize, MySerialize};
+
+/// Bytes that may have any value. They are written as zeros.
+#[derive(Clone, Copy, Debug, PartialEq, Eq, Hash, Default)]
+pub struct Skip<const N: usize>;
+
+impl<'de, const N: usize> MyDeserialize<'de> for Skip<N> {
+    const SIZE: Option<usize> = Some(N);
+
+    type Size = Fixed<N>;
+
+    ghost takes_memory = { false };
+
+    type Ctx = ();
+
+    ghost use Rattle.mysql_wire.specs.Skip.{skip, size-skip};
+
+    ghost form = { λ _. skip N };
+
+    fn deserialize<'s>(_ctx: (), buf: &mut ParseBuf<'de>) -> Result<Self, FaultOf<'s>> {
+        buf.skip(N);
+        Ok(Skip)
+    }
+
+    ghost size_is = { λ _. size-skip N };
+}
+
+impl<const N: usize> MySerialize for Skip<N> {
+    ghost bytes = { λ _. replicate N 0 };
+
+    #[tactic(auto, unfolding(crate::specs::Writing::saturated))]
+    fn defined_len(&self) -> usize {
+        N
+    }
+
+    fn append(&self, out: &mut Vec<u8>) {
+        out.extend_from_slice(&[0; N]).unwrap();
+    }
+}
