@@ -10,3 +10,4 @@ pub mod Spelling
 pub mod Seq
 pub mod Null
 pub mod Again
+pub mod Once
