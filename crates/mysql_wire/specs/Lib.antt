@@ -11,3 +11,4 @@ pub mod Spelling
 pub mod Seq
 pub mod Null
 pub mod Again
+pub mod Once
