@@ -8,6 +8,7 @@ mod constant;
 mod eof;
 mod fault;
 mod int;
+pub mod laws;
 mod lenenc;
 mod little_endian;
 mod proto;
