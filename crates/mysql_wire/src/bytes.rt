@@ -32,6 +32,13 @@ pub trait BytesRepr {
         ensures value { Answers false result buf.new ((form ctx).reads buf.old) }
         ensures tail { OnErr result (IsTail buf.new buf.old) };
 
+    /// The part of a content that is written: what the form has room for.
+    ghost kept: { List ℕ → List ℕ };
+
+    /// How many bytes of a content are written.
+    fn kept_len(content: &[u8]) -> usize
+        ensures { result ≡ length (kept content.now) };
+
     /// The bytes that a content is written as.
     ghost written: { List ℕ → List ℕ };
 
