@@ -16,11 +16,14 @@ no-zero (zero ∷ bytes) h = absurd (h 0 (omega arith) (omega arith) refl)
 no-zero (suc b ∷ bytes) h = no-zero bytes (rest-no-zero b bytes h)
 
 rest-zero : (b : ℕ) (bytes : List ℕ) (k : ℕ) → IsFirstByte (is_byte 0) (suc b ∷ bytes) (Some (suc k)) → IsFirstByte (is_byte 0) bytes (Some k)
-rest-zero b bytes k h = (record {
-  low = omega arith;
-  high = omega (arith, h.0.high);
-  before = λ j low high at. h.0.before (suc j) (omega arith) (omega arith) at;
-}, h.1)
+rest-zero b bytes k h = (
+  record {
+    low = omega arith;
+    high = omega (arith, h.0.high);
+    before = λ j low high at. h.0.before (suc j) (omega arith) (omega arith) at;
+  },
+  h.1,
+)
 
 pub zero-at : (bytes : List ℕ) (k : ℕ) → IsFirstByte (is_byte 0) bytes (Some k) → null_Spells (take k bytes) bytes (drop 1 (drop k bytes))
 zero-at [] k h = absurd (omega (arith, h.0.high))

@@ -10,6 +10,15 @@ use crate::bytes::BytesRepr;
 use crate::fault::FaultOf;
 use std::cmp::min;
 
+// The first bytes, so many at most.
+#[inline(always)]
+pub(crate) fn first_bytes(content: &[u8], most: usize) -> &[u8]
+    ensures value { result.now ≡ take most content.now }
+    ensures bound { length result.now ≤ most }
+{
+    &content[..min(content.len(), most)]
+}
+
 /// So many bytes, the count being handed in. The first `MAX` bytes of a content are written.
 #[derive(Clone, Copy, Debug)]
 pub struct BareBytes<const MAX: usize>;
@@ -30,19 +39,19 @@ impl<const MAX: usize> BytesRepr for BareBytes<MAX> {
 
     ghost kept = { take MAX };
 
-    fn kept_len(content: &[u8]) -> usize {
-        min(content.len(), MAX)
+    fn kept(content: &[u8]) -> &[u8] {
+        first_bytes(content, MAX)
     }
 
     ghost written = { take MAX };
 
     #[tactic(auto, unfolding(crate::specs::Writing::saturated))]
     fn written_len(content: &[u8]) -> usize {
-        Self::kept_len(content)
+        Self::kept(content).len()
     }
 
     fn append(content: &[u8], out: &mut Vec<u8>) {
-        out.extend_from_slice(&content[..Self::kept_len(content)]).unwrap();
+        out.extend_from_slice(Self::kept(content)).unwrap();
     }
 
     ghost size_is = { λ _. refl };

@@ -1,16 +1,16 @@
 //! Byte strings behind a count of a fixed width.
 
-ghost use Rattle.std.specs.Prelude.{false, ◌≡◌, ◌+◌, ◌++◌, vec_len, vec_capacity, ◌≤◌, length, List, ℕ, Option, None, OnErr};
+ghost use Rattle.std.specs.Prelude.{false, ◌≡◌, ◌+◌, ◌++◌, take, vec_len, vec_capacity, ◌≤◌, length, List, ℕ, Option, None, OnErr};
 ghost use Rattle.mysql_wire.specs.Writing.{saturated};
 ghost use Rattle.mysql_wire.specs.Form.{Form};
 ghost use Rattle.mysql_wire.specs.Reading.{Answers, IsTail};
 
+use crate::bare::first_bytes;
 use crate::buf::ParseBuf;
 use crate::bytes::BytesRepr;
 use crate::fault::FaultOf;
 use crate::int::{IntRepr, RawInt};
 use crate::little_endian::LeU32;
-use std::cmp::min;
 
 /// The bytes behind a count of one byte. The first 255 bytes of a content are written.
 #[derive(Clone, Copy, Debug)]
@@ -33,26 +33,26 @@ impl BytesRepr for U8Bytes {
         buf.parse(usize::from(count.0))
     }
 
-    ghost use Rattle.mysql_wire.specs.CountedBytes.{countable, counted_bytes_of};
+    ghost use Rattle.mysql_wire.specs.CountedBytes.{counted_bytes_of};
 
-    ghost kept = { countable 1 };
+    ghost kept = { take 255 };
 
-    fn kept_len(content: &[u8]) -> usize {
-        min(content.len(), u8::MAX as usize)
+    fn kept(content: &[u8]) -> &[u8] {
+        first_bytes(content, u8::MAX as usize)
     }
 
-    ghost written = { counted_bytes_of 1 };
+    ghost written = { counted_bytes_of 1 255 };
 
-    #[tactic(auto, unfolding(crate::specs::Writing::saturated, crate::specs::Writing::le_bytes, crate::specs::CountedBytes::counted_bytes_of))]
+    #[tactic(auto, using(crate::proofs::CountedBytes::cuts), unfolding(crate::specs::Writing::saturated, crate::specs::Writing::le_bytes, crate::specs::CountedBytes::counted_bytes_of))]
     fn written_len(content: &[u8]) -> usize {
-        1 + Self::kept_len(content)
+        1 + Self::kept(content).len()
     }
 
     #[tactic(auto, unfolding(crate::specs::CountedBytes::counted_bytes_of))]
     fn append(content: &[u8], out: &mut Vec<u8>) {
-        let len = Self::kept_len(content);
-        <u8 as IntRepr>::append(len as u8, out);
-        out.extend_from_slice(&content[..len]).unwrap();
+        let kept = first_bytes(content, u8::MAX as usize);
+        <u8 as IntRepr>::append(kept.len() as u8, out);
+        out.extend_from_slice(kept).unwrap();
     }
 
     ghost size_is = { λ _. size-counted_bytes byte };
@@ -80,26 +80,26 @@ impl BytesRepr for U32Bytes {
         buf.parse(count.0 as usize)
     }
 
-    ghost use Rattle.mysql_wire.specs.CountedBytes.{countable, counted_bytes_of};
+    ghost use Rattle.mysql_wire.specs.CountedBytes.{counted_bytes_of};
 
-    ghost kept = { countable 4 };
+    ghost kept = { take 4294967295 };
 
-    fn kept_len(content: &[u8]) -> usize {
-        min(content.len(), u32::MAX as usize)
+    fn kept(content: &[u8]) -> &[u8] {
+        first_bytes(content, u32::MAX as usize)
     }
 
-    ghost written = { counted_bytes_of 4 };
+    ghost written = { counted_bytes_of 4 4294967295 };
 
-    #[tactic(auto, unfolding(crate::specs::Writing::saturated, crate::specs::Writing::le_bytes, crate::specs::CountedBytes::counted_bytes_of))]
+    #[tactic(auto, using(crate::proofs::CountedBytes::cuts), unfolding(crate::specs::Writing::saturated, crate::specs::Writing::le_bytes, crate::specs::CountedBytes::counted_bytes_of))]
     fn written_len(content: &[u8]) -> usize {
-        4 + Self::kept_len(content)
+        4 + Self::kept(content).len()
     }
 
     #[tactic(auto, unfolding(crate::specs::CountedBytes::counted_bytes_of))]
     fn append(content: &[u8], out: &mut Vec<u8>) {
-        let len = Self::kept_len(content);
-        <LeU32 as IntRepr>::append(len as u32, out);
-        out.extend_from_slice(&content[..len]).unwrap();
+        let kept = first_bytes(content, u32::MAX as usize);
+        <LeU32 as IntRepr>::append(kept.len() as u32, out);
+        out.extend_from_slice(kept).unwrap();
     }
 
     ghost size_is = { λ _. size-counted_bytes le_u32 };

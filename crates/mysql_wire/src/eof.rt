@@ -30,8 +30,8 @@ impl BytesRepr for EofBytes {
 
     ghost kept = { λ content. content };
 
-    fn kept_len(content: &[u8]) -> usize {
-        content.len()
+    fn kept(content: &[u8]) -> &[u8] {
+        content
     }
 
     ghost written = { λ content. content };

@@ -105,8 +105,8 @@ impl BytesRepr for LenEnc {
 
     ghost kept = { λ content. content };
 
-    fn kept_len(content: &[u8]) -> usize {
-        content.len()
+    fn kept(content: &[u8]) -> &[u8] {
+        content
     }
 
     ghost written = { lenenc_string_bytes };

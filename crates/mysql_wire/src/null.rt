@@ -3,7 +3,6 @@
 ghost use Rattle.std.specs.Prelude.{false, ◌≡◌, ◌+◌, ◌++◌, [], ◌∷◌, vec_len, vec_capacity, ◌≤◌, length, List, ℕ, Option, None, OnErr};
 ghost use Rattle.mysql_wire.specs.Writing.{saturated};
 ghost use Rattle.mysql_wire.specs.Form.{Form};
-ghost use Rattle.mysql_wire.specs.Null.{before_zero};
 ghost use Rattle.mysql_wire.specs.Reading.{Answers, IsTail};
 
 use crate::buf::ParseBuf;
@@ -17,19 +16,10 @@ use memchr::memchr;
 #[derive(Clone, Copy, Debug)]
 pub struct NullBytes;
 
-// How many bytes stand before the first zero.
-#[tactic(auto, using(crate::proofs::Zeros::befores))]
-fn len_before_zero(content: &[u8]) -> usize
-    ensures value { result ≡ length (before_zero content.now) }
-    ensures bound { result ≤ length content.now }
-{
-    memchr(0, content).unwrap_or(content.len())
-}
-
 impl BytesRepr for NullBytes {
     type Ctx = ();
 
-    ghost use Rattle.mysql_wire.specs.Null.{null_string, size-null_string};
+    ghost use Rattle.mysql_wire.specs.Null.{before_zero, null_string, size-null_string};
 
     ghost form = { λ _. null_string };
 
@@ -44,8 +34,12 @@ impl BytesRepr for NullBytes {
 
     ghost kept = { before_zero };
 
-    fn kept_len(content: &[u8]) -> usize {
-        len_before_zero(content)
+    #[tactic(auto, using(crate::proofs::Zeros::befores))]
+    fn kept(content: &[u8]) -> &[u8] {
+        match memchr(0, content) {
+            Some(n) => &content[..n],
+            None => content,
+        }
     }
 
     ghost use Rattle.mysql_wire.specs.Null.{null_bytes};
@@ -54,11 +48,11 @@ impl BytesRepr for NullBytes {
 
     #[tactic(auto, unfolding(crate::specs::Writing::saturated))]
     fn written_len(content: &[u8]) -> usize {
-        len_before_zero(content).saturating_add(1)
+        Self::kept(content).len().saturating_add(1)
     }
 
     fn append(content: &[u8], out: &mut Vec<u8>) {
-        out.extend_from_slice(&content[..len_before_zero(content)]).unwrap();
+        out.extend_from_slice(Self::kept(content)).unwrap();
         out.push(0).unwrap();
     }
 
