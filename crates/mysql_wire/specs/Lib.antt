@@ -14,3 +14,4 @@ pub mod Bare
 pub mod CountedBytes
 pub mod Text
 pub mod BytesAgain
+pub mod ConstBytes

@@ -1,10 +1,12 @@
 //! The wire forms of the MySQL protocol.
 #![tactic(auto)]
 
+mod array;
 mod bare;
 mod block;
 mod buf;
 mod bytes;
+mod const_bytes;
 mod constant;
 mod counted_bytes;
 mod eof;
@@ -20,6 +22,7 @@ mod skip;
 pub use bare::BareBytes;
 pub use buf::ParseBuf;
 pub use bytes::{BytesRepr, RawBytes};
+pub use const_bytes::{ConstBytes, ConstBytesValue};
 pub use constant::{ConstFault, ConstU8};
 pub use counted_bytes::{U8Bytes, U32Bytes};
 pub use eof::EofBytes;
