@@ -16,3 +16,8 @@ pub mod ConstantValue
 pub mod Codes
 pub mod SessionStateType
 pub mod ColumnType
+pub mod Bare
+pub mod CountedBytes
+pub mod Text
+pub mod BytesAgain
+pub mod ConstBytes
