@@ -8,5 +8,6 @@ pub mod LenEnc
 pub mod Writing
 pub mod Spelling
 pub mod Seq
+pub mod Many
 pub mod Null
 pub mod Again
