@@ -11,3 +11,4 @@ pub mod Seq
 pub mod Many
 pub mod Null
 pub mod Again
+pub mod ListAgain
