@@ -9,6 +9,7 @@ pub mod Writing
 pub mod LittleEndian
 pub mod Spelling
 pub mod Seq
+pub mod Many
 pub mod Null
 pub mod Again
 pub mod Flags
@@ -21,3 +22,4 @@ pub mod CountedBytes
 pub mod Text
 pub mod BytesAgain
 pub mod ConstBytes
+pub mod ListAgain
