@@ -23,3 +23,4 @@ pub mod Text
 pub mod BytesAgain
 pub mod ConstBytes
 pub mod ListAgain
+pub mod Once
