@@ -11,8 +11,7 @@ use Rattle.std.specs.Cmp.Lexicographic.{pointwise}
 use Rattle.mysql_wire.specs.Bare.{bare}
 use Rattle.mysql_wire.specs.ConstBytes.{const_bytes, const_value}
 use Rattle.mysql_wire.specs.declared.const_bytes.ConstBytes.{ConstBytes}
-use Rattle.mysql_wire.specs.Spelling.{IsSpelling, le_u32-again}
-use Rattle.mysql_wire.specs.Again.{byte-again}
+use Rattle.mysql_wire.specs.Spelling.{IsSpelling, byte-again, le_u32-again}
 use Rattle.mysql_wire.specs.Writing.{le_bytes}
 
 -- ---- a zero at the end
