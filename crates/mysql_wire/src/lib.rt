@@ -11,6 +11,7 @@ mod eof;
 mod fault;
 mod flags;
 mod int;
+pub mod laws;
 mod lenenc;
 mod little_endian;
 mod proto;
@@ -22,6 +23,7 @@ pub use bytes::{BytesRepr, RawBytes};
 pub use codes::{ColumnType, SessionStateType, UnknownColumnType, UnknownSessionStateType};
 pub use constant::{ConstFault, ConstU8};
 pub use constant_value::{Const, ConstValue};
+pub use constant::{ConstFault, ConstU8, ConstU32};
 pub use eof::EofBytes;
 pub use fault::{Fault, FaultKind, FaultOf};
 pub use flags::{
