@@ -18,12 +18,12 @@ mod proto;
 mod seq;
 mod skip;
 
+pub use bitflags::Flags;
 pub use buf::ParseBuf;
 pub use bytes::{BytesRepr, RawBytes};
 pub use codes::{ColumnType, SessionStateType, UnknownColumnType, UnknownSessionStateType};
-pub use constant::{ConstFault, ConstU8};
-pub use constant_value::{Const, ConstValue};
 pub use constant::{ConstFault, ConstU8, ConstU32};
+pub use constant_value::{Const, ConstValue};
 pub use eof::EofBytes;
 pub use fault::{Fault, FaultKind, FaultOf};
 pub use flags::{
