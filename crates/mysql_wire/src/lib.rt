@@ -1,12 +1,16 @@
 //! The wire forms of the MySQL protocol.
 #![tactic(auto)]
 
+mod array;
+mod bare;
 mod block;
 mod buf;
 mod bytes;
 mod codes;
+mod const_bytes;
 mod constant;
 mod constant_value;
+mod counted_bytes;
 mod eof;
 mod fault;
 mod flags;
@@ -14,6 +18,8 @@ mod int;
 pub mod laws;
 mod lenenc;
 mod little_endian;
+mod many;
+mod null;
 mod proto;
 mod seq;
 mod skip;
@@ -24,6 +30,14 @@ pub use bytes::{BytesRepr, RawBytes};
 pub use codes::{ColumnType, SessionStateType, UnknownColumnType, UnknownSessionStateType};
 pub use constant::{ConstFault, ConstU8, ConstU32};
 pub use constant_value::{Const, ConstValue};
+pub use bare::BareBytes;
+pub use buf::ParseBuf;
+pub use bytes::{BytesRepr, RawBytes};
+pub use codes::{ColumnType, SessionStateType, UnknownColumnType, UnknownSessionStateType};
+pub use const_bytes::{ConstBytes, ConstBytesValue};
+pub use constant::{ConstFault, ConstU8, ConstU32};
+pub use constant_value::{Const, ConstValue};
+pub use counted_bytes::{U8Bytes, U32Bytes};
 pub use eof::EofBytes;
 pub use fault::{Fault, FaultKind, FaultOf};
 pub use flags::{
@@ -33,6 +47,8 @@ pub use flags::{
 pub use int::{IntRepr, IntWidth, RawInt};
 pub use lenenc::LenEnc;
 pub use little_endian::{LeU16, LeU24, LeU32, LeU64};
+pub use many::read_all;
+pub use null::NullBytes;
 pub use proto::{AnyWidth, Fixed, MyDeserialize, MySerialize, Width, total_len};
 pub use seq::{Seq, SeqRepr, Unknown};
 pub use skip::Skip;
