@@ -11,8 +11,7 @@ use Rattle.std.specs.Cmp.Lexicographic.{pointwise}
 use Rattle.mysql_wire.specs.Bare.{bare}
 use Rattle.mysql_wire.specs.ConstBytes.{const_bytes, const_value}
 use Rattle.mysql_wire.specs.declared.const_bytes.ConstBytes.{ConstBytes}
-use Rattle.mysql_wire.specs.Spelling.{IsSpelling, le_u32-again}
-use Rattle.mysql_wire.specs.Again.{byte-again}
+use Rattle.mysql_wire.specs.Spelling.{IsSpelling, byte-again, le_u32-again}
 use Rattle.mysql_wire.specs.Writing.{le_bytes}
 
 -- ---- a zero at the end
@@ -69,3 +68,5 @@ unfolding const_bytes bytes
 const_bytes-again {T} len value v long rest =
     let e : const_value {T = T} len value value ≡ Some v = rw (same-bytes value) refl in
     (value, e, (long, refl))
+
+pub ruleset byte_strings_again = (null_string-again, u8_bytes-again, u32_bytes-again, bare-again, all_left-again, bytes-again, const_bytes-again)
