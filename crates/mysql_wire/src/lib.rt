@@ -37,6 +37,8 @@ pub use codes::{ColumnType, SessionStateType, UnknownColumnType, UnknownSessionS
 pub use const_bytes::{ConstBytes, ConstBytesValue};
 pub use constant::{ConstFault, ConstU8, ConstU32};
 pub use constant_value::{Const, ConstValue};
+pub use const_bytes::{ConstBytes, ConstBytesValue};
+pub use constant::{ConstFault, ConstU8, ConstU32};
 pub use counted_bytes::{U8Bytes, U32Bytes};
 pub use eof::EofBytes;
 pub use fault::{Fault, FaultKind, FaultOf};
