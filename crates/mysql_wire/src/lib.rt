@@ -11,11 +11,13 @@ mod const_bytes;
 mod constant;
 mod constant_value;
 mod counted_bytes;
+mod either;
 mod eof;
 mod fault;
 mod flags;
 mod int;
 pub mod laws;
+mod items;
 mod lenenc;
 mod little_endian;
 mod many;
@@ -40,6 +42,7 @@ pub use constant_value::{Const, ConstValue};
 pub use const_bytes::{ConstBytes, ConstBytesValue};
 pub use constant::{ConstFault, ConstU8, ConstU32};
 pub use counted_bytes::{U8Bytes, U32Bytes};
+pub use either::Either;
 pub use eof::EofBytes;
 pub use fault::{Fault, FaultKind, FaultOf};
 pub use flags::{
@@ -47,6 +50,7 @@ pub use flags::{
     StatusFlags, StatusNames,
 };
 pub use int::{IntRepr, IntWidth, RawInt};
+pub use items::{append_items, items_len};
 pub use lenenc::LenEnc;
 pub use little_endian::{LeU16, LeU24, LeU32, LeU64};
 pub use many::read_all;
