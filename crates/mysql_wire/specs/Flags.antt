@@ -1,5 +1,6 @@
 -- Flag words.
-use Rattle.std.specs.Prelude.{◌≡◌, ℕ, ◌^◌, ◌<◌, Bool, Option, Some, ◌==◌, bit_and, refl}
+use Rattle.std.specs.Prelude.{◌≡◌, ℕ, ◌^◌, ◌<◌, Bool, Option, Some, ◌==◌, bit_and, bit_or, if◌then◌else◌, refl}
+use Rattle.bitflags.specs.Sets.{without}
 use Rattle.mysql_wire.specs.declared.constant_value.Const.{Const}
 use Rattle.mysql_wire.specs.declared.flags.FlagWord.{FlagWord}
 use Rattle.mysql_wire.specs.declared.flags.binlog_dump_flags.BinlogDumpNames.{BinlogDumpNames}
@@ -19,6 +20,10 @@ use Rattle.mysql_wire.specs.Writing.{le_bytes}
 -- every bit of the mask is set
 abbrev pub has : ℕ → ℕ → Bool
 has flags mask = bit_and flags mask == mask
+
+-- the flags, with the bits of the mask set or else cleared, in a word of so many bits
+abbrev pub switched : ℕ → Bool → ℕ → ℕ → ℕ
+switched size on mask flags = if on then bit_or flags mask else without size flags mask
 
 -- the flags with these bits: any bits are some flags
 abbrev pub flags_of : {N B : Type 0} → B → Option (FlagWord N B)
