@@ -37,6 +37,8 @@ flag_word width = coded flags_of (number width)
 pub flag_word-again : {N U : Type 0} (width : ℕ) (v : Const (FlagWord N ℕ) U) → v.0.0 < 256 ^ width → IsSpelling (flag_word width) v (le_bytes width v.0.0)
 flag_word-again width v lt = coded-again flags_of (number width) v.0.0 v (le_bytes width v.0.0) refl (number-again width v.0.0 lt)
 
+pub ruleset flag_word_again = (flag_word-again)
+
 abbrev pub BinlogDumpFlags : Type 0
 BinlogDumpFlags = FlagWord BinlogDumpNames ℕ
 

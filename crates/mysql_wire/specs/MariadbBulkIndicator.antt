@@ -42,3 +42,5 @@ mariadb_bulk_indicator = coded mariadb_bulk_indicator_of (number 1)
 pub mariadb_bulk_indicator-again : (v : Const MariadbBulkIndicator ℕ) → IsSpelling mariadb_bulk_indicator v (le_bytes 1 (mariadb_bulk_indicator_code v.0))
 unfolding mariadb_bulk_indicator_code mariadb_bulk_indicator_of
 mariadb_bulk_indicator-again v = code-again mariadb_bulk_indicator_code mariadb_bulk_indicators refl mariadb_bulk_indicator-back v
+
+pub ruleset mariadb_bulk_indicator_again = (mariadb_bulk_indicator-again)
