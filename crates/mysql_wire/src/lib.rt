@@ -27,8 +27,6 @@ mod skip;
 pub use bare::BareBytes;
 pub use buf::ParseBuf;
 pub use bytes::{BytesRepr, RawBytes};
-pub use const_bytes::{ConstBytes, ConstBytesValue};
-pub use constant::{ConstFault, ConstU8, ConstU32};
 pub use codes::{ColumnType, SessionStateType, UnknownColumnType, UnknownSessionStateType};
 pub use const_bytes::{ConstBytes, ConstBytesValue};
 pub use constant::{ConstFault, ConstU8, ConstU32};

@@ -1,8 +1,8 @@
 //! Byte strings at the limits of their forms.
 
 use crate::{
-    BareBytes, BytesRepr, ConstBytes, ConstBytesValue, ConstFault, EofBytes, Fault, FaultOf,
-    LenEnc, MyDeserialize, MySerialize, NullBytes, ParseBuf, RawBytes, U8Bytes, U32Bytes,
+    BareBytes, BytesRepr, ConstBytes, ConstBytesValue, ConstFault, EofBytes, Fault, LenEnc,
+    MyDeserialize, MySerialize, NullBytes, ParseBuf, RawBytes, U8Bytes, U32Bytes,
 };
 use std::alloc::{AllocError, Global};
 use std::borrow::CowSlice;
