@@ -57,3 +57,6 @@ pub use null::NullBytes;
 pub use proto::{AnyWidth, Fixed, MyDeserialize, MySerialize, Width, total_len};
 pub use seq::{Seq, SeqRepr, Unknown};
 pub use skip::Skip;
+
+#[cfg(test)]
+mod tests;
