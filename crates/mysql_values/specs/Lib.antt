@@ -1,0 +1,2 @@
+pub mod Temporal
+pub mod Value

@@ -1,0 +1,194 @@
+//! Dates and times, as the binary protocol writes them.
+
+ghost use Rattle.std.specs.Prelude.{◌≡◌, ◌+◌, ◌++◌, ◌≤◌, vec_len, vec_capacity, length};
+ghost use Rattle.mysql_wire.specs.Writing.{saturated};
+
+use mysql_wire::{IntRepr, LeU16, LeU32, MySerialize};
+
+/// A day of the calendar.
+#[derive(Clone, Copy, Debug, PartialEq, Eq)]
+pub struct Day {
+    pub year: u16,
+    pub month: u8,
+    pub day: u8,
+}
+
+/// The time on a clock.
+#[derive(Clone, Copy, Debug, PartialEq, Eq)]
+pub struct Clock {
+    pub hour: u8,
+    pub minute: u8,
+    pub second: u8,
+}
+
+/// A day and the time on it (`ProtocolBinary::MYSQL_TYPE_DATETIME`).
+#[derive(Clone, Copy, Debug, PartialEq, Eq)]
+pub struct DateTime {
+    pub day: Day,
+    pub clock: Clock,
+    pub micros: u32,
+}
+
+/// A span of time with its sign (`ProtocolBinary::MYSQL_TYPE_TIME`).
+#[derive(Clone, Copy, Debug, PartialEq, Eq)]
+pub struct TimeSpan {
+    pub is_negative: bool,
+    pub days: u32,
+    pub clock: Clock,
+    pub micros: u32,
+}
+
+impl Day {
+    ghost use Rattle.mysql_values.specs.Temporal.{is_zero_day};
+
+    #[inline]
+    pub fn new(year: u16, month: u8, day: u8) -> Self
+        ensures { result ≡ record { year = year; month = month; day = day } }
+    {
+        Day { year, month, day }
+    }
+
+    fn is_zero(&self) -> bool
+        ensures { result ≡ is_zero_day self.now }
+    {
+        self.year == 0 && self.month == 0 && self.day == 0
+    }
+}
+
+impl Clock {
+    ghost use Rattle.mysql_values.specs.Temporal.{is_midnight};
+
+    #[inline]
+    pub fn new(hour: u8, minute: u8, second: u8) -> Self
+        ensures { result ≡ record { hour = hour; minute = minute; second = second } }
+    {
+        Clock {
+            hour,
+            minute,
+            second,
+        }
+    }
+
+    fn is_midnight(&self) -> bool
+        ensures { result ≡ is_midnight self.now }
+    {
+        self.hour == 0 && self.minute == 0 && self.second == 0
+    }
+}
+
+impl DateTime {
+    ghost use Rattle.mysql_values.specs.Temporal.{date_time_size};
+
+    #[inline]
+    pub fn new(day: Day, clock: Clock, micros: u32) -> Self
+        ensures { result ≡ record { day = day; clock = clock; micros = micros } }
+    {
+        DateTime { day, clock, micros }
+    }
+
+    /// How many bytes the date takes.
+    #[inline]
+    pub fn len(&self) -> u8
+        ensures { result ≡ date_time_size self.now }
+    {
+        if self.micros != 0 {
+            12
+        } else if !self.clock.is_midnight() {
+            8
+        } else if !self.day.is_zero() {
+            5
+        } else {
+            1
+        }
+    }
+}
+
+impl TimeSpan {
+    ghost use Rattle.mysql_values.specs.Temporal.{time_span_size};
+
+    #[inline]
+    pub fn new(is_negative: bool, days: u32, clock: Clock, micros: u32) -> Self
+        ensures { result ≡ record { is_negative = is_negative; days = days; clock = clock; micros = micros } }
+    {
+        TimeSpan {
+            is_negative,
+            days,
+            clock,
+            micros,
+        }
+    }
+
+    /// How many bytes the span takes.
+    #[inline]
+    pub fn len(&self) -> u8
+        ensures { result ≡ time_span_size self.now }
+    {
+        if self.micros != 0 {
+            13
+        } else if self.days != 0 || !self.clock.is_midnight() {
+            9
+        } else {
+            1
+        }
+    }
+}
+
+impl MySerialize for DateTime {
+    ghost use Rattle.mysql_values.specs.Temporal.{date_time_bytes};
+
+    ghost bytes = { date_time_bytes };
+
+    #[tactic(auto, using(crate::proofs::Sizes::sizes), unfolding(mysql_wire::specs::Writing::saturated))]
+    fn defined_len(&self) -> usize {
+        self.len() as usize
+    }
+
+    #[tactic(auto, unfolding(mysql_wire::specs::Writing::le_bytes, crate::specs::Temporal::date_time_bytes, crate::specs::Temporal::day_bytes))]
+    fn append(&self, out: &mut Vec<u8>) {
+        let len = self.len();
+        out.push(len - 1).unwrap();
+        if len == 1 {
+            return;
+        }
+        <LeU16 as IntRepr>::append(self.day.year, out);
+        out.extend_from_slice(&[self.day.month, self.day.day])
+            .unwrap();
+        if len == 5 {
+            return;
+        }
+        out.extend_from_slice(&[self.clock.hour, self.clock.minute, self.clock.second])
+            .unwrap();
+        if len == 8 {
+            return;
+        }
+        <LeU32 as IntRepr>::append(self.micros, out);
+    }
+}
+
+impl MySerialize for TimeSpan {
+    ghost use Rattle.mysql_values.specs.Temporal.{time_span_bytes};
+
+    ghost bytes = { time_span_bytes };
+
+    #[tactic(auto, using(crate::proofs::Sizes::sizes), unfolding(mysql_wire::specs::Writing::saturated))]
+    fn defined_len(&self) -> usize {
+        self.len() as usize
+    }
+
+    #[tactic(auto, unfolding(mysql_wire::specs::Writing::le_bytes, crate::specs::Temporal::time_span_bytes))]
+    fn append(&self, out: &mut Vec<u8>) {
+        let len = self.len();
+        out.push(len - 1).unwrap();
+        if len == 1 {
+            return;
+        }
+        out.push(self.is_negative as u8).unwrap();
+        <LeU32 as IntRepr>::append(self.days, out);
+        out.extend_from_slice(&[self.clock.hour, self.clock.minute, self.clock.second])
+            .unwrap();
+        if len == 9 {
+            return;
+        }
+        <LeU32 as IntRepr>::append(self.micros, out);
+    }
+}
