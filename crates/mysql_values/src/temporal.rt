@@ -1,9 +1,12 @@
 //! Dates and times, as the binary protocol writes them.
 
-ghost use Rattle.std.specs.Prelude.{◌≡◌, ◌+◌, ◌++◌, ◌≤◌, vec_len, vec_capacity, length};
+ghost use Rattle.std.specs.Prelude.{false, ◌≡◌, ◌+◌, ◌++◌, ◌≤◌, vec_len, vec_capacity, length, Some, None, OnErr, refl};
 ghost use Rattle.mysql_wire.specs.Writing.{saturated};
+ghost use Rattle.mysql_wire.specs.Reading.{Answers, IsTail, HasBytes};
 
-use mysql_wire::{IntRepr, LeU16, LeU32, MySerialize};
+use mysql_wire::{
+    AnyWidth, FaultOf, Fixed, IntRepr, LeU16, LeU32, MyDeserialize, MySerialize, ParseBuf, RawInt,
+};
 
 /// A day of the calendar.
 #[derive(Clone, Copy, Debug, PartialEq, Eq)]
@@ -191,4 +194,126 @@ impl MySerialize for TimeSpan {
         }
         <LeU32 as IntRepr>::append(self.micros, out);
     }
+}
+
+impl<'de> MyDeserialize<'de> for Day {
+    const SIZE: Option<usize> = Some(4);
+
+    type Size = Fixed<4>;
+
+    ghost takes_memory = { false };
+
+    type Ctx = ();
+
+    ghost use Rattle.mysql_values.specs.Temporal.{day, size-day};
+
+    ghost form = { λ _. day };
+
+    #[tactic(auto, using(mysql_wire::proofs::Blocks::blocks), unfolding(crate::specs::Temporal::day))]
+    fn deserialize<'s>(_ctx: (), buf: &mut ParseBuf<'de>) -> Result<Self, FaultOf<'s>> {
+        let mut fields: ParseBuf<'de> = buf.parse(4)?;
+        let year: RawInt<LeU16> = fields.parse_unchecked(())?;
+        let month: RawInt<u8> = fields.parse_unchecked(())?;
+        let day: RawInt<u8> = fields.parse_unchecked(())?;
+        Ok(Day::new(year.0, month.0, day.0))
+    }
+
+    ghost size_is = { λ _. size-day };
+}
+
+impl<'de> MyDeserialize<'de> for Clock {
+    const SIZE: Option<usize> = Some(3);
+
+    type Size = Fixed<3>;
+
+    ghost takes_memory = { false };
+
+    type Ctx = ();
+
+    ghost use Rattle.mysql_values.specs.Temporal.{clock, size-clock};
+
+    ghost form = { λ _. clock };
+
+    #[tactic(auto, using(mysql_wire::proofs::Blocks::blocks), unfolding(crate::specs::Temporal::clock))]
+    fn deserialize<'s>(_ctx: (), buf: &mut ParseBuf<'de>) -> Result<Self, FaultOf<'s>> {
+        let mut fields: ParseBuf<'de> = buf.parse(3)?;
+        let hour: RawInt<u8> = fields.parse_unchecked(())?;
+        let minute: RawInt<u8> = fields.parse_unchecked(())?;
+        let second: RawInt<u8> = fields.parse_unchecked(())?;
+        Ok(Clock::new(hour.0, minute.0, second.0))
+    }
+
+    ghost size_is = { λ _. size-clock };
+}
+
+impl<'de> MyDeserialize<'de> for DateTime {
+    const SIZE: Option<usize> = None;
+
+    type Size = AnyWidth;
+
+    ghost takes_memory = { false };
+
+    type Ctx = ();
+
+    ghost use Rattle.mysql_values.specs.Temporal.{date_time, size-date_time};
+
+    ghost form = { λ _. date_time };
+
+    #[tactic(auto, using(mysql_wire::proofs::Tails::tails), unfolding(crate::specs::Temporal::date_time))]
+    fn deserialize<'s>(_ctx: (), buf: &mut ParseBuf<'de>) -> Result<Self, FaultOf<'s>> {
+        let length: RawInt<u8> = buf.parse(())?;
+        match length.0 {
+            0 => Ok(DateTime::new(Day::new(0, 0, 0), Clock::new(0, 0, 0), 0)),
+            4 => Ok(DateTime::new(buf.parse(())?, Clock::new(0, 0, 0), 0)),
+            7 => Ok(DateTime::new(buf.parse(())?, buf.parse(())?, 0)),
+            11 => {
+                let day = buf.parse(())?;
+                let clock = buf.parse(())?;
+                let micros: RawInt<LeU32> = buf.parse(())?;
+                Ok(DateTime::new(day, clock, micros.0))
+            }
+            _ => Err(FaultOf::InvalidData("Invalid temporal length")),
+        }
+    }
+
+    ghost size_is = { λ _. size-date_time };
+}
+
+impl<'de> MyDeserialize<'de> for TimeSpan {
+    const SIZE: Option<usize> = None;
+
+    type Size = AnyWidth;
+
+    ghost takes_memory = { false };
+
+    type Ctx = ();
+
+    ghost use Rattle.mysql_values.specs.Temporal.{time_span, size-time_span};
+
+    ghost form = { λ _. time_span };
+
+    #[tactic(auto, using(mysql_wire::proofs::Tails::tails), unfolding(crate::specs::Temporal::time_span))]
+    fn deserialize<'s>(_ctx: (), buf: &mut ParseBuf<'de>) -> Result<Self, FaultOf<'s>> {
+        let length: RawInt<u8> = buf.parse(())?;
+        match length.0 {
+            0 => Ok(TimeSpan::new(false, 0, Clock::new(0, 0, 0), 0)),
+            8 => {
+                let sign: RawInt<u8> = buf.parse(())?;
+                let days: RawInt<LeU32> = buf.parse(())?;
+                Ok(TimeSpan::new(sign.0 == 1, days.0, buf.parse(())?, 0))
+            }
+            12 => {
+                let mut rest = buf.rest();
+                let sign: RawInt<u8> = rest.parse(())?;
+                let days: RawInt<LeU32> = rest.parse(())?;
+                let clock = rest.parse(())?;
+                let micros: RawInt<LeU32> = rest.parse(())?;
+                *buf = rest;
+                Ok(TimeSpan::new(sign.0 == 1, days.0, clock, micros.0))
+            }
+            _ => Err(FaultOf::InvalidData("Invalid temporal length")),
+        }
+    }
+
+    ghost size_is = { λ _. size-time_span };
 }
