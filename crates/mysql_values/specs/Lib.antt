@@ -1,2 +1,3 @@
 pub mod Temporal
 pub mod Value
+pub mod ValueDeserializer

@@ -4,5 +4,7 @@
 pub mod laws;
 mod temporal;
 mod value;
+mod value_deserializer;
 
 pub use value::Value;
+pub use value_deserializer::{BinValue, TextValue, ValueDeserializer};
