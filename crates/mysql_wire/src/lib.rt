@@ -8,6 +8,7 @@ mod constant;
 mod eof;
 mod fault;
 mod int;
+pub mod laws;
 mod lenenc;
 mod little_endian;
 mod proto;
@@ -16,7 +17,7 @@ mod skip;
 
 pub use buf::ParseBuf;
 pub use bytes::{BytesRepr, RawBytes};
-pub use constant::{ConstFault, ConstU8};
+pub use constant::{ConstFault, ConstU8, ConstU32};
 pub use eof::EofBytes;
 pub use fault::{Fault, FaultKind, FaultOf};
 pub use int::{IntRepr, IntWidth, RawInt};
