@@ -11,3 +11,8 @@ pub mod Spelling
 pub mod Seq
 pub mod Null
 pub mod Again
+pub mod Flags
+pub mod ConstantValue
+pub mod Codes
+pub mod SessionStateType
+pub mod ColumnType

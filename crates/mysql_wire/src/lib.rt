@@ -4,9 +4,12 @@
 mod block;
 mod buf;
 mod bytes;
+mod codes;
 mod constant;
+mod constant_value;
 mod eof;
 mod fault;
+mod flags;
 mod int;
 pub mod laws;
 mod lenenc;
@@ -17,9 +20,16 @@ mod skip;
 
 pub use buf::ParseBuf;
 pub use bytes::{BytesRepr, RawBytes};
+pub use codes::{ColumnType, SessionStateType, UnknownColumnType, UnknownSessionStateType};
+pub use constant::{ConstFault, ConstU8};
+pub use constant_value::{Const, ConstValue};
 pub use constant::{ConstFault, ConstU8, ConstU32};
 pub use eof::EofBytes;
 pub use fault::{Fault, FaultKind, FaultOf};
+pub use flags::{
+    CapabilityFlags, CapabilityNames, ColumnFlagNames, ColumnFlags, FlagNames, FlagWord,
+    StatusFlags, StatusNames,
+};
 pub use int::{IntRepr, IntWidth, RawInt};
 pub use lenenc::LenEnc;
 pub use little_endian::{LeU16, LeU24, LeU32, LeU64};
