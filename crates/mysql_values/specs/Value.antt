@@ -1,5 +1,5 @@
 -- Values, and their binary form.
-use Rattle.std.specs.Prelude.{ℕ, ℤ, Bool, List, [], ◌+◌, ◌^◌, length, nat_lt, if◌then◌else◌}
+use Rattle.std.specs.Prelude.{ℕ, ℤ, Bool, List, [], Result, Ok, Err, ◌+◌, ◌^◌, length, nat_lt, if◌then◌else◌}
 use Rattle.std.specs.Int.{w64, cast_unsigned}
 use Rattle.mysql_wire.specs.Writing.{le_bytes}
 use Rattle.mysql_wire.specs.LenEnc.{lenenc_string_bytes}
@@ -77,3 +77,8 @@ bin_size (Time time) = time_span_size time
 
 abbrev pub size_of : Value → ℕ
 size_of v = bin_size (content_of v)
+
+-- what the value that was read holds
+abbrev pub contents : {E : Type 0} → Result Value E → Result Content E
+contents (Ok v) = Ok (content_of v)
+contents (Err e) = Err e

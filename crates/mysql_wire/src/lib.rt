@@ -21,7 +21,6 @@ mod skip;
 pub use buf::ParseBuf;
 pub use bytes::{BytesRepr, RawBytes};
 pub use codes::{ColumnType, SessionStateType, UnknownColumnType, UnknownSessionStateType};
-pub use constant::{ConstFault, ConstU8};
 pub use constant_value::{Const, ConstValue};
 pub use constant::{ConstFault, ConstU8, ConstU32};
 pub use eof::EofBytes;
