@@ -1,3 +1,5 @@
 pub mod Temporal
 pub mod Value
 pub mod ValueDeserializer
+pub mod Numeral
+pub mod FromValue
