@@ -3,3 +3,4 @@ pub mod Value
 pub mod ValueDeserializer
 pub mod Numeral
 pub mod FromValue
+pub mod ReadingBack
