@@ -36,6 +36,7 @@ pub use codes::{
     UnknownMariadbBulkIndicator, UnknownSessionStateType,
 };
 pub use const_bytes::{ConstBytes, ConstBytesValue};
+pub use constant_value::{Const, ConstValue};
 pub use constant::{ConstFault, ConstU8, ConstU32};
 pub use constant_value::{Const, ConstValue};
 pub use counted_bytes::{U8Bytes, U32Bytes};
