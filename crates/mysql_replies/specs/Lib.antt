@@ -1,0 +1,5 @@
+pub mod Text
+pub mod LocalInfile
+pub mod SqlState
+pub mod ServerError
+pub mod ProgressReport

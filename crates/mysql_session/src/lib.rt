@@ -1,0 +1,2 @@
+//! What changes in a session, as a server reports it.
+#![tactic(auto)]
