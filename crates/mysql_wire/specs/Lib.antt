@@ -6,6 +6,7 @@ pub mod Skip
 pub mod Constant
 pub mod LenEnc
 pub mod Writing
+pub mod LittleEndian
 pub mod Spelling
 pub mod Seq
 pub mod Null

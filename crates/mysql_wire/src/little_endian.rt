@@ -22,9 +22,9 @@ impl IntRepr for LeU16 {
 
     ghost form = { number 2 };
 
+    #[tactic(auto, using(crate::proofs::Numbers::numbers))]
     fn deserialize<'s>(buf: &mut ParseBuf<'_>) -> Result<u16, FaultOf<'s>> {
-        let front = buf.eat(2);
-        Ok(u16::from_le_bytes([front[0], front[1]]))
+        Ok(u16::from_le_bytes(buf.eat_array()))
     }
 
     ghost written = { le_bytes 2 };
@@ -55,9 +55,9 @@ impl IntRepr for LeU32 {
 
     ghost form = { number 4 };
 
+    #[tactic(auto, using(crate::proofs::Numbers::numbers))]
     fn deserialize<'s>(buf: &mut ParseBuf<'_>) -> Result<u32, FaultOf<'s>> {
-        let front = buf.eat(4);
-        Ok(u32::from_le_bytes([front[0], front[1], front[2], front[3]]))
+        Ok(u32::from_le_bytes(buf.eat_array()))
     }
 
     ghost written = { le_bytes 4 };
@@ -88,9 +88,10 @@ impl IntRepr for LeU24 {
 
     ghost form = { number 3 };
 
+    #[tactic(auto, using(crate::proofs::Numbers::numbers))]
     fn deserialize<'s>(buf: &mut ParseBuf<'_>) -> Result<u32, FaultOf<'s>> {
-        let front = buf.eat(3);
-        Ok(u32::from_le_bytes([front[0], front[1], front[2], 0]))
+        let [low, middle, high] = buf.eat_array::<3>();
+        Ok(u32::from_le_bytes([low, middle, high, 0]))
     }
 
     ghost written = { le_bytes 3 };
@@ -122,11 +123,9 @@ impl IntRepr for LeU64 {
 
     ghost form = { number 8 };
 
+    #[tactic(auto, using(crate::proofs::Numbers::numbers))]
     fn deserialize<'s>(buf: &mut ParseBuf<'_>) -> Result<u64, FaultOf<'s>> {
-        let front = buf.eat(8);
-        Ok(u64::from_le_bytes([
-            front[0], front[1], front[2], front[3], front[4], front[5], front[6], front[7],
-        ]))
+        Ok(u64::from_le_bytes(buf.eat_array()))
     }
 
     ghost written = { le_bytes 8 };
@@ -153,6 +152,7 @@ impl IntRepr for u8 {
 
     ghost form = { number 1 };
 
+    #[tactic(auto, using(crate::proofs::Numbers::numbers))]
     fn deserialize<'s>(buf: &mut ParseBuf<'_>) -> Result<u8, FaultOf<'s>> {
         Ok(buf.eat(1)[0])
     }
