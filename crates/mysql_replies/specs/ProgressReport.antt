@@ -66,3 +66,10 @@ abbrev pub progress_text : ProgressReport → List ℕ
 progress_text r =
     codes "Stage: " ++ (decimal (stage r) ++ (codes " of " ++ (decimal (max_stage r) ++ (codes " '" ++ (lossy_text (stage_info r) ++ (codes "'  "
     ++ (decimal (progress r / 1000) ++ (codes "." ++ (decimal (progress r % 1000 / 100) ++ (decimal (progress r % 100 / 10) ++ codes "% of stage done"))))))))))
+
+-- numbers that have their widths
+pub record ProgressReportFits (r : ProgressReport) : Type 0 where
+  pub stage : stage r < 2 ^ 8
+  pub max_stage : max_stage r < 2 ^ 8
+  pub progress : progress r < 2 ^ 24
+  pub stage_info : length (stage_info r) < 2 ^ 64

@@ -1,10 +1,10 @@
 -- An error that a server reports.
-use Rattle.std.specs.Prelude.{◌≡◌, ℕ, List, [], ◌∷◌, ◌++◌, Option, Some, None, Bool, codes, refl}
+use Rattle.std.specs.Prelude.{◌≡◌, ℕ, List, [], ◌∷◌, ◌++◌, Option, Some, None, Bool, true, false, codes, refl}
 use Rattle.std.specs.Fmt.{decimal}
 use Rattle.mysql_wire.specs.Form.{Form, ◌>>=◌, give, when, all_left}
 use Rattle.mysql_wire.specs.Writing.{joined}
 use Rattle.mysql_replies.specs.Text.{lossy_text}
-use Rattle.mysql_replies.specs.SqlState.{sql_state, sql_state_bytes, state_bytes}
+use Rattle.mysql_replies.specs.SqlState.{sql_state, sql_state_bytes, state_bytes, SqlStateFits}
 use Rattle.mysql_replies.specs.declared.sql_state.SqlState.{SqlState}
 use Rattle.mysql_replies.specs.declared.server_error.ServerError.{ServerError}
 
@@ -50,3 +50,13 @@ error_text_of code (Some state) message =
 
 abbrev pub error_text : ServerError → List ℕ
 error_text e = error_text_of e.code e.state e.message
+
+-- the state is there just where the reader is told so
+abbrev pub StateFits : Bool → Option SqlState → Type 0
+StateFits true (Some state) = SqlStateFits state
+StateFits true None = ⊥
+StateFits false (Some state) = ⊥
+StateFits false None = Unit {0}
+
+pub record ServerErrorFits (has_state : Bool) (e : ServerError) : Type 0 where
+  pub state : StateFits has_state (sql_state_of e)

@@ -32,3 +32,7 @@ sql_state_parts s = (35 ∷ []) ∷ state_bytes s ∷ []
 
 unfoldable pub sql_state_bytes : SqlState → List ℕ
 sql_state_bytes s = joined (sql_state_parts s)
+
+-- a state has five bytes
+pub record SqlStateFits (s : SqlState) : Type 0 where
+  pub state : length (state_bytes s) ≡ 5
