@@ -11,3 +11,7 @@ pub mod Spelling
 pub mod Seq
 pub mod Null
 pub mod Again
+pub mod Bare
+pub mod CountedBytes
+pub mod Text
+pub mod BytesAgain

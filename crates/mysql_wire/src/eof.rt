@@ -28,6 +28,12 @@ impl BytesRepr for EofBytes {
         Ok(ParseBuf::new(buf.alloc(), buf.eat_all()))
     }
 
+    ghost kept = { λ content. content };
+
+    fn kept(content: &[u8]) -> &[u8] {
+        content
+    }
+
     ghost written = { λ content. content };
 
     #[tactic(auto, unfolding(crate::specs::Writing::saturated))]

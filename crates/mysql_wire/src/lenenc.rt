@@ -103,6 +103,12 @@ impl BytesRepr for LenEnc {
 
     ghost use Rattle.mysql_wire.specs.LenEnc.{lenenc_string_bytes};
 
+    ghost kept = { λ content. content };
+
+    fn kept(content: &[u8]) -> &[u8] {
+        content
+    }
+
     ghost written = { lenenc_string_bytes };
 
     #[tactic(auto, unfolding(crate::specs::Writing::saturated, crate::specs::LenEnc::lenenc_string_bytes, crate::specs::LenEnc::lenenc_bytes, crate::specs::Writing::le_bytes))]

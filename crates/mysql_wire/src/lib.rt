@@ -1,27 +1,33 @@
 //! The wire forms of the MySQL protocol.
 #![tactic(auto)]
 
+mod bare;
 mod block;
 mod buf;
 mod bytes;
 mod constant;
+mod counted_bytes;
 mod eof;
 mod fault;
 mod int;
 mod lenenc;
 mod little_endian;
+mod null;
 mod proto;
 mod seq;
 mod skip;
 
+pub use bare::BareBytes;
 pub use buf::ParseBuf;
 pub use bytes::{BytesRepr, RawBytes};
 pub use constant::{ConstFault, ConstU8};
+pub use counted_bytes::{U8Bytes, U32Bytes};
 pub use eof::EofBytes;
 pub use fault::{Fault, FaultKind, FaultOf};
 pub use int::{IntRepr, IntWidth, RawInt};
 pub use lenenc::LenEnc;
 pub use little_endian::{LeU16, LeU24, LeU32, LeU64};
+pub use null::NullBytes;
 pub use proto::{AnyWidth, Fixed, MyDeserialize, MySerialize, Width, total_len};
 pub use seq::{Seq, SeqRepr, Unknown};
 pub use skip::Skip;
