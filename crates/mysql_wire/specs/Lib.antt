@@ -15,3 +15,8 @@ pub mod Bare
 pub mod CountedBytes
 pub mod Text
 pub mod BytesAgain
+pub mod Flags
+pub mod ConstantValue
+pub mod Codes
+pub mod SessionStateType
+pub mod ColumnType

@@ -5,10 +5,13 @@ mod bare;
 mod block;
 mod buf;
 mod bytes;
+mod codes;
 mod constant;
 mod counted_bytes;
+mod constant_value;
 mod eof;
 mod fault;
+mod flags;
 mod int;
 mod lenenc;
 mod little_endian;
@@ -20,10 +23,16 @@ mod skip;
 pub use bare::BareBytes;
 pub use buf::ParseBuf;
 pub use bytes::{BytesRepr, RawBytes};
+pub use codes::{ColumnType, SessionStateType, UnknownColumnType, UnknownSessionStateType};
 pub use constant::{ConstFault, ConstU8};
 pub use counted_bytes::{U8Bytes, U32Bytes};
+pub use constant_value::{Const, ConstValue};
 pub use eof::EofBytes;
 pub use fault::{Fault, FaultKind, FaultOf};
+pub use flags::{
+    CapabilityFlags, CapabilityNames, ColumnFlagNames, ColumnFlags, FlagNames, FlagWord,
+    StatusFlags, StatusNames,
+};
 pub use int::{IntRepr, IntWidth, RawInt};
 pub use lenenc::LenEnc;
 pub use little_endian::{LeU16, LeU24, LeU32, LeU64};

@@ -1,0 +1,84 @@
+//! Flag words and coded values in the bytes.
+
+ghost use Rattle.std.specs.Prelude.{false, ◌≡◌, ◌≤◌, ◌+◌, ◌++◌, length, List, ℕ, Option, Some, None};
+ghost use Rattle.mysql_wire.specs.Form.{Form};
+ghost use Rattle.mysql_wire.specs.Reading.{Answers, IsTail, HasBytes};
+
+use crate::buf::ParseBuf;
+use crate::fault::FaultOf;
+use crate::int::{IntRepr, IntWidth};
+use crate::proto::{MyDeserialize, MySerialize};
+use std::marker::PhantomData;
+
+/// A value that lies in the bytes as an integer.
+pub trait ConstValue<P>: Sized {
+    /// The integer of a value.
+    ghost code: { Self → P };
+
+    /// The value of an integer, where there is one.
+    ghost of_code: { P → Option Self };
+
+    /// What an integer without a value is refused with.
+    const MESSAGE: &'static str;
+
+    /// The integer.
+    fn code(&self) -> P
+        ensures { result ≡ code self.now };
+
+    /// The value, where there is one.
+    fn from_code(number: P) -> Option<Self>
+        ensures { result ≡ of_code number };
+
+    /// A value is the one of its integer.
+    ghost read_back: { (value : Self) → of_code (code value) ≡ Some value };
+}
+
+/// A value that lies in the bytes as the integer `U`.
+#[derive_where(Clone, Copy, PartialEq, Eq, Hash, Debug, Default; T)]
+pub struct Const<T, U>(pub T, PhantomData<U>);
+
+impl<T, U> Const<T, U> {
+    /// The value in the bytes.
+    pub fn new(value: T) -> Self
+        ensures { result.0 ≡ value }
+    {
+        Const(value, PhantomData)
+    }
+}
+
+impl<'de, T: ConstValue<U::Primitive>, U: IntRepr> MyDeserialize<'de> for Const<T, U> {
+    const SIZE: Option<usize> = U::SIZE;
+
+    type Size = IntWidth<U>;
+
+    ghost takes_memory = { false };
+
+    type Ctx = ();
+
+    ghost use Rattle.mysql_wire.specs.ConstantValue.{coded, size-coded};
+
+    ghost form = { λ _. coded T.of_code U.form };
+
+    #[tactic(auto, unfolding(crate::specs::ConstantValue::coded))]
+    fn deserialize<'s>(_ctx: (), buf: &mut ParseBuf<'de>) -> Result<Self, FaultOf<'s>> {
+        match T::from_code(U::deserialize(buf)?) {
+            Some(value) => Ok(Const::new(value)),
+            None => Err(FaultOf::InvalidData(T::MESSAGE)),
+        }
+    }
+
+    ghost size_is = { λ _. size-coded _ _ T.of_code U.form U.SIZE U.size_is };
+}
+
+impl<T: ConstValue<U::Primitive>, U: IntRepr> MySerialize for Const<T, U> {
+    ghost bytes = { λ c. U.written (T.code c.0) };
+
+    #[tactic(auto, unfolding(crate::specs::Writing::saturated))]
+    fn defined_len(&self) -> usize {
+        U::written_len(self.0.code())
+    }
+
+    fn append(&self, out: &mut Vec<u8>) {
+        U::append(self.0.code(), out)
+    }
+}
