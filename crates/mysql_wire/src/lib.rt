@@ -13,6 +13,7 @@ mod eof;
 mod fault;
 mod flags;
 mod int;
+pub mod laws;
 mod lenenc;
 mod little_endian;
 mod null;
@@ -27,6 +28,7 @@ pub use codes::{ColumnType, SessionStateType, UnknownColumnType, UnknownSessionS
 pub use constant::{ConstFault, ConstU8};
 pub use counted_bytes::{U8Bytes, U32Bytes};
 pub use constant_value::{Const, ConstValue};
+pub use constant::{ConstFault, ConstU8, ConstU32};
 pub use eof::EofBytes;
 pub use fault::{Fault, FaultKind, FaultOf};
 pub use flags::{
