@@ -9,6 +9,7 @@ pub mod Writing
 pub mod LittleEndian
 pub mod Spelling
 pub mod Seq
+pub mod Many
 pub mod Null
 pub mod Again
 pub mod Bare
@@ -20,3 +21,4 @@ pub mod ConstantValue
 pub mod Codes
 pub mod SessionStateType
 pub mod ColumnType
+pub mod ListAgain
