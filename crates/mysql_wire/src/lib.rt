@@ -26,7 +26,6 @@ pub use bare::BareBytes;
 pub use buf::ParseBuf;
 pub use bytes::{BytesRepr, RawBytes};
 pub use codes::{ColumnType, SessionStateType, UnknownColumnType, UnknownSessionStateType};
-pub use constant::{ConstFault, ConstU8};
 pub use counted_bytes::{U8Bytes, U32Bytes};
 pub use constant_value::{Const, ConstValue};
 pub use constant::{ConstFault, ConstU8, ConstU32};
