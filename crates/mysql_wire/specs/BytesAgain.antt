@@ -8,8 +8,7 @@ use Rattle.mysql_wire.specs.Int.{byte, le_u32, raw_int}
 use Rattle.mysql_wire.specs.Null.{HasNoZero, null_string, null_bytes, before_zero}
 use Rattle.mysql_wire.specs.CountedBytes.{counted_bytes, counted_bytes_of}
 use Rattle.mysql_wire.specs.Bare.{bare}
-use Rattle.mysql_wire.specs.Spelling.{IsSpelling, le_u32-again}
-use Rattle.mysql_wire.specs.Again.{byte-again}
+use Rattle.mysql_wire.specs.Spelling.{IsSpelling, byte-again, le_u32-again}
 use Rattle.mysql_wire.specs.Writing.{le_bytes}
 
 -- ---- a zero at the end
