@@ -9,11 +9,13 @@ mod codes;
 mod constant;
 mod counted_bytes;
 mod constant_value;
+mod either;
 mod eof;
 mod fault;
 mod flags;
 mod int;
 pub mod laws;
+mod items;
 mod lenenc;
 mod little_endian;
 mod null;
@@ -29,6 +31,7 @@ pub use codes::{ColumnType, SessionStateType, UnknownColumnType, UnknownSessionS
 pub use counted_bytes::{U8Bytes, U32Bytes};
 pub use constant_value::{Const, ConstValue};
 pub use constant::{ConstFault, ConstU8, ConstU32};
+pub use either::Either;
 pub use eof::EofBytes;
 pub use fault::{Fault, FaultKind, FaultOf};
 pub use flags::{
@@ -36,6 +39,7 @@ pub use flags::{
     StatusFlags, StatusNames,
 };
 pub use int::{IntRepr, IntWidth, RawInt};
+pub use items::{append_items, items_len};
 pub use lenenc::LenEnc;
 pub use little_endian::{LeU16, LeU24, LeU32, LeU64};
 pub use null::NullBytes;
