@@ -1,4 +1,3 @@
-pub mod Text
 pub mod LocalInfile
 pub mod SqlState
 pub mod ServerError

@@ -7,7 +7,7 @@ use Rattle.mysql_wire.specs.Form.{Form, ◌>>=◌, give, block}
 use Rattle.mysql_wire.specs.Int.{byte, le_u24, raw_int}
 use Rattle.mysql_wire.specs.LenEnc.{lenenc_string, lenenc_string_bytes}
 use Rattle.mysql_wire.specs.Writing.{le_bytes, joined}
-use Rattle.mysql_replies.specs.Text.{lossy_text}
+use Rattle.mysql_wire.specs.Text.{lossy_text}
 use Rattle.mysql_replies.specs.declared.progress_report.ProgressReport.{ProgressReport}
 
 -- the stage, the last stage, the progress in thousandths of a percent, and the bytes of the stage's text

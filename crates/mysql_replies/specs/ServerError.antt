@@ -3,7 +3,7 @@ use Rattle.std.specs.Prelude.{◌≡◌, ℕ, List, [], ◌∷◌, ◌++◌, Opt
 use Rattle.std.specs.Fmt.{decimal}
 use Rattle.mysql_wire.specs.Form.{Form, ◌>>=◌, give, when, all_left}
 use Rattle.mysql_wire.specs.Writing.{joined}
-use Rattle.mysql_replies.specs.Text.{lossy_text}
+use Rattle.mysql_wire.specs.Text.{lossy_text}
 use Rattle.mysql_replies.specs.SqlState.{sql_state, sql_state_bytes, state_bytes, SqlStateFits}
 use Rattle.mysql_replies.specs.declared.sql_state.SqlState.{SqlState}
 use Rattle.mysql_replies.specs.declared.server_error.ServerError.{ServerError}

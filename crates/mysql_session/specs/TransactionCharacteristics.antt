@@ -1,7 +1,7 @@
 -- The characteristics of a transaction.
-use Rattle.std.specs.Prelude.{◌≡◌, ℕ, List, None, refl}
+use Rattle.std.specs.Prelude.{◌≡◌, ℕ, ◌<◌, ◌^◌, List, length, None}
 use Rattle.mysql_wire.specs.Form.{Form, map}
-use Rattle.mysql_wire.specs.LenEnc.{lenenc_string, lenenc_string_bytes}
+use Rattle.mysql_wire.specs.LenEnc.{lenenc_string, lenenc_string_bytes, size-lenenc_string}
 use Rattle.mysql_session.specs.declared.transaction_characteristics.TransactionCharacteristics.{TransactionCharacteristics}
 
 -- the bytes of the statements
@@ -18,8 +18,12 @@ transaction_characteristics = map transaction_characteristics_of lenenc_string
 
 pub size-transaction_characteristics : transaction_characteristics.size ≡ None
 unfolding transaction_characteristics
-size-transaction_characteristics = refl
+size-transaction_characteristics = size-lenenc_string
 
 -- its shortest spelling
 abbrev pub transaction_characteristics_bytes : TransactionCharacteristics → List ℕ
 transaction_characteristics_bytes x = lenenc_string_bytes (characteristics x)
+
+-- a length that a number of eight bytes can tell
+pub record TransactionCharacteristicsFits (x : TransactionCharacteristics) : Type 0 where
+  pub characteristics : length (characteristics x) < 2 ^ 64

@@ -1,7 +1,7 @@
 -- A change that has no type of its own.
-use Rattle.std.specs.Prelude.{◌≡◌, ℕ, List, None, refl}
+use Rattle.std.specs.Prelude.{◌≡◌, ℕ, ◌<◌, ◌^◌, List, length, None}
 use Rattle.mysql_wire.specs.Form.{Form, map}
-use Rattle.mysql_wire.specs.LenEnc.{lenenc_string, lenenc_string_bytes}
+use Rattle.mysql_wire.specs.LenEnc.{lenenc_string, lenenc_string_bytes, size-lenenc_string}
 use Rattle.mysql_session.specs.declared.unsupported.Unsupported.{Unsupported}
 
 -- its bytes
@@ -18,8 +18,12 @@ unsupported = map unsupported_of lenenc_string
 
 pub size-unsupported : unsupported.size ≡ None
 unfolding unsupported
-size-unsupported = refl
+size-unsupported = size-lenenc_string
 
 -- its shortest spelling
 abbrev pub unsupported_bytes : Unsupported → List ℕ
 unsupported_bytes x = lenenc_string_bytes (content x)
+
+-- a length that a number of eight bytes can tell
+pub record UnsupportedFits (x : Unsupported) : Type 0 where
+  pub content : length (content x) < 2 ^ 64

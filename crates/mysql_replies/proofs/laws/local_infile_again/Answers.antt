@@ -1,5 +1,5 @@
 use Rattle.mysql_replies.proofs.LocalInfileAgain.{local_infile-again}
 use Rattle.mysql_replies.proofs.laws.local_infile_again.Goals as goal
 
-pub returns-clause-spelled : goal.returns-clause-spelled
-returns-clause-spelled c p = local_infile-again p
+pub returns : goal.returns
+returns c = record { spelled = local_infile-again }

@@ -1,5 +1,5 @@
 use Rattle.mysql_replies.proofs.ProgressReportAgain.{progress_report-again}
 use Rattle.mysql_replies.proofs.laws.progress_report_again.Goals as goal
 
-pub returns-clause-spelled : goal.returns-clause-spelled
-returns-clause-spelled c r rest fits = progress_report-again r fits rest
+pub returns : goal.returns
+returns c = record { spelled = progress_report-again }
