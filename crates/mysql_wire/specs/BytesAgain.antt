@@ -1,13 +1,16 @@
 -- What is written of a byte string is read again.
-use Rattle.std.specs.Prelude.{◌≡◌, ℕ, zero, suc, ◌<◌, ◌≤◌, ◌^◌, List, [], ◌∷◌, ◌++◌, length, take, refl}
-use Rattle.std.proofs.Common.{sym, ap, ◌∙◌, arith, append_assoc}
+use Rattle.std.specs.Prelude.{◌≡◌, ℕ, zero, suc, ◌<◌, ◌≤◌, ◌^◌, List, [], ◌∷◌, ◌++◌, length, take, Some, true, nat_eq, refl}
+use Rattle.std.proofs.Common.{sym, ap, ◌∙◌, arith, append_assoc, eq-eqb}
 use Rattle.std.proofs.lemmas.List.{append-nil, take_all}
 use Rattle.mysql_wire.specs.declared.int.RawInt.{RawInt}
 use Rattle.mysql_wire.specs.Form.{Form, all_left, bytes}
 use Rattle.mysql_wire.specs.Int.{byte, le_u32, raw_int}
 use Rattle.mysql_wire.specs.Null.{HasNoZero, null_string, null_bytes, before_zero}
 use Rattle.mysql_wire.specs.CountedBytes.{counted_bytes, counted_bytes_of}
+use Rattle.std.specs.Cmp.Lexicographic.{pointwise}
 use Rattle.mysql_wire.specs.Bare.{bare}
+use Rattle.mysql_wire.specs.ConstBytes.{const_bytes, const_value}
+use Rattle.mysql_wire.specs.declared.const_bytes.ConstBytes.{ConstBytes}
 use Rattle.mysql_wire.specs.Spelling.{IsSpelling, byte-again, le_u32-again}
 use Rattle.mysql_wire.specs.Writing.{le_bytes}
 
@@ -49,3 +52,21 @@ bare-again most n content len short rest = rw (take_all most content (omega (ari
 
 pub all_left-again : (content : List ℕ) → all_left.Spells content (content ++ []) []
 all_left-again content = (append-nil content, refl)
+
+-- ---- a length that the type tells
+
+pub bytes-again : (n : ℕ) (content : List ℕ) → length content ≡ n → IsSpelling (bytes n) content content
+unfolding bytes
+bytes-again n content len rest = (len, refl)
+
+same-bytes : (value : List ℕ) → pointwise nat_eq value value ≡ true
+same-bytes [] = refl
+same-bytes (b ∷ value) = rw (eq-eqb b b refl) (same-bytes value)
+
+pub const_bytes-again : {T : Type 0} (len : ℕ) (value : List ℕ) (v : ConstBytes T len) → length value ≡ len → IsSpelling (const_bytes len value) v value
+unfolding const_bytes bytes
+const_bytes-again {T} len value v long rest =
+    let e : const_value {T = T} len value value ≡ Some v = rw (same-bytes value) refl in
+    (value, e, (long, refl))
+
+pub ruleset byte_strings_again = (null_string-again, u8_bytes-again, u32_bytes-again, bare-again, all_left-again, bytes-again, const_bytes-again)

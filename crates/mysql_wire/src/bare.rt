@@ -30,6 +30,7 @@ impl<const MAX: usize> BytesRepr for BareBytes<MAX> {
 
     ghost form = { bare };
 
+    #[inline(always)]
     fn deserialize<'s, 'de>(
         n: usize,
         buf: &mut ParseBuf<'de>,
@@ -39,17 +40,20 @@ impl<const MAX: usize> BytesRepr for BareBytes<MAX> {
 
     ghost kept = { take MAX };
 
+    #[inline(always)]
     fn kept(content: &[u8]) -> &[u8] {
         first_bytes(content, MAX)
     }
 
     ghost written = { take MAX };
 
+    #[inline(always)]
     #[tactic(auto, unfolding(crate::specs::Writing::saturated))]
     fn written_len(content: &[u8]) -> usize {
         Self::kept(content).len()
     }
 
+    #[inline(always)]
     fn append(content: &[u8], out: &mut Vec<u8>) {
         out.extend_from_slice(Self::kept(content)).unwrap();
     }

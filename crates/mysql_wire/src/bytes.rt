@@ -69,6 +69,7 @@ impl<'a, R> Model for RawBytes<'a, R> {
 }
 
 impl<'a, R> RawBytes<'a, R> {
+    #[inline(always)]
     pub fn new(content: CowSlice<'a, u8>) -> Self
         ensures { result ≡ cow_slice_items content.entry }
     {
@@ -76,6 +77,7 @@ impl<'a, R> RawBytes<'a, R> {
     }
 
     /// The content.
+    #[inline(always)]
     pub fn as_bytes(&self) -> &[u8]
         ensures value { result.now ≡ self.now }
     {
@@ -101,6 +103,7 @@ impl<'a, R> RawBytes<'a, R> {
 
 impl<R: BytesRepr> RawBytes<'_, R> {
     /// How many bytes of the content are written: all that the form can hold.
+    #[inline(always)]
     pub fn len(&self) -> usize
         ensures { result ≡ length (R.kept self.now) }
     {
@@ -108,6 +111,7 @@ impl<R: BytesRepr> RawBytes<'_, R> {
     }
 
     /// Whether no byte of the content is written.
+    #[inline(always)]
     pub fn is_empty(&self) -> bool
         ensures { IsTrue result ↔ (R.kept self.now ≡ []) }
     {
@@ -184,6 +188,7 @@ impl<'de, R: BytesRepr> MyDeserialize<'de> for RawBytes<'de, R> {
 
     ghost form = { λ ctx. R.form ctx };
 
+    #[inline(always)]
     fn deserialize<'s>(ctx: R::Ctx, buf: &mut ParseBuf<'de>) -> Result<Self, FaultOf<'s>> {
         let mut content = R::deserialize(ctx, buf)?;
         Ok(RawBytes(CowSlice::Borrowed(content.eat_all()), PhantomData))
@@ -195,10 +200,12 @@ impl<'de, R: BytesRepr> MyDeserialize<'de> for RawBytes<'de, R> {
 impl<R: BytesRepr> MySerialize for RawBytes<'_, R> {
     ghost bytes = { λ content. R.written content };
 
+    #[inline(always)]
     fn defined_len(&self) -> usize {
         R::written_len(self.as_bytes())
     }
 
+    #[inline(always)]
     fn append(&self, out: &mut Vec<u8>) {
         R::append(self.as_bytes(), out)
     }

@@ -24,6 +24,7 @@ impl BytesRepr for U8Bytes {
 
     ghost form = { λ _. counted_bytes byte };
 
+    #[inline(always)]
     #[tactic(auto, using(crate::proofs::Tails::tails), unfolding(crate::specs::CountedBytes::counted_bytes))]
     fn deserialize<'s, 'de>(
         _ctx: (),
@@ -37,17 +38,20 @@ impl BytesRepr for U8Bytes {
 
     ghost kept = { take 255 };
 
+    #[inline(always)]
     fn kept(content: &[u8]) -> &[u8] {
         first_bytes(content, u8::MAX as usize)
     }
 
     ghost written = { counted_bytes_of 1 255 };
 
+    #[inline(always)]
     #[tactic(auto, using(crate::proofs::CountedBytes::cuts), unfolding(crate::specs::Writing::saturated, crate::specs::Writing::le_bytes, crate::specs::CountedBytes::counted_bytes_of))]
     fn written_len(content: &[u8]) -> usize {
         1 + Self::kept(content).len()
     }
 
+    #[inline(always)]
     #[tactic(auto, unfolding(crate::specs::CountedBytes::counted_bytes_of))]
     fn append(content: &[u8], out: &mut Vec<u8>) {
         let kept = first_bytes(content, u8::MAX as usize);
@@ -71,6 +75,7 @@ impl BytesRepr for U32Bytes {
 
     ghost form = { λ _. counted_bytes le_u32 };
 
+    #[inline(always)]
     #[tactic(auto, using(crate::proofs::Tails::tails), unfolding(crate::specs::CountedBytes::counted_bytes))]
     fn deserialize<'s, 'de>(
         _ctx: (),
@@ -84,17 +89,20 @@ impl BytesRepr for U32Bytes {
 
     ghost kept = { take 4294967295 };
 
+    #[inline(always)]
     fn kept(content: &[u8]) -> &[u8] {
         first_bytes(content, u32::MAX as usize)
     }
 
     ghost written = { counted_bytes_of 4 4294967295 };
 
+    #[inline(always)]
     #[tactic(auto, using(crate::proofs::CountedBytes::cuts), unfolding(crate::specs::Writing::saturated, crate::specs::Writing::le_bytes, crate::specs::CountedBytes::counted_bytes_of))]
     fn written_len(content: &[u8]) -> usize {
         4 + Self::kept(content).len()
     }
 
+    #[inline(always)]
     #[tactic(auto, unfolding(crate::specs::CountedBytes::counted_bytes_of))]
     fn append(content: &[u8], out: &mut Vec<u8>) {
         let kept = first_bytes(content, u32::MAX as usize);

@@ -23,6 +23,7 @@ impl BytesRepr for NullBytes {
 
     ghost form = { λ _. null_string };
 
+    #[inline(always)]
     #[tactic(auto, using(crate::proofs::Zeros::null_strings))]
     fn deserialize<'s, 'de>(
         _ctx: (),
@@ -34,6 +35,7 @@ impl BytesRepr for NullBytes {
 
     ghost kept = { before_zero };
 
+    #[inline(always)]
     #[tactic(auto, using(crate::proofs::Zeros::befores))]
     fn kept(content: &[u8]) -> &[u8] {
         match memchr(0, content) {
@@ -46,11 +48,13 @@ impl BytesRepr for NullBytes {
 
     ghost written = { null_bytes };
 
+    #[inline(always)]
     #[tactic(auto, unfolding(crate::specs::Writing::saturated))]
     fn written_len(content: &[u8]) -> usize {
         Self::kept(content).len().saturating_add(1)
     }
 
+    #[inline(always)]
     fn append(content: &[u8], out: &mut Vec<u8>) {
         out.extend_from_slice(Self::kept(content)).unwrap();
         out.push(0).unwrap();
