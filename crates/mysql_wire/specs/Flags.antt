@@ -1,12 +1,14 @@
 -- Flag words.
-use Rattle.std.specs.Prelude.{ℕ, Bool, Option, Some, ◌==◌, bit_and}
+use Rattle.std.specs.Prelude.{◌≡◌, ℕ, ◌^◌, ◌<◌, Bool, Option, Some, ◌==◌, bit_and, refl}
 use Rattle.mysql_wire.specs.declared.constant_value.Const.{Const}
 use Rattle.mysql_wire.specs.declared.flags.FlagWord.{FlagWord}
 use Rattle.mysql_wire.specs.declared.flags.capability_flags.CapabilityNames.{CapabilityNames}
 use Rattle.mysql_wire.specs.declared.flags.column_flags.ColumnFlagNames.{ColumnFlagNames}
 use Rattle.mysql_wire.specs.declared.flags.status_flags.StatusNames.{StatusNames}
 use Rattle.mysql_wire.specs.Form.{Form, number}
-use Rattle.mysql_wire.specs.ConstantValue.{coded}
+use Rattle.mysql_wire.specs.ConstantValue.{coded, coded-again}
+use Rattle.mysql_wire.specs.Spelling.{IsSpelling, number-again}
+use Rattle.mysql_wire.specs.Writing.{le_bytes}
 
 -- every bit of the mask is set
 abbrev pub has : ℕ → ℕ → Bool
@@ -19,6 +21,10 @@ flags_of bits = Some (record { 0 = bits; 1 = record {} })
 -- a flag word of so many bytes, the low one first: every bit is kept
 abbrev pub flag_word : {N U : Type 0} → ℕ → Form (Const (FlagWord N ℕ) U)
 flag_word width = coded flags_of (number width)
+
+-- what is written of a flag word is read again
+pub flag_word-again : {N U : Type 0} (width : ℕ) (v : Const (FlagWord N ℕ) U) → v.0.0 < 256 ^ width → IsSpelling (flag_word width) v (le_bytes width v.0.0)
+flag_word-again width v lt = coded-again flags_of (number width) v.0.0 v (le_bytes width v.0.0) refl (number-again width v.0.0 lt)
 
 abbrev pub CapabilityFlags : Type 0
 CapabilityFlags = FlagWord CapabilityNames ℕ
