@@ -16,6 +16,7 @@ mod many;
 mod proto;
 mod seq;
 mod skip;
+mod varlen;
 
 pub use buf::ParseBuf;
 pub use bytes::{BytesRepr, RawBytes};
@@ -31,3 +32,4 @@ pub use many::read_all;
 pub use proto::{AnyWidth, Fixed, MyDeserialize, MySerialize, Width, total_len};
 pub use seq::{Seq, SeqRepr, Unknown};
 pub use skip::Skip;
+pub use varlen::{VarLen, read_varlen_uint, varlen_uint_size, write_varlen_uint};
