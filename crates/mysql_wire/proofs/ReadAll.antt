@@ -27,7 +27,7 @@ module _ {A : Type 0} (f : Form A) (front : List A) (bytes : List ℕ) (total : 
   pub one-more : (x : A) (after : List ℕ) → length after < length bytes → f.reads bytes ≡ Ok (x, after) → with_front (front ++ x ∷ []) ((many f).reads after) ≡ total
   one-more x after lt h =
       let one : with_front front ((many f).reads bytes) ≡ with_front (front ++ x ∷ []) ((many f).reads after) =
-          rw (opened f bytes (shorter-is_some after bytes lt), h, lt-ltb _ _ lt) (regroup front x ((many f).reads after)) in
+      rw (opened f bytes (shorter-is_some after bytes lt), h, lt-ltb _ _ lt) (regroup front x ((many f).reads after)) in
       sym one ∙ so_far
 
   pub no-more : bytes ≡ [] → total ≡ Ok (front, [])

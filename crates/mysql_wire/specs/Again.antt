@@ -32,3 +32,5 @@ unfolding lenenc_string lenenc_string_bytes raw bytes
 lenenc_string-again content lt rest =
     let n = length content in
     rw append_assoc (n, content ++ rest, (raw_int n, refl, (n, refl, lenenc-again n lt (content ++ rest))), (refl, refl))
+
+pub ruleset lenenc_again = (lenenc-again, lenenc_string-again)

@@ -14,4 +14,15 @@ pub mod Either
 pub mod Varlen
 pub mod Null
 pub mod Again
+pub mod Flags
+pub mod ConstantValue
+pub mod Codes
+pub mod SessionStateType
+pub mod ColumnType
+pub mod Bare
+pub mod CountedBytes
+pub mod Text
+pub mod BytesAgain
+pub mod ConstBytes
 pub mod ListAgain
+pub mod Once

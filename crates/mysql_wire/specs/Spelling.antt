@@ -71,6 +71,8 @@ le_u32-again n lt = raw-again _ (number 4) n (le_bytes 4 n) (number-again 4 n lt
 pub le_u64-again : (n : ℕ) → n < 2 ^ 64 → IsSpelling le_u64 (raw_int n) (le_bytes 8 n)
 le_u64-again n lt = raw-again _ (number 8) n (le_bytes 8 n) (number-again 8 n lt)
 
+pub ruleset numbers_again = (byte-again, le_u16-again, le_u24-again, le_u32-again, le_u64-again)
+
 pub skip-again : (n : ℕ) (v : Skip n) → IsSpelling (skip n) v (replicate n 0)
 unfolding skip bytes
 skip-again n v rest = (replicate n 0, refl, (length-replicate n 0, refl))
