@@ -60,4 +60,5 @@ pub use skip::Skip;
 
 #[cfg(test)]
 mod tests;
+
 pub use varlen::{VarLen, read_varlen_uint, varlen_uint_size, write_varlen_uint};
