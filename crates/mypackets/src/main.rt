@@ -1,6 +1,7 @@
 //! Reads MySQL packets given as hexadecimal digits, and writes what they hold.
 #![tactic(auto)]
 
+use std::io::ErrorKind;
 use std::process::ExitCode;
 use std::{env, io};
 
@@ -13,12 +14,14 @@ fn words(rt: &HostRuntime) -> io::Result<Vec<String>> {
 }
 
 fn main(rt: HostRuntime) -> ExitCode {
-    let words = words(&rt).unwrap_or_else(|_| Vec::new(rt.alloc()));
-    let status = mysql_packets::run(
-        rt.alloc(),
-        words.as_slice(),
-        &mut rt.reader(),
-        &mut io::writer(&rt),
-    );
+    let mut writer = io::writer(&rt);
+    let status = match words(&rt) {
+        Ok(words) => mysql_packets::run(rt.alloc(), &words, &mut rt.reader(), &mut writer),
+        Err(error) if error.kind() == ErrorKind::OutOfMemory => {
+            mysql_packets::refuse_memory(&mut writer)
+        }
+        // A word that is no text is a bad call.
+        Err(_) => mysql_packets::run(rt.alloc(), &[], &mut rt.reader(), &mut writer),
+    };
     ExitCode::from(status)
 }

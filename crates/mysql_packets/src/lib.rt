@@ -9,7 +9,7 @@ mod lines;
 pub mod packets;
 mod program;
 
-pub use program::run;
+pub use program::{refuse_memory, run};
 
 #[cfg(test)]
 mod tests;

@@ -31,8 +31,15 @@ pub fn run<R: Read, W: Write>(alloc: Global, args: &[String], _reader: &mut R, w
     };
     match command.answer(alloc) {
         Ok(answer) => give(writer, answer.text(), answer.status()),
-        Err(_) => give(writer, "refused: Memory\n", 1),
+        Err(_) => refuse_memory(writer),
     }
+}
+
+/// Writes that a growth was refused, `refused: Memory`, and answers 1, or 3 where the write failed.
+pub fn refuse_memory<W: Write>(writer: &mut W) -> u8
+    ensures value { IsGiven out_of_memory (W.contents writer.old) (W.contents writer.new) result }
+{
+    give(writer, "refused: Memory\n", 1)
 }
 
 /// Writes the lines, and answers the status, or 3 where the write failed.

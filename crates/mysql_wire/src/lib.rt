@@ -25,18 +25,17 @@ mod null;
 mod proto;
 mod seq;
 mod skip;
+mod varlen;
 
 pub use bare::BareBytes;
 pub use bitflags::Flags;
 pub use buf::ParseBuf;
 pub use bytes::{BytesRepr, RawBytes};
-pub use codes::{ColumnType, SessionStateType, UnknownColumnType, UnknownSessionStateType};
 pub use codes::{
     ColumnType, MariadbBulkIndicator, SessionStateType, UnknownColumnType,
     UnknownMariadbBulkIndicator, UnknownSessionStateType,
 };
 pub use const_bytes::{ConstBytes, ConstBytesValue};
-pub use constant_value::{Const, ConstValue};
 pub use constant::{ConstFault, ConstU8, ConstU32};
 pub use constant_value::{Const, ConstValue};
 pub use counted_bytes::{U8Bytes, U32Bytes};
@@ -61,3 +60,5 @@ pub use skip::Skip;
 
 #[cfg(test)]
 mod tests;
+
+pub use varlen::{VarLen, read_varlen_uint, varlen_uint_size, write_varlen_uint};
