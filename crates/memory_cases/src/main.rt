@@ -5,10 +5,15 @@
 
 mod bench;
 mod counted;
+mod program;
 mod raw_bytes;
+mod replies;
 mod seq;
+mod session;
 mod shown;
 mod stmt;
+mod values;
+mod varlen;
 
 use bench::{Asked, Bench};
 use std::process::ExitCode;
@@ -28,7 +33,12 @@ fn run(rt: &(impl Env + Print + AllocGlobal)) -> io::Result<ExitCode> {
     let mut bench = Bench::new(rt.alloc(), asked);
     raw_bytes::cases(&mut bench)?;
     seq::cases(&mut bench)?;
+    varlen::cases(&mut bench)?;
+    values::cases(&mut bench)?;
+    session::cases(&mut bench)?;
+    replies::cases(&mut bench)?;
     stmt::cases(&mut bench)?;
+    program::cases(&mut bench)?;
     rt.print(bench.lines())?;
     Ok(ExitCode::SUCCESS)
 }
