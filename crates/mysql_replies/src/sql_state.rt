@@ -61,14 +61,12 @@ impl<'de> MyDeserialize<'de> for SqlState {
 
     ghost form = { λ _. spec.sql_state };
 
-    #[tactic(auto, using(mysql_wire::proofs::Blocks::blocks), unfolding(mysql_wire::specs::Form::bytes, crate::specs::SqlState::sql_state))]
+    #[tactic(auto, using(mysql_wire::proofs::Blocks::blocks), unfolding(crate::specs::SqlState::sql_state))]
     fn deserialize<'s>(_ctx: (), buf: &mut ParseBuf<'de>) -> Result<Self, FaultOf<'s>> {
         let mut fields: ParseBuf<'de> = buf.parse(6)?;
-        let marker = fields.parse_unchecked(())?;
-        let state = fields.eat(5);
         Ok(SqlState {
-            marker,
-            state: [state[0], state[1], state[2], state[3], state[4]],
+            marker: fields.parse_unchecked(())?,
+            state: fields.parse_unchecked(())?,
         })
     }
 
@@ -85,7 +83,6 @@ impl MySerialize for SqlState {
 
     #[tactic(auto, unfolding(crate::specs::SqlState::sql_state_bytes))]
     fn append(&self, out: &mut Vec<u8>) {
-        append_all!(out; self.marker);
-        out.extend_from_slice(&self.state).unwrap();
+        append_all!(out; self.marker, self.state);
     }
 }
