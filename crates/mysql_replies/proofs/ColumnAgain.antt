@@ -1,20 +1,16 @@
 use Rattle.std.proofs.Common.{◌≡◌, ◌<◌, ◌^◌, ℕ, List, [], ◌∷◌, ◌++◌, length, refl, arith}
 use Rattle.mysql_wire.specs.Again.{lenenc_string-again}
 use Rattle.mysql_wire.specs.BytesAgain.{const_bytes-again}
-use Rattle.mysql_wire.specs.ColumnType.{column_type_code, column_type_of, column_type-back}
-use Rattle.mysql_wire.specs.ConstantValue.{coded-again}
+use Rattle.mysql_wire.specs.ColumnType.{column_type-again}
 use Rattle.mysql_wire.specs.Flags.{flag_word-again}
-use Rattle.mysql_wire.specs.Form.{number}
-use Rattle.mysql_wire.specs.Spelling.{IsSpelling, before_rest, joined-rest, block-at, const_byte-again, byte-again, number-again, le_u16-again, le_u32-again, skip-again}
+use Rattle.mysql_wire.specs.Spelling.{IsSpelling, before_rest, joined-rest, block-at, const_byte-again, byte-again, le_u16-again, le_u32-again, skip-again}
 use Rattle.mysql_wire.specs.Writing.{le_bytes}
-use Rattle.mysql_wire.specs.declared.codes.column_type.ColumnType.{ColumnType}
 use Rattle.mysql_replies.specs.declared.column.Column.{Column}
 use Rattle.mysql_replies.specs.declared.column_fields.ColumnFields.{ColumnFields}
 use Rattle.mysql_replies.specs.declared.column_meta.ColumnMeta.{ColumnMeta}
 use Rattle.mysql_replies.specs.Column.{column, column_bytes, column_parts, catalog_bytes, ColumnFits}
 use Rattle.mysql_replies.specs.ColumnFields.{column_fields, column_field_list, column_fields_bytes, column_fields_parts, ColumnFieldsFit}
 use Rattle.mysql_replies.specs.ColumnMeta.{column_meta, column_meta_bytes, column_meta_parts, ColumnMetaFits}
-use Rattle.mysql_replies.proofs.ColumnTypes.{code-small}
 
 meta-again : (m : ColumnMeta) → ColumnMetaFits m → IsSpelling column_meta m (column_meta_bytes m)
 unfolding column_meta column_meta_bytes
@@ -31,7 +27,7 @@ field_list-again f fits =
     (f.fixed_length_fields_len, _, const_byte-again 0x0c f.fixed_length_fields_len _,
     (f.character_set, _, le_u16-again f.character_set.0 fits.character_set _,
     (f.column_length, _, le_u32-again f.column_length.0 fits.column_length _,
-    (f.column_type, _, coded-again column_type_of (number 1) (column_type_code f.column_type.0) f.column_type _ (column_type-back f.column_type.0) (number-again 1 (column_type_code f.column_type.0) (code-small f.column_type.0)) _,
+    (f.column_type, _, column_type-again f.column_type _,
     (f.flags, _, flag_word-again 2 f.flags fits.flags _,
     (f.decimals, _, byte-again f.decimals.0 fits.decimals _,
     (f.filler, _, skip-again 2 f.filler _,

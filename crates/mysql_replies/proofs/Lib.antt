@@ -4,5 +4,5 @@ pub mod ServerErrorAgain
 pub mod ProgressReportAgain
 pub mod ErrPacketAgain
 pub mod SessionStateInfoAgain
-pub mod ColumnTypes
 pub mod ColumnAgain
+pub mod StateString

@@ -1,11 +1,10 @@
 -- The fields of a column that have fixed lengths.
 use Rattle.std.specs.Prelude.{◌≡◌, ℕ, ◌<◌, ◌^◌, List, [], ◌∷◌, Some}
 use Rattle.mysql_wire.specs.declared.codes.column_type.ColumnType.{ColumnType}
-use Rattle.mysql_wire.specs.ColumnType.{column_type_code, column_type_of}
+use Rattle.mysql_wire.specs.ColumnType.{column_type, column_type_code}
 use Rattle.mysql_wire.specs.Constant.{const_byte}
-use Rattle.mysql_wire.specs.ConstantValue.{coded}
 use Rattle.mysql_wire.specs.Flags.{ColumnFlags, flag_word}
-use Rattle.mysql_wire.specs.Form.{Form, ◌>>=◌, give, block, number, size-block}
+use Rattle.mysql_wire.specs.Form.{Form, ◌>>=◌, give, block, size-block}
 use Rattle.mysql_wire.specs.Int.{byte, le_u16, le_u32, raw_int}
 use Rattle.mysql_wire.specs.Skip.{skip}
 use Rattle.mysql_wire.specs.Writing.{le_bytes, joined}
@@ -33,7 +32,7 @@ column_field_list = do
   len ← const_byte 0x0c
   character_set ← le_u16
   column_length ← le_u32
-  column_type ← coded column_type_of (number 1)
+  kind ← column_type
   flags ← flag_word 2
   decimals ← byte
   filler ← skip 2
@@ -41,7 +40,7 @@ column_field_list = do
     fixed_length_fields_len = len;
     character_set = character_set;
     column_length = column_length;
-    column_type = column_type;
+    column_type = kind;
     flags = flags;
     decimals = decimals;
     filler = filler;

@@ -1,12 +1,11 @@
 -- The entries of a state string.
 use Rattle.std.specs.Prelude.{◌≡◌, ℕ, ◌<◌, ◌^◌, List, [], ◌∷◌, length, None, Ok, Err, refl}
 use Rattle.mysql_wire.specs.declared.codes.session_state_type.SessionStateType.{SessionStateType}
-use Rattle.mysql_wire.specs.ConstantValue.{coded}
-use Rattle.mysql_wire.specs.Form.{Form, ◌>>=◌, give, number}
+use Rattle.mysql_wire.specs.Form.{Form, ◌>>=◌, give}
 use Rattle.mysql_wire.specs.LenEnc.{lenenc_string, lenenc_string_bytes}
 use Rattle.mysql_wire.specs.Many.{many}
 use Rattle.mysql_wire.specs.Reading.{Reading}
-use Rattle.mysql_wire.specs.SessionStateType.{session_state_code, session_state_of}
+use Rattle.mysql_wire.specs.SessionStateType.{session_state_type, session_state_type_code}
 use Rattle.mysql_wire.specs.Writing.{le_bytes, joined}
 use Rattle.mysql_session.specs.SessionStateChange.{session_state_change}
 use Rattle.mysql_session.specs.declared.session_state_change.SessionStateChange.{SessionStateChange}
@@ -22,7 +21,7 @@ data_bytes i = i.content
 -- a byte with the type, and the data, length-encoded
 unfoldable pub session_state_info : Form SessionStateInfo
 session_state_info = do
-  kind ← coded session_state_of (number 1)
+  kind ← session_state_type
   content ← lenenc_string
   give (record { data_type = kind; content = content })
 
@@ -32,7 +31,7 @@ size-session_state_info = refl
 
 -- the shortest spelling of each field
 abbrev pub session_state_info_parts : SessionStateInfo → List (List ℕ)
-session_state_info_parts i = le_bytes 1 (session_state_code (data_type i)) ∷ lenenc_string_bytes (data_bytes i) ∷ []
+session_state_info_parts i = le_bytes 1 (session_state_type_code (data_type i)) ∷ lenenc_string_bytes (data_bytes i) ∷ []
 
 unfoldable pub session_state_info_bytes : SessionStateInfo → List ℕ
 session_state_info_bytes i = joined (session_state_info_parts i)

@@ -80,45 +80,65 @@ impl Column {
     pub fn with_schema(self, alloc: Global, schema: &[u8]) -> Result<Column, AllocError>
         ensures value { IfOk result (λ column. column ≡ spec.with_schema self schema.now) }
     {
-        let mut column = self;
-        column.meta.schema = copied(alloc, schema)?;
-        Ok(column)
+        let schema = copied(alloc, schema)?;
+        let Column { catalog, meta, fields } = self;
+        Ok(Column {
+            catalog,
+            meta: ColumnMeta { schema, ..meta },
+            fields,
+        })
     }
 
     /// The column with this name of the table, or of its alias. Where the copy is refused, the column is given up.
     pub fn with_table(self, alloc: Global, table: &[u8]) -> Result<Column, AllocError>
         ensures value { IfOk result (λ column. column ≡ spec.with_table self table.now) }
     {
-        let mut column = self;
-        column.meta.table = copied(alloc, table)?;
-        Ok(column)
+        let table = copied(alloc, table)?;
+        let Column { catalog, meta, fields } = self;
+        Ok(Column {
+            catalog,
+            meta: ColumnMeta { table, ..meta },
+            fields,
+        })
     }
 
     /// The column with this name of the table itself. Where the copy is refused, the column is given up.
     pub fn with_org_table(self, alloc: Global, org_table: &[u8]) -> Result<Column, AllocError>
         ensures value { IfOk result (λ column. column ≡ spec.with_org_table self org_table.now) }
     {
-        let mut column = self;
-        column.meta.org_table = copied(alloc, org_table)?;
-        Ok(column)
+        let org_table = copied(alloc, org_table)?;
+        let Column { catalog, meta, fields } = self;
+        Ok(Column {
+            catalog,
+            meta: ColumnMeta { org_table, ..meta },
+            fields,
+        })
     }
 
     /// The column with this name of the column, or of its alias. Where the copy is refused, the column is given up.
     pub fn with_name(self, alloc: Global, name: &[u8]) -> Result<Column, AllocError>
         ensures value { IfOk result (λ column. column ≡ spec.with_name self name.now) }
     {
-        let mut column = self;
-        column.meta.name = copied(alloc, name)?;
-        Ok(column)
+        let name = copied(alloc, name)?;
+        let Column { catalog, meta, fields } = self;
+        Ok(Column {
+            catalog,
+            meta: ColumnMeta { name, ..meta },
+            fields,
+        })
     }
 
     /// The column with this name of the column itself. Where the copy is refused, the column is given up.
     pub fn with_org_name(self, alloc: Global, org_name: &[u8]) -> Result<Column, AllocError>
         ensures value { IfOk result (λ column. column ≡ spec.with_org_name self org_name.now) }
     {
-        let mut column = self;
-        column.meta.org_name = copied(alloc, org_name)?;
-        Ok(column)
+        let org_name = copied(alloc, org_name)?;
+        let Column { catalog, meta, fields } = self;
+        Ok(Column {
+            catalog,
+            meta: ColumnMeta { org_name, ..meta },
+            fields,
+        })
     }
 
     /// The column with these flags.
@@ -126,9 +146,14 @@ impl Column {
     pub fn with_flags(self, flags: ColumnFlags) -> Column
         ensures value { result ≡ spec.with_flags self flags }
     {
-        let mut column = self;
-        column.fields.flags = Const::new(flags);
-        column
+        let flags = Const::new(flags);
+        Column {
+            fields: ColumnFields {
+                flags,
+                ..self.fields
+            },
+            ..self
+        }
     }
 
     /// The column with this length.
@@ -136,9 +161,14 @@ impl Column {
     pub fn with_column_length(self, column_length: u32) -> Column
         ensures value { result ≡ spec.with_column_length self column_length }
     {
-        let mut column = self;
-        column.fields.column_length = RawInt::new(column_length);
-        column
+        let column_length = RawInt::new(column_length);
+        Column {
+            fields: ColumnFields {
+                column_length,
+                ..self.fields
+            },
+            ..self
+        }
     }
 
     /// The column with this character set.
@@ -146,9 +176,14 @@ impl Column {
     pub fn with_character_set(self, character_set: u16) -> Column
         ensures value { result ≡ spec.with_character_set self character_set }
     {
-        let mut column = self;
-        column.fields.character_set = RawInt::new(character_set);
-        column
+        let character_set = RawInt::new(character_set);
+        Column {
+            fields: ColumnFields {
+                character_set,
+                ..self.fields
+            },
+            ..self
+        }
     }
 
     /// The column with this many decimals.
@@ -156,9 +191,14 @@ impl Column {
     pub fn with_decimals(self, decimals: u8) -> Column
         ensures value { result ≡ spec.with_decimals self decimals }
     {
-        let mut column = self;
-        column.fields.decimals = RawInt::new(decimals);
-        column
+        let decimals = RawInt::new(decimals);
+        Column {
+            fields: ColumnFields {
+                decimals,
+                ..self.fields
+            },
+            ..self
+        }
     }
 
     /// The most characters of a value, for showing it.

@@ -99,13 +99,8 @@ impl MySerialize for ColumnFields {
     fn append(&self, out: &mut Vec<u8>) {
         append_all!(
             out;
-            self.fixed_length_fields_len,
-            self.character_set,
-            self.column_length,
-            self.column_type,
-            self.flags,
-            self.decimals,
-            self.filler
+            self.fixed_length_fields_len, self.character_set, self.column_length,
+            self.column_type, self.flags, self.decimals, self.filler
         );
     }
 }

@@ -1,6 +1,6 @@
 //! Errors and progress reports, in their packet.
 
-ghost use Rattle.std.specs.Prelude.{false, true, ◌≡◌, None, Some, refl, IfOk};
+ghost use Rattle.std.specs.Prelude.{false, true, ◌≡◌, None, Some, refl};
 ghost use Rattle.mysql_replies.specs.ErrPacket as spec;
 ghost use Rattle.mysql_replies.specs.declared.err_packet.ErrPacket.TheVariants as err;
 
@@ -11,7 +11,6 @@ use mysql_wire::{
     AnyWidth, CapabilityFlags, ConstFault, ConstU8, FaultOf, LeU16, MyDeserialize, MySerialize,
     ParseBuf, RawInt, append_all, len_of,
 };
-use std::alloc::{AllocError, Global};
 use std::fmt;
 use thiserror::Error;
 
@@ -80,16 +79,6 @@ impl<'a> ErrPacket<'a> {
             ErrPacket::Error(error) => error,
             ErrPacket::Progress(_) => unreachable!(),
         }
-    }
-
-    /// The same packet, on memory of its own.
-    pub fn into_owned(self, alloc: Global) -> Result<ErrPacket<'static>, AllocError>
-        ensures value { IfOk result (λ owned. owned ≡ self.entry) }
-    {
-        Ok(match self {
-            ErrPacket::Error(error) => ErrPacket::Error(error.into_owned(alloc)?),
-            ErrPacket::Progress(report) => ErrPacket::Progress(report.into_owned(alloc)?),
-        })
     }
 }
 

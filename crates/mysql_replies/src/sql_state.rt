@@ -1,11 +1,16 @@
 //! The SQL state of an error.
 
-ghost use Rattle.std.specs.Prelude.{false, ◌≡◌, Some, refl, IfOk};
+ghost use Rattle.std.specs.Prelude.{false, ◌≡◌, Some, refl, IfOk, true, is_ok, IsUtf8};
+ghost use Rattle.std.specs.Cow.{cow_str_bytes, IsOwnedStr};
+ghost use Rattle.mysql_wire.specs.Text.{lossy_text};
 ghost use Rattle.mysql_replies.specs.SqlState as spec;
 
+use bstr::ByteSlice;
 use mysql_wire::{
     ConstFault, ConstU8, FaultOf, Fixed, MyDeserialize, MySerialize, ParseBuf, append_all,
 };
+use std::alloc::{AllocError, Global};
+use std::borrow::CowStr;
 use thiserror::Error;
 
 /// The byte in front of an SQL state is not `#`.
@@ -47,6 +52,14 @@ impl SqlState {
         ensures value { result ≡ spec.state_bytes self.now }
     {
         self.state
+    }
+
+    /// The five bytes as text, with U+FFFD for what is not UTF-8. UTF-8 is borrowed.
+    pub fn as_str(&self, alloc: Global) -> Result<CowStr<'_>, AllocError>
+        ensures text { IfOk result (λ text. cow_str_bytes text ≡ lossy_text (spec.state_bytes self.now)) }
+        ensures utf8 { IsUtf8 (spec.state_bytes self.now) → (is_ok result ≡ true) × IfOk result (λ text. IsOwnedStr text → ⊥) }
+    {
+        self.state.as_slice().to_str_lossy(alloc)
     }
 }
 
