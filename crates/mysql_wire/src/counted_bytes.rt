@@ -12,7 +12,9 @@ use crate::fault::FaultOf;
 use crate::int::{IntRepr, RawInt};
 use crate::little_endian::LeU32;
 
-/// The bytes behind a count of one byte. The first 255 bytes of a content are written.
+/// The bytes behind a count of one byte. Fewer bytes than the count: `UnexpectedEof`.
+///
+/// The first 255 bytes of a content are written.
 #[derive(Clone, Copy, Debug)]
 pub struct U8Bytes;
 
@@ -62,8 +64,10 @@ impl BytesRepr for U8Bytes {
     ghost size_is = { λ _. size-counted_bytes byte };
 }
 
-/// The bytes behind a count of four bytes, the low one first. The first 4,294,967,295 bytes of a
-/// content are written.
+/// The bytes behind a count of four bytes, the low one first. Fewer bytes than the count:
+/// `UnexpectedEof`.
+///
+/// The first 4,294,967,295 bytes of a content are written.
 #[derive(Clone, Copy, Debug)]
 pub struct U32Bytes;
 
