@@ -9,6 +9,9 @@ pub mod Writing
 pub mod LittleEndian
 pub mod Spelling
 pub mod Seq
+pub mod Many
+pub mod Either
+pub mod Varlen
 pub mod Null
 pub mod Again
 pub mod Flags
@@ -16,3 +19,11 @@ pub mod ConstantValue
 pub mod Codes
 pub mod SessionStateType
 pub mod ColumnType
+pub mod MariadbBulkIndicator
+pub mod Bare
+pub mod CountedBytes
+pub mod Text
+pub mod BytesAgain
+pub mod ConstBytes
+pub mod ListAgain
+pub mod Once

@@ -1,4 +1,7 @@
-//! Flag words: sets of named bits. Bits without a name are kept.
+//! Flag words: sets of named bits.
+//!
+//! The operations of a set, as `contains`, `insert` and `from_bits_retain`, are those of the trait
+//! `Flags`. Every bit is kept, also one without a name.
 
 ghost use Rattle.std.specs.Prelude.{⊤, ◌≡◌, ◌-◌, ◌^◌, ℕ, List, map, refl};
 ghost use Rattle.std.specs.Int.RustNames.{bit_and, bit_or, bit_xor};
@@ -11,13 +14,25 @@ use std::ops::{
     BitAnd, BitAndAssign, BitOr, BitOrAssign, BitXor, BitXorAssign, Not, Sub, SubAssign,
 };
 
+mod binlog_dump_flags;
 mod capability_flags;
 mod column_flags;
+mod cursor_type;
+mod mariadb_capabilities;
 mod status_flags;
+mod stmt_bulk_execute_flags;
+mod stmt_execute_param_flags;
+mod stmt_execute_params_flags;
 
+pub use binlog_dump_flags::{BinlogDumpFlags, BinlogDumpNames};
 pub use capability_flags::{CapabilityFlags, CapabilityNames};
 pub use column_flags::{ColumnFlagNames, ColumnFlags};
+pub use cursor_type::{CursorNames, CursorType};
+pub use mariadb_capabilities::{MariadbCapabilities, MariadbCapabilityNames};
 pub use status_flags::{StatusFlags, StatusNames};
+pub use stmt_bulk_execute_flags::{StmtBulkExecuteFlags, StmtBulkExecuteNames};
+pub use stmt_execute_param_flags::{StmtExecuteParamFlags, StmtExecuteParamNames};
+pub use stmt_execute_params_flags::{StmtExecuteParamsFlags, StmtExecuteParamsNames};
 
 /// The list of some flags with their names.
 macro_rules! named_flags {
@@ -28,7 +43,7 @@ macro_rules! named_flags {
 
 pub(crate) use named_flags;
 
-/// The names of a flag word's bits.
+/// The names of a flag word's bits: a marker for [`FlagWord`].
 pub trait FlagNames<B: Bits>: Sized {
     /// The name and the bits of each flag.
     ghost table: { List (List ℕ × ℕ) };
@@ -38,7 +53,9 @@ pub trait FlagNames<B: Bits>: Sized {
         ensures { map (λ f. (f.name.now, B.pattern f.value.0)) result.now ≡ table };
 }
 
-/// A set of the bits that `N` names, in the integer `B`.
+/// A set of bits, which are those of the integer `B`. The marker `N` names some of them.
+///
+/// The integer is field 0. The default is the empty set.
 #[derive_where(Clone, Copy, PartialEq, Eq, Hash, Debug, Default; B)]
 pub struct FlagWord<N, B>(pub B, PhantomData<N>);
 
@@ -51,14 +68,17 @@ impl<N: FlagNames<B>, B: Bits> Flags for FlagWord<N, B> {
 
     ghost set_of = { λ flags. B.pattern flags.0 };
 
+    #[inline(always)]
     fn flags<'a>() -> &'a [Flag<FlagWord<N, B>>] {
         N::flags()
     }
 
+    #[inline(always)]
     fn bits(&self) -> B {
         self.0
     }
 
+    #[inline(always)]
     fn from_bits_retain(bits: B) -> FlagWord<N, B> {
         FlagWord(bits, PhantomData)
     }
@@ -70,6 +90,7 @@ impl<N: FlagNames<B>, B: Bits> BitOr for FlagWord<N, B> {
 
     ghost bitor_gives = { λ a b r. B.pattern r.0 ≡ bit_or (B.pattern a.0) (B.pattern b.0) };
 
+    #[inline(always)]
     fn bitor(self, other: FlagWord<N, B>) -> FlagWord<N, B> {
         self.union(other)
     }
@@ -81,6 +102,7 @@ impl<N: FlagNames<B>, B: Bits> BitAnd for FlagWord<N, B> {
 
     ghost bitand_gives = { λ a b r. B.pattern r.0 ≡ bit_and (B.pattern a.0) (B.pattern b.0) };
 
+    #[inline(always)]
     fn bitand(self, other: FlagWord<N, B>) -> FlagWord<N, B> {
         self.intersection(other)
     }
@@ -92,6 +114,7 @@ impl<N: FlagNames<B>, B: Bits> BitXor for FlagWord<N, B> {
 
     ghost bitxor_gives = { λ a b r. B.pattern r.0 ≡ bit_xor (B.pattern a.0) (B.pattern b.0) };
 
+    #[inline(always)]
     fn bitxor(self, other: FlagWord<N, B>) -> FlagWord<N, B> {
         self.symmetric_difference(other)
     }
@@ -103,6 +126,7 @@ impl<N: FlagNames<B>, B: Bits> Sub for FlagWord<N, B> {
 
     ghost sub_gives = { λ a b r. B.pattern r.0 ≡ without B.size (B.pattern a.0) (B.pattern b.0) };
 
+    #[inline(always)]
     fn sub(self, other: FlagWord<N, B>) -> FlagWord<N, B> {
         self.difference(other)
     }
@@ -114,6 +138,7 @@ impl<N: FlagNames<B>, B: Bits> Not for FlagWord<N, B> {
 
     ghost not_gives = { λ a r. B.pattern r.0 ≡ bit_and (2 ^ B.size - 1 - B.pattern a.0) (known_bits N.table) };
 
+    #[inline(always)]
     fn not(self) -> FlagWord<N, B> {
         self.complement()
     }
@@ -122,6 +147,7 @@ impl<N: FlagNames<B>, B: Bits> Not for FlagWord<N, B> {
 impl<N: FlagNames<B>, B: Bits> BitOrAssign for FlagWord<N, B> {
     ghost bitor_assign_gives = { λ a b r. B.pattern r.0 ≡ bit_or (B.pattern a.0) (B.pattern b.0) };
 
+    #[inline(always)]
     fn bitor_assign(&mut self, other: FlagWord<N, B>) {
         self.insert(other);
     }
@@ -130,6 +156,7 @@ impl<N: FlagNames<B>, B: Bits> BitOrAssign for FlagWord<N, B> {
 impl<N: FlagNames<B>, B: Bits> BitAndAssign for FlagWord<N, B> {
     ghost bitand_assign_gives = { λ a b r. B.pattern r.0 ≡ bit_and (B.pattern a.0) (B.pattern b.0) };
 
+    #[inline(always)]
     fn bitand_assign(&mut self, other: FlagWord<N, B>) {
         *self = FlagWord(self.0 & other.0, PhantomData);
     }
@@ -138,6 +165,7 @@ impl<N: FlagNames<B>, B: Bits> BitAndAssign for FlagWord<N, B> {
 impl<N: FlagNames<B>, B: Bits> BitXorAssign for FlagWord<N, B> {
     ghost bitxor_assign_gives = { λ a b r. B.pattern r.0 ≡ bit_xor (B.pattern a.0) (B.pattern b.0) };
 
+    #[inline(always)]
     fn bitxor_assign(&mut self, other: FlagWord<N, B>) {
         self.toggle(other);
     }
@@ -146,6 +174,7 @@ impl<N: FlagNames<B>, B: Bits> BitXorAssign for FlagWord<N, B> {
 impl<N: FlagNames<B>, B: Bits> SubAssign for FlagWord<N, B> {
     ghost sub_assign_gives = { λ a b r. B.pattern r.0 ≡ without B.size (B.pattern a.0) (B.pattern b.0) };
 
+    #[inline(always)]
     fn sub_assign(&mut self, other: FlagWord<N, B>) {
         self.remove(other);
     }
@@ -160,10 +189,12 @@ impl<N: FlagNames<B>, B: Bits> ConstValue<B> for FlagWord<N, B> {
 
     const MESSAGE: &'static str = "Unknown flags";
 
+    #[inline(always)]
     fn code(&self) -> B {
         self.0
     }
 
+    #[inline(always)]
     fn from_code(number: B) -> Option<FlagWord<N, B>> {
         Some(FlagWord(number, PhantomData))
     }

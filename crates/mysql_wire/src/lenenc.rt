@@ -111,6 +111,12 @@ impl BytesRepr for LenEnc {
 
     ghost use Rattle.mysql_wire.specs.LenEnc.{lenenc_string_bytes};
 
+    ghost kept = { λ content. content };
+
+    fn kept(content: &[u8]) -> &[u8] {
+        content
+    }
+
     ghost written = { lenenc_string_bytes };
 
     #[inline(always)]

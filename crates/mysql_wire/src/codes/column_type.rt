@@ -38,23 +38,23 @@ pub enum ColumnType {
     MYSQL_TYPE_DATETIME = 12,
     /// A year, as an integer of two bytes.
     MYSQL_TYPE_YEAR = 13,
-    /// A code inside a server.
+    /// Reserved: accepted, and no more is known of it.
     MYSQL_TYPE_CODE_14 = 14,
     /// A string.
     MYSQL_TYPE_VARCHAR = 15,
     /// Bits.
     MYSQL_TYPE_BIT = 16,
-    /// A code inside a server.
+    /// Reserved: accepted, and no more is known of it.
     MYSQL_TYPE_CODE_17 = 17,
-    /// A code inside a server.
+    /// Reserved: accepted, and no more is known of it.
     MYSQL_TYPE_CODE_18 = 18,
-    /// A code inside a server.
+    /// Reserved: accepted, and no more is known of it.
     MYSQL_TYPE_CODE_19 = 19,
-    /// A code inside a server.
+    /// Reserved: accepted, and no more is known of it.
     MYSQL_TYPE_CODE_20 = 20,
     /// A vector of numbers.
     MYSQL_TYPE_VECTOR = 242,
-    /// A code inside a server.
+    /// Reserved: accepted, and no more is known of it.
     MYSQL_TYPE_CODE_243 = 243,
     /// A JSON document.
     MYSQL_TYPE_JSON = 245,
@@ -81,7 +81,7 @@ pub enum ColumnType {
 }
 
 /// A code that no `ColumnType` has.
-#[derive(Clone, Copy, Debug, Default, PartialEq, Eq, Hash, Error)]
+#[derive(Clone, Copy, Debug, PartialEq, Eq, Hash, Error)]
 #[error("Unknown column type")]
 pub struct UnknownColumnType(pub u8);
 
@@ -92,11 +92,13 @@ impl ConstValue<u8> for ColumnType {
 
     const MESSAGE: &'static str = "Unknown column type";
 
+    #[inline(always)]
     #[tactic(auto, unfolding(crate::specs::ColumnType::column_type_code))]
     fn code(&self) -> u8 {
         *self as u8
     }
 
+    #[inline]
     #[tactic(auto, unfolding(crate::specs::ColumnType::column_type_code, crate::specs::ColumnType::column_type_of))]
     fn from_code(number: u8) -> Option<ColumnType> {
         match number {
@@ -146,6 +148,7 @@ impl TryFrom<u8> for ColumnType {
 
     ghost try_from_gives = { λ code r. r ≡ known_or (record { 0 = code }) (column_type_of code) };
 
+    #[inline(always)]
     fn try_from(code: u8) -> Result<ColumnType, UnknownColumnType> {
         ColumnType::from_code(code).ok_or(UnknownColumnType(code))
     }
@@ -154,6 +157,7 @@ impl TryFrom<u8> for ColumnType {
 impl From<ColumnType> for u8 {
     ghost from_gives = { λ value code. code ≡ column_type_code value };
 
+    #[inline(always)]
     fn from(value: ColumnType) -> u8 {
         value.code()
     }

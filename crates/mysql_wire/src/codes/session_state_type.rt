@@ -2,7 +2,7 @@
 
 ghost use Rattle.std.specs.Prelude.{◌≡◌};
 ghost use Rattle.mysql_wire.specs.Codes.{known_or};
-ghost use Rattle.mysql_wire.specs.SessionStateType.{session_state_code, session_state_of, session_state-back};
+ghost use Rattle.mysql_wire.specs.SessionStateType.{session_state_type_code, session_state_type_of, session_state_type-back};
 
 use crate::constant_value::ConstValue;
 use thiserror::Error;
@@ -25,23 +25,25 @@ pub enum SessionStateType {
 }
 
 /// A code that no `SessionStateType` has.
-#[derive(Clone, Copy, Debug, Default, PartialEq, Eq, Hash, Error)]
+#[derive(Clone, Copy, Debug, PartialEq, Eq, Hash, Error)]
 #[error("Unknown session state type")]
 pub struct UnknownSessionStateType(pub u8);
 
 impl ConstValue<u8> for SessionStateType {
-    ghost code = { session_state_code };
+    ghost code = { session_state_type_code };
 
-    ghost of_code = { session_state_of };
+    ghost of_code = { session_state_type_of };
 
     const MESSAGE: &'static str = "Unknown session state type";
 
-    #[tactic(auto, unfolding(crate::specs::SessionStateType::session_state_code))]
+    #[inline(always)]
+    #[tactic(auto, unfolding(crate::specs::SessionStateType::session_state_type_code))]
     fn code(&self) -> u8 {
         *self as u8
     }
 
-    #[tactic(auto, unfolding(crate::specs::SessionStateType::session_state_code, crate::specs::SessionStateType::session_state_of))]
+    #[inline(always)]
+    #[tactic(auto, unfolding(crate::specs::SessionStateType::session_state_type_code, crate::specs::SessionStateType::session_state_type_of))]
     fn from_code(number: u8) -> Option<SessionStateType> {
         match number {
             0 => Some(SessionStateType::SESSION_TRACK_SYSTEM_VARIABLES),
@@ -54,22 +56,24 @@ impl ConstValue<u8> for SessionStateType {
         }
     }
 
-    ghost read_back = { session_state-back };
+    ghost read_back = { session_state_type-back };
 }
 
 impl TryFrom<u8> for SessionStateType {
     type Error = UnknownSessionStateType;
 
-    ghost try_from_gives = { λ code r. r ≡ known_or (record { 0 = code }) (session_state_of code) };
+    ghost try_from_gives = { λ code r. r ≡ known_or (record { 0 = code }) (session_state_type_of code) };
 
+    #[inline(always)]
     fn try_from(code: u8) -> Result<SessionStateType, UnknownSessionStateType> {
         SessionStateType::from_code(code).ok_or(UnknownSessionStateType(code))
     }
 }
 
 impl From<SessionStateType> for u8 {
-    ghost from_gives = { λ value code. code ≡ session_state_code value };
+    ghost from_gives = { λ value code. code ≡ session_state_type_code value };
 
+    #[inline(always)]
     fn from(value: SessionStateType) -> u8 {
         value.code()
     }
