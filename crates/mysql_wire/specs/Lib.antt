@@ -11,6 +11,7 @@ pub mod Spelling
 pub mod Seq
 pub mod Many
 pub mod Either
+pub mod Varlen
 pub mod Null
 pub mod Again
 pub mod Flags
@@ -18,6 +19,7 @@ pub mod ConstantValue
 pub mod Codes
 pub mod SessionStateType
 pub mod ColumnType
+pub mod MariadbBulkIndicator
 pub mod Bare
 pub mod CountedBytes
 pub mod Text
