@@ -4,7 +4,9 @@
 #![tactic(auto)]
 
 mod bench;
+mod columns;
 mod counted;
+mod ok_packets;
 mod program;
 mod raw_bytes;
 mod replies;
@@ -36,6 +38,8 @@ fn run(rt: &(impl Env + Print + AllocGlobal)) -> io::Result<ExitCode> {
     varlen::cases(&mut bench)?;
     values::cases(&mut bench)?;
     session::cases(&mut bench)?;
+    columns::cases(&mut bench)?;
+    ok_packets::cases(&mut bench)?;
     replies::cases(&mut bench)?;
     stmt::cases(&mut bench)?;
     program::cases(&mut bench)?;

@@ -68,3 +68,11 @@ pub fn text(alloc: Global, answer: Result<CowStr<'_>, AllocError>) -> Result<Str
         Err(AllocError) => format!(in alloc; "Memory"),
     }
 }
+
+/// The bytes that a copy of the value is written as, or that memory ran out.
+pub fn cloned<T: Clone + MySerialize + Drop>(
+    alloc: Global,
+    value: &T,
+) -> Result<String, AllocError> {
+    made(alloc, counted!(alloc; value.clone()))
+}
