@@ -2,12 +2,10 @@
 
 use crate::captured::reported::{are_reported, capabilities, is_reported, payload, word};
 use crate::captured::{eof_old, ok_common, ok_terminator};
-use mysql_replies::{
-    CommonOkPacket, OkPacket, OkPacketDeserializer, OkPacketKind, OldEofPacket,
-    ResultSetTerminator, SessionStateInfo,
-};
+use crate::ok_kind::{Kind, read_ok};
+use mysql_replies::{OkPacket, SessionStateInfo};
 use mysql_session::SessionStateChange;
-use mysql_wire::{Fault, Flags, ParseBuf, SessionStateType};
+use mysql_wire::{Flags, ParseBuf, SessionStateType};
 use std::alloc::{AllocError, Global};
 use std::test::Fail;
 
@@ -121,19 +119,20 @@ fn is_reported_packet(alloc: Global, line: &str, packet: &OkPacket<'_>) -> Resul
 }
 
 /// Whether the packet of the line is read whole, as it was reported.
-fn agrees<T: OkPacketKind + Drop>(alloc: Global, line: &str) -> Result<bool, Fail> {
+fn agrees(alloc: Global, line: &str, kind: Kind) -> Result<bool, Fail> {
     let bytes = payload(alloc, line)?;
     let mut buf = ParseBuf::new(alloc, bytes.as_slice());
-    let read: Result<OkPacketDeserializer<'_, T>, Fault> = buf.parse(capabilities(line));
-    let packet = read.ok().ok_or("a captured OK packet is refused")?;
-    Ok(buf.is_empty() && is_reported_packet(alloc, line, &packet.into_inner())?)
+    let packet = read_ok(&mut buf, kind, capabilities(line))
+        .ok()
+        .ok_or("a captured OK packet is refused")?;
+    Ok(buf.is_empty() && is_reported_packet(alloc, line, &packet)?)
 }
 
 #[test]
 fn ok_packets_are_read_as_reported(rt: HostRuntime) -> Result<(), Fail> {
     for line in ok_common::PACKETS.lines() {
         let id = word(line, 0);
-        assert!(rt; agrees::<CommonOkPacket>(rt.alloc(), line)?, "{id}");
+        assert!(rt; agrees(rt.alloc(), line, Kind::Common)?, "{id}");
     }
     assert_eq!(rt; ok_common::PACKETS.lines().count(), 59);
     Ok(())
@@ -143,11 +142,11 @@ fn ok_packets_are_read_as_reported(rt: HostRuntime) -> Result<(), Fail> {
 fn terminators_are_read_as_reported(rt: HostRuntime) -> Result<(), Fail> {
     for line in ok_terminator::PACKETS.lines() {
         let id = word(line, 0);
-        assert!(rt; agrees::<ResultSetTerminator>(rt.alloc(), line)?, "{id}");
+        assert!(rt; agrees(rt.alloc(), line, Kind::Terminator)?, "{id}");
     }
     for line in eof_old::PACKETS.lines() {
         let id = word(line, 0);
-        assert!(rt; agrees::<OldEofPacket>(rt.alloc(), line)?, "{id}");
+        assert!(rt; agrees(rt.alloc(), line, Kind::OldEof)?, "{id}");
     }
     assert_eq!(rt; ok_terminator::PACKETS.lines().count(), 10);
     assert_eq!(rt; eof_old::PACKETS.lines().count(), 41);
