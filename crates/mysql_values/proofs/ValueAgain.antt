@@ -1,17 +1,14 @@
 -- What is written of a value is read again under its column's type.
-use Rattle.std.proofs.Common.{◌≡◌, ◌≢◌, ℕ, ◌<◌, ◌^◌, ◌==◌, List, [], ◌∷◌, ◌++◌, Bool, true, false, ◌⊎◌, length, IsTrue, refl, sym, ap, ◌∙◌, arith, inl, inr, append_assoc, subst, eq-eqb, ◌&&◌}
+use Rattle.std.proofs.Common.{◌≡◌, ℕ, ◌<◌, ◌^◌, ◌==◌, List, [], ◌∷◌, ◌++◌, Bool, true, false, ◌⊎◌, refl, sym, ap, arith, inl, inr, append_assoc, eq-eqb, ◌&&◌}
 use Rattle.std.proofs.lemmas.Bool.Decides.{eqb_tells}
-use Rattle.std.proofs.lemmas.List.{append-nil}
-use Rattle.std.specs.Int.{w64, cast_signed, cast_unsigned}
-use Rattle.std.specs.Int.RustNames.{FitsSigned}
+use Rattle.std.specs.Int.{w64, cast_unsigned}
 use Rattle.std.proofs.lemmas.Int.{to_z-of_z}
 use Rattle.std.proofs.Math.Facts.{Fits-of_z, Fits-lt-pow}
-use Rattle.mysql_wire.specs.Form.{Form, number, bytes, block, le_value}
-use Rattle.mysql_wire.specs.Int.{raw, raw_int, byte, le_u16, le_u32}
+use Rattle.mysql_wire.specs.Form.{number, bytes}
+use Rattle.mysql_wire.specs.Int.{raw, raw_int, byte}
 use Rattle.mysql_wire.specs.Writing.{le_bytes}
 use Rattle.mysql_wire.specs.Spelling.{IsSpelling, block-again, number-again, le_u16-again, le_u32-again}
 use Rattle.mysql_wire.specs.Again.{lenenc_string-again}
-use Rattle.mysql_wire.specs.LenEnc.{lenenc_string_bytes}
 use Rattle.mysql_wire.specs.declared.codes.column_type.ColumnType.{ColumnType}
 use Rattle.mysql_wire.specs.declared.codes.column_type.ColumnType.TheVariants as column_type
 use Rattle.mysql_values.specs.declared.temporal.Day.{Day}
