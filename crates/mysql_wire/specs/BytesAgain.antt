@@ -68,3 +68,5 @@ unfolding const_bytes bytes
 const_bytes-again {T} len value v long rest =
     let e : const_value {T = T} len value value ≡ Some v = rw (same-bytes value) refl in
     (value, e, (long, refl))
+
+pub ruleset byte_strings_again = (null_string-again, u8_bytes-again, u32_bytes-again, bare-again, all_left-again, bytes-again, const_bytes-again)

@@ -10,6 +10,7 @@ pub mod LittleEndian
 pub mod Spelling
 pub mod Seq
 pub mod Many
+pub mod Either
 pub mod Null
 pub mod Again
 pub mod Flags

@@ -11,10 +11,12 @@ mod const_bytes;
 mod constant;
 mod constant_value;
 mod counted_bytes;
+mod either;
 mod eof;
 mod fault;
 mod flags;
 mod int;
+mod items;
 pub mod laws;
 mod lenenc;
 mod little_endian;
@@ -32,10 +34,12 @@ pub use codes::{
     ColumnType, MariadbBulkIndicator, SessionStateType, UnknownColumnType,
     UnknownMariadbBulkIndicator, UnknownSessionStateType,
 };
+pub use codes::{ColumnType, SessionStateType, UnknownColumnType, UnknownSessionStateType};
 pub use const_bytes::{ConstBytes, ConstBytesValue};
 pub use constant::{ConstFault, ConstU8, ConstU32};
 pub use constant_value::{Const, ConstValue};
 pub use counted_bytes::{U8Bytes, U32Bytes};
+pub use either::Either;
 pub use eof::EofBytes;
 pub use fault::{Fault, FaultKind, FaultOf};
 pub use flags::{
@@ -45,6 +49,7 @@ pub use flags::{
     StmtExecuteParamFlags, StmtExecuteParamNames, StmtExecuteParamsFlags, StmtExecuteParamsNames,
 };
 pub use int::{IntRepr, IntWidth, RawInt};
+pub use items::{append_items, items_len};
 pub use lenenc::LenEnc;
 pub use little_endian::{LeU16, LeU24, LeU32, LeU64};
 pub use many::read_all;

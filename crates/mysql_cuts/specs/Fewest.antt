@@ -1,0 +1,36 @@
+-- Cuts of rows of which only the weights are known, named by the numbers of rows where their parts end.
+use Rattle.std.specs.Prelude.{◌≡◌, ℕ, ◌+◌, ◌<◌, Bool, List, Option, MatchOption}
+use Rattle.mysql_cuts.specs.declared.rule.BulkRule.{BulkRule}
+use Rattle.mysql_cuts.specs.Cut.{Packing, request_size, IsFittingCut, IsFewest, ends_after}
+
+-- requests over weights, under a rule
+abbrev pub weights : BulkRule → ℕ → ℕ → Packing ℕ
+weights rule limit arity = record {
+  limit = limit;
+  arity = arity;
+  weight = λ n. n;
+  types_always = rule.types_always;
+  max_rows = rule.max_rows;
+}
+
+-- requests over rows, of which only the weights are looked at
+abbrev pub weighed : {X : Type 0} → Packing X → Packing ℕ
+weighed k = record {
+  limit = k.limit;
+  arity = k.arity;
+  weight = λ n. n;
+  types_always = k.types_always;
+  max_rows = k.max_rows;
+}
+
+-- these ends name a fitting cut
+abbrev pub NamesFitting : Packing ℕ → List ℕ → List ℕ → Type 0
+NamesFitting k sizes ends = (parts : List (List ℕ)) × (ends ≡ ends_after 0 parts) × IsFittingCut k sizes parts
+
+-- these ends name a fewest cut
+abbrev pub NamesFewest : Packing ℕ → List ℕ → List ℕ → Type 0
+NamesFewest k sizes ends = (parts : List (List ℕ)) × (ends ≡ ends_after 0 parts) × IsFewest k sizes parts
+
+-- what is left of the limit after a request of these rows, if they fit
+abbrev pub RoomIs : Packing ℕ → Bool → List ℕ → Option ℕ → Type 0
+RoomIs k types part room = MatchOption room (k.limit < request_size k types part) (λ left. left + request_size k types part ≡ k.limit)

@@ -1,0 +1,119 @@
+//! Whether a cut of rows into requests is a fewest one, judged by the rows' weights alone.
+
+ghost use Rattle.std.specs.Prelude.{◌≡◌, ℕ, ◌+◌, ◌<◌, ◌≤◌, ◌↔◌, [], length, IsTrue, IfSome, MatchOption, List};
+ghost use Rattle.mysql_cuts.specs.Cut.{PartFits, WithinRows, HasFittingCut, IsFewest};
+ghost use Rattle.mysql_cuts.specs.Fewest.{weights, NamesFitting, NamesFewest, RoomIs};
+
+use crate::rule::BulkRule;
+
+/// The bytes that a request has for its rows.
+fn room_for_rows(rule: BulkRule, limit: u64, arity: usize, types: bool) -> Option<u64>
+    ensures { RoomIs (weights rule limit arity) types [] result }
+{
+    let head = limit.checked_sub(7)?;
+    if types {
+        head.checked_sub(u64::try_from(arity).ok()?.checked_mul(2)?)
+    } else {
+        Some(head)
+    }
+}
+
+/// Whether these rows may be one request.
+fn part_fits(rule: BulkRule, limit: u64, arity: usize, types: bool, part: &[u64]) -> bool
+    ensures { IsTrue result ↔ PartFits (weights rule limit arity) types part.now }
+{
+    if let Some(most) = rule.max_rows {
+        if most < part.len() {
+            return false;
+        }
+    }
+    let Some(mut room) = room_for_rows(rule, limit, arity, types) else {
+        return false;
+    };
+    for size in part {
+        match room.checked_sub(*size) {
+            Some(left) => room = left,
+            None => return false,
+        }
+    }
+    true
+}
+
+/// Whether the ends name a fitting cut.
+fn names_fitting(rule: BulkRule, limit: u64, arity: usize, sizes: &[u64], ends: &[usize]) -> bool
+    ensures { IsTrue result ↔ NamesFitting (weights rule limit arity) sizes.now ends.now }
+{
+    let mut start = 0;
+    let mut types = true;
+    for end in ends {
+        if *end <= start || sizes.len() < *end {
+            return false;
+        }
+        if !part_fits(rule, limit, arity, types, &sizes[start..*end]) {
+            return false;
+        }
+        start = *end;
+        types = rule.types_always;
+    }
+    start == sizes.len()
+}
+
+/// What is left of the room of a request of this many rows after one more row, if that one fits.
+fn room_after(rule: BulkRule, room: Option<u64>, rows: usize, size: u64) -> Option<u64>
+    ensures { MatchOption result (WithinRows rule.max_rows (rows + 1) → IfSome room (λ had. had < size)) (λ left. WithinRows rule.max_rows (rows + 1) × (room ≡ Some (left + size))) }
+{
+    if rule.max_rows.is_some_and(|most| most <= rows) {
+        return None;
+    }
+    room?.checked_sub(size)
+}
+
+/// The least number of requests for the rows, if any cut of them fits.
+fn fewest_parts(rule: BulkRule, limit: u64, arity: usize, sizes: &[u64]) -> Option<usize>
+    ensures { MatchOption result (HasFittingCut (weights rule limit arity) sizes.now → ⊥) (λ n. (parts : List (List ℕ)) × IsFewest (weights rule limit arity) sizes.now parts × (length parts ≡ n)) }
+{
+    let later = room_for_rows(rule, limit, arity, rule.types_always);
+    let mut room = room_for_rows(rule, limit, arity, true);
+    let mut rows = 0;
+    let mut closed = 0;
+    for size in sizes {
+        room = match room_after(rule, room, rows, *size) {
+            Some(left) => Some(left),
+            None => {
+                if rows == 0 {
+                    return None;
+                }
+                rows = 0;
+                closed += 1;
+                Some(room_after(rule, later, 0, *size)?)
+            }
+        };
+        rows += 1;
+    }
+    if rows == 0 {
+        Some(closed)
+    } else {
+        Some(closed + 1)
+    }
+}
+
+/// Whether `ends` names a fitting cut of the rows, and no fitting cut has fewer requests.
+///
+/// `limit` is the most bytes that a request may have, `arity` the number of values of a row, and `sizes` holds the bytes
+/// of each row: one and its own for each value. `ends` names the cut by the number of rows up to the end of each
+/// request, so `[2, 5]` is two requests of two and three rows. Any numbers may be handed in: a sum past `u64::MAX` is
+/// past every limit, and ends that name no cut are no fewest cut. It takes no memory.
+pub fn cut_is_fewest(
+    rule: BulkRule,
+    limit: u64,
+    arity: usize,
+    sizes: &[u64],
+    ends: &[usize],
+) -> bool
+    ensures exact { IsTrue result ↔ NamesFewest (weights rule limit arity) sizes.now ends.now }
+{
+    match fewest_parts(rule, limit, arity, sizes) {
+        Some(least) => ends.len() == least && names_fitting(rule, limit, arity, sizes, ends),
+        None => false,
+    }
+}

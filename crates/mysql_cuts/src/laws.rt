@@ -1,0 +1,31 @@
+//! Laws over cuts of rows of any kind, each a function that does nothing.
+
+ghost use Rattle.std.specs.Prelude.{◌≡◌, ◌↔◌, ℕ, List, length, map, take, true};
+ghost use Rattle.mysql_cuts.specs.Cut.{Packing, HasFittingCut, IsFittingCut, IsFewest, IsFullFromFront, RowsFitAlone, ends_after};
+ghost use Rattle.mysql_cuts.specs.Fewest.{weighed, NamesFewest};
+
+/// A fitting cut exists exactly where each row fits alone in its place: the first row with types, a later one as the
+/// rule says.
+pub fn fitting_cut_exists_where_each_row_fits_alone<Row>()
+    ensures { (k : Packing Row) (rows : List Row) → HasFittingCut k rows ↔ RowsFitAlone k true rows }
+{}
+
+/// A beginning of rows that have a fitting cut has one.
+pub fn beginning_has_fitting_cut<Row>()
+    ensures { (k : Packing Row) (rows : List Row) (n : ℕ) → HasFittingCut k rows → HasFittingCut k (take n rows) }
+{}
+
+/// The ends of a fewest cut of rows name a fewest cut of their weights, so that a judge needs the weights alone.
+pub fn fewest_cut_is_fewest_by_weights<Row>()
+    ensures { (k : Packing Row) (rows : List Row) (cut : List (List Row)) → IsFewest k rows cut → NamesFewest (weighed k) (map k.weight rows) (ends_after 0 cut) }
+{}
+
+/// A fitting cut that is full from the front is a fewest one.
+pub fn full_cut_is_fewest<Row>()
+    ensures { (k : Packing Row) (rows : List Row) (cut : List (List Row)) → IsFittingCut k rows cut → IsFullFromFront k rows cut → IsFewest k rows cut }
+{}
+
+/// Two fewest cuts of the same rows have the same number of requests.
+pub fn fewest_cuts_have_one_length<Row>()
+    ensures { (k : Packing Row) (rows : List Row) (one other : List (List Row)) → IsFewest k rows one → IsFewest k rows other → length one ≡ length other }
+{}

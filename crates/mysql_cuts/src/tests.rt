@@ -1,0 +1,49 @@
+use crate::{BulkRule, cut_is_fewest};
+
+#[test]
+fn judges_named_cuts(rt: HostRuntime) {
+    let plain = BulkRule::PLAIN;
+    let nines = [9; 5];
+    assert!(rt; cut_is_fewest(plain, 27, 1, &nines, &[2, 4, 5]));
+    assert!(rt; cut_is_fewest(plain, 27, 1, &nines, &[1, 3, 5]));
+    assert!(rt; !cut_is_fewest(plain, 27, 1, &nines, &[1, 2, 4, 5]));
+    assert!(rt; !cut_is_fewest(plain, 27, 1, &nines, &[3, 5]));
+    assert!(rt; !cut_is_fewest(plain, 27, 1, &nines, &[2, 4]));
+    assert!(rt; !cut_is_fewest(plain, 27, 1, &nines, &[2, 2, 5]));
+    assert!(rt; !cut_is_fewest(plain, 27, 1, &nines, &[]));
+}
+
+#[test]
+fn judges_odd_numbers(rt: HostRuntime) {
+    let plain = BulkRule::PLAIN;
+    assert!(rt; cut_is_fewest(plain, 27, 1, &[], &[]));
+    assert!(rt; !cut_is_fewest(plain, 27, 1, &[], &[0]));
+    assert!(rt; cut_is_fewest(plain, 7, 0, &[0, 0], &[2]));
+    assert!(rt; !cut_is_fewest(plain, 7, 0, &[0, 0], &[1, 2]));
+    assert!(rt; !cut_is_fewest(plain, 6, 0, &[0, 0], &[2]));
+    assert!(rt; !cut_is_fewest(plain, u64::MAX, 1, &[u64::MAX, 1], &[1, 2]));
+    assert!(rt; !cut_is_fewest(plain, u64::MAX, 1, &[u64::MAX, 1], &[2]));
+    assert!(rt; !cut_is_fewest(plain, u64::MAX, usize::MAX, &[0], &[1]));
+}
+
+#[test]
+fn judges_by_a_rule(rt: HostRuntime) {
+    let types = BulkRule {
+        types_always: true,
+        max_rows: None,
+    };
+    assert!(rt; cut_is_fewest(types, 27, 1, &[9; 5], &[2, 4, 5]));
+    assert!(rt; !cut_is_fewest(types, 27, 1, &[9; 5], &[1, 2, 4, 5]));
+    let one = BulkRule {
+        types_always: false,
+        max_rows: Some(1),
+    };
+    assert!(rt; cut_is_fewest(one, 27, 1, &[9; 5], &[1, 2, 3, 4, 5]));
+    assert!(rt; !cut_is_fewest(one, 27, 1, &[9; 5], &[2, 4, 5]));
+    let none = BulkRule {
+        types_always: false,
+        max_rows: Some(0),
+    };
+    assert!(rt; cut_is_fewest(none, 27, 1, &[], &[]));
+    assert!(rt; !cut_is_fewest(none, 27, 1, &[9], &[1]));
+}
