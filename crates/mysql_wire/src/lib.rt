@@ -34,7 +34,6 @@ pub use codes::{
     ColumnType, MariadbBulkIndicator, SessionStateType, UnknownColumnType,
     UnknownMariadbBulkIndicator, UnknownSessionStateType,
 };
-pub use codes::{ColumnType, SessionStateType, UnknownColumnType, UnknownSessionStateType};
 pub use const_bytes::{ConstBytes, ConstBytesValue};
 pub use constant::{ConstFault, ConstU8, ConstU32};
 pub use constant_value::{Const, ConstValue};
