@@ -25,4 +25,5 @@ pub mod Text
 pub mod BytesAgain
 pub mod ConstBytes
 pub mod ListAgain
+pub mod VarlenAgain
 pub mod Once
