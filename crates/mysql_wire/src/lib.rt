@@ -31,7 +31,10 @@ pub use bare::BareBytes;
 pub use bitflags::Flags;
 pub use buf::ParseBuf;
 pub use bytes::{BytesRepr, RawBytes};
-pub use codes::{ColumnType, SessionStateType, UnknownColumnType, UnknownSessionStateType};
+pub use codes::{
+    ColumnType, MariadbBulkIndicator, SessionStateType, UnknownColumnType,
+    UnknownMariadbBulkIndicator, UnknownSessionStateType,
+};
 pub use const_bytes::{ConstBytes, ConstBytesValue};
 pub use constant::{ConstFault, ConstU8, ConstU32};
 pub use constant_value::{Const, ConstValue};
@@ -40,8 +43,10 @@ pub use either::Either;
 pub use eof::EofBytes;
 pub use fault::{Fault, FaultKind, FaultOf};
 pub use flags::{
-    CapabilityFlags, CapabilityNames, ColumnFlagNames, ColumnFlags, FlagNames, FlagWord,
-    StatusFlags, StatusNames,
+    BinlogDumpFlags, BinlogDumpNames, CapabilityFlags, CapabilityNames, ColumnFlagNames,
+    ColumnFlags, CursorNames, CursorType, FlagNames, FlagWord, MariadbCapabilities,
+    MariadbCapabilityNames, StatusFlags, StatusNames, StmtBulkExecuteFlags, StmtBulkExecuteNames,
+    StmtExecuteParamFlags, StmtExecuteParamNames, StmtExecuteParamsFlags, StmtExecuteParamsNames,
 };
 pub use int::{IntRepr, IntWidth, RawInt};
 pub use items::{append_items, items_len};
@@ -52,4 +57,7 @@ pub use null::NullBytes;
 pub use proto::{AnyWidth, Fixed, MyDeserialize, MySerialize, Width, total_len};
 pub use seq::{Seq, SeqRepr, Unknown};
 pub use skip::Skip;
+
+#[cfg(test)]
+mod tests;
 pub use varlen::{VarLen, read_varlen_uint, varlen_uint_size, write_varlen_uint};

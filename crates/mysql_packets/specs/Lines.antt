@@ -1,0 +1,20 @@
+-- Lines that the program writes.
+use Rattle.std.specs.Prelude.{ℕ, List, ◌++◌, codes, decimal}
+use Rattle.hex.specs.Hex.{encode_lower}
+use Rattle.mysql_packets.specs.declared.lines.Shown.{Shown}
+use Rattle.mysql_packets.specs.declared.lines.Shown.TheVariants as shows
+
+-- a name and a value
+unfoldable pub line : List ℕ → List ℕ → List ℕ
+line name value = name ++ (codes ": " ++ (value ++ codes "\n"))
+
+-- bytes as a value: digits behind an x, so that no bytes are an x
+abbrev pub prefixed : List ℕ → List ℕ
+prefixed bytes = codes "x" ++ encode_lower bytes
+
+abbrev pub shown : Shown → List ℕ
+shown (shows.Number n) = decimal n
+shown (shows.Text text) = text.now
+shown (shows.Bytes bytes) = prefixed bytes.now
+shown (shows.Digits bytes) = encode_lower bytes.now
+shown shows.Absent = codes "none"
