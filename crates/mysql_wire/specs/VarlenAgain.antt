@@ -21,7 +21,7 @@ fewest-fits (suc left) k n le =
 -- the bytes hold the number, where they are not nine
 pub size_fits : (n : ℕ) → varlen_size n ≢ 9 → (0 < varlen_size n) × (varlen_size n ≤ 8) × (n < 2 ^ (7 * varlen_size n))
 unfolding varlen_size
-size_fits n ne = elim (fewest-fits 8 0 n (omega arith)) [ | inl nine ↦ absurd (ne nine) | inr fits ↦ fits ]
+size_fits n ne = elim (fewest-fits 8 0 n (omega arith)) [ inl nine ↦ absurd (ne nine) | inr fits ↦ fits ]
 
 -- the number above a zero and ones, in so many bytes
 word_fits : (k n : ℕ) → k < 8 → n < 2 ^ (7 * suc k) → n * 2 ^ suc k + (2 ^ k - 1) < 256 ^ suc k

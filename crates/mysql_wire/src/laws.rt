@@ -10,7 +10,6 @@ ghost use Rattle.mysql_wire.specs.Int.{byte, le_u16, le_u24, le_u32, le_u64, raw
 ghost use Rattle.mysql_wire.specs.LenEnc.{lenenc, lenenc_bytes, lenenc_string, lenenc_string_bytes};
 ghost use Rattle.mysql_wire.specs.Writing.{le_bytes};
 ghost use Rattle.mysql_wire.specs.Spelling.{IsSpelling};
-
 ghost use Rattle.std.specs.List.{All, flat_map};
 ghost use Rattle.mysql_wire.specs.Int.{number_of};
 ghost use Rattle.mysql_wire.specs.Many.{many};
