@@ -1,1 +1,3 @@
 mod byte_strings;
+mod lists;
+mod varlen;
