@@ -6,7 +6,7 @@ use Rattle.mysql_wire.specs.Form.{Form, map, either}
 use Rattle.mysql_wire.specs.Bare.{bare}
 use Rattle.mysql_stmt.specs.Bitmap.{Bitmap, bytes_for}
 
-none-missing : {A P : Type 0} (v : A) (rest : List ℕ) → ◌≡◌ {A = Reading A} (Err kind.UnexpectedEof) (Ok (v, rest)) → P
+pub none-missing : {A P : Type 0} (v : A) (rest : List ℕ) → ◌≡◌ {A = Reading A} (Err kind.UnexpectedEof) (Ok (v, rest)) → P
 none-missing v rest e = absurd cc
 
 -- bytes that cannot be there

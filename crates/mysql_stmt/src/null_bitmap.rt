@@ -10,6 +10,7 @@ use mysql_values::SerializationSide;
 use mysql_wire::{AnyWidth, FaultOf, MyDeserialize, MySerialize, ParseBuf};
 use std::alloc::{AllocError, Global};
 use std::borrow::CowSlice;
+use std::convert::AsSlice;
 use std::fmt;
 use std::fmt::Debug;
 use std::marker::{Model, PhantomData};
@@ -165,5 +166,101 @@ fn put(bytes: &mut [u8], at: usize, bit: usize, one: bool)
         *byte |= mask;
     } else {
         *byte &= !mask;
+    }
+}
+
+impl<T> AsSlice<u8> for NullBitmap<'_, T> {
+    ghost items = { λ b. b.bytes };
+
+    fn as_slice(&self) -> &[u8] {
+        self.as_bytes()
+    }
+}
+
+impl<T> Clone for NullBitmap<'_, T> {
+    ghost is_clone = { λ b copy. copy.bytes ≡ b.bytes };
+
+    /// The same bytes, copied where the bitmap owns them.
+    fn clone(&self) -> Result<Self, AllocError> {
+        Ok(NullBitmap {
+            bytes: self.bytes.clone()?,
+            side: PhantomData,
+        })
+    }
+}
+
+impl<T> PartialEq for NullBitmap<'_, T> {
+    ghost use Rattle.std.specs.Prelude.{nat_eq};
+    ghost use Rattle.std.specs.Cmp.Lexicographic.{pointwise};
+    ghost use Rattle.std.proofs.Common.{rules};
+    ghost use Rattle.std.specs.Cmp.Rules.{comparing};
+
+    ghost eq = { λ a b. pointwise nat_eq a.bytes b.bytes };
+
+    ghost laws = { Prim.search (comparing, rules) };
+
+    fn eq(&self, other: &Self) -> bool {
+        self.as_bytes() == other.as_bytes()
+    }
+}
+
+impl<T> Eq for NullBitmap<'_, T> {
+    ghost use Rattle.std.proofs.Common.{rules};
+    ghost use Rattle.std.specs.Cmp.Rules.{comparing};
+
+    ghost laws = { Prim.search (comparing, rules) };
+}
+
+impl<T> Debug for NullBitmap<'_, T> {
+    fn fmt<W: fmt::Write>(&self, f: &mut fmt::Formatter<W>) -> fmt::Result {
+        self.as_bytes().fmt(f)
+    }
+}
+
+/// For the context `n`: the bytes that hold the bits of `n` values, borrowed.
+///
+/// Bytes that are not there are `UnexpectedEof`, and so is a count that, with seven and the side's
+/// offset, is past `usize`.
+impl<'de, T: SerializationSide> MyDeserialize<'de> for NullBitmap<'de, T> {
+    const SIZE: Option<usize> = None;
+
+    type Size = AnyWidth;
+
+    ghost takes_memory = { false };
+
+    type Ctx = usize;
+
+    ghost use Rattle.mysql_stmt.specs.NullBitmap.{null_bitmap, size-null_bitmap};
+
+    ghost form = { λ count. null_bitmap T.BIT_OFFSET count };
+
+    #[tactic(auto, unfolding(crate::specs::NullBitmap::null_bitmap, mysql_wire::specs::Form::bytes))]
+    fn deserialize<'s>(num_columns: usize, buf: &mut ParseBuf<'de>) -> Result<Self, FaultOf<'s>> {
+        let Some(count) = num_columns.checked_add(7) else {
+            return Err(FaultOf::UnexpectedEof);
+        };
+        if count.checked_add(T::BIT_OFFSET).is_none() {
+            return Err(FaultOf::UnexpectedEof);
+        }
+        let bytes = buf
+            .checked_eat(Self::bitmap_len(num_columns))
+            .ok_or(FaultOf::UnexpectedEof)?;
+        Ok(NullBitmap::from_bytes(CowSlice::Borrowed(bytes)))
+    }
+
+    ghost size_is = { λ count. size-null_bitmap T.BIT_OFFSET count };
+}
+
+/// The bytes.
+impl<T> MySerialize for NullBitmap<'_, T> {
+    ghost bytes = { λ b. b.bytes };
+
+    #[tactic(auto, unfolding(mysql_wire::specs::Writing::saturated))]
+    fn defined_len(&self) -> usize {
+        self.as_bytes().len()
+    }
+
+    fn append(&self, out: &mut Vec<u8>) {
+        out.extend_from_slice(self.as_bytes()).unwrap();
     }
 }
