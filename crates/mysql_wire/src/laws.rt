@@ -10,21 +10,17 @@ ghost use Rattle.mysql_wire.specs.Int.{byte, le_u16, le_u24, le_u32, le_u64, raw
 ghost use Rattle.mysql_wire.specs.LenEnc.{lenenc, lenenc_bytes, lenenc_string, lenenc_string_bytes};
 ghost use Rattle.mysql_wire.specs.Writing.{le_bytes};
 ghost use Rattle.mysql_wire.specs.Spelling.{IsSpelling};
-ghost use Rattle.std.specs.List.{All, flat_map};
-ghost use Rattle.mysql_wire.specs.Int.{number_of};
-ghost use Rattle.mysql_wire.specs.Many.{many};
-ghost use Rattle.mysql_wire.specs.Seq.{seq, seq_bytes};
-ghost use Rattle.mysql_wire.specs.Varlen.{varlen, varlen_bytes};
 
 mod byte_strings;
+mod lists;
 
 use crate::bytes::RawBytes;
-use crate::proto::{MyDeserialize, MySerialize};
-use crate::seq::SeqRepr;
+use crate::proto::MyDeserialize;
 pub use byte_strings::{
     array_again, bare_string_again, const_bytes_again, null_string_again, rest_again,
     u8_string_again, u32_string_again,
 };
+pub use lists::{count_again, list_again, values_to_the_end_again, varlen_again};
 use std::hash::Hash;
 
 /// Bytes are spellings of at most one value of a type, with one rest.
@@ -74,28 +70,4 @@ pub fn lenenc_string_again()
 /// Byte strings with one content are equal and hash equally, borrowed or owned.
 pub fn equal_byte_strings_hash_equally<R>()
     ensures { (x y : List ℕ) → ⟦<RawBytes<'static, R> as PartialEq>⟧.eq x y ≡ true → ⟦<RawBytes<'static, R> as Hash>⟧.hash_input x ≡ ⟦<RawBytes<'static, R> as Hash>⟧.hash_input y }
-{}
-
-/// A number of varying length of up to 64 bits is read again, whatever follows.
-#[tactic(auto, using(crate::specs::VarlenAgain::varlen_again))]
-pub fn varlen_again()
-    ensures { (n : ℕ) → n < 2 ^ 64 → IsSpelling varlen n (varlen_bytes n) }
-{}
-
-/// A list whose count and whose values each are read again is read again, whatever follows.
-pub fn list_again<'de, T: MyDeserialize<'de, Ctx = ()> + MySerialize, L: SeqRepr>()
-    ensures { (ctx : L.Ctx) (xs : List T) → IsSpelling (L.form ctx) (length xs) (L.written (length xs)) → All (λ x. IsSpelling (T.form tt) x (T.bytes x)) xs
-        → IsSpelling (seq (L.form ctx) (T.form tt)) xs (seq_bytes L.written T.bytes xs) }
-{}
-
-/// A count of eight bytes is read again, whatever follows.
-#[tactic(auto, using(crate::specs::ListAgain::lists_again))]
-pub fn count_again()
-    ensures { (n : ℕ) → n < 2 ^ 64 → IsSpelling (number_of le_u64) n (le_bytes 8 n) }
-{}
-
-/// Values that each are read again, and take at least one byte, are read again up to the end of the bytes.
-pub fn values_to_the_end_again<'de, T: MyDeserialize<'de, Ctx = ()> + MySerialize>()
-    ensures { (xs : List T) → All (λ x. IsSpelling (T.form tt) x (T.bytes x) × (0 < length (T.bytes x))) xs
-        → (many (T.form tt)).Spells xs (flat_map T.bytes xs) [] }
 {}

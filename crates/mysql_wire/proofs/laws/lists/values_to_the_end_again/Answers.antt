@@ -1,7 +1,7 @@
 use Rattle.std.proofs.Common.{◌<◌, length}
 use Rattle.mysql_wire.specs.Spelling.{IsSpelling}
 use Rattle.mysql_wire.specs.ListAgain.{many-again}
-use Rattle.mysql_wire.proofs.laws.values_to_the_end_again.Goals as goal
+use Rattle.mysql_wire.proofs.laws.lists.values_to_the_end_again.Goals as goal
 
 pub returns : goal.returns
 returns g c =

@@ -1,7 +1,7 @@
 use Rattle.std.proofs.Common.{length}
 use Rattle.mysql_wire.specs.Spelling.{IsSpelling}
 use Rattle.mysql_wire.specs.ListAgain.{seq-again}
-use Rattle.mysql_wire.proofs.laws.list_again.Goals as goal
+use Rattle.mysql_wire.proofs.laws.lists.list_again.Goals as goal
 
 pub returns : goal.returns
 returns g c =
