@@ -1,6 +1,8 @@
 -- What the program answers.
 use Rattle.std.specs.Prelude.{◌≡◌, ℕ, List, [], ◌++◌, ◌⊎◌, length, Option, Result, Ok, Err, codes}
 use Rattle.std.specs.Io.KnownBytes.{Appends}
+use Rattle.mysql_wire.specs.declared.fault.FaultOf.{FaultOf}
+use Rattle.mysql_wire.specs.declared.fault.FaultOf.TheVariants as fault
 use Rattle.mysql_wire.specs.declared.fault.FaultKind.{FaultKind}
 use Rattle.mysql_wire.specs.declared.fault.FaultKind.TheVariants as kind
 use Rattle.mysql_wire.specs.Reading.{Reading}
@@ -24,6 +26,13 @@ name_of kind.Memory = codes "Memory"
 -- the lines so far, and then a refusal
 abbrev pub refused : List ℕ → FaultKind → Answer
 refused lines k = record { text = lines ++ line (codes "refused") (name_of k); status = 1 }
+
+-- the refusal for a fault; a growth that was refused is none
+abbrev pub IsRefusal : List ℕ → FaultOf → Answer → Type 0
+IsRefusal lines fault.UnexpectedEof answer = answer ≡ refused lines kind.UnexpectedEof
+IsRefusal lines (fault.InvalidData text) answer = answer ≡ refused lines kind.InvalidData
+IsRefusal lines (fault.InvalidInput text) answer = answer ≡ refused lines kind.InvalidInput
+IsRefusal lines fault.Memory answer = ⊥
 
 -- a bad call
 abbrev pub usage : Answer

@@ -1,10 +1,10 @@
 //! What the program answers.
 
 ghost use Rattle.std.specs.Prelude.{◌≡◌, IfOk, string_bytes};
-ghost use Rattle.mysql_packets.specs.Answer.{done, refused, name_of};
+ghost use Rattle.mysql_packets.specs.Answer.{done, IsRefusal};
 
 use crate::lines::{Line, append_lines};
-use mysql_wire::FaultKind;
+use mysql_wire::Fault;
 use std::alloc::{AllocError, Global};
 use std::marker::Model;
 
@@ -33,10 +33,18 @@ impl Answer {
     }
 
     /// The lines so far, and then that the rest was refused: status 1.
-    pub fn refused(alloc: Global, mut text: String, kind: FaultKind) -> Result<Answer, AllocError>
-        ensures value { IfOk result (λ answer. answer ≡ refused (string_bytes text) kind) }
+    ///
+    /// A growth that was refused gives no answer of its own, but the error.
+    pub fn refused(alloc: Global, mut text: String, fault: Fault) -> Result<Answer, AllocError>
+        ensures value { IfOk result (λ answer. IsRefusal (string_bytes text) fault answer) }
     {
-        append_lines(alloc, &mut text, &[Line::text("refused", kind_name(kind))])?;
+        let name = match fault {
+            Fault::UnexpectedEof => "UnexpectedEof",
+            Fault::InvalidData(_) => "InvalidData",
+            Fault::InvalidInput(_) => "InvalidInput",
+            Fault::Memory => return Err(AllocError),
+        };
+        append_lines(alloc, &mut text, &[Line::text("refused", name)])?;
         Ok(Answer { text, status: 1 })
     }
 
@@ -50,16 +58,5 @@ impl Answer {
         ensures value { result ≡ self.now.status }
     {
         self.status
-    }
-}
-
-fn kind_name(kind: FaultKind) -> &'static str
-    ensures value { result.now ≡ name_of kind }
-{
-    match kind {
-        FaultKind::UnexpectedEof => "UnexpectedEof",
-        FaultKind::InvalidData => "InvalidData",
-        FaultKind::InvalidInput => "InvalidInput",
-        FaultKind::Memory => "Memory",
     }
 }

@@ -1,9 +1,9 @@
 //! Lines that the program writes.
 
-ghost use Rattle.std.specs.Prelude.{◌≡◌, ◌++◌, IfOk, OnOk, decimal, string_bytes};
+ghost use Rattle.std.specs.Prelude.{◌≡◌, ◌++◌, IfOk, OnOk, decimal, option_map, string_bytes};
 ghost use Rattle.std.specs.List.{concat};
 ghost use Rattle.hex.specs.Hex.{encode_lower};
-ghost use Rattle.mysql_packets.specs.Lines.{line, prefixed};
+ghost use Rattle.mysql_packets.specs.Lines.{line, or_none, prefixed};
 
 use std::alloc::{AllocError, Global};
 use std::marker::Model;
@@ -64,6 +64,30 @@ impl<'a> Line<'a> {
         Line {
             name,
             value: Shown::Bytes(bytes),
+        }
+    }
+
+    pub fn optional_number(name: &'a str, number: Option<u64>) -> Line<'a>
+        ensures value { result ≡ line name.now (or_none decimal number) }
+    {
+        match number {
+            Some(number) => Line::number(name, number),
+            None => Line {
+                name,
+                value: Shown::Absent,
+            },
+        }
+    }
+
+    pub fn optional_bytes(name: &'a str, bytes: Option<&'a [u8]>) -> Line<'a>
+        ensures value { result ≡ line name.now (or_none prefixed (option_map (λ b. b.now) bytes)) }
+    {
+        match bytes {
+            Some(bytes) => Line::bytes(name, bytes),
+            None => Line {
+                name,
+                value: Shown::Absent,
+            },
         }
     }
 

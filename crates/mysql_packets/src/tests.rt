@@ -48,35 +48,25 @@ const USAGE: &str = "usage: mypackets COMMAND ARGS\n";
 
 const STATEMENT: &str = "statement_id: 1\nnum_columns: 1\nnum_params: 2\nwarning_count: 0\n";
 
+/// The status, and what is written.
+fn answered(alloc: Global, call: &[&str]) -> Result<(u8, Vec<u8>), AllocError> {
+    let args = words(alloc, call)?;
+    let mut written = Vec::new(alloc);
+    let status = run(alloc, args.as_slice(), &mut FailingReader, &mut written);
+    Ok((status, written))
+}
+
 #[test]
-fn calls(rt: HostRuntime) -> Result<(), Fail> {
-    let statement = format!(in rt.alloc();
-        "{STATEMENT}rest: 0\nbytes: 000100000001000200000000\n"
-    )?;
+fn statements(rt: HostRuntime) -> Result<(), Fail> {
+    let statement = format!(in rt.alloc(); "{STATEMENT}rest: 0\nbytes: 000100000001000200000000\n")?;
     let followed = format!(in rt.alloc(); "{STATEMENT}rest: 1\nbytes: 000100000001000200000000\n")?;
     let calls: [(&[&str], u8, &str); 12] = [
         (&["stmt", "000100000001000200000000"], 0, statement.as_str()),
         (&["stmt", "000100000001000200070000"], 0, statement.as_str()),
-        (
-            &["stmt", "000100000001000200000000ff"],
-            0,
-            followed.as_str(),
-        ),
-        (
-            &["stmt", "000100000001000200000000FF"],
-            0,
-            followed.as_str(),
-        ),
-        (
-            &["stmt", "0001000000010002000000"],
-            1,
-            "refused: UnexpectedEof\n",
-        ),
-        (
-            &["stmt", "010100000001000200000000"],
-            1,
-            "refused: InvalidData\n",
-        ),
+        (&["stmt", "000100000001000200000000ff"], 0, followed.as_str()),
+        (&["stmt", "000100000001000200000000FF"], 0, followed.as_str()),
+        (&["stmt", "0001000000010002000000"], 1, "refused: UnexpectedEof\n"),
+        (&["stmt", "010100000001000200000000"], 1, "refused: InvalidData\n"),
         (&["stmt", ""], 1, "refused: UnexpectedEof\n"),
         (&["stmt", "0"], 2, USAGE),
         (&["stmt", "0g"], 2, USAGE),
@@ -85,14 +75,7 @@ fn calls(rt: HostRuntime) -> Result<(), Fail> {
         (&[], 2, USAGE),
     ];
     for (call, status, text) in calls {
-        let args = words(rt.alloc(), call)?;
-        let mut written = Vec::new(rt.alloc());
-        let given = run(
-            rt.alloc(),
-            args.as_slice(),
-            &mut FailingReader,
-            &mut written,
-        );
+        let (given, written) = answered(rt.alloc(), call)?;
         assert_eq!(rt; given, status);
         assert_eq!(rt; written.as_slice(), text.as_bytes());
     }

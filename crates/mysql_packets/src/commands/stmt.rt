@@ -11,13 +11,14 @@ use mysql_wire::{MySerialize, ParseBuf};
 use std::alloc::{AllocError, Global};
 
 /// The lines of the statement packet at the front of the bytes.
+#[tactic(auto, using(crate::proofs::Refused::refusals))]
 pub fn answer(alloc: Global, bytes: &[u8]) -> Result<Answer, AllocError>
     ensures value { IfOk result (λ answer. answer ≡ stmt_answer bytes.now) }
 {
     let mut buf = ParseBuf::new(alloc, bytes);
     match buf.parse::<StmtPacket>(()) {
         Ok(packet) => show(alloc, &packet, buf.len()),
-        Err(fault) => Answer::refused(alloc, String::new(alloc), fault.kind()),
+        Err(fault) => Answer::refused(alloc, String::new(alloc), fault),
     }
 }
 
