@@ -1,4 +1,4 @@
-use Rattle.std.proofs.Common.{◌≡◌, ◌<◌, ◌^◌, ℕ, List, [], ◌∷◌, ◌++◌, length, refl, arith}
+use Rattle.std.proofs.Common.{◌≡◌, [], length, refl}
 use Rattle.mysql_wire.specs.Again.{lenenc_string-again}
 use Rattle.mysql_wire.specs.BytesAgain.{const_bytes-again}
 use Rattle.mysql_wire.specs.ColumnType.{column_type-again}

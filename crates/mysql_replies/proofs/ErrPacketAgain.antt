@@ -1,14 +1,12 @@
-use Rattle.std.proofs.Common.{◌≡◌, ℕ, ◌<◌, ◌^◌, List, [], ◌∷◌, ◌++◌, length, Bool, true, false, ◌&&◌, ◌==◌, refl, arith, sym}
+use Rattle.std.proofs.Common.{◌≡◌, ℕ, ◌<◌, ◌^◌, List, [], ◌∷◌, ◌++◌, length, refl, arith}
 use Rattle.std.proofs.lemmas.List.{append-nil}
 use Rattle.mysql_wire.specs.Flags.{CapabilityFlags}
-use Rattle.mysql_wire.specs.declared.constant.ConstU8.{ConstU8}
 use Rattle.mysql_wire.specs.Int.{raw_int}
 use Rattle.mysql_wire.specs.Writing.{le_bytes}
 use Rattle.mysql_wire.specs.Spelling.{before_rest, joined-rest, block-at, const_byte-again, le_u16-again}
-use Rattle.mysql_replies.specs.declared.err_packet.InvalidErrPacketHeader.{InvalidErrPacketHeader}
 use Rattle.mysql_replies.specs.declared.err_packet.ErrPacket.{ErrPacket}
 use Rattle.mysql_replies.specs.declared.err_packet.ErrPacket.TheVariants as err
-use Rattle.mysql_replies.specs.ErrPacket.{err_packet, err_packet_bytes, err_packet_parts, err_head, takes_progress, ErrPacketFits}
+use Rattle.mysql_replies.specs.ErrPacket.{err_packet, err_packet_bytes, err_packet_parts, err_head, ErrPacketFits}
 use Rattle.mysql_replies.specs.ProgressReport.{progress_report_bytes}
 use Rattle.mysql_replies.specs.ServerError.{error_code, server_error_bytes}
 use Rattle.mysql_replies.proofs.ProgressReportAgain.{progress_report-again}

@@ -1,4 +1,4 @@
-use Rattle.std.proofs.Common.{◌≡◌, ◌<◌, ◌^◌, ℕ, List, [], ◌∷◌, ◌++◌, length, refl, arith}
+use Rattle.std.proofs.Common.{refl}
 use Rattle.mysql_wire.specs.SessionStateType.{session_state_type-again}
 use Rattle.mysql_wire.specs.Spelling.{IsSpelling, joined-rest}
 use Rattle.mysql_wire.specs.Again.{lenenc_string-again}

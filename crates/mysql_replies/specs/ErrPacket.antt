@@ -1,5 +1,5 @@
 -- Errors and progress reports, in their packet.
-use Rattle.std.specs.Prelude.{◌≡◌, ℕ, ◌<◌, ◌^◌, List, [], ◌∷◌, None, Bool, true, false, not, ◌&&◌, ◌==◌, refl}
+use Rattle.std.specs.Prelude.{◌≡◌, ℕ, ◌<◌, ◌^◌, List, [], ◌∷◌, None, Bool, true, false, ◌&&◌, ◌==◌, refl}
 use Rattle.mysql_wire.specs.Flags.{CapabilityFlags, has}
 use Rattle.mysql_wire.specs.Form.{Form, ◌>>=◌, give, block, either, map}
 use Rattle.mysql_wire.specs.Constant.{const_byte}

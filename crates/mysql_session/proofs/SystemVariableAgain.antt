@@ -1,7 +1,6 @@
-use Rattle.std.proofs.Common.{◌<◌, ◌≤◌, ◌+◌, ℕ, List, [], ◌∷◌, ◌++◌, length, refl, arith}
+use Rattle.std.proofs.Common.{◌<◌, List, [], ◌∷◌, length, refl, arith}
 use Rattle.std.proofs.lemmas.List.{length-append}
-use Rattle.std.specs.List.{flat_map}
-use Rattle.mysql_wire.specs.LenEnc.{lenenc_string_bytes, lenenc_bytes}
+use Rattle.mysql_wire.specs.LenEnc.{lenenc_string_bytes}
 use Rattle.mysql_wire.specs.Spelling.{IsSpelling, joined-rest}
 use Rattle.mysql_wire.specs.Again.{lenenc_string-again}
 use Rattle.mysql_wire.specs.ListAgain.{many-again}
