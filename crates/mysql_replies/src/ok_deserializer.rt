@@ -6,9 +6,7 @@ ghost use Rattle.mysql_replies.specs.OkDeserializer as spec;
 
 use crate::ok_kind::OkPacketKind;
 use crate::ok_packet::OkPacket;
-use mysql_wire::{
-    AnyWidth, CapabilityFlags, ConstFault, FaultOf, MyDeserialize, ParseBuf, RawInt,
-};
+use mysql_wire::{AnyWidth, CapabilityFlags, ConstFault, FaultOf, MyDeserialize, ParseBuf, RawInt};
 use std::marker::PhantomData;
 use thiserror::Error;
 

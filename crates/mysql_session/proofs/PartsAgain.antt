@@ -1,5 +1,5 @@
 -- The parts of changes that are one byte string each.
-use Rattle.std.proofs.Common.{List, ℕ, [], ◌++◌, refl}
+use Rattle.std.proofs.Common.{[], refl}
 use Rattle.mysql_wire.specs.Spelling.{IsSpelling}
 use Rattle.mysql_wire.specs.Again.{lenenc_string-again}
 use Rattle.mysql_session.specs.declared.gtids.Gtids.{Gtids}

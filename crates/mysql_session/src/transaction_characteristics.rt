@@ -5,7 +5,7 @@ ghost use Rattle.std.specs.Cow.{cow_slice_items, cow_str_bytes, IsOwnedStr};
 ghost use Rattle.mysql_wire.specs.Text.{lossy_text};
 ghost use Rattle.mysql_session.specs.TransactionCharacteristics as spec;
 
-use mysql_wire::{AnyWidth, LenEnc, FaultOf, MyDeserialize, MySerialize, ParseBuf, RawBytes};
+use mysql_wire::{AnyWidth, FaultOf, LenEnc, MyDeserialize, MySerialize, ParseBuf, RawBytes};
 use std::alloc::{AllocError, Global};
 use std::borrow::{CowSlice, CowStr};
 
@@ -40,7 +40,10 @@ impl<'a> TransactionCharacteristics<'a> {
     }
 
     /// The same, on memory of its own.
-    pub fn into_owned(self, alloc: Global) -> Result<TransactionCharacteristics<'static>, AllocError>
+    pub fn into_owned(
+        self,
+        alloc: Global,
+    ) -> Result<TransactionCharacteristics<'static>, AllocError>
         ensures value { IfOk result (λ owned. owned ≡ self.entry) }
     {
         Ok(TransactionCharacteristics(self.0.into_owned(alloc)?))

@@ -5,7 +5,7 @@ ghost use Rattle.std.specs.Cow.{cow_slice_items, cow_str_bytes, IsOwnedStr};
 ghost use Rattle.mysql_wire.specs.Text.{lossy_text};
 ghost use Rattle.mysql_session.specs.TransactionState as spec;
 
-use mysql_wire::{AnyWidth, LenEnc, FaultOf, MyDeserialize, MySerialize, ParseBuf, RawBytes};
+use mysql_wire::{AnyWidth, FaultOf, LenEnc, MyDeserialize, MySerialize, ParseBuf, RawBytes};
 use std::alloc::{AllocError, Global};
 use std::borrow::{CowSlice, CowStr};
 

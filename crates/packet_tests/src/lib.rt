@@ -3,6 +3,5 @@
 
 #[cfg(test)]
 mod captured;
-
 #[cfg(test)]
 mod replies;

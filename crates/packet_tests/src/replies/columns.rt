@@ -7,7 +7,8 @@ use mysql_wire::{ColumnFlags, ColumnType, Fault, FaultKind, ParseBuf};
 use std::alloc::Global;
 use std::test::Fail;
 
-const COLUMN: &str = "03646566 06736368656d61 057461626c65 096f72675f7461626c65 046e616d65 086f72675f6e616d65 0c 2100 0f000000 00 0100 08 0000";
+const COLUMN: &str =
+    "03646566 06736368656d61 057461626c65 096f72675f7461626c65 046e616d65 086f72675f6e616d65 0c 2100 0f000000 00 0100 08 0000";
 
 fn read_column(alloc: Global, bytes: &[u8]) -> Result<Column, Fault> {
     let mut buf = ParseBuf::new(alloc, bytes);

@@ -121,10 +121,7 @@ fn progress_is_cut_to_two_decimals(rt: HostRuntime) -> Result<(), Fail> {
     );
     let most = ProgressReport::new(0, 0, 16_777_215, CowSlice::Borrowed(b""));
     let text = format!(in rt.alloc(); "{most}")?;
-    assert_eq!(rt;
-        text.as_str(),
-        "Stage: 0 of 0 ''  16777.21% of stage done"
-    );
+    assert_eq!(rt; text.as_str(), "Stage: 0 of 0 ''  16777.21% of stage done");
     Ok(())
 }
 

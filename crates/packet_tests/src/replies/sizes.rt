@@ -5,8 +5,8 @@ use mysql_replies::{
     ServerError, SessionStateInfo, SqlState,
 };
 use mysql_session::{
-    Gtids, Schema, SessionStateChange, SystemVariable, SystemVariables,
-    TransactionCharacteristics, TransactionState, Unsupported,
+    Gtids, Schema, SessionStateChange, SystemVariable, SystemVariables, TransactionCharacteristics,
+    TransactionState, Unsupported,
 };
 use mysql_wire::MyDeserialize;
 
@@ -28,7 +28,10 @@ fn a_state_alone_has_a_size(rt: HostRuntime) {
     assert_eq!(rt; <Gtids<'_> as MyDeserialize>::SIZE, None);
     assert_eq!(rt; <SystemVariable<'_> as MyDeserialize>::SIZE, None);
     assert_eq!(rt; <SystemVariables<'_> as MyDeserialize>::SIZE, None);
-    assert_eq!(rt; <TransactionCharacteristics<'_> as MyDeserialize>::SIZE, None);
+    assert_eq!(rt;
+        <TransactionCharacteristics<'_> as MyDeserialize>::SIZE,
+        None
+    );
     assert_eq!(rt; <TransactionState<'_> as MyDeserialize>::SIZE, None);
     assert_eq!(rt; <Unsupported<'_> as MyDeserialize>::SIZE, None);
 }
