@@ -5,6 +5,9 @@ pub mod Answer
 pub mod Stmt
 pub mod Infile
 pub mod Column
+pub mod Change
+pub mod OkKind
+pub mod Ok
 pub mod Err
 pub mod Command
 pub mod Program

@@ -6,7 +6,8 @@ ghost use Rattle.mysql_packets.specs.Program.{answer_to_command};
 
 use crate::answer::Answer;
 use crate::capabilities::capabilities_of;
-use crate::commands::{column, err, infile, stmt};
+use crate::commands::ok::OkKind;
+use crate::commands::{column, err, infile, ok, stmt};
 use crate::digits::HexDigits;
 use mysql_wire::CapabilityFlags;
 use std::alloc::{AllocError, Global};
@@ -20,6 +21,8 @@ pub enum Command<'a> {
     Infile(HexDigits<'a>),
     /// `column HEX`: a column's definition.
     Column(HexDigits<'a>),
+    /// `ok KIND CAPS HEX`: an OK packet.
+    Ok(OkKind, CapabilityFlags, HexDigits<'a>),
     /// `err CAPS HEX`: an error packet.
     Err(CapabilityFlags, HexDigits<'a>),
 }
@@ -35,6 +38,10 @@ impl<'a> Command<'a> {
             [name, word] => Command::with_one(name.as_str(), word.as_str()),
             [name, first, second] => {
                 Command::with_two(name.as_str(), first.as_str(), second.as_str())
+            }
+            [name, first, second, third] => {
+                let (name, first) = (name.as_str(), first.as_str());
+                Command::with_three(name, first, second.as_str(), third.as_str())
             }
             _ => None,
         }
@@ -60,6 +67,19 @@ impl<'a> Command<'a> {
         }
     }
 
+    fn with_three(name: &str, first: &str, second: &str, third: &'a str) -> Option<Command<'a>>
+        ensures value { result ≡ spec.with_three name.now first.now second.now third.now }
+    {
+        match name {
+            "ok" => {
+                let kind = OkKind::of(first)?;
+                let capabilities = capabilities_of(second)?;
+                Some(Command::Ok(kind, capabilities, HexDigits::new(third)?))
+            }
+            _ => None,
+        }
+    }
+
     /// What the program answers. A growth that was refused is the only error.
     pub fn answer(self, alloc: Global) -> Result<Answer, AllocError>
         ensures value { IfOk result (λ answer. answer ≡ answer_to_command self.entry) }
@@ -68,6 +88,9 @@ impl<'a> Command<'a> {
             Command::Stmt(digits) => stmt::answer(alloc, digits.decode(alloc)?.as_slice()),
             Command::Infile(digits) => infile::answer(alloc, digits.decode(alloc)?.as_slice()),
             Command::Column(digits) => column::answer(alloc, digits.decode(alloc)?.as_slice()),
+            Command::Ok(kind, capabilities, digits) => {
+                ok::answer(alloc, kind, capabilities, digits.decode(alloc)?.as_slice())
+            }
             Command::Err(capabilities, digits) => {
                 err::answer(alloc, capabilities, digits.decode(alloc)?.as_slice())
             }

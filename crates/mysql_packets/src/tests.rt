@@ -165,6 +165,56 @@ fn replies(rt: HostRuntime) -> Result<(), Fail> {
 }
 
 #[test]
+fn ok_packets(rt: HostRuntime) -> Result<(), Fail> {
+    let tracked =
+        "affected_rows: 0\nlast_insert_id: none\nstatus_flags: 16386\nwarnings: 0\ninfo: none\nsession_state_info: x000f0a6175746f636f6d6d6974034f4646\nchange: SystemVariables x6175746f636f6d6d6974=x4f4646\nrest: 0\n";
+    let refused =
+        "affected_rows: 0\nlast_insert_id: none\nstatus_flags: 16386\nwarnings: 0\ninfo: none\nsession_state_info: x0600\nrefused: InvalidData\n";
+    let changed =
+        "affected_rows: 1\nlast_insert_id: none\nstatus_flags: 2\nwarnings: 0\ninfo: none\nsession_state_info: none\nrest: 0\n";
+    let calls: [(&[&str], u8, &str); 7] = [
+        (
+            &["ok", "common", "800000", "00000002400000001100 0f"],
+            2,
+            USAGE,
+        ),
+        (
+            &[
+                "ok",
+                "common",
+                "800000",
+                "000000024000000011000f0a6175746f636f6d6d6974034f4646",
+            ],
+            0,
+            tracked,
+        ),
+        (
+            &["ok", "common", "800000", "0000000240000000020600"],
+            1,
+            refused,
+        ),
+        (&["ok", "common", "0", "00010002000000"], 0, changed),
+        (
+            &["ok", "terminator", "0", "00010002000000"],
+            1,
+            "refused: InvalidData\n",
+        ),
+        (
+            &["ok", "eof", "0", "fe000002"],
+            1,
+            "refused: UnexpectedEof\n",
+        ),
+        (&["ok", "old", "0", "00"], 2, USAGE),
+    ];
+    for (call, status, text) in calls {
+        let (given, written) = answered(rt.alloc(), call)?;
+        assert_eq!(rt; given, status);
+        assert_eq!(rt; written.as_slice(), text.as_bytes());
+    }
+    Ok(())
+}
+
+#[test]
 fn a_failed_write_alone_gives_3(rt: HostRuntime) -> Result<(), Fail> {
     let calls: [(&[&str], u8); 3] = [
         (&["stmt", "000100000001000200000000"], 0),
