@@ -38,7 +38,7 @@ impl<'de, T> OkPacketDeserializer<'de, T> {
     }
 }
 
-impl<'de, T: Drop> From<OkPacketDeserializer<'de, T>> for OkPacket<'de> {
+impl<'de, T> From<OkPacketDeserializer<'de, T>> for OkPacket<'de> {
     ghost from_gives = { λ d p. p ≡ spec.packet d };
 
     fn from(deserializer: OkPacketDeserializer<'de, T>) -> OkPacket<'de> {
