@@ -12,10 +12,17 @@ use Rattle.mysql_session.proofs.Lengths.{some_byte}
 
 pub system_variable-again : (v : SystemVariable) → SystemVariableFits v → IsSpelling system_variable v (system_variable_bytes v)
 unfolding system_variable system_variable_bytes
-system_variable-again v fits rest = rw (joined-rest (lenenc_string_bytes (variable_name v) ∷ lenenc_string_bytes (variable_value v) ∷ []) rest)
-    (variable_name v, _, lenenc_string-again (variable_name v) fits.name _,
-    (variable_value v, _, lenenc_string-again (variable_value v) fits.value _,
-    (refl, refl)))
+system_variable-again v fits rest = rw (joined-rest (lenenc_string_bytes (variable_name v) ∷ lenenc_string_bytes (variable_value v) ∷ []) rest) (
+  variable_name v,
+  _,
+  lenenc_string-again (variable_name v) fits.name _,
+  (
+    variable_value v,
+    _,
+    lenenc_string-again (variable_value v) fits.value _,
+    (refl, refl),
+  ),
+)
 
 some-variable_byte : (v : SystemVariable) → 0 < length (system_variable_bytes v)
 unfolding system_variable_bytes
