@@ -4,31 +4,22 @@
 
 ghost use Rattle.std.specs.Prelude.{◌≡◌, ◌++◌, [], List, ℕ, true};
 ghost use Rattle.mysql_wire.specs.declared.codes.session_state_type.SessionStateType.{SessionStateType};
-ghost use Rattle.mysql_session.specs.declared.gtids.Gtids.{Gtids};
-ghost use Rattle.mysql_session.specs.declared.schema.Schema.{Schema};
 ghost use Rattle.mysql_session.specs.declared.session_state_change.SessionStateChange.{SessionStateChange};
 ghost use Rattle.mysql_session.specs.declared.session_state_change.SessionStateChange.TheVariants as change;
 ghost use Rattle.mysql_session.specs.declared.system_variable.SystemVariable.{SystemVariable};
-ghost use Rattle.mysql_session.specs.declared.transaction_characteristics.TransactionCharacteristics.{TransactionCharacteristics};
-ghost use Rattle.mysql_session.specs.declared.transaction_state.TransactionState.{TransactionState};
-ghost use Rattle.mysql_session.specs.declared.unsupported.Unsupported.{Unsupported};
-ghost use Rattle.mysql_session.specs.Gtids.{gtids, gtids_bytes};
-ghost use Rattle.mysql_session.specs.Schema.{schema, schema_bytes, SchemaFits};
+ghost use Rattle.mysql_session.specs.SessionText.{lenenc_text, lenenc_text_bytes, gtids, gtids_bytes, Gtids, Schema, TransactionCharacteristics, TransactionState, Unsupported, TextFits};
 ghost use Rattle.mysql_session.specs.SessionStateChange.{session_state_change, session_state_change_bytes, ChangeFits};
 ghost use Rattle.mysql_session.specs.SystemVariable.{system_variable, system_variable_bytes, SystemVariableFits};
 ghost use Rattle.mysql_session.specs.SystemVariables.{system_variables, system_variables_bytes, SystemVariablesFit};
-ghost use Rattle.mysql_session.specs.TransactionCharacteristics.{transaction_characteristics, transaction_characteristics_bytes, TransactionCharacteristicsFits};
-ghost use Rattle.mysql_session.specs.TransactionState.{transaction_state, transaction_state_bytes, TransactionStateFits};
-ghost use Rattle.mysql_session.specs.Unsupported.{unsupported, unsupported_bytes, UnsupportedFits};
 
 use std::hash::Hash;
 
 /// What is written of each part of a change is read again, whatever follows.
 pub fn session_parts_again()
-    ensures schema { (x : Schema) (rest : List ℕ) → SchemaFits x → schema.Spells x (schema_bytes x ++ rest) rest }
-    ensures characteristics { (x : TransactionCharacteristics) (rest : List ℕ) → TransactionCharacteristicsFits x → transaction_characteristics.Spells x (transaction_characteristics_bytes x ++ rest) rest }
-    ensures state { (x : TransactionState) (rest : List ℕ) → TransactionStateFits x → transaction_state.Spells x (transaction_state_bytes x ++ rest) rest }
-    ensures unsupported { (x : Unsupported) (rest : List ℕ) → UnsupportedFits x → unsupported.Spells x (unsupported_bytes x ++ rest) rest }
+    ensures schema { (x : Schema) (rest : List ℕ) → TextFits x → lenenc_text.Spells x (lenenc_text_bytes x ++ rest) rest }
+    ensures characteristics { (x : TransactionCharacteristics) (rest : List ℕ) → TextFits x → lenenc_text.Spells x (lenenc_text_bytes x ++ rest) rest }
+    ensures state { (x : TransactionState) (rest : List ℕ) → TextFits x → lenenc_text.Spells x (lenenc_text_bytes x ++ rest) rest }
+    ensures unsupported { (x : Unsupported) (rest : List ℕ) → TextFits x → lenenc_text.Spells x (lenenc_text_bytes x ++ rest) rest }
     ensures variable { (x : SystemVariable) (rest : List ℕ) → SystemVariableFits x → system_variable.Spells x (system_variable_bytes x ++ rest) rest }
 {}
 
