@@ -5,11 +5,7 @@ use Rattle.mysql_session.specs.declared.session_state_change.SessionStateChange.
 use Rattle.mysql_session.specs.declared.session_state_change.SessionStateChange.TheVariants as change
 use Rattle.mysql_session.specs.declared.system_variable.SystemVariable.{SystemVariable}
 use Rattle.mysql_session.specs.SystemVariable.{variable_name, variable_value}
-use Rattle.mysql_session.specs.Schema.{schema_name}
-use Rattle.mysql_session.specs.Gtids.{gtid_set}
-use Rattle.mysql_session.specs.TransactionCharacteristics.{characteristics}
-use Rattle.mysql_session.specs.TransactionState.{state_characters}
-use Rattle.mysql_session.specs.Unsupported.{content}
+use Rattle.mysql_session.specs.SessionText.{text_bytes}
 use Rattle.mysql_packets.specs.Lines.{line, prefixed}
 
 -- a space, the name and the value
@@ -24,12 +20,12 @@ named kind bytes = kind ++ (codes " " ++ prefixed bytes)
 abbrev pub change_value : SessionStateChange → List ℕ
 change_value (change.IsTracked true) = codes "IsTracked true"
 change_value (change.IsTracked false) = codes "IsTracked false"
-change_value (change.Schema s) = named (codes "Schema") (schema_name s)
+change_value (change.Schema s) = named (codes "Schema") (text_bytes s)
 change_value (change.SystemVariables vs) = codes "SystemVariables" ++ flat_map variable_text vs
-change_value (change.Gtids g) = named (codes "Gtids") (gtid_set g)
-change_value (change.TransactionCharacteristics c) = named (codes "TransactionCharacteristics") (characteristics c)
-change_value (change.TransactionState s) = named (codes "TransactionState") (state_characters s)
-change_value (change.Unsupported u) = named (codes "Unsupported") (content u)
+change_value (change.Gtids g) = named (codes "Gtids") (text_bytes g)
+change_value (change.TransactionCharacteristics c) = named (codes "TransactionCharacteristics") (text_bytes c)
+change_value (change.TransactionState s) = named (codes "TransactionState") (text_bytes s)
+change_value (change.Unsupported u) = named (codes "Unsupported") (text_bytes u)
 
 abbrev pub change_line : SessionStateChange → List ℕ
 change_line c = line (codes "change") (change_value c)
