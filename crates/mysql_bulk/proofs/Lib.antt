@@ -1,0 +1,3 @@
+pub mod ParamTypes
+pub mod FlatRows
+pub mod Kept
