@@ -10,7 +10,7 @@ use Rattle.mysql_cuts.specs.Cut.{joined}
 use Rattle.mysql_bulk.specs.declared.stand_in.Value.{Value}
 use Rattle.mysql_bulk.specs.declared.param_type.StmtBulkExecuteParamType.{StmtBulkExecuteParamType}
 use Rattle.mysql_bulk.specs.declared.param_value.StmtBulkExecuteParamValue.{StmtBulkExecuteParamValue}
-use Rattle.mysql_bulk.specs.ParamType.{declared_type, column_of, declared_types, joined_types}
+use Rattle.mysql_bulk.specs.ParamType.{declared_type, column_of, first_length, declared_types, joined_types}
 use Rattle.mysql_bulk.specs.ParamValue.{given, plain, param_size, row_size}
 use Rattle.mysql_bulk.specs.Flat.{rows_of, waiting_rows, EqualLengths, IsFlat}
 use Rattle.mysql_bulk.specs.Builder.{BuilderState, Keeps, WaitingFits, waiting_size, TakesArity, RowFits, accepted}
@@ -38,6 +38,10 @@ if_same false x y z e = refl
 length-if : (b : Bool) (a : ℕ) (types : List StmtBulkExecuteParamType) → length types ≡ a → 2 * length (if b then types else []) ≡ (if b then 2 * a else 0)
 length-if true a types e = ap (λ n. 2 * n) e
 length-if false a types e = refl
+
+first_long : (a : ℕ) (rows : List (List Value)) → rows ≢ [] → EqualLengths a rows → first_length rows ≡ a
+first_long a [] n e = absurd (n refl)
+first_long a (row ∷ rows) n e = e.0
 
 as_many : (arity : Option ℕ) (n l : ℕ) → TakesArity arity n → l ≡ unwrap_or arity 0 → (l ≡ n) ⊎ (l ≡ 0)
 as_many None n l t e = inr e
@@ -67,10 +71,10 @@ module _ {s : BuilderState} {count size : ℕ} {values : List StmtBulkExecutePar
   keeps_equal = subst (EqualLengths (unwrap_or s.arity 0)) (sym k.rows_is) (equal_rows (unwrap_or s.arity 0) count (plain values) k.flat.lengths)
 
   -- the types are the declared ones
-  pub keeps_types : count ≢ 0 → types ≡ (if s.types_due then declared_types (unwrap_or s.arity 0) s.waiting else [])
+  pub keeps_types : count ≢ 0 → types ≡ (if s.types_due then declared_types s.waiting else [])
   keeps_types n =
       k.types_is
-      ∙ if_same s.types_due (fold joined_types [] s.waiting) (declared_types (unwrap_or s.arity 0) s.waiting) [] (types_all (unwrap_or s.arity 0) s.waiting (keeps_rows n) keeps_equal)
+      ∙ if_same s.types_due (fold joined_types [] s.waiting) (declared_types s.waiting) [] (types_all (unwrap_or s.arity 0) s.waiting (keeps_rows n) keeps_equal)
 
   -- the values are those of the rows
   pub keeps_values : values ≡ map given (joined s.waiting)
@@ -80,7 +84,7 @@ module _ {s : BuilderState} {count size : ℕ} {values : List StmtBulkExecutePar
   types_size n =
       let a = unwrap_or s.arity 0 in
       ap (λ (l : List StmtBulkExecuteParamType). 2 * length l) (keeps_types n)
-      ∙ length-if s.types_due a (declared_types a s.waiting) (length-map-range_with_len (λ i. declared_type (column_of s.waiting i)) 0 a)
+      ∙ length-if s.types_due a (declared_types s.waiting) (length-map-range_with_len (λ i. declared_type (column_of s.waiting i)) 0 (first_length s.waiting) ∙ first_long a s.waiting (keeps_rows n) keeps_equal)
 
   rows_size : size ≡ sum_by row_size s.waiting
   rows_size = k.flat.size_is ∙ ap (sum_by row_size) (sym k.rows_is)

@@ -1,3 +1,7 @@
 pub mod ParamTypes
 pub mod FlatRows
 pub mod Kept
+pub mod Runs
+pub mod Running
+pub mod Whole
+pub mod Chains

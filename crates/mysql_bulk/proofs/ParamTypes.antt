@@ -132,20 +132,20 @@ pub length-types : (a : ℕ) (types : List StmtBulkExecuteParamType) (row : List
 length-types a types row e r = length-joined types row (e ∙ sym r) ∙ r
 
 -- the types so far of all rows are their declared types
-pub types_joined : (a : ℕ) (row : List Value) (rows : List (List Value)) → EqualLengths a (row ∷ rows) → fold joined_types [] (row ∷ rows) ≡ declared_types a (row ∷ rows)
+pub types_joined : (a : ℕ) (row : List Value) (rows : List (List Value)) → EqualLengths a (row ∷ rows) → fold joined_types [] (row ∷ rows) ≡ declared_types (row ∷ rows)
 types_joined a row rows r =
     let d = type_of NULL in
     let first : length (joined_types [] row) ≡ a = length-first row ∙ r.0 in
     let long : length (fold joined_types (joined_types [] row) rows) ≡ a = length-more a (joined_types [] row) rows first r.1 in
     let f : ℕ → StmtBulkExecuteParamType = λ i. declared_type (column_of (row ∷ rows) i) in
-    ext_get_or d (fold joined_types (joined_types [] row) rows) (declared_types a (row ∷ rows)) (long ∙ sym (length-map-range_with_len f 0 a))
+    ext_get_or d (fold joined_types (joined_types [] row) rows) (declared_types (row ∷ rows)) (long ∙ sym r.0 ∙ sym (length-map-range_with_len f 0 (length row)))
     (λ i h.
         get-more a (joined_types [] row) rows i d first r.1 (omega (arith, long, h))
         ∙ ap (λ (t : StmtBulkExecuteParamType). fold joined_type t (column_of rows i)) (get-first row i d (let l = r.0 in omega (arith, long, h, l)))
         ∙ column_joined (column_of (row ∷ rows) i)
-        ∙ sym (get_or-map-range_with_len f 0 a i i d (omega (arith, long, h)) (omega arith)))
+        ∙ sym (get_or-map-range_with_len f 0 (length row) i i d (let l = r.0 in omega (arith, long, h, l)) (omega arith)))
 
-pub types_all : (a : ℕ) (rows : List (List Value)) → rows ≢ [] → EqualLengths a rows → fold joined_types [] rows ≡ declared_types a rows
+pub types_all : (a : ℕ) (rows : List (List Value)) → rows ≢ [] → EqualLengths a rows → fold joined_types [] rows ≡ declared_types rows
 types_all a [] n r = absurd (n refl)
 types_all a (row ∷ rows) n r = types_joined a row rows r
 

@@ -85,7 +85,7 @@ AddsRow s row (Err (Params e)) t = ⊥
 pub record IsRequest (s : BuilderState) (rows : List (List Value)) (request : BulkRequest) : Type 0 where
   pub id : request.stmt_id ≡ s.stmt_id
   pub flags : request.bulk_flags ≡ request_flags s.types_due s.results
-  pub types : request.types ≡ (if s.types_due then declared_types (unwrap_or s.arity 0) rows else [])
+  pub types : request.types ≡ (if s.types_due then declared_types rows else [])
   pub values : request.values ≡ map given (joined rows)
 
 -- the state after a request

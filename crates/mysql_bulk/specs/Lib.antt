@@ -4,3 +4,6 @@ pub mod ParamValue
 pub mod Request
 pub mod Flat
 pub mod Builder
+pub mod Run
+pub mod Refusal
+pub mod WholeRun

@@ -1,5 +1,5 @@
 -- The types that a bulk request declares for its columns.
-use Rattle.std.specs.Prelude.{ℕ, Bool, true, false, if◌then◌else◌, List, [], ◌∷◌, map, get_or}
+use Rattle.std.specs.Prelude.{ℕ, Bool, true, false, if◌then◌else◌, List, [], ◌∷◌, map, length, get_or}
 use Rattle.std.specs.List.{range_with_len, list_any}
 use Rattle.mysql_bulk.specs.declared.stand_in.Value.{Value}
 use Rattle.mysql_bulk.specs.declared.stand_in.Value.TheVariants.{NULL, Bytes, Int, UInt, Float, Double, Date, Time}
@@ -46,9 +46,14 @@ declared_type values = type_from (first_given values) values
 abbrev pub column_of : List (List Value) → ℕ → List Value
 column_of rows i = map (λ row. get_or row i NULL) rows
 
+-- the length of the first row
+abbrev pub first_length : List (List Value) → ℕ
+first_length [] = 0
+first_length (row ∷ rows) = length row
+
 -- the declared types of the columns of rows
-abbrev pub declared_types : ℕ → List (List Value) → List StmtBulkExecuteParamType
-declared_types arity rows = map (λ i. declared_type (column_of rows i)) (range_with_len 0 arity)
+abbrev pub declared_types : List (List Value) → List StmtBulkExecuteParamType
+declared_types rows = map (λ i. declared_type (column_of rows i)) (range_with_len 0 (first_length rows))
 
 -- ---- the types so far, as they are kept while rows come
 

@@ -8,6 +8,7 @@ mod param_type;
 mod param_value;
 mod request;
 mod row_type;
+mod run;
 mod size;
 mod stand_in;
 
@@ -16,3 +17,4 @@ pub use error::{BulkExecuteRequestBuilderError, BulkExecuteRequestError};
 pub use param_type::StmtBulkExecuteParamType;
 pub use param_value::StmtBulkExecuteParamValue;
 pub use request::ComStmtBulkExecuteRequest;
+pub use run::BulkRequests;
