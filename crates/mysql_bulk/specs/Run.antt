@@ -41,7 +41,19 @@ pub record RunState (S : Type 0) : Type 0 where
   pub rows : S
   pub ended : Bool
 
--- the same, of the iterator that runs
+-- the row that a run carries
+abbrev pub carried_of : {I R : Type 0} → BulkRequests I R → Option R
+carried_of run = run.carried
+
+-- the builder of a run
+abbrev pub builder_of : {I R : Type 0} → BulkRequests I R → BuilderState
+builder_of run = run.builder.now
+
+-- two runs hold one reference to a builder
+abbrev pub SameBuilder : {I R : Type 0} → BulkRequests I R → BulkRequests I R → Type 0
+SameBuilder s t = t.builder.ghost_name ≡ s.builder.ghost_name
+
+-- what the iterator is in the midst of
 abbrev pub state_of : {I : Type 0} → BulkRequests I (Vec Value) → RunState I
 state_of run = record { builder = run.builder.now; carried = run.carried; rows = run.rows; ended = run.ended }
 

@@ -4,6 +4,7 @@
 
 mod builder;
 mod error;
+pub mod laws;
 mod param_type;
 mod param_value;
 mod request;
@@ -11,6 +12,7 @@ mod row_type;
 mod run;
 mod size;
 mod stand_in;
+mod whole_run;
 
 pub use builder::ComStmtBulkExecuteRequestBuilder;
 pub use error::{BulkExecuteRequestBuilderError, BulkExecuteRequestError};
@@ -18,3 +20,4 @@ pub use param_type::StmtBulkExecuteParamType;
 pub use param_value::StmtBulkExecuteParamValue;
 pub use request::ComStmtBulkExecuteRequest;
 pub use run::BulkRequests;
+pub use whole_run::BulkRun;

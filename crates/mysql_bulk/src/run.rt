@@ -3,7 +3,7 @@
 ghost use Rattle.std.specs.Prelude.{◌≡◌, ◌+◌, ◌≤◌, length, IfOk, IfSome, None, false, option_to_list};
 ghost use Rattle.std.specs.Iterator.{IsFinite, size};
 ghost use Rattle.std.specs.Bool.{OnFalse};
-ghost use Rattle.mysql_bulk.specs.Run.{Fills, NextRequest, RunState, results_left};
+ghost use Rattle.mysql_bulk.specs.Run.{Fills, NextRequest, results_left, carried_of, builder_of, state_of, SameBuilder};
 
 use crate::builder::ComStmtBulkExecuteRequestBuilder;
 use crate::error::{BulkExecuteRequestBuilderError, BulkExecuteRequestError};
@@ -64,13 +64,11 @@ pub struct BulkRequests<'b, 'a, I, R = Vec<Value>> {
 impl<'b, 'a, I: Iterator<Item = Vec<Value>>> Iterator for BulkRequests<'b, 'a, I> {
     type Item = Result<ComStmtBulkExecuteRequest, BulkExecuteRequestBuilderError>;
 
-    ghost can_next = { λ s. OnFalse s.ended (I.can_next s.rows × IsFinite (I.remaining s.rows)) };
+    ghost can_next = { λ s. OnFalse (state_of s).ended (I.can_next (state_of s).rows × IsFinite (I.remaining (state_of s).rows)) };
 
-    ghost next_gives = { λ s r t. (t.builder.ghost_name ≡ s.builder.ghost_name) × NextRequest I.next_gives
-        (record { builder = s.builder.now; carried = s.carried; rows = s.rows; ended = s.ended }) r
-        (record { builder = t.builder.now; carried = t.carried; rows = t.rows; ended = t.ended }) };
+    ghost next_gives = { λ s r t. SameBuilder s t × NextRequest I.next_gives (state_of s) r (state_of t) };
 
-    ghost remaining = { λ s. results_left I.remaining (record { builder = s.builder.now; carried = s.carried; rows = s.rows; ended = s.ended }) };
+    ghost remaining = { λ s. results_left I.remaining (state_of s) };
 
     fn next(&mut self) -> Option<Result<ComStmtBulkExecuteRequest, BulkExecuteRequestBuilderError>> {
         if self.ended {
@@ -105,8 +103,8 @@ impl<'b, 'a, I, R> BulkRequests<'b, 'a, I, R> {
     where
         I: Drop,
         R: Drop,
-        ensures row { result ≡ self.entry.carried }
-        ensures builder { self.exit.0.now ≡ self.entry.builder.now }
+        ensures row { result ≡ carried_of self.entry }
+        ensures builder { self.exit.0.now ≡ builder_of self.entry }
     {
         self.carried
     }
@@ -120,11 +118,8 @@ impl<'a> ComStmtBulkExecuteRequestBuilder<'a> {
     ) -> BulkRequests<'b, 'a, I>
         requires can { I.can_next rows }
         requires ends { IsFinite (I.remaining rows) }
-        ensures same_reference { result.builder.ghost_name ≡ self.entry.ghost_name }
-        ensures builder { result.builder.now ≡ self.old }
-        ensures rows { result.rows ≡ rows }
-        ensures carried { result.carried ≡ None }
-        ensures going { result.ended ≡ false }
+        ensures builder { result.builder.ghost_name ≡ self.entry.ghost_name }
+        ensures begins { state_of result ≡ record { builder = self.old; carried = None; rows = rows; ended = false } }
     {
         BulkRequests {
             builder: self,
