@@ -1,17 +1,13 @@
 -- What is written is read again.
-use Rattle.std.specs.Prelude.{◌≡◌, ℕ, ◌<◌, ◌^◌, List, [], ◌∷◌, ◌++◌, length, replicate, Option, Some, None, refl, nat_lt, true, false}
-use Rattle.std.specs.Int.{w16, w32, w64, from_le_bytes, to_le_bytes}
-use Rattle.std.proofs.Common.{sym, ap, subst, ◌∙◌, arith, append_assoc, eq-eqb}
-use Rattle.std.proofs.lemmas.Bool.{cases_lt, lt-ltb, le-ltb}
-use Rattle.std.proofs.lemmas.List.{length-append, append-nil, length-replicate}
-use Rattle.std.proofs.lemmas.Nat.{from_le_bytes-to_le_bytes_2, from_le_bytes-to_le_bytes_4, from_le_bytes-to_le_bytes_8}
+use Rattle.std.specs.Prelude.{◌≡◌, ℕ, ◌<◌, ◌^◌, List, [], ◌∷◌, ◌++◌, length, replicate, Option, Some, refl}
+use Rattle.std.proofs.Common.{ap, sym, ◌∙◌, arith, append_assoc, eq-eqb}
+use Rattle.std.proofs.lemmas.List.{length-replicate}
 use Rattle.mysql_wire.specs.declared.constant.ConstU8.{ConstU8}
 use Rattle.mysql_wire.specs.declared.skip.Skip.{Skip}
-use Rattle.mysql_wire.specs.declared.little_endian.LeU16.{LeU16}
-use Rattle.mysql_wire.specs.declared.little_endian.LeU32.{LeU32}
-use Rattle.mysql_wire.specs.Form.{Form, ◌>>=◌, give, block, bytes, number, le_value, all_left}
+use Rattle.mysql_wire.specs.Form.{Form, block, bytes, number}
 use Rattle.mysql_wire.specs.Writing.{le_bytes, joined, joined_to}
-use Rattle.mysql_wire.specs.Int.{le_u16, le_u32, raw, raw_int}
+use Rattle.mysql_wire.specs.LittleEndian.{value-le_bytes, length-le_bytes}
+use Rattle.mysql_wire.specs.Int.{byte, le_u16, le_u24, le_u32, le_u64, raw, raw_int}
 use Rattle.mysql_wire.specs.Skip.{skip}
 use Rattle.mysql_wire.specs.Constant.{const_byte, const_u8}
 
@@ -39,23 +35,43 @@ pub block-again : {A : Type 0} (n : ℕ) (f : Form A) (v : A) (text : List ℕ) 
 unfolding bytes
 block-again n f v text len p rest = (text, (len, refl), p)
 
+before_rest-append : (parts : List (List ℕ)) (rest : List ℕ) → before_rest parts rest ≡ before_rest parts [] ++ rest
+before_rest-append [] rest = refl
+before_rest-append (part ∷ parts) rest = ap (λ (t : List ℕ). part ++ t) (before_rest-append parts rest) ∙ sym (append_assoc part (before_rest parts []) rest)
+
+-- a block among a packet's parts
+pub block-at : {A : Type 0} (n : ℕ) (f : Form A) (v : A) (parts : List (List ℕ)) (rest : List ℕ) → length (before_rest parts []) ≡ n → f.Spells v (before_rest parts []) [] → (block n f).Spells v (before_rest parts rest) rest
+unfolding bytes
+block-at n f v parts rest len p = (before_rest parts [], (len, before_rest-append parts rest), p)
+
 -- ---- leaves
 
-pub value-le_bytes_2 : (n : ℕ) → n < 2 ^ 16 → le_value (le_bytes 2 n) ≡ n
-unfolding le_bytes
-value-le_bytes_2 n lt = omega (arith, from_le_bytes-to_le_bytes_2 n lt)
+-- a number in so many bytes
+pub number-again : (width n : ℕ) → n < 256 ^ width → IsSpelling (number width) n (le_bytes width n)
+unfolding number bytes
+number-again width n lt rest = (le_bytes width n, value-le_bytes width n lt, (length-le_bytes width n, refl))
 
-pub value-le_bytes_4 : (n : ℕ) → n < 2 ^ 32 → le_value (le_bytes 4 n) ≡ n
-unfolding le_bytes
-value-le_bytes_4 n lt = omega (arith, from_le_bytes-to_le_bytes_4 n lt)
+-- an integer of any form that spells its number again
+pub raw-again : {P : Type 0} (R : Type 0) (form : Form P) (n : P) (text : List ℕ) → IsSpelling form n text → IsSpelling (raw {R = R} form) (raw_int n) text
+unfolding raw
+raw-again R form n text again rest = (n, refl, again rest)
+
+pub byte-again : (n : ℕ) → n < 2 ^ 8 → IsSpelling byte (raw_int n) (le_bytes 1 n)
+byte-again n lt = raw-again _ (number 1) n (le_bytes 1 n) (number-again 1 n lt)
 
 pub le_u16-again : (n : ℕ) → n < 2 ^ 16 → IsSpelling le_u16 (raw_int n) (le_bytes 2 n)
-unfolding raw number bytes le_bytes
-le_u16-again n lt rest = (n, refl, (le_bytes 2 n, value-le_bytes_2 n lt, (refl, refl)))
+le_u16-again n lt = raw-again _ (number 2) n (le_bytes 2 n) (number-again 2 n lt)
+
+pub le_u24-again : (n : ℕ) → n < 2 ^ 24 → IsSpelling le_u24 (raw_int n) (le_bytes 3 n)
+le_u24-again n lt = raw-again _ (number 3) n (le_bytes 3 n) (number-again 3 n lt)
 
 pub le_u32-again : (n : ℕ) → n < 2 ^ 32 → IsSpelling le_u32 (raw_int n) (le_bytes 4 n)
-unfolding raw number bytes le_bytes
-le_u32-again n lt rest = (n, refl, (le_bytes 4 n, value-le_bytes_4 n lt, (refl, refl)))
+le_u32-again n lt = raw-again _ (number 4) n (le_bytes 4 n) (number-again 4 n lt)
+
+pub le_u64-again : (n : ℕ) → n < 2 ^ 64 → IsSpelling le_u64 (raw_int n) (le_bytes 8 n)
+le_u64-again n lt = raw-again _ (number 8) n (le_bytes 8 n) (number-again 8 n lt)
+
+pub ruleset numbers_again = (byte-again, le_u16-again, le_u24-again, le_u32-again, le_u64-again)
 
 pub skip-again : (n : ℕ) (v : Skip n) → IsSpelling (skip n) v (replicate n 0)
 unfolding skip bytes

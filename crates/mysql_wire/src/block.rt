@@ -1,4 +1,4 @@
-//! A block of so many bytes.
+//! A block of so many bytes, whose fields are read from it alone.
 
 ghost use Rattle.std.specs.Prelude.{false, ◌≡◌, ◌+◌, ◌++◌, [], ◌∷◌, replicate, ◌≤◌, length, List, ℕ, Option, Some, None, refl};
 ghost use Rattle.mysql_wire.specs.Form.{Form, bytes};
@@ -8,7 +8,9 @@ use crate::buf::ParseBuf;
 use crate::fault::FaultOf;
 use crate::proto::{AnyWidth, MyDeserialize};
 
-/// A block of so many bytes.
+/// A block of `n` bytes, for the context `n`: a buffer over just these bytes.
+///
+/// Fewer bytes are `UnexpectedEof`, before any field of the block is looked at.
 impl<'de> MyDeserialize<'de> for ParseBuf<'de> {
     const SIZE: Option<usize> = None;
 
@@ -22,6 +24,7 @@ impl<'de> MyDeserialize<'de> for ParseBuf<'de> {
 
     ghost form = { λ n. unsized (bytes n) };
 
+    #[inline(always)]
     #[tactic(auto, unfolding(crate::specs::Form::bytes))]
     fn deserialize<'s>(n: usize, buf: &mut ParseBuf<'de>) -> Result<Self, FaultOf<'s>> {
         let front = buf.checked_eat(n).ok_or(FaultOf::UnexpectedEof)?;

@@ -1,7 +1,8 @@
 //! Byte strings in their wire forms.
 
-ghost use Rattle.std.specs.Prelude.{false, ◌≡◌, ◌+◌, ◌++◌, vec_len, vec_capacity, ◌≤◌, ◌↔◌, length, List, [], ℕ, Option, Some, None, OnErr, IfOk, IsTrue, refl};
-ghost use Rattle.std.specs.Cow.{cow_slice_items};
+ghost use Rattle.std.specs.Prelude.{false, true, is_ok, IsUtf8, ◌≡◌, ◌+◌, ◌++◌, vec_len, vec_capacity, ◌≤◌, ◌↔◌, length, List, [], ℕ, Option, Some, None, OnErr, IfOk, IsTrue, refl};
+ghost use Rattle.std.specs.Cow.{cow_slice_items, cow_str_bytes, IsOwnedStr};
+ghost use Rattle.mysql_wire.specs.Text.{lossy_text};
 ghost use Rattle.mysql_wire.specs.Writing.{saturated};
 ghost use Rattle.mysql_wire.specs.Form.{Form};
 ghost use Rattle.mysql_wire.specs.Reading.{Answers, IsTail, HasBytes};
@@ -9,8 +10,9 @@ ghost use Rattle.mysql_wire.specs.Reading.{Answers, IsTail, HasBytes};
 use crate::buf::ParseBuf;
 use crate::fault::FaultOf;
 use crate::proto::{AnyWidth, MyDeserialize, MySerialize};
+use bstr::ByteSlice;
 use std::alloc::{AllocError, Global};
-use std::borrow::CowSlice;
+use std::borrow::{CowSlice, CowStr};
 use std::fmt;
 use std::fmt::Debug;
 use std::hash::{Hash, Hasher};
@@ -31,6 +33,12 @@ pub trait BytesRepr {
     ) -> Result<ParseBuf<'de>, FaultOf<'s>>
         ensures value { Answers false result buf.new ((form ctx).reads buf.old) }
         ensures tail { OnErr result (IsTail buf.new buf.old) };
+
+    /// The part of a content that is written: as much as the form can hold.
+    ghost kept: { List ℕ → List ℕ };
+
+    fn kept(content: &[u8]) -> &[u8]
+        ensures { result.now ≡ kept content.now };
 
     /// The bytes that a content is written as.
     ghost written: { List ℕ → List ℕ };
@@ -61,6 +69,7 @@ impl<'a, R> Model for RawBytes<'a, R> {
 }
 
 impl<'a, R> RawBytes<'a, R> {
+    #[inline(always)]
     pub fn new(content: CowSlice<'a, u8>) -> Self
         ensures { result ≡ cow_slice_items content.entry }
     {
@@ -68,10 +77,19 @@ impl<'a, R> RawBytes<'a, R> {
     }
 
     /// The content.
+    #[inline(always)]
     pub fn as_bytes(&self) -> &[u8]
         ensures value { result.now ≡ self.now }
     {
         self.0.as_slice()
+    }
+
+    /// The content as text, with U+FFFD for what is not UTF-8. UTF-8 is borrowed.
+    pub fn as_str(&self, alloc: Global) -> Result<CowStr<'_>, AllocError>
+        ensures text { IfOk result (λ text. cow_str_bytes text ≡ lossy_text self.now) }
+        ensures utf8 { IsUtf8 self.now → (is_ok result ≡ true) × IfOk result (λ text. IsOwnedStr text → ⊥) }
+    {
+        self.as_bytes().to_str_lossy(alloc)
     }
 
     /// The same content, on memory of its own.
@@ -80,6 +98,32 @@ impl<'a, R> RawBytes<'a, R> {
     {
         let content = self.0.into_owned(alloc)?;
         Ok(RawBytes(CowSlice::Owned(content), PhantomData))
+    }
+}
+
+impl<R: BytesRepr> RawBytes<'_, R> {
+    /// How many bytes of the content are written: all that the form can hold.
+    #[inline(always)]
+    pub fn len(&self) -> usize
+        ensures { result ≡ length (R.kept self.now) }
+    {
+        R::kept(self.as_bytes()).len()
+    }
+
+    /// Whether no byte of the content is written.
+    #[inline(always)]
+    pub fn is_empty(&self) -> bool
+        ensures { IsTrue result ↔ (R.kept self.now ≡ []) }
+    {
+        R::kept(self.as_bytes()).is_empty()
+    }
+}
+
+impl<R> Default for RawBytes<'_, R> {
+    ghost is_default = { λ content. content ≡ [] };
+
+    fn default() -> Self {
+        RawBytes(CowSlice::Borrowed(&[]), PhantomData)
     }
 }
 
@@ -144,6 +188,7 @@ impl<'de, R: BytesRepr> MyDeserialize<'de> for RawBytes<'de, R> {
 
     ghost form = { λ ctx. R.form ctx };
 
+    #[inline(always)]
     fn deserialize<'s>(ctx: R::Ctx, buf: &mut ParseBuf<'de>) -> Result<Self, FaultOf<'s>> {
         let mut content = R::deserialize(ctx, buf)?;
         Ok(RawBytes(CowSlice::Borrowed(content.eat_all()), PhantomData))
@@ -155,10 +200,12 @@ impl<'de, R: BytesRepr> MyDeserialize<'de> for RawBytes<'de, R> {
 impl<R: BytesRepr> MySerialize for RawBytes<'_, R> {
     ghost bytes = { λ content. R.written content };
 
+    #[inline(always)]
     fn defined_len(&self) -> usize {
         R::written_len(self.as_bytes())
     }
 
+    #[inline(always)]
     fn append(&self, out: &mut Vec<u8>) {
         R::append(self.as_bytes(), out)
     }

@@ -1,26 +1,39 @@
 //! Fields that have one value.
 
-ghost use Rattle.std.specs.Prelude.{false, ◌≡◌, ◌+◌, ◌++◌, [], ◌∷◌, replicate, ◌≤◌, length, List, ℕ, Option, Some, None, refl};
-ghost use Rattle.mysql_wire.specs.Form.{Form, bytes};
+ghost use Rattle.std.specs.Prelude.{false, ◌≡◌, ◌+◌, ◌++◌, [], ◌∷◌, ◌≤◌, length, List, ℕ, Option, Some, None};
+ghost use Rattle.mysql_wire.specs.Form.{Form};
 ghost use Rattle.mysql_wire.specs.Reading.{Answers, IsTail, HasBytes};
 
 use crate::buf::ParseBuf;
 use crate::fault::FaultOf;
+use crate::int::RawInt;
+use crate::little_endian::LeU32;
 use crate::proto::{Fixed, MyDeserialize, MySerialize};
 use std::marker::PhantomData;
 
-/// What another value than a constant is refused with.
+/// The marker of a constant field: what a reading answers where another value stands there.
 pub trait ConstFault {
+    /// The text of the `InvalidData`.
     const MESSAGE: &'static str;
 }
 
-/// A byte that has one value.
+/// A byte that has one value, such as a packet's header.
+///
+/// Another byte is `InvalidData` with the text of the marker `T`.
 #[derive_where(Clone, Copy, PartialEq, Eq, Hash, Debug)]
 pub struct ConstU8<T, const VALUE: u8>(PhantomData<T>);
 
 impl<T, const VALUE: u8> ConstU8<T, VALUE> {
+    /// The byte.
+    #[inline(always)]
     pub fn new() -> Self {
         ConstU8(PhantomData)
+    }
+}
+
+impl<T, const VALUE: u8> Default for ConstU8<T, VALUE> {
+    fn default() -> Self {
+        ConstU8::new()
     }
 }
 
@@ -37,6 +50,7 @@ impl<'de, T: ConstFault, const VALUE: u8> MyDeserialize<'de> for ConstU8<T, VALU
 
     ghost form = { λ _. const_byte VALUE };
 
+    #[inline(always)]
     #[tactic(auto, unfolding(crate::specs::Form::bytes, crate::specs::Form::number, crate::specs::Constant::const_byte))]
     fn deserialize<'s>(_ctx: (), buf: &mut ParseBuf<'de>) -> Result<Self, FaultOf<'s>> {
         if buf.checked_eat_u8() != Some(VALUE) {
@@ -51,12 +65,77 @@ impl<'de, T: ConstFault, const VALUE: u8> MyDeserialize<'de> for ConstU8<T, VALU
 impl<T, const VALUE: u8> MySerialize for ConstU8<T, VALUE> {
     ghost bytes = { λ _. VALUE ∷ [] };
 
+    #[inline(always)]
     #[tactic(auto, unfolding(crate::specs::Writing::saturated))]
     fn defined_len(&self) -> usize {
         1
     }
 
+    #[inline(always)]
     fn append(&self, out: &mut Vec<u8>) {
         out.push(VALUE).unwrap();
+    }
+}
+
+/// A number of 32 bits that has one value, in four bytes, the low one first.
+///
+/// Another number is `InvalidData` with the text of the marker `T`.
+#[derive_where(Clone, Copy, PartialEq, Eq, Hash, Debug)]
+pub struct ConstU32<T, const VALUE: u32>(PhantomData<T>);
+
+impl<T, const VALUE: u32> ConstU32<T, VALUE> {
+    /// The number.
+    #[inline(always)]
+    pub fn new() -> Self {
+        ConstU32(PhantomData)
+    }
+}
+
+impl<T, const VALUE: u32> Default for ConstU32<T, VALUE> {
+    fn default() -> Self {
+        ConstU32::new()
+    }
+}
+
+impl<'de, T: ConstFault, const VALUE: u32> MyDeserialize<'de> for ConstU32<T, VALUE> {
+    const SIZE: Option<usize> = Some(4);
+
+    type Size = Fixed<4>;
+
+    ghost takes_memory = { false };
+
+    type Ctx = ();
+
+    ghost use Rattle.mysql_wire.specs.Constant.{const_le_u32, size-const_le_u32};
+
+    ghost form = { λ _. const_le_u32 VALUE };
+
+    #[inline(always)]
+    #[tactic(auto, unfolding(crate::specs::Constant::const_le_u32))]
+    fn deserialize<'s>(_ctx: (), buf: &mut ParseBuf<'de>) -> Result<Self, FaultOf<'s>> {
+        let number: RawInt<LeU32> = buf.parse_unchecked(())?;
+        if number.0 != VALUE {
+            return Err(FaultOf::InvalidData(T::MESSAGE));
+        }
+        Ok(ConstU32::new())
+    }
+
+    ghost size_is = { λ _. size-const_le_u32 _ VALUE };
+}
+
+impl<T, const VALUE: u32> MySerialize for ConstU32<T, VALUE> {
+    ghost use Rattle.mysql_wire.specs.Writing.{le_bytes};
+
+    ghost bytes = { λ _. le_bytes 4 VALUE };
+
+    #[inline(always)]
+    #[tactic(auto, unfolding(crate::specs::Writing::saturated, crate::specs::Writing::le_bytes))]
+    fn defined_len(&self) -> usize {
+        4
+    }
+
+    #[inline(always)]
+    fn append(&self, out: &mut Vec<u8>) {
+        RawInt::<LeU32>::new(VALUE).append(out);
     }
 }

@@ -21,6 +21,7 @@ impl BytesRepr for EofBytes {
 
     ghost form = { λ _. all_left };
 
+    #[inline(always)]
     fn deserialize<'s, 'de>(
         _ctx: (),
         buf: &mut ParseBuf<'de>,
@@ -28,13 +29,22 @@ impl BytesRepr for EofBytes {
         Ok(ParseBuf::new(buf.alloc(), buf.eat_all()))
     }
 
+    ghost kept = { λ content. content };
+
+    #[inline(always)]
+    fn kept(content: &[u8]) -> &[u8] {
+        content
+    }
+
     ghost written = { λ content. content };
 
+    #[inline(always)]
     #[tactic(auto, unfolding(crate::specs::Writing::saturated))]
     fn written_len(content: &[u8]) -> usize {
         content.len()
     }
 
+    #[inline(always)]
     fn append(content: &[u8], out: &mut Vec<u8>) {
         out.extend_from_slice(content).unwrap();
     }

@@ -12,12 +12,12 @@ use std::fmt::Debug;
 use std::hash::Hash;
 use std::marker::PhantomData;
 
-/// How an integer lies in the bytes.
+/// How an integer lies in the bytes: a marker for [`RawInt`].
 pub trait IntRepr {
     /// The number that is spelled.
     type Primitive: Copy + Eq + Hash + Debug;
 
-    /// The bytes that it takes, where that is a constant.
+    /// The bytes that each number takes, where that is a constant.
     const SIZE: Option<usize>;
 
     ghost SIZE: { Option ℕ };
@@ -25,7 +25,7 @@ pub trait IntRepr {
     /// How a number is spelled.
     ghost form: { Form Self.Primitive };
 
-    /// Reads a number from the front.
+    /// Reads a number from the front. Where the form has a constant size, so many bytes are there.
     fn deserialize<'s>(buf: &mut ParseBuf<'_>) -> Result<Self::Primitive, FaultOf<'s>>
         requires { HasBytes SIZE buf.old }
         ensures value { Answers false result buf.new (form.reads buf.old) }
@@ -34,9 +34,11 @@ pub trait IntRepr {
     /// The bytes that a number is written as.
     ghost written: { Self.Primitive → List ℕ };
 
+    /// How many bytes the number is written as.
     fn written_len(value: Self::Primitive) -> usize
         ensures { result ≡ length (written value) };
 
+    /// Writes the number to the end of a buffer that has room.
     fn append(value: Self::Primitive, out: &mut Vec<u8>)
         requires { vec_len out.old + length (written value) ≤ vec_capacity out.old }
         ensures items { out.new.items ≡ out.old.items ++ written value }
@@ -46,12 +48,16 @@ pub trait IntRepr {
     ghost size_is: { form.size ≡ SIZE };
 }
 
-/// An integer in its wire form.
+/// An integer in its wire form, as the marker `R` says: `RawInt<LeU32>`, `RawInt<LenEnc>`.
+///
+/// The number is field 0.
 #[derive(Drop)]
 #[derive_where(Clone, PartialEq, Eq, Hash, Debug)]
 pub struct RawInt<R: IntRepr>(pub R::Primitive, PhantomData<R>);
 
 impl<R: IntRepr> RawInt<R> {
+    /// The number, to be written in the form `R`.
+    #[inline(always)]
     pub fn new(value: R::Primitive) -> Self
         ensures { result.0 ≡ value }
     {
@@ -59,7 +65,7 @@ impl<R: IntRepr> RawInt<R> {
     }
 }
 
-/// The width of an integer's form.
+/// The width of an integer's form, as a type.
 pub struct IntWidth<R>(PhantomData<R>);
 
 impl<R: IntRepr> Width for IntWidth<R> {
@@ -81,6 +87,7 @@ impl<'de, R: IntRepr> MyDeserialize<'de> for RawInt<R> {
 
     ghost form = { λ _. raw R.form };
 
+    #[inline(always)]
     #[tactic(auto, unfolding(crate::specs::Int::raw))]
     fn deserialize<'s>(_ctx: (), buf: &mut ParseBuf<'de>) -> Result<Self, FaultOf<'s>> {
         Ok(RawInt::new(R::deserialize(buf)?))
@@ -92,11 +99,13 @@ impl<'de, R: IntRepr> MyDeserialize<'de> for RawInt<R> {
 impl<R: IntRepr> MySerialize for RawInt<R> {
     ghost bytes = { λ n. R.written n.0 };
 
+    #[inline(always)]
     #[tactic(auto, unfolding(crate::specs::Writing::saturated))]
     fn defined_len(&self) -> usize {
         R::written_len(self.0)
     }
 
+    #[inline(always)]
     fn append(&self, out: &mut Vec<u8>) {
         R::append(self.0, out)
     }

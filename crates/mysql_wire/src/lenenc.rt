@@ -11,9 +11,13 @@ use crate::fault::FaultOf;
 use crate::int::{IntRepr, RawInt};
 use crate::little_endian::{LeU16, LeU24, LeU64};
 
-/// A length-encoded integer: a byte below 251, or a byte that says how many follow.
+/// The length-encoded form, of integers (`int<lenenc>`) and of byte strings (`string<lenenc>`).
 ///
-/// As bytes, the content behind its length-encoded length.
+/// An integer is one byte up to `fa`; or `fc`, `fd` or `fe` and a number of 2, 3 or 8 bytes behind
+/// it, the low byte first. A longer spelling than needed is read too; `fb` and `ff` are
+/// `InvalidData`. The shortest spelling is written.
+///
+/// A byte string is the length-encoded length of its content, and then the content.
 #[derive(Clone, Copy, Debug)]
 pub struct LenEnc;
 
@@ -28,6 +32,7 @@ impl IntRepr for LenEnc {
 
     ghost form = { lenenc };
 
+    #[inline(always)]
     #[tactic(auto, using(crate::proofs::Tails::tails), unfolding(crate::specs::LenEnc::lenenc))]
     fn deserialize<'s>(buf: &mut ParseBuf<'_>) -> Result<u64, FaultOf<'s>> {
         let first: RawInt<u8> = buf.parse(())?;
@@ -53,6 +58,7 @@ impl IntRepr for LenEnc {
 
     ghost written = { lenenc_bytes };
 
+    #[inline(always)]
     #[tactic(auto, unfolding(crate::specs::Writing::le_bytes, crate::specs::LenEnc::lenenc_bytes))]
     fn written_len(value: u64) -> usize {
         match value {
@@ -63,6 +69,7 @@ impl IntRepr for LenEnc {
         }
     }
 
+    #[inline(always)]
     #[tactic(auto, unfolding(crate::specs::Writing::le_bytes, crate::specs::LenEnc::lenenc_bytes))]
     fn append(value: u64, out: &mut Vec<u8>) {
         match value {
@@ -92,6 +99,7 @@ impl BytesRepr for LenEnc {
 
     ghost form = { λ _. lenenc_string };
 
+    #[inline(always)]
     #[tactic(auto, using(crate::proofs::Tails::tails), unfolding(crate::specs::LenEnc::lenenc_string))]
     fn deserialize<'s, 'de>(
         _ctx: (),
@@ -103,13 +111,21 @@ impl BytesRepr for LenEnc {
 
     ghost use Rattle.mysql_wire.specs.LenEnc.{lenenc_string_bytes};
 
+    ghost kept = { λ content. content };
+
+    fn kept(content: &[u8]) -> &[u8] {
+        content
+    }
+
     ghost written = { lenenc_string_bytes };
 
+    #[inline(always)]
     #[tactic(auto, unfolding(crate::specs::Writing::saturated, crate::specs::LenEnc::lenenc_string_bytes, crate::specs::LenEnc::lenenc_bytes, crate::specs::Writing::le_bytes))]
     fn written_len(content: &[u8]) -> usize {
         <LenEnc as IntRepr>::written_len(content.len() as u64).saturating_add(content.len())
     }
 
+    #[inline(always)]
     #[tactic(auto, unfolding(crate::specs::LenEnc::lenenc_string_bytes))]
     fn append(content: &[u8], out: &mut Vec<u8>) {
         <LenEnc as IntRepr>::append(content.len() as u64, out);

@@ -9,7 +9,7 @@ use crate::buf::ParseBuf;
 use crate::fault::FaultOf;
 use crate::int::IntRepr;
 
-/// Two bytes, the low one first.
+/// A number of 16 bits: two bytes, the low one first (`int<2>`).
 #[derive(Clone, Copy, Debug)]
 pub struct LeU16;
 
@@ -22,18 +22,21 @@ impl IntRepr for LeU16 {
 
     ghost form = { number 2 };
 
+    #[inline(always)]
+    #[tactic(auto, using(crate::proofs::Numbers::numbers))]
     fn deserialize<'s>(buf: &mut ParseBuf<'_>) -> Result<u16, FaultOf<'s>> {
-        let front = buf.eat(2);
-        Ok(u16::from_le_bytes([front[0], front[1]]))
+        Ok(u16::from_le_bytes(buf.eat_array()))
     }
 
     ghost written = { le_bytes 2 };
 
+    #[inline(always)]
     #[tactic(auto, unfolding(crate::specs::Writing::le_bytes))]
     fn written_len(_value: u16) -> usize {
         2
     }
 
+    #[inline(always)]
     #[tactic(auto, unfolding(crate::specs::Writing::le_bytes))]
     fn append(value: u16, out: &mut Vec<u8>) {
         out.extend_from_slice(&value.to_le_bytes()).unwrap();
@@ -42,7 +45,7 @@ impl IntRepr for LeU16 {
     ghost size_is = { size-number 2 };
 }
 
-/// Four bytes, the low one first.
+/// A number of 32 bits: four bytes, the low one first (`int<4>`).
 #[derive(Clone, Copy, Debug)]
 pub struct LeU32;
 
@@ -55,18 +58,21 @@ impl IntRepr for LeU32 {
 
     ghost form = { number 4 };
 
+    #[inline(always)]
+    #[tactic(auto, using(crate::proofs::Numbers::numbers))]
     fn deserialize<'s>(buf: &mut ParseBuf<'_>) -> Result<u32, FaultOf<'s>> {
-        let front = buf.eat(4);
-        Ok(u32::from_le_bytes([front[0], front[1], front[2], front[3]]))
+        Ok(u32::from_le_bytes(buf.eat_array()))
     }
 
     ghost written = { le_bytes 4 };
 
+    #[inline(always)]
     #[tactic(auto, unfolding(crate::specs::Writing::le_bytes))]
     fn written_len(_value: u32) -> usize {
         4
     }
 
+    #[inline(always)]
     #[tactic(auto, unfolding(crate::specs::Writing::le_bytes))]
     fn append(value: u32, out: &mut Vec<u8>) {
         out.extend_from_slice(&value.to_le_bytes()).unwrap();
@@ -75,7 +81,9 @@ impl IntRepr for LeU32 {
     ghost size_is = { size-number 4 };
 }
 
-/// Three bytes, the low one first.
+/// A number of 24 bits, held in a `u32`: three bytes, the low one first (`int<3>`).
+///
+/// Of a larger number the low 24 bits are written.
 #[derive(Clone, Copy, Debug)]
 pub struct LeU24;
 
@@ -88,18 +96,22 @@ impl IntRepr for LeU24 {
 
     ghost form = { number 3 };
 
+    #[inline(always)]
+    #[tactic(auto, using(crate::proofs::Numbers::numbers))]
     fn deserialize<'s>(buf: &mut ParseBuf<'_>) -> Result<u32, FaultOf<'s>> {
-        let front = buf.eat(3);
-        Ok(u32::from_le_bytes([front[0], front[1], front[2], 0]))
+        let [low, middle, high] = buf.eat_array::<3>();
+        Ok(u32::from_le_bytes([low, middle, high, 0]))
     }
 
     ghost written = { le_bytes 3 };
 
+    #[inline(always)]
     #[tactic(auto, unfolding(crate::specs::Writing::le_bytes))]
     fn written_len(_value: u32) -> usize {
         3
     }
 
+    #[inline(always)]
     #[tactic(auto, unfolding(crate::specs::Writing::le_bytes))]
     fn append(value: u32, out: &mut Vec<u8>) {
         let [low, middle, high, _top] = value.to_le_bytes();
@@ -109,7 +121,7 @@ impl IntRepr for LeU24 {
     ghost size_is = { size-number 3 };
 }
 
-/// Eight bytes, the low one first.
+/// A number of 64 bits: eight bytes, the low one first (`int<8>`).
 #[derive(Clone, Copy, Debug)]
 pub struct LeU64;
 
@@ -122,20 +134,21 @@ impl IntRepr for LeU64 {
 
     ghost form = { number 8 };
 
+    #[inline(always)]
+    #[tactic(auto, using(crate::proofs::Numbers::numbers))]
     fn deserialize<'s>(buf: &mut ParseBuf<'_>) -> Result<u64, FaultOf<'s>> {
-        let front = buf.eat(8);
-        Ok(u64::from_le_bytes([
-            front[0], front[1], front[2], front[3], front[4], front[5], front[6], front[7],
-        ]))
+        Ok(u64::from_le_bytes(buf.eat_array()))
     }
 
     ghost written = { le_bytes 8 };
 
+    #[inline(always)]
     #[tactic(auto, unfolding(crate::specs::Writing::le_bytes))]
     fn written_len(_value: u64) -> usize {
         8
     }
 
+    #[inline(always)]
     #[tactic(auto, unfolding(crate::specs::Writing::le_bytes))]
     fn append(value: u64, out: &mut Vec<u8>) {
         out.extend_from_slice(&value.to_le_bytes()).unwrap();
@@ -144,6 +157,7 @@ impl IntRepr for LeU64 {
     ghost size_is = { size-number 8 };
 }
 
+/// A byte (`int<1>`).
 impl IntRepr for u8 {
     type Primitive = u8;
 
@@ -153,17 +167,21 @@ impl IntRepr for u8 {
 
     ghost form = { number 1 };
 
+    #[inline(always)]
+    #[tactic(auto, using(crate::proofs::Numbers::numbers))]
     fn deserialize<'s>(buf: &mut ParseBuf<'_>) -> Result<u8, FaultOf<'s>> {
         Ok(buf.eat(1)[0])
     }
 
     ghost written = { le_bytes 1 };
 
+    #[inline(always)]
     #[tactic(auto, unfolding(crate::specs::Writing::le_bytes))]
     fn written_len(_value: u8) -> usize {
         1
     }
 
+    #[inline(always)]
     #[tactic(auto, unfolding(crate::specs::Writing::le_bytes))]
     fn append(value: u8, out: &mut Vec<u8>) {
         out.push(value).unwrap();

@@ -1,27 +1,49 @@
 //! Lists of values.
 
-ghost use Rattle.std.specs.Prelude.{true, false, ◌≡◌, ◌≤◌, ◌++◌, length, List, ℕ, Option, None, OnErr, refl, map};
+ghost use Rattle.std.specs.Prelude.{true, false, ◌≡◌, ◌≤◌, ◌+◌, ◌++◌, ◌∷◌, [], ◌↔◌, length, vec_len, vec_capacity, List, ℕ, Option, None, OnOk, OnErr, IfOk, IsTrue, refl};
+ghost use Rattle.std.specs.List.{flat_map};
+ghost use Rattle.std.specs.Cow.{cow_slice_items};
 ghost use Rattle.mysql_wire.specs.Reading.{Answers, IsTail, HasBytes};
+ghost use Rattle.mysql_wire.specs.Writing.{saturated};
 ghost use Rattle.mysql_wire.specs.Form.{Form, give};
-ghost use Rattle.mysql_wire.specs.Seq.{counted, items_of, seq};
+ghost use Rattle.mysql_wire.specs.Seq.{counted, items_of, seq, seq_bytes, IsHeld};
 
 use crate::buf::ParseBuf;
 use crate::fault::FaultOf;
-use crate::int::RawInt;
+use crate::int::{IntRepr, RawInt};
+use crate::items::{append_items, items_len};
 use crate::little_endian::LeU64;
-use crate::proto::{AnyWidth, MyDeserialize};
-use std::alloc::Global;
+use crate::proto::{AnyWidth, MyDeserialize, MySerialize, Width};
+use std::alloc::{AllocError, Global};
 use std::borrow::CowSlice;
+use std::fmt;
+use std::fmt::Debug;
+use std::hash::{Hash, Hasher};
 use std::marker::{Model, PhantomData};
 
-/// So many values, one after another.
+/// How many values to reserve room for: no more than the count, nor than the unread bytes can hold.
+///
+/// Values without a constant size get none: their list grows as they are read.
+fn room_for(count: u64, size: Option<usize>, unread: usize) -> usize
+    ensures wanted { result ≤ count }
+    ensures held { IsHeld size result unread }
+{
+    match size {
+        None => 0,
+        Some(0) => count as usize,
+        Some(size) => (count as usize).min(unread / size),
+    }
+}
+
+/// Reads so many values, one after another.
 fn read_items<'s, 'a, T: MyDeserialize<'a, Ctx = ()> + Drop>(
     count: u64,
     buf: &mut ParseBuf<'a>,
 ) -> Result<Vec<T>, FaultOf<'s>>
     ensures value { Answers true (items_of result) buf.new ((counted count (T.form tt)).reads buf.old) }
 {
-    let mut items = Vec::new(buf.alloc());
+    let room = room_for(count, <T::Size as Width>::SIZE, buf.len());
+    let mut items = Vec::with_capacity(buf.alloc(), room)?;
     for _ in 0..count {
         let item = buf.parse(())?;
         items.push(item)?;
@@ -29,47 +51,85 @@ fn read_items<'s, 'a, T: MyDeserialize<'a, Ctx = ()> + Drop>(
     Ok(items)
 }
 
-/// How the count of a list lies in the bytes.
+/// How the count of a list lies in the bytes: [`LeU64`] or [`Unknown`].
 pub trait SeqRepr {
+    /// What a reading is told beside the bytes.
     type Ctx: Drop;
 
     /// How the count is spelled.
-    ghost count: { Self.Ctx → Form ℕ };
+    ghost form: { Self.Ctx → Form ℕ };
 
     /// Reads the count.
     fn read_count<'s>(ctx: Self::Ctx, buf: &mut ParseBuf<'_>) -> Result<u64, FaultOf<'s>>
-        ensures value { Answers false result buf.new ((count ctx).reads buf.old) }
+        ensures value { Answers false result buf.new ((form ctx).reads buf.old) }
         ensures tail { OnErr result (IsTail buf.new buf.old) };
+
+    /// The bytes that a count is written as.
+    ghost written: { ℕ → List ℕ };
+
+    /// How many bytes a count is written as.
+    fn written_len(count: usize) -> usize
+        ensures { result ≡ length (written count) };
+
+    /// Writes the count to a buffer that has room.
+    fn append(count: usize, out: &mut Vec<u8>)
+        requires { vec_len out.old + length (written count) ≤ vec_capacity out.old }
+        ensures items { out.new.items ≡ out.old.items ++ written count }
+        ensures room { vec_capacity out.old ≤ vec_capacity out.new };
 }
 
+/// A count of eight bytes, the low one first.
 impl SeqRepr for LeU64 {
     type Ctx = ();
 
     ghost use Rattle.mysql_wire.specs.Int.{le_u64, number_of};
 
-    ghost count = { λ _. number_of le_u64 };
+    ghost form = { λ _. number_of le_u64 };
 
     fn read_count<'s>(_ctx: (), buf: &mut ParseBuf<'_>) -> Result<u64, FaultOf<'s>> {
         let count: RawInt<LeU64> = buf.parse(())?;
         Ok(count.0)
     }
+
+    ghost use Rattle.mysql_wire.specs.Writing.{le_bytes};
+
+    ghost written = { le_bytes 8 };
+
+    #[tactic(auto, unfolding(crate::specs::Writing::le_bytes))]
+    fn written_len(_count: usize) -> usize {
+        8
+    }
+
+    fn append(count: usize, out: &mut Vec<u8>) {
+        <LeU64 as IntRepr>::append(count as u64, out);
+    }
 }
 
-/// A list of a count that is handed in.
-#[derive(Clone, Copy, Debug)]
+/// A count that is handed in, and is not among the bytes.
+#[derive(Clone, Copy, Debug, PartialEq, Eq, Hash)]
 pub struct Unknown;
 
 impl SeqRepr for Unknown {
     type Ctx = usize;
 
-    ghost count = { give };
+    ghost form = { give };
 
     fn read_count<'s>(ctx: usize, _buf: &mut ParseBuf<'_>) -> Result<u64, FaultOf<'s>> {
         Ok(ctx as u64)
     }
+
+    ghost written = { λ _. [] };
+
+    fn written_len(_count: usize) -> usize {
+        0
+    }
+
+    fn append(_count: usize, _out: &mut Vec<u8>) {}
 }
 
-/// A list in a wire form, borrowed or owned.
+/// A list of values in a wire form, borrowed or owned: the count in the form `L`, then the values.
+///
+/// Lists with the same values are equal, whoever owns them.
 #[derive(Drop)]
 pub struct Seq<'a, T, L>(CowSlice<'a, T>, PhantomData<L>);
 
@@ -82,6 +142,133 @@ impl<'a, T, L> Model for Seq<'a, T, L> {
     ghost view = { λ s. cow_slice_items s.0 };
 }
 
+impl<'a, T, L> Seq<'a, T, L> {
+    /// The list of these values, which it owns.
+    pub fn owned(values: Vec<T>) -> Self
+        ensures value { result ≡ values.items }
+    {
+        Seq(CowSlice::Owned(values), PhantomData)
+    }
+
+    /// The list of these values, which stay where they are.
+    pub fn borrowed(values: &'a [T]) -> Self
+        ensures value { result ≡ values.now }
+    {
+        Seq(CowSlice::Borrowed(values), PhantomData)
+    }
+
+    /// The values.
+    #[inline]
+    pub fn as_slice(&self) -> &[T]
+        ensures value { result.now ≡ self.now }
+    {
+        self.0.as_slice()
+    }
+
+    /// How many values there are.
+    #[inline]
+    pub fn len(&self) -> usize
+        ensures value { result ≡ length self.now }
+    {
+        self.0.len()
+    }
+
+    /// Whether there is no value.
+    #[inline]
+    pub fn is_empty(&self) -> bool
+        ensures value { IsTrue result ↔ (self.now ≡ []) }
+    {
+        self.as_slice().is_empty()
+    }
+
+    /// The values, in the slice or the `Vec` that they were handed in as.
+    pub fn into_inner(self) -> CowSlice<'a, T>
+        ensures value { cow_slice_items result ≡ self.entry }
+    {
+        self.0
+    }
+
+    /// A list of the same values, each cloned where this list owns them.
+    ///
+    /// The caller knows that clones of the values equal them.
+    pub fn clone(&self) -> Result<Seq<'a, T, L>, AllocError>
+    where
+        T: Clone,
+        requires clones { (x y : T) → T.is_clone x y → y ≡ x }
+        ensures value { IfOk result (λ copy. copy ≡ self.now) }
+    {
+        Ok(Seq(self.0.clone()?, PhantomData))
+    }
+
+    /// Puts a value at the end. Borrowed values are cloned first.
+    ///
+    /// The caller knows that clones of the values equal them. Where a growth is refused, the list stays as it was and
+    /// the value is dropped.
+    pub fn push(&mut self, alloc: Global, value: T) -> Result<(), AllocError>
+    where
+        T: Clone + Drop,
+        requires clones { (x y : T) → T.is_clone x y → y ≡ x }
+        ensures ok { OnOk result (self.new ≡ self.old ++ value ∷ []) }
+        ensures err { OnErr result (self.new ≡ self.old) }
+    {
+        match &mut self.0 {
+            CowSlice::Borrowed(values) => {
+                let mut owned = Vec::from_clones(alloc, values)?;
+                owned.push(value)?;
+                self.0 = CowSlice::Owned(owned);
+            }
+            CowSlice::Owned(values) => values.push(value)?,
+        }
+        Ok(())
+    }
+}
+
+impl<T, L> Default for Seq<'_, T, L> {
+    ghost is_default = { λ s. s ≡ [] };
+
+    /// The list of no value.
+    fn default() -> Self {
+        Seq::borrowed(&[])
+    }
+}
+
+impl<T: PartialEq, L> PartialEq for Seq<'_, T, L> {
+    ghost use Rattle.std.specs.Cmp.Lexicographic.{pointwise, lists_per};
+
+    ghost eq = { pointwise T.eq };
+
+    ghost laws = { lists_per T.laws };
+
+    fn eq(&self, other: &Self) -> bool {
+        self.as_slice() == other.as_slice()
+    }
+}
+
+impl<T: Eq, L> Eq for Seq<'_, T, L> {
+    ghost use Rattle.std.specs.Cmp.Lexicographic.{lists_equiv};
+
+    ghost laws = { lists_equiv T.Eq.laws };
+}
+
+impl<T: Hash, L> Hash for Seq<'_, T, L> {
+    ghost use Rattle.std.specs.Hash as fed;
+    ghost use Rattle.std.specs.Hash.{items_Alike};
+
+    ghost hash_input = { fed.slice T.hash_input };
+
+    ghost respects_eq = { (items_Alike (record { fed = T.respects_eq })).fed };
+
+    fn hash<H: Hasher>(&self, state: &mut H) {
+        self.as_slice().hash(state);
+    }
+}
+
+impl<T: Debug, L> Debug for Seq<'_, T, L> {
+    fn fmt<W: fmt::Write>(&self, f: &mut fmt::Formatter<W>) -> fmt::Result {
+        self.as_slice().fmt(f)
+    }
+}
+
 impl<'de, T: MyDeserialize<'de, Ctx = ()> + Drop, L: SeqRepr> MyDeserialize<'de>
     for Seq<'de, T, L> {
     const SIZE: Option<usize> = None;
@@ -92,15 +279,29 @@ impl<'de, T: MyDeserialize<'de, Ctx = ()> + Drop, L: SeqRepr> MyDeserialize<'de>
 
     type Ctx = L::Ctx;
 
-    ghost form = { λ ctx. seq (L.count ctx) (T.form tt) };
+    ghost form = { λ ctx. seq (L.form ctx) (T.form tt) };
 
     fn deserialize<'s>(ctx: L::Ctx, buf: &mut ParseBuf<'de>) -> Result<Self, FaultOf<'s>> {
         let mut rest = buf.rest();
         let count = L::read_count(ctx, &mut rest)?;
         let items = read_items(count, &mut rest)?;
         *buf = rest;
-        Ok(Seq(CowSlice::Owned(items), PhantomData))
+        Ok(Seq::owned(items))
     }
 
     ghost size_is = { λ _. refl };
+}
+
+impl<T: MySerialize, L: SeqRepr> MySerialize for Seq<'_, T, L> {
+    ghost bytes = { seq_bytes L.written T.bytes };
+
+    #[tactic(auto, using(crate::specs::Writing::lengths_known), unfolding(crate::specs::Writing::saturated))]
+    fn defined_len(&self) -> usize {
+        L::written_len(self.len()).saturating_add(items_len(self.as_slice()))
+    }
+
+    fn append(&self, out: &mut Vec<u8>) {
+        L::append(self.len(), out);
+        append_items(self.as_slice(), out);
+    }
 }

@@ -8,7 +8,8 @@ use crate::buf::ParseBuf;
 use crate::fault::FaultOf;
 use crate::proto::{Fixed, MyDeserialize, MySerialize};
 
-/// Bytes that may have any value. They are written as zeros.
+/// `N` bytes that may have any value when they are read, and are written as zeros: fillers and
+/// reserved bytes.
 #[derive(Clone, Copy, Debug, PartialEq, Eq, Hash, Default)]
 pub struct Skip<const N: usize>;
 
@@ -25,6 +26,7 @@ impl<'de, const N: usize> MyDeserialize<'de> for Skip<N> {
 
     ghost form = { λ _. skip N };
 
+    #[inline(always)]
     fn deserialize<'s>(_ctx: (), buf: &mut ParseBuf<'de>) -> Result<Self, FaultOf<'s>> {
         buf.skip(N);
         Ok(Skip)
@@ -36,11 +38,13 @@ impl<'de, const N: usize> MyDeserialize<'de> for Skip<N> {
 impl<const N: usize> MySerialize for Skip<N> {
     ghost bytes = { λ _. replicate N 0 };
 
+    #[inline(always)]
     #[tactic(auto, unfolding(crate::specs::Writing::saturated))]
     fn defined_len(&self) -> usize {
         N
     }
 
+    #[inline(always)]
     fn append(&self, out: &mut Vec<u8>) {
         out.extend_from_slice(&[0; N]).unwrap();
     }

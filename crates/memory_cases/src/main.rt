@@ -1,0 +1,33 @@
+//! Makes each call of the packets layer that takes memory, one a name, and prints what it answered and what stands after.
+//!
+//! `memory_cases --list` prints the names, `memory_cases --all` each name with what its call answered, and `memory_cases NAME` what that one answered. Only the growths of the call itself are counted: what is made ready before it and printed behind it is not (`counted`).
+#![tactic(auto)]
+
+mod bench;
+mod counted;
+mod wire;
+
+use bench::{Asked, Bench};
+use std::process::ExitCode;
+use std::rt::Env;
+use std::{env, io};
+
+fn run(rt: &(impl Env + Print + AllocGlobal)) -> io::Result<ExitCode> {
+    let Some(word) = env::args(rt)?.nth(1) else {
+        println!(rt; "usage: memory_cases --list | --all | NAME")?;
+        return Ok(ExitCode::from(2));
+    };
+    let asked = match word.as_str() {
+        "--list" => Asked::Names,
+        "--all" => Asked::All,
+        _ => Asked::One(word),
+    };
+    let mut bench = Bench::new(rt.alloc(), asked);
+    wire::cases(&mut bench)?;
+    rt.print(bench.lines())?;
+    Ok(ExitCode::SUCCESS)
+}
+
+fn main(rt: HostRuntime) -> io::Result<ExitCode> {
+    run(&rt)
+}

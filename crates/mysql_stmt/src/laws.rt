@@ -1,0 +1,19 @@
+//! Laws over the grammars and the defined bytes of this crate's packets.
+//!
+//! Each law is a function with nothing in it, whose contract holds for all values.
+
+ghost use Rattle.std.specs.Prelude.{◌≡◌, ◌++◌, ℕ, List, Ok};
+ghost use Rattle.mysql_stmt.specs.declared.stmt.StmtPacket.{StmtPacket};
+ghost use Rattle.mysql_stmt.specs.Stmt.{stmt, stmt_bytes, StmtFits};
+
+/// What is written of a statement packet is read again, whatever follows.
+pub fn stmt_packet_again()
+    ensures spelled { (p : StmtPacket) (rest : List ℕ) → StmtFits p → stmt.Spells p (stmt_bytes p ++ rest) rest }
+    ensures read { (p : StmtPacket) (rest : List ℕ) → StmtFits p → stmt.reads (stmt_bytes p ++ rest) ≡ Ok (p, rest) }
+{}
+
+/// Bytes spell at most one statement packet, with one rest behind it.
+pub fn stmt_packet_once()
+    ensures value { (p q : StmtPacket) (bytes rest left : List ℕ) → stmt.Spells p bytes rest → stmt.Spells q bytes left → p ≡ q }
+    ensures rest { (p q : StmtPacket) (bytes rest left : List ℕ) → stmt.Spells p bytes rest → stmt.Spells q bytes left → rest ≡ left }
+{}

@@ -1,0 +1,130 @@
+//! The answer to a prepared statement.
+
+ghost use Rattle.std.specs.Prelude.{false, ◌≡◌, Some, refl};
+
+use mysql_wire::{
+    ConstFault, ConstU8, FaultOf, Fixed, LeU16, LeU32, MyDeserialize, MySerialize, ParseBuf,
+    RawInt, Skip, append_all, len_of,
+};
+use thiserror::Error;
+
+/// The status byte of a statement packet is not 0.
+#[derive(Clone, Copy, Debug, Default, PartialEq, Eq, Hash, Error)]
+#[error("Invalid statement packet status")]
+pub struct InvalidStmtPacketStatus;
+
+impl ConstFault for InvalidStmtPacketStatus {
+    const MESSAGE: &'static str = "Invalid statement packet status";
+}
+
+/// What a server answers to a statement that it prepared: `COM_STMT_PREPARE_OK`.
+///
+/// It is had by reading alone, and takes 12 bytes, numbers with their low byte first:
+///
+/// | Bytes | Field |
+/// |---|---|
+/// | 1 | status, always 0 |
+/// | 4 | `statement_id` |
+/// | 2 | `num_columns` |
+/// | 2 | `num_params` |
+/// | 1 | skipped, with any value; written as 0 |
+/// | 2 | `warning_count` |
+///
+/// Fewer than 12 bytes are refused as `UnexpectedEof`, another status as `InvalidData`.
+#[derive(Clone, Debug, PartialEq, Eq, Hash, Drop)]
+pub struct StmtPacket {
+    status: ConstU8<InvalidStmtPacketStatus, 0>,
+    statement_id: RawInt<LeU32>,
+    num_columns: RawInt<LeU16>,
+    num_params: RawInt<LeU16>,
+    skipped: Skip<1>,
+    warning_count: RawInt<LeU16>,
+}
+
+impl<'de> MyDeserialize<'de> for StmtPacket {
+    const SIZE: Option<usize> = Some(12);
+
+    type Size = Fixed<12>;
+
+    ghost takes_memory = { false };
+
+    type Ctx = ();
+
+    ghost use Rattle.mysql_stmt.specs.Stmt.{stmt};
+
+    ghost form = { λ _. stmt };
+
+    #[tactic(auto, using(mysql_wire::proofs::Blocks::blocks))]
+    fn deserialize<'s>(_ctx: (), buf: &mut ParseBuf<'de>) -> Result<Self, FaultOf<'s>> {
+        let mut fields: ParseBuf<'de> = buf.parse(12)?;
+        Ok(StmtPacket {
+            status: fields.parse_unchecked(())?,
+            statement_id: fields.parse_unchecked(())?,
+            num_columns: fields.parse_unchecked(())?,
+            num_params: fields.parse_unchecked(())?,
+            skipped: fields.parse_unchecked(())?,
+            warning_count: fields.parse_unchecked(())?,
+        })
+    }
+
+    ghost use Rattle.mysql_wire.specs.Form.{size-bytes};
+
+    ghost size_is = { λ _. size-bytes 12 };
+}
+
+impl StmtPacket {
+    ghost use Rattle.mysql_stmt.specs.Stmt.{statement_id, num_columns, num_params, warning_count};
+
+    /// The number that the server gave the statement.
+    pub fn statement_id(&self) -> u32
+        ensures value { result ≡ statement_id self.now }
+    {
+        self.statement_id.0
+    }
+
+    /// How many columns a row of the statement's result has.
+    pub fn num_columns(&self) -> u16
+        ensures value { result ≡ num_columns self.now }
+    {
+        self.num_columns.0
+    }
+
+    /// How many parameters the statement asks.
+    pub fn num_params(&self) -> u16
+        ensures value { result ≡ num_params self.now }
+    {
+        self.num_params.0
+    }
+
+    /// How many warnings the server counts.
+    pub fn warning_count(&self) -> u16
+        ensures value { result ≡ warning_count self.now }
+    {
+        self.warning_count.0
+    }
+}
+
+impl MySerialize for StmtPacket {
+    ghost use Rattle.mysql_stmt.specs.Stmt.{stmt_bytes};
+
+    ghost bytes = { stmt_bytes };
+
+    #[tactic(auto, using(mysql_wire::specs::Writing::lengths), unfolding(mysql_wire::specs::Writing::le_bytes))]
+    fn defined_len(&self) -> usize {
+        len_of!(
+            self.status,
+            self.statement_id,
+            self.num_columns,
+            self.num_params,
+            self.skipped,
+            self.warning_count
+        )
+    }
+
+    fn append(&self, out: &mut Vec<u8>) {
+        append_all!(out;
+            self.status, self.statement_id, self.num_columns, self.num_params,
+            self.skipped, self.warning_count,
+        );
+    }
+}

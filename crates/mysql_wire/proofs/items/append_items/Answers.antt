@@ -1,0 +1,14 @@
+use Rattle.std.proofs.Common.{◌≡◌, ◌≤◌, ◌+◌, length, get_or, take, ap, sym, ◌∙◌, arith}
+use Rattle.std.specs.List.{flat_map}
+use Rattle.std.proofs.lemmas.List.{length-append}
+use Rattle.std.proofs.lemmas.List.Folds.{length-flat_map-take}
+use Rattle.mysql_wire.proofs.items.append_items.Goals as goal
+
+pub append-requires : goal.append-requires
+append-requires g c =
+    let bytes = g.T.MySerialize.bytes in
+    let value = c.value-item.result in
+    let fits = length-flat_map-take bytes c.args.values.now c.loop-value.value-index value c.loop-value-test.true in
+    let this : length (bytes value) ≡ length (bytes (get_or c.args.values.now c.loop-value.value-index value)) = ap (λ x. length (bytes x)) c.value-item.is in
+    let so_far = ap length c.loop-value.invariant.items ∙ length-append c.args.out.now.items (flat_map bytes (take c.loop-value.value-index c.args.values.now)) in
+    omega (arith, fits, this, so_far, c.loop-value.out.ok, c.args.out.now.ok, c.loop-value.invariant.room, c.requires)

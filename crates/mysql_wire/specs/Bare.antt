@@ -1,0 +1,7 @@
+-- Byte strings whose count stands elsewhere.
+use Rattle.std.specs.Prelude.{ℕ, List}
+use Rattle.mysql_wire.specs.Form.{Form, bytes, unsized}
+
+-- so many bytes
+abbrev pub bare : ℕ → Form (List ℕ)
+bare n = unsized (bytes n)

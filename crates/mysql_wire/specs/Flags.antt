@@ -1,0 +1,36 @@
+-- Flag words.
+use Rattle.std.specs.Prelude.{◌≡◌, ℕ, ◌^◌, ◌<◌, Bool, Option, Some, ◌==◌, bit_and, refl}
+use Rattle.mysql_wire.specs.declared.constant_value.Const.{Const}
+use Rattle.mysql_wire.specs.declared.flags.FlagWord.{FlagWord}
+use Rattle.mysql_wire.specs.declared.flags.capability_flags.CapabilityNames.{CapabilityNames}
+use Rattle.mysql_wire.specs.declared.flags.column_flags.ColumnFlagNames.{ColumnFlagNames}
+use Rattle.mysql_wire.specs.declared.flags.status_flags.StatusNames.{StatusNames}
+use Rattle.mysql_wire.specs.Form.{Form, number}
+use Rattle.mysql_wire.specs.ConstantValue.{coded, coded-again}
+use Rattle.mysql_wire.specs.Spelling.{IsSpelling, number-again}
+use Rattle.mysql_wire.specs.Writing.{le_bytes}
+
+-- every bit of the mask is set
+abbrev pub has : ℕ → ℕ → Bool
+has flags mask = bit_and flags mask == mask
+
+-- the flags with these bits: any bits are some flags
+abbrev pub flags_of : {N B : Type 0} → B → Option (FlagWord N B)
+flags_of bits = Some (record { 0 = bits; 1 = record {} })
+
+-- a flag word of so many bytes, the low one first: every bit is kept
+abbrev pub flag_word : {N U : Type 0} → ℕ → Form (Const (FlagWord N ℕ) U)
+flag_word width = coded flags_of (number width)
+
+-- what is written of a flag word is read again
+pub flag_word-again : {N U : Type 0} (width : ℕ) (v : Const (FlagWord N ℕ) U) → v.0.0 < 256 ^ width → IsSpelling (flag_word width) v (le_bytes width v.0.0)
+flag_word-again width v lt = coded-again flags_of (number width) v.0.0 v (le_bytes width v.0.0) refl (number-again width v.0.0 lt)
+
+abbrev pub CapabilityFlags : Type 0
+CapabilityFlags = FlagWord CapabilityNames ℕ
+
+abbrev pub StatusFlags : Type 0
+StatusFlags = FlagWord StatusNames ℕ
+
+abbrev pub ColumnFlags : Type 0
+ColumnFlags = FlagWord ColumnFlagNames ℕ

@@ -1,0 +1,48 @@
+//! Byte strings whose length the type tells.
+
+ghost use Rattle.std.specs.Prelude.{false, ◌≡◌, ◌+◌, ◌++◌, vec_len, vec_capacity, ◌≤◌, length, List, ℕ, Option, Some, OnErr};
+ghost use Rattle.mysql_wire.specs.Writing.{saturated};
+ghost use Rattle.mysql_wire.specs.Form.{Form};
+ghost use Rattle.mysql_wire.specs.Reading.{Answers, IsTail, HasBytes};
+
+use crate::buf::ParseBuf;
+use crate::fault::FaultOf;
+use crate::proto::{Fixed, MyDeserialize, MySerialize};
+
+/// So many bytes (`string<fix>`).
+impl<'de, const N: usize> MyDeserialize<'de> for [u8; N] {
+    const SIZE: Option<usize> = Some(N);
+
+    type Size = Fixed<N>;
+
+    ghost takes_memory = { false };
+
+    type Ctx = ();
+
+    ghost use Rattle.mysql_wire.specs.Form.{bytes, size-bytes};
+
+    ghost form = { λ _. bytes N };
+
+    #[inline(always)]
+    #[tactic(auto, using(crate::proofs::Arrays::arrays))]
+    fn deserialize<'s>(_ctx: (), buf: &mut ParseBuf<'de>) -> Result<Self, FaultOf<'s>> {
+        Ok(<[u8; N]>::try_from(buf.eat(N)).unwrap())
+    }
+
+    ghost size_is = { λ _. size-bytes N };
+}
+
+impl<const N: usize> MySerialize for [u8; N] {
+    ghost bytes = { λ content. content };
+
+    #[inline(always)]
+    #[tactic(auto, unfolding(crate::specs::Writing::saturated))]
+    fn defined_len(&self) -> usize {
+        N
+    }
+
+    #[inline(always)]
+    fn append(&self, out: &mut Vec<u8>) {
+        out.extend_from_slice(self).unwrap();
+    }
+}

@@ -1,0 +1,62 @@
+//! Byte strings whose count stands elsewhere.
+
+ghost use Rattle.std.specs.Prelude.{false, ◌≡◌, ◌+◌, ◌++◌, take, vec_len, vec_capacity, ◌≤◌, length, List, ℕ, Option, None, OnErr, refl};
+ghost use Rattle.mysql_wire.specs.Writing.{saturated};
+ghost use Rattle.mysql_wire.specs.Form.{Form};
+ghost use Rattle.mysql_wire.specs.Reading.{Answers, IsTail};
+
+use crate::buf::ParseBuf;
+use crate::bytes::BytesRepr;
+use crate::fault::FaultOf;
+use std::cmp::min;
+
+// The first bytes, so many at most.
+#[inline(always)]
+pub(crate) fn first_bytes(content: &[u8], most: usize) -> &[u8]
+    ensures value { result.now ≡ take most content.now }
+    ensures bound { length result.now ≤ most }
+{
+    &content[..min(content.len(), most)]
+}
+
+/// So many bytes, the count being handed in. The first `MAX` bytes of a content are written.
+#[derive(Clone, Copy, Debug)]
+pub struct BareBytes<const MAX: usize>;
+
+impl<const MAX: usize> BytesRepr for BareBytes<MAX> {
+    type Ctx = usize;
+
+    ghost use Rattle.mysql_wire.specs.Bare.{bare};
+
+    ghost form = { bare };
+
+    #[inline(always)]
+    fn deserialize<'s, 'de>(
+        n: usize,
+        buf: &mut ParseBuf<'de>,
+    ) -> Result<ParseBuf<'de>, FaultOf<'s>> {
+        buf.parse(n)
+    }
+
+    ghost kept = { take MAX };
+
+    #[inline(always)]
+    fn kept(content: &[u8]) -> &[u8] {
+        first_bytes(content, MAX)
+    }
+
+    ghost written = { take MAX };
+
+    #[inline(always)]
+    #[tactic(auto, unfolding(crate::specs::Writing::saturated))]
+    fn written_len(content: &[u8]) -> usize {
+        Self::kept(content).len()
+    }
+
+    #[inline(always)]
+    fn append(content: &[u8], out: &mut Vec<u8>) {
+        out.extend_from_slice(Self::kept(content)).unwrap();
+    }
+
+    ghost size_is = { λ _. refl };
+}

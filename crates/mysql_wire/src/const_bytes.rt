@@ -1,0 +1,81 @@
+//! Byte strings that have one value.
+
+ghost use Rattle.std.specs.Prelude.{false, ◌≡◌, ◌+◌, ◌++◌, vec_len, vec_capacity, ◌≤◌, length, List, ℕ, Option, Some, OnErr};
+ghost use Rattle.mysql_wire.specs.Writing.{saturated};
+ghost use Rattle.mysql_wire.specs.Form.{Form};
+ghost use Rattle.mysql_wire.specs.Reading.{Answers, IsTail, HasBytes};
+
+use crate::buf::ParseBuf;
+use crate::constant::ConstFault;
+use crate::fault::FaultOf;
+use crate::proto::{Fixed, MyDeserialize, MySerialize};
+use std::marker::PhantomData;
+
+/// The value of a constant byte string, and what another value is refused with.
+pub trait ConstBytesValue<const LEN: usize> {
+    ghost VALUE: { List ℕ };
+
+    const VALUE: [u8; LEN];
+
+    /// Its text goes into the refusal of another value.
+    type Error: ConstFault;
+
+    /// The value has that length.
+    ghost len_is: { length VALUE ≡ LEN };
+}
+
+/// `LEN` bytes that have one value, that of `T`.
+#[derive_where(Clone, Copy, PartialEq, Eq, Hash, Debug)]
+pub struct ConstBytes<T, const LEN: usize>(PhantomData<T>);
+
+impl<T, const LEN: usize> ConstBytes<T, LEN> {
+    pub fn new() -> Self {
+        ConstBytes(PhantomData)
+    }
+}
+
+impl<T, const LEN: usize> Default for ConstBytes<T, LEN> {
+    fn default() -> Self {
+        ConstBytes::new()
+    }
+}
+
+impl<'de, T: ConstBytesValue<LEN>, const LEN: usize> MyDeserialize<'de> for ConstBytes<T, LEN> {
+    const SIZE: Option<usize> = Some(LEN);
+
+    type Size = Fixed<LEN>;
+
+    ghost takes_memory = { false };
+
+    type Ctx = ();
+
+    ghost use Rattle.mysql_wire.specs.ConstBytes.{const_bytes, size-const_bytes};
+
+    ghost form = { λ _. const_bytes LEN T.VALUE };
+
+    #[inline(always)]
+    #[tactic(auto, using(crate::proofs::Arrays::arrays), unfolding(crate::specs::ConstBytes::const_bytes))]
+    fn deserialize<'s>(_ctx: (), buf: &mut ParseBuf<'de>) -> Result<Self, FaultOf<'s>> {
+        if buf.eat(LEN) != T::VALUE.as_slice() {
+            return Err(FaultOf::InvalidData(<T::Error as ConstFault>::MESSAGE));
+        }
+        Ok(ConstBytes::new())
+    }
+
+    ghost size_is = { λ _. size-const_bytes _ LEN T.VALUE };
+}
+
+impl<T: ConstBytesValue<LEN>, const LEN: usize> MySerialize for ConstBytes<T, LEN> {
+    ghost bytes = { λ _. T.VALUE };
+
+    #[inline(always)]
+    #[tactic(auto, unfolding(crate::specs::Writing::saturated))]
+    fn defined_len(&self) -> usize {
+        LEN
+    }
+
+    #[inline(always)]
+    fn append(&self, out: &mut Vec<u8>) {
+        out.extend_from_slice(&T::VALUE).unwrap();
+    }
+}

@@ -1,0 +1,114 @@
+//! Byte strings behind a count of a fixed width.
+
+ghost use Rattle.std.specs.Prelude.{false, ◌≡◌, ◌+◌, ◌++◌, take, vec_len, vec_capacity, ◌≤◌, length, List, ℕ, Option, None, OnErr};
+ghost use Rattle.mysql_wire.specs.Writing.{saturated};
+ghost use Rattle.mysql_wire.specs.Form.{Form};
+ghost use Rattle.mysql_wire.specs.Reading.{Answers, IsTail};
+
+use crate::bare::first_bytes;
+use crate::buf::ParseBuf;
+use crate::bytes::BytesRepr;
+use crate::fault::FaultOf;
+use crate::int::{IntRepr, RawInt};
+use crate::little_endian::LeU32;
+
+/// The bytes behind a count of one byte. The first 255 bytes of a content are written.
+#[derive(Clone, Copy, Debug)]
+pub struct U8Bytes;
+
+impl BytesRepr for U8Bytes {
+    type Ctx = ();
+
+    ghost use Rattle.mysql_wire.specs.Int.{byte};
+    ghost use Rattle.mysql_wire.specs.CountedBytes.{counted_bytes, size-counted_bytes};
+
+    ghost form = { λ _. counted_bytes byte };
+
+    #[inline(always)]
+    #[tactic(auto, using(crate::proofs::Tails::tails), unfolding(crate::specs::CountedBytes::counted_bytes))]
+    fn deserialize<'s, 'de>(
+        _ctx: (),
+        buf: &mut ParseBuf<'de>,
+    ) -> Result<ParseBuf<'de>, FaultOf<'s>> {
+        let count: RawInt<u8> = buf.parse(())?;
+        buf.parse(usize::from(count.0))
+    }
+
+    ghost use Rattle.mysql_wire.specs.CountedBytes.{counted_bytes_of};
+
+    ghost kept = { take 255 };
+
+    #[inline(always)]
+    fn kept(content: &[u8]) -> &[u8] {
+        first_bytes(content, u8::MAX as usize)
+    }
+
+    ghost written = { counted_bytes_of 1 255 };
+
+    #[inline(always)]
+    #[tactic(auto, using(crate::proofs::CountedBytes::cuts), unfolding(crate::specs::Writing::saturated, crate::specs::Writing::le_bytes, crate::specs::CountedBytes::counted_bytes_of))]
+    fn written_len(content: &[u8]) -> usize {
+        1 + Self::kept(content).len()
+    }
+
+    #[inline(always)]
+    #[tactic(auto, unfolding(crate::specs::CountedBytes::counted_bytes_of))]
+    fn append(content: &[u8], out: &mut Vec<u8>) {
+        let kept = first_bytes(content, u8::MAX as usize);
+        <u8 as IntRepr>::append(kept.len() as u8, out);
+        out.extend_from_slice(kept).unwrap();
+    }
+
+    ghost size_is = { λ _. size-counted_bytes byte };
+}
+
+/// The bytes behind a count of four bytes, the low one first. The first 4,294,967,295 bytes of a
+/// content are written.
+#[derive(Clone, Copy, Debug)]
+pub struct U32Bytes;
+
+impl BytesRepr for U32Bytes {
+    type Ctx = ();
+
+    ghost use Rattle.mysql_wire.specs.Int.{le_u32};
+    ghost use Rattle.mysql_wire.specs.CountedBytes.{counted_bytes, size-counted_bytes};
+
+    ghost form = { λ _. counted_bytes le_u32 };
+
+    #[inline(always)]
+    #[tactic(auto, using(crate::proofs::Tails::tails), unfolding(crate::specs::CountedBytes::counted_bytes))]
+    fn deserialize<'s, 'de>(
+        _ctx: (),
+        buf: &mut ParseBuf<'de>,
+    ) -> Result<ParseBuf<'de>, FaultOf<'s>> {
+        let count: RawInt<LeU32> = buf.parse(())?;
+        buf.parse(count.0 as usize)
+    }
+
+    ghost use Rattle.mysql_wire.specs.CountedBytes.{counted_bytes_of};
+
+    ghost kept = { take 4294967295 };
+
+    #[inline(always)]
+    fn kept(content: &[u8]) -> &[u8] {
+        first_bytes(content, u32::MAX as usize)
+    }
+
+    ghost written = { counted_bytes_of 4 4294967295 };
+
+    #[inline(always)]
+    #[tactic(auto, using(crate::proofs::CountedBytes::cuts), unfolding(crate::specs::Writing::saturated, crate::specs::Writing::le_bytes, crate::specs::CountedBytes::counted_bytes_of))]
+    fn written_len(content: &[u8]) -> usize {
+        4 + Self::kept(content).len()
+    }
+
+    #[inline(always)]
+    #[tactic(auto, unfolding(crate::specs::CountedBytes::counted_bytes_of))]
+    fn append(content: &[u8], out: &mut Vec<u8>) {
+        let kept = first_bytes(content, u32::MAX as usize);
+        <LeU32 as IntRepr>::append(kept.len() as u32, out);
+        out.extend_from_slice(kept).unwrap();
+    }
+
+    ghost size_is = { λ _. size-counted_bytes le_u32 };
+}

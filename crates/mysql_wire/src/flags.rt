@@ -1,0 +1,191 @@
+//! Flag words: sets of named bits.
+//!
+//! The operations of a set, as `contains`, `insert` and `from_bits_retain`, are those of the trait
+//! `Flags`. Every bit is kept, also one without a name.
+
+ghost use Rattle.std.specs.Prelude.{⊤, ◌≡◌, ◌-◌, ◌^◌, ℕ, List, map, refl};
+ghost use Rattle.std.specs.Int.RustNames.{bit_and, bit_or, bit_xor};
+ghost use Rattle.bitflags.specs.Sets.{without, known_bits};
+
+use crate::constant_value::ConstValue;
+use bitflags::{Bits, Flag, Flags};
+use std::marker::PhantomData;
+use std::ops::{
+    BitAnd, BitAndAssign, BitOr, BitOrAssign, BitXor, BitXorAssign, Not, Sub, SubAssign,
+};
+
+mod capability_flags;
+mod column_flags;
+mod status_flags;
+
+pub use capability_flags::{CapabilityFlags, CapabilityNames};
+pub use column_flags::{ColumnFlagNames, ColumnFlags};
+pub use status_flags::{StatusFlags, StatusNames};
+
+/// The list of some flags with their names.
+macro_rules! named_flags {
+    ($word:ident: $($flag:ident),+ $(,)?) => {
+        &[$(Flag { name: stringify!($flag), value: $word::$flag }),+]
+    };
+}
+
+pub(crate) use named_flags;
+
+/// The names of a flag word's bits: a marker for [`FlagWord`].
+pub trait FlagNames<B: Bits>: Sized {
+    /// The name and the bits of each flag.
+    ghost table: { List (List ℕ × ℕ) };
+
+    /// The named flags.
+    fn flags<'a>() -> &'a [Flag<FlagWord<Self, B>>]
+        ensures { map (λ f. (f.name.now, B.pattern f.value.0)) result.now ≡ table };
+}
+
+/// A set of bits, which are those of the integer `B`. The marker `N` names some of them.
+///
+/// The integer is field 0. The default is the empty set.
+#[derive_where(Clone, Copy, PartialEq, Eq, Hash, Debug, Default; B)]
+pub struct FlagWord<N, B>(pub B, PhantomData<N>);
+
+impl<N: FlagNames<B>, B: Bits> Flags for FlagWord<N, B> {
+    type Bits = B;
+
+    ghost exact = { ⊤ };
+
+    ghost table = { N.table };
+
+    ghost set_of = { λ flags. B.pattern flags.0 };
+
+    #[inline(always)]
+    fn flags<'a>() -> &'a [Flag<FlagWord<N, B>>] {
+        N::flags()
+    }
+
+    #[inline(always)]
+    fn bits(&self) -> B {
+        self.0
+    }
+
+    #[inline(always)]
+    fn from_bits_retain(bits: B) -> FlagWord<N, B> {
+        FlagWord(bits, PhantomData)
+    }
+}
+
+/// Every bit that either has.
+impl<N: FlagNames<B>, B: Bits> BitOr for FlagWord<N, B> {
+    type Output = FlagWord<N, B>;
+
+    ghost bitor_gives = { λ a b r. B.pattern r.0 ≡ bit_or (B.pattern a.0) (B.pattern b.0) };
+
+    #[inline(always)]
+    fn bitor(self, other: FlagWord<N, B>) -> FlagWord<N, B> {
+        self.union(other)
+    }
+}
+
+/// Every bit that both have.
+impl<N: FlagNames<B>, B: Bits> BitAnd for FlagWord<N, B> {
+    type Output = FlagWord<N, B>;
+
+    ghost bitand_gives = { λ a b r. B.pattern r.0 ≡ bit_and (B.pattern a.0) (B.pattern b.0) };
+
+    #[inline(always)]
+    fn bitand(self, other: FlagWord<N, B>) -> FlagWord<N, B> {
+        self.intersection(other)
+    }
+}
+
+/// Every bit that one alone has.
+impl<N: FlagNames<B>, B: Bits> BitXor for FlagWord<N, B> {
+    type Output = FlagWord<N, B>;
+
+    ghost bitxor_gives = { λ a b r. B.pattern r.0 ≡ bit_xor (B.pattern a.0) (B.pattern b.0) };
+
+    #[inline(always)]
+    fn bitxor(self, other: FlagWord<N, B>) -> FlagWord<N, B> {
+        self.symmetric_difference(other)
+    }
+}
+
+/// Every bit that the other does not have.
+impl<N: FlagNames<B>, B: Bits> Sub for FlagWord<N, B> {
+    type Output = FlagWord<N, B>;
+
+    ghost sub_gives = { λ a b r. B.pattern r.0 ≡ without B.size (B.pattern a.0) (B.pattern b.0) };
+
+    #[inline(always)]
+    fn sub(self, other: FlagWord<N, B>) -> FlagWord<N, B> {
+        self.difference(other)
+    }
+}
+
+/// Every named bit that is not set.
+impl<N: FlagNames<B>, B: Bits> Not for FlagWord<N, B> {
+    type Output = FlagWord<N, B>;
+
+    ghost not_gives = { λ a r. B.pattern r.0 ≡ bit_and (2 ^ B.size - 1 - B.pattern a.0) (known_bits N.table) };
+
+    #[inline(always)]
+    fn not(self) -> FlagWord<N, B> {
+        self.complement()
+    }
+}
+
+impl<N: FlagNames<B>, B: Bits> BitOrAssign for FlagWord<N, B> {
+    ghost bitor_assign_gives = { λ a b r. B.pattern r.0 ≡ bit_or (B.pattern a.0) (B.pattern b.0) };
+
+    #[inline(always)]
+    fn bitor_assign(&mut self, other: FlagWord<N, B>) {
+        self.insert(other);
+    }
+}
+
+impl<N: FlagNames<B>, B: Bits> BitAndAssign for FlagWord<N, B> {
+    ghost bitand_assign_gives = { λ a b r. B.pattern r.0 ≡ bit_and (B.pattern a.0) (B.pattern b.0) };
+
+    #[inline(always)]
+    fn bitand_assign(&mut self, other: FlagWord<N, B>) {
+        *self = FlagWord(self.0 & other.0, PhantomData);
+    }
+}
+
+impl<N: FlagNames<B>, B: Bits> BitXorAssign for FlagWord<N, B> {
+    ghost bitxor_assign_gives = { λ a b r. B.pattern r.0 ≡ bit_xor (B.pattern a.0) (B.pattern b.0) };
+
+    #[inline(always)]
+    fn bitxor_assign(&mut self, other: FlagWord<N, B>) {
+        self.toggle(other);
+    }
+}
+
+impl<N: FlagNames<B>, B: Bits> SubAssign for FlagWord<N, B> {
+    ghost sub_assign_gives = { λ a b r. B.pattern r.0 ≡ without B.size (B.pattern a.0) (B.pattern b.0) };
+
+    #[inline(always)]
+    fn sub_assign(&mut self, other: FlagWord<N, B>) {
+        self.remove(other);
+    }
+}
+
+impl<N: FlagNames<B>, B: Bits> ConstValue<B> for FlagWord<N, B> {
+    ghost use Rattle.mysql_wire.specs.Flags.{flags_of};
+
+    ghost code = { λ flags. flags.0 };
+
+    ghost of_code = { flags_of };
+
+    const MESSAGE: &'static str = "Unknown flags";
+
+    #[inline(always)]
+    fn code(&self) -> B {
+        self.0
+    }
+
+    #[inline(always)]
+    fn from_code(number: B) -> Option<FlagWord<N, B>> {
+        Some(FlagWord(number, PhantomData))
+    }
+
+    ghost read_back = { λ flags. refl };
+}

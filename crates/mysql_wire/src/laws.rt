@@ -1,0 +1,65 @@
+//! Laws over the grammars of the wire forms, and over what is written of them.
+//!
+//! Each function here has an empty body: its contract is the law, proved for every value. A form
+//! `f` has `f.Spells value bytes rest`, which says that `bytes` are a spelling of `value` and then
+//! `rest`, and `f.reads bytes`, which is what reading `bytes` gives.
+
+ghost use Rattle.std.specs.Prelude.{◌≡◌, ◌+◌, ◌^◌, ◌<◌, ◌++◌, ◌∷◌, [], length, replicate, ℕ, List, Option, Some, Ok, true};
+ghost use Rattle.mysql_wire.specs.Reading.{IsTail};
+ghost use Rattle.mysql_wire.specs.Int.{byte, le_u16, le_u24, le_u32, le_u64, raw_int};
+ghost use Rattle.mysql_wire.specs.LenEnc.{lenenc, lenenc_bytes, lenenc_string, lenenc_string_bytes};
+ghost use Rattle.mysql_wire.specs.Writing.{le_bytes};
+ghost use Rattle.mysql_wire.specs.Spelling.{IsSpelling};
+
+use crate::bytes::RawBytes;
+use crate::proto::MyDeserialize;
+use std::hash::Hash;
+
+/// Bytes are spellings of at most one value of a type, with one rest.
+pub fn at_most_one_value<'de, T: MyDeserialize<'de>>()
+    ensures value { (ctx : T.Ctx) (v w : T) (bytes rest more : List ℕ) → (T.form ctx).Spells v bytes rest → (T.form ctx).Spells w bytes more → v ≡ w }
+    ensures rest { (ctx : T.Ctx) (v w : T) (bytes rest more : List ℕ) → (T.form ctx).Spells v bytes rest → (T.form ctx).Spells w bytes more → rest ≡ more }
+{}
+
+/// A reading takes a front of the bytes, and leaves the rest as it was.
+pub fn reading_takes_a_front<'de, T: MyDeserialize<'de>>()
+    ensures { (ctx : T.Ctx) (v : T) (bytes rest : List ℕ) → (T.form ctx).Spells v bytes rest → IsTail rest bytes }
+{}
+
+/// A spelling of a type with a constant size has that size.
+pub fn constant_size_is_exact<'de, T: MyDeserialize<'de>>()
+    ensures { (n : ℕ) → T.Size.SIZE ≡ Some n → (ctx : T.Ctx) (v : T) (bytes rest : List ℕ) → (T.form ctx).Spells v bytes rest → length bytes ≡ n + length rest }
+{}
+
+/// What is read is spelled so, and what is spelled so is read.
+pub fn reading_is_spelling<'de, T: MyDeserialize<'de>>()
+    ensures read { (ctx : T.Ctx) (v : T) (bytes rest : List ℕ) → (T.form ctx).Spells v bytes rest → (T.form ctx).reads bytes ≡ Ok (v, rest) }
+    ensures spelled { (ctx : T.Ctx) (v : T) (bytes rest : List ℕ) → (T.form ctx).reads bytes ≡ Ok (v, rest) → (T.form ctx).Spells v bytes rest }
+{}
+
+/// A number that fits its width is read again, whatever follows.
+#[tactic(auto, using(crate::specs::Spelling::numbers_again))]
+pub fn number_again()
+    ensures one_byte { (n : ℕ) → n < 2 ^ 8 → IsSpelling byte (raw_int n) (le_bytes 1 n) }
+    ensures two_bytes { (n : ℕ) → n < 2 ^ 16 → IsSpelling le_u16 (raw_int n) (le_bytes 2 n) }
+    ensures three_bytes { (n : ℕ) → n < 2 ^ 24 → IsSpelling le_u24 (raw_int n) (le_bytes 3 n) }
+    ensures four_bytes { (n : ℕ) → n < 2 ^ 32 → IsSpelling le_u32 (raw_int n) (le_bytes 4 n) }
+    ensures eight_bytes { (n : ℕ) → n < 2 ^ 64 → IsSpelling le_u64 (raw_int n) (le_bytes 8 n) }
+{}
+
+/// A length-encoded number of up to 64 bits is read again, whatever follows.
+#[tactic(auto, using(crate::specs::Again::lenenc_again))]
+pub fn lenenc_again()
+    ensures { (n : ℕ) → n < 2 ^ 64 → IsSpelling lenenc n (lenenc_bytes n) }
+{}
+
+/// A length-encoded byte string is read again, whatever follows.
+#[tactic(auto, using(crate::specs::Again::lenenc_again))]
+pub fn lenenc_string_again()
+    ensures { (content : List ℕ) → length content < 2 ^ 64 → IsSpelling lenenc_string content (lenenc_string_bytes content) }
+{}
+
+/// Byte strings with one content are equal and hash equally, borrowed or owned.
+pub fn equal_byte_strings_hash_equally<R>()
+    ensures { (x y : List ℕ) → ⟦<RawBytes<'static, R> as PartialEq>⟧.eq x y ≡ true → ⟦<RawBytes<'static, R> as Hash>⟧.hash_input x ≡ ⟦<RawBytes<'static, R> as Hash>⟧.hash_input y }
+{}

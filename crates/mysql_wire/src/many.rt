@@ -1,0 +1,34 @@
+//! Values one after another, until the bytes end.
+
+ghost use Rattle.std.specs.Prelude.{true, ◌≡◌, OnErr};
+ghost use Rattle.mysql_wire.specs.Reading.{Answers};
+ghost use Rattle.mysql_wire.specs.Many.{many};
+ghost use Rattle.mysql_wire.specs.Seq.{items_of};
+
+use crate::buf::ParseBuf;
+use crate::fault::FaultOf;
+use crate::proto::MyDeserialize;
+
+/// Reads values one after another until the buffer is empty.
+///
+/// The fault is that of the first value that has one. A value that takes no bytes is `InvalidData`, since it would be
+/// read again without end. After a refusal the buffer is as it was.
+pub fn read_all<'s, 'a, T: MyDeserialize<'a, Ctx = ()> + Drop>(
+    buf: &mut ParseBuf<'a>,
+) -> Result<Vec<T>, FaultOf<'s>>
+    ensures value { Answers true (items_of result) buf.new ((many (T.form tt)).reads buf.old) }
+    ensures err { OnErr result (buf.new ≡ buf.old) }
+{
+    let mut rest = buf.rest();
+    let mut items = Vec::new(buf.alloc());
+    while !rest.is_empty() {
+        let before = rest.len();
+        let item = rest.parse(())?;
+        if rest.len() == before {
+            return Err(FaultOf::InvalidData("Empty value in a list"));
+        }
+        items.push(item)?;
+    }
+    *buf = rest;
+    Ok(items)
+}

@@ -1,0 +1,7 @@
+//! Packets that other software wrote, read as the API of the software at the other end reported them.
+//!
+//! Each table has a line for each packet: its name, its bytes and what was reported.
+
+mod prepared;
+mod reported;
+mod stmt_prepare_ok;

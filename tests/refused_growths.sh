@@ -1,0 +1,124 @@
+#!/usr/bin/env bash
+# Runs each case of memory_cases with growth 1, 2, 3, .. of its memory refused, until a run meets no
+# refusal, and holds what it says to the table in refused_growths.txt: where a growth is refused the
+# promised refusal, else the right answer; and no growth above the stated bound.
+#
+# refused_growths.sh [PROGRAM ..]  tries these builds of memory_cases; with none it builds it by rt.
+# The last line is 'N passed, N failed', where a run of a case is one.
+set -uo pipefail
+export LC_ALL=C
+
+top=$(cd "$(dirname "${BASH_SOURCE[0]}")/.." && pwd) || exit 1
+crate=$top/crates/memory_cases
+passed=0
+failed=0
+
+stop() {
+    printf 'refused_growths: %s\n' "$1"
+    printf '%d passed, %d failed\n' "$passed" "$((failed + 1))"
+    exit 1
+}
+
+# pass_or_fail CASE TEXT: a text says what is wrong
+pass_or_fail() {
+    if [[ -z $2 ]]; then
+        passed=$((passed + 1))
+    else
+        failed=$((failed + 1))
+        printf 'refused_growths: %s: %s\n' "$1" "$2"
+    fi
+}
+
+# run_case NAME N: sets answer, status, growths and largest; the C library is given back in front of all else
+run_case() {
+    answer=$(REFUSED_GROWTH=$2 LD_PRELOAD=./refuse.so "$program" "$1" 2>report </dev/null)
+    status=$?
+    growths=
+    read -r _ growths _ largest <report
+}
+
+# is_one_of TEXT TEXTS: whether it is one of the texts, which ' / ' parts
+is_one_of() {
+    [[ " / $2 / " == *" / $1 / "* ]]
+}
+
+# judge N GROWTHS LARGEST REFUSED: what is wrong with the run, or nothing
+judge() {
+    if [[ $status != 0 || -z $growths ]]; then
+        printf 'it ended with status %s and said: %s %s' "$status" "$answer" "$(head -c 300 report)"
+    elif ((largest > $3)); then
+        printf 'a growth asked for %s bytes, and the bound is %s' "$largest" "$3"
+    elif (($1 > 0 && growths >= $1)); then
+        is_one_of "$answer" "$4" || printf 'it answered "%s", and not "%s"' "$answer" "$4"
+    elif [[ $answer != "$right" ]]; then
+        printf 'it answered "%s", and not "%s"' "$answer" "$right"
+    elif [[ $2 == some && $growths == 0 || $2 != some && $growths != "$2" ]]; then
+        printf 'it met %s growths, and not %s' "$growths" "$2"
+    fi
+}
+
+# try_case NAME GROWTHS LARGEST REFUSED
+try_case() {
+    local n told
+    right=${answers[$1]-}
+    for ((n = 0; n <= 1000; n++)); do
+        run_case "$1" "$n"
+        ((n == 0)) && told="$1" || told="$1, growth $n refused"
+        pass_or_fail "$told" "$(judge "$n" "$2" "$3" "$4")"
+        if [[ -z $growths ]] || ((n > 0 && growths < n)); then
+            return
+        fi
+    done
+    pass_or_fail "$1" "after 1000 refusals in turn it still met one"
+}
+
+try_program() {
+    local name
+    program=$1
+    for name in $("$program" --list); do
+        if [[ -z ${table[$name]-} ]]; then
+            pass_or_fail "$name" 'refused_growths.txt has no line for it'
+        fi
+    done
+    for name in "${names[@]}"; do
+        IFS='|' read -r count bound refusal <<<"${table[$name]}"
+        try_case "$name" "$count" "$bound" "$refusal"
+    done
+}
+
+declare -A table answers
+names=()
+while IFS='|' read -r name count bound refusal; do
+    if [[ $name == '#'* || -z $name ]]; then
+        continue
+    fi
+    name=${name// /}
+    names+=("$name")
+    table[$name]="${count// /}|${bound// /}|${refusal# }"
+done <"$top/tests/refused_growths.txt"
+while IFS= read -r line; do
+    answers[${line%%: *}]=${line#*: }
+done <"$crate/stdout"
+
+command -v cc >/dev/null || stop 'there is no C compiler: install one as cc'
+if (($# == 0)); then
+    (cd "$crate" && rt run -- --list) >/dev/null || stop 'memory_cases was not built: rt run in crates/memory_cases says why'
+    set -- "$crate/out/memory_cases"
+fi
+programs=()
+for program; do
+    [[ -f $program && -x $program ]] || stop "there is no program $program"
+    programs+=("$(realpath -- "$program")")
+done
+
+# (the loader parts what it preloads at spaces, so the library lies where the programs run)
+work=$(mktemp -d) || stop 'there is no room for a temporary folder'
+trap 'rm -rf -- "$work"' EXIT
+cc -O2 -Wall -shared -fPIC -o "$work/refuse.so" "$top/tests/refuse.c" || stop 'refuse.c does not compile'
+cd "$work" || stop 'the temporary folder is gone'
+
+for program in "${programs[@]}"; do
+    try_program "$program"
+done
+printf '%d passed, %d failed\n' "$passed" "$failed"
+((failed == 0))
