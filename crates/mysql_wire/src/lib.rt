@@ -32,6 +32,7 @@ pub use buf::ParseBuf;
 pub use bytes::{BytesRepr, RawBytes};
 pub use codes::{ColumnType, SessionStateType, UnknownColumnType, UnknownSessionStateType};
 pub use const_bytes::{ConstBytes, ConstBytesValue};
+pub use constant_value::{Const, ConstValue};
 pub use constant::{ConstFault, ConstU8, ConstU32};
 pub use constant_value::{Const, ConstValue};
 pub use counted_bytes::{U8Bytes, U32Bytes};

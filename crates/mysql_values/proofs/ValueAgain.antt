@@ -1,0 +1,158 @@
+-- What is written of a value is read again under its column's type.
+use Rattle.std.proofs.Common.{◌≡◌, ◌≢◌, ℕ, ◌<◌, ◌^◌, ◌==◌, List, [], ◌∷◌, ◌++◌, Bool, true, false, ◌⊎◌, length, IsTrue, refl, sym, ap, ◌∙◌, arith, inl, inr, append_assoc, subst, eq-eqb, ◌&&◌}
+use Rattle.std.proofs.lemmas.Bool.Decides.{eqb_tells}
+use Rattle.std.proofs.lemmas.List.{append-nil}
+use Rattle.std.specs.Int.{w64, cast_signed, cast_unsigned}
+use Rattle.std.specs.Int.RustNames.{FitsSigned}
+use Rattle.std.proofs.lemmas.Int.{to_z-of_z}
+use Rattle.std.proofs.Math.Facts.{Fits-of_z, Fits-lt-pow}
+use Rattle.mysql_wire.specs.Form.{Form, number, bytes, block, le_value}
+use Rattle.mysql_wire.specs.Int.{raw, raw_int, byte, le_u16, le_u32}
+use Rattle.mysql_wire.specs.Writing.{le_bytes}
+use Rattle.mysql_wire.specs.Spelling.{IsSpelling, block-again, number-again, le_u16-again, le_u32-again}
+use Rattle.mysql_wire.specs.Again.{lenenc_string-again}
+use Rattle.mysql_wire.specs.LenEnc.{lenenc_string_bytes}
+use Rattle.mysql_wire.specs.declared.codes.column_type.ColumnType.{ColumnType}
+use Rattle.mysql_wire.specs.declared.codes.column_type.ColumnType.TheVariants as column_type
+use Rattle.mysql_values.specs.declared.temporal.Day.{Day}
+use Rattle.mysql_values.specs.declared.temporal.Clock.{Clock}
+use Rattle.mysql_values.specs.declared.temporal.DateTime.{DateTime}
+use Rattle.mysql_values.specs.declared.temporal.TimeSpan.{TimeSpan}
+use Rattle.mysql_values.specs.Temporal.{day, day_fields, day_bytes, clock, clock_fields, clock_bytes, date_time, date_time_bytes, time_span, time_span_bytes, is_midnight, is_zero_day, zero_day, midnight, sign_byte}
+use Rattle.mysql_values.specs.Value.{Content, NULL, Bytes, Int, UInt, Float, Double, Date, Time, bin}
+use Rattle.mysql_values.specs.ValueDeserializer.{bin_value, string_value, date_value}
+use Rattle.mysql_values.specs.ReadingBack.{is_string, is_date, DateFits, TimeFits, ReadsBack}
+
+-- ---- leaves
+
+one_byte : (n : ℕ) (rest : List ℕ) → byte.Spells (raw_int n) (n ∷ rest) rest
+unfolding raw number bytes
+one_byte n rest = (n, refl, (n ∷ [], omega arith, (refl, refl)))
+
+day-again : (d : Day) → d.year < 2 ^ 16 → IsSpelling day d (day_bytes d)
+unfolding day day_bytes le_bytes
+day-again d year = block-again 4 day_fields d (day_bytes d) refl (raw_int d.year, d.month ∷ d.day ∷ [], le_u16-again d.year year (d.month ∷ d.day ∷ []), (raw_int d.month, d.day ∷ [], one_byte d.month (d.day ∷ []), (raw_int d.day, [], one_byte d.day [], (refl, refl))))
+
+clock-again : (c : Clock) → IsSpelling clock c (clock_bytes c)
+unfolding clock
+clock-again c = block-again 3 clock_fields c (clock_bytes c) refl (raw_int c.hour, c.minute ∷ c.second ∷ [], one_byte c.hour (c.minute ∷ c.second ∷ []), (raw_int c.minute, c.second ∷ [], one_byte c.minute (c.second ∷ []), (raw_int c.second, [], one_byte c.second [], (refl, refl))))
+
+-- ---- dates
+
+zero_clock : (hour minute second : ℕ) → hour ≡ 0 → minute ≡ 0 → second ≡ 0 → (let c : Clock = record { hour = hour; minute = minute; second = second } in c) ≡ midnight
+zero_clock hour minute second h m s = cc
+
+zero_date : (year month day : ℕ) → year ≡ 0 → month ≡ 0 → day ≡ 0 → (let d : Day = record { year = year; month = month; day = day } in d) ≡ zero_day
+zero_date year month day y m d = cc
+
+midnight_tells : (c : Clock) → (is_midnight c ≡ true) × (c ≡ midnight) ⊎ (is_midnight c ≡ false)
+midnight_tells c = elim (eqb_tells c.hour 0) [
+  | inr h ↦ inr (rw h.0 refl)
+  | inl h ↦ elim (eqb_tells c.minute 0) [
+    | inr m ↦ inr (rw (h.0, m.0) refl)
+    | inl m ↦ elim (eqb_tells c.second 0) [
+      | inr s ↦ inr (rw (h.0, m.0, s.0) refl)
+      | inl s ↦ inl (rw (h.0, m.0, s.0) refl, zero_clock c.hour c.minute c.second h.1 m.1 s.1)
+    ]
+  ]
+]
+
+zero_day_tells : (d : Day) → (is_zero_day d ≡ true) × (d ≡ zero_day) ⊎ (is_zero_day d ≡ false)
+zero_day_tells d = elim (eqb_tells d.year 0) [
+  | inr y ↦ inr (rw y.0 refl)
+  | inl y ↦ elim (eqb_tells d.month 0) [
+    | inr m ↦ inr (rw (y.0, m.0) refl)
+    | inl m ↦ elim (eqb_tells d.day 0) [
+      | inr n ↦ inr (rw (y.0, m.0, n.0) refl)
+      | inl n ↦ inl (rw (y.0, m.0, n.0) refl, zero_date d.year d.month d.day y.1 m.1 n.1)
+    ]
+  ]
+]
+
+date_parts : (t : DateTime) (d : Day) (c : Clock) (m : ℕ) → t.day ≡ d → t.clock ≡ c → t.micros ≡ m → t ≡ record { day = d; clock = c; micros = m }
+date_parts t d c m p q r = rw (← p, ← q, ← r) refl
+
+date_time-again : (t : DateTime) → DateFits t → (rest : List ℕ) → date_time.Spells t (date_time_bytes t ++ rest) rest
+unfolding date_time date_time_bytes
+date_time-again t fits rest = elim (eqb_tells t.micros 0) [
+  | inr micros ↦ rw (micros.0, append_assoc, append_assoc) (raw_int 11, _, one_byte 11 _, (t.day, _, day-again t.day fits.year _, (t.clock, _, clock-again t.clock _, (raw_int t.micros, rest, le_u32-again t.micros fits.micros rest, (refl, refl)))))
+  | inl micros ↦ elim (midnight_tells t.clock) [
+    | inr clock_is ↦ rw (micros.0, clock_is, append_assoc) (raw_int 7, _, one_byte 7 _, (t.day, _, day-again t.day fits.year _, (t.clock, rest, clock-again t.clock rest, (date_parts t t.day t.clock 0 refl refl micros.1, refl))))
+    | inl clock_is ↦ elim (zero_day_tells t.day) [
+      | inr day_is ↦ rw (micros.0, clock_is.0, day_is) (raw_int 4, _, one_byte 4 _, (t.day, rest, day-again t.day fits.year rest, (date_parts t t.day midnight 0 refl clock_is.1 micros.1, refl)))
+      | inl day_is ↦ rw (micros.0, clock_is.0, day_is.0) (raw_int 0, rest, one_byte 0 rest, (date_parts t zero_day midnight 0 day_is.1 clock_is.1 micros.1, refl))
+    ]
+  ]
+]
+
+-- ---- spans of time
+
+sign_back : (b : Bool) → (sign_byte b == 1) ≡ b
+sign_back true = refl
+sign_back false = refl
+
+span_parts : (t : TimeSpan) (b : Bool) (d : ℕ) (c : Clock) (m : ℕ) → t.is_negative ≡ b → t.days ≡ d → t.clock ≡ c → t.micros ≡ m → t ≡ record { is_negative = b; days = d; clock = c; micros = m }
+span_parts t b d c m o p q r = rw (← o, ← p, ← q, ← r) refl
+
+not_both : (a b : Bool) → (a ≡ false) ⊎ (b ≡ false) → (a && b) ≡ false
+not_both false b h = refl
+not_both true b (inl e) = absurd cc
+not_both true b (inr e) = e
+
+-- a span whose days and clock are not both zero, without microseconds
+span-again : (t : TimeSpan) → TimeFits t → t.micros ≡ 0 → (rest : List ℕ) → (t.days == 0 && is_midnight t.clock) ≡ false → time_span.Spells t (time_span_bytes t ++ rest) rest
+unfolding time_span time_span_bytes
+span-again t fits micros rest some =
+    let no_micros : (t.micros == 0) ≡ true = eq-eqb t.micros 0 micros in
+    rw (no_micros, some, append_assoc, append_assoc) (raw_int 8, _, one_byte 8 _, (raw_int (sign_byte t.is_negative), _, one_byte (sign_byte t.is_negative) _, (raw_int t.days, _, le_u32-again t.days fits.days _, (t.clock, rest, clock-again t.clock rest, (span_parts t (sign_byte t.is_negative == 1) t.days t.clock 0 (sym (sign_back t.is_negative)) refl refl micros, refl)))))
+
+time_span-again : (t : TimeSpan) → TimeFits t → (rest : List ℕ) → time_span.Spells t (time_span_bytes t ++ rest) rest
+unfolding time_span time_span_bytes
+time_span-again t fits rest = elim (eqb_tells t.micros 0) [
+  | inr micros ↦ rw (micros.0, append_assoc, append_assoc, append_assoc) (raw_int 12, _, one_byte 12 _, (raw_int (sign_byte t.is_negative), _, one_byte (sign_byte t.is_negative) _, (raw_int t.days, _, le_u32-again t.days fits.days _, (t.clock, _, clock-again t.clock _, (raw_int t.micros, rest, le_u32-again t.micros fits.micros rest, (span_parts t (sign_byte t.is_negative == 1) t.days t.clock t.micros (sym (sign_back t.is_negative)) refl refl refl, refl))))))
+  | inl micros ↦ elim (eqb_tells t.days 0) [
+    | inr days ↦ span-again t fits micros.1 rest (not_both _ _ (inl days.0))
+    | inl days ↦ elim (midnight_tells t.clock) [
+      | inr clock_is ↦ span-again t fits micros.1 rest (not_both _ _ (inr clock_is))
+      | inl clock_is ↦ rw (micros.0, days.0, clock_is.0) (raw_int 0, rest, one_byte 0 rest, (span_parts t false 0 midnight 0 (fits.sign days.1 clock_is.0 micros.1) days.1 clock_is.1 micros.1, refl))
+    ]
+  ]
+]
+
+-- ---- all values
+
+string-type : (type : ColumnType) (u : Bool) → is_string type ≡ true → bin_value type u ≡ string_value
+string-type column_type.MYSQL_TYPE_DECIMAL u e = refl
+string-type column_type.MYSQL_TYPE_VARCHAR u e = refl
+string-type column_type.MYSQL_TYPE_BIT u e = refl
+string-type column_type.MYSQL_TYPE_VECTOR u e = refl
+string-type column_type.MYSQL_TYPE_JSON u e = refl
+string-type column_type.MYSQL_TYPE_NEWDECIMAL u e = refl
+string-type column_type.MYSQL_TYPE_ENUM u e = refl
+string-type column_type.MYSQL_TYPE_SET u e = refl
+string-type column_type.MYSQL_TYPE_TINY_BLOB u e = refl
+string-type column_type.MYSQL_TYPE_MEDIUM_BLOB u e = refl
+string-type column_type.MYSQL_TYPE_LONG_BLOB u e = refl
+string-type column_type.MYSQL_TYPE_BLOB u e = refl
+string-type column_type.MYSQL_TYPE_VAR_STRING u e = refl
+string-type column_type.MYSQL_TYPE_STRING u e = refl
+string-type column_type.MYSQL_TYPE_GEOMETRY u e = refl
+string-type _ u e = absurd cc
+
+date-type : (type : ColumnType) (u : Bool) → is_date type ≡ true → bin_value type u ≡ date_value
+date-type column_type.MYSQL_TYPE_DATE u e = refl
+date-type column_type.MYSQL_TYPE_TIMESTAMP u e = refl
+date-type column_type.MYSQL_TYPE_DATETIME u e = refl
+date-type _ u e = absurd cc
+
+pub value-again : (type : ColumnType) (u : Bool) (content : Content) (rest : List ℕ) → ReadsBack type u content → (bin_value type u).Spells content (bin content ++ rest) rest
+value-again type u NULL rest h = rw h (refl, refl)
+value-again type u (Bytes content) rest h = rw (string-type type u h.0) (content, refl, lenenc_string-again content h.1 rest)
+value-again type u (Int x) rest h =
+    let fits : cast_unsigned w64 x < 2 ^ 64 = Fits-lt-pow (Fits-of_z h.2) in
+    rw (h.0, h.1) (cast_unsigned w64 x, ap Int (to_z-of_z w64 x h.2), number-again 8 (cast_unsigned w64 x) fits rest)
+value-again type u (UInt n) rest h = rw (h.0, h.1) (n, refl, number-again 8 n h.2 rest)
+value-again type u (Float bits) rest h = rw h.0 (bits, refl, number-again 4 bits h.1 rest)
+value-again type u (Double bits) rest h = rw h.0 (bits, refl, number-again 8 bits h.1 rest)
+value-again type u (Date date) rest h = rw (date-type type u h.0) (date, refl, date_time-again date h.1 rest)
+value-again type u (Time time) rest h = rw h.0 (time, refl, time_span-again time h.1 rest)

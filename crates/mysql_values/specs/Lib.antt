@@ -1,0 +1,6 @@
+pub mod Temporal
+pub mod Value
+pub mod ValueDeserializer
+pub mod Numeral
+pub mod FromValue
+pub mod ReadingBack

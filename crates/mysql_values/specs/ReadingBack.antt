@@ -1,0 +1,62 @@
+-- Which values are read again from their binary form.
+use Rattle.std.specs.Prelude.{◌≡◌, ℕ, ◌<◌, ◌^◌, Bool, true, false, length}
+use Rattle.std.specs.Int.{w64}
+use Rattle.std.specs.Int.RustNames.{FitsSigned}
+use Rattle.mysql_wire.specs.declared.codes.column_type.ColumnType.{ColumnType}
+use Rattle.mysql_wire.specs.declared.codes.column_type.ColumnType.TheVariants as column_type
+use Rattle.mysql_values.specs.declared.temporal.DateTime.{DateTime}
+use Rattle.mysql_values.specs.declared.temporal.TimeSpan.{TimeSpan}
+use Rattle.mysql_values.specs.Value.{Content, NULL, Bytes, Int, UInt, Float, Double, Date, Time}
+use Rattle.mysql_values.specs.Temporal.{is_midnight}
+
+-- values of the type are strings of bytes
+abbrev pub is_string : ColumnType → Bool
+is_string column_type.MYSQL_TYPE_DECIMAL = true
+is_string column_type.MYSQL_TYPE_VARCHAR = true
+is_string column_type.MYSQL_TYPE_BIT = true
+is_string column_type.MYSQL_TYPE_VECTOR = true
+is_string column_type.MYSQL_TYPE_JSON = true
+is_string column_type.MYSQL_TYPE_NEWDECIMAL = true
+is_string column_type.MYSQL_TYPE_ENUM = true
+is_string column_type.MYSQL_TYPE_SET = true
+is_string column_type.MYSQL_TYPE_TINY_BLOB = true
+is_string column_type.MYSQL_TYPE_MEDIUM_BLOB = true
+is_string column_type.MYSQL_TYPE_LONG_BLOB = true
+is_string column_type.MYSQL_TYPE_BLOB = true
+is_string column_type.MYSQL_TYPE_VAR_STRING = true
+is_string column_type.MYSQL_TYPE_STRING = true
+is_string column_type.MYSQL_TYPE_GEOMETRY = true
+is_string _ = false
+
+abbrev pub is_date : ColumnType → Bool
+is_date column_type.MYSQL_TYPE_DATE = true
+is_date column_type.MYSQL_TYPE_TIMESTAMP = true
+is_date column_type.MYSQL_TYPE_DATETIME = true
+is_date _ = false
+
+-- numbers that have their widths
+pub record DateFits (t : DateTime) : Type 0 where
+  pub year : t.day.year < 2 ^ 16
+  pub micros : t.micros < 2 ^ 32
+
+-- numbers that have their widths; a span of no time has no sign
+pub record TimeFits (t : TimeSpan) : Type 0 where
+  pub days : t.days < 2 ^ 32
+  pub micros : t.micros < 2 ^ 32
+  pub sign : t.days ≡ 0 → is_midnight t.clock ≡ true → t.micros ≡ 0 → t.is_negative ≡ false
+
+-- the binary form of the content, read under the type, is the content
+abbrev pub ReadsBack : ColumnType → Bool → Content → Type 0
+ReadsBack type is_unsigned NULL = type ≡ column_type.MYSQL_TYPE_NULL
+ReadsBack type is_unsigned (Bytes bytes) = (is_string type ≡ true) × (length bytes < 2 ^ 64)
+ReadsBack type is_unsigned (Int x) = (type ≡ column_type.MYSQL_TYPE_LONGLONG) × (is_unsigned ≡ false) × FitsSigned w64 x
+ReadsBack type is_unsigned (UInt n) = (type ≡ column_type.MYSQL_TYPE_LONGLONG) × (is_unsigned ≡ true) × (n < 2 ^ 64)
+ReadsBack type is_unsigned (Float bits) = (type ≡ column_type.MYSQL_TYPE_FLOAT) × (bits < 2 ^ 32)
+ReadsBack type is_unsigned (Double bits) = (type ≡ column_type.MYSQL_TYPE_DOUBLE) × (bits < 2 ^ 64)
+ReadsBack type is_unsigned (Date date) = (is_date type ≡ true) × DateFits date
+ReadsBack type is_unsigned (Time time) = (type ≡ column_type.MYSQL_TYPE_TIME) × TimeFits time
+
+-- a content that a column of the type may hold: none, or one that is read back
+abbrev pub Agrees : ColumnType → Bool → Content → Type 0
+Agrees type is_unsigned NULL = Unit {0}
+Agrees type is_unsigned content = ReadsBack type is_unsigned content

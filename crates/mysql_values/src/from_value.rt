@@ -1,0 +1,143 @@
+//! Conversions of values.
+
+ghost use Rattle.std.specs.Prelude.{◌≡◌, ℕ, ℤ, IfOk, IfErr, MatchOption};
+
+use crate::value::Value;
+use std::str;
+use thiserror::Error;
+
+/// A value that does not convert to the type that was asked for: the value itself, unchanged.
+#[derive(Clone, Debug, PartialEq, Drop, Error)]
+#[error("FromValueError")]
+pub struct FromValueError(pub Value);
+
+/// What a value converts to.
+pub trait FromValue: Sized {
+    ghost use Rattle.mysql_values.specs.declared.value.Value.{Value};
+
+    /// What the value is as this type.
+    ghost Converts: { Value → Self → Type 0 };
+
+    /// Converts a value, or hands it back where it is none of this type.
+    fn from_value_opt(value: Value) -> Result<Self, FromValueError>
+        ensures ok { IfOk result (λ converted. Converts value converted) }
+        ensures err { IfErr result (λ refusal. (refusal.0 ≡ value) × ((x : Self) → Converts value x → ⊥)) };
+}
+
+/// Every value, as it is.
+impl FromValue for Value {
+    ghost Converts = { λ value converted. value ≡ converted };
+
+    fn from_value_opt(value: Value) -> Result<Value, FromValueError> {
+        Ok(value)
+    }
+}
+
+/// A number in range, or bytes that write one in decimal, with an optional `+` or `-`.
+impl FromValue for i64 {
+    ghost use Rattle.mysql_values.specs.FromValue.{AsI64};
+
+    ghost Converts = { AsI64 };
+
+    fn from_value_opt(value: Value) -> Result<i64, FromValueError> {
+        match value {
+            Value::Int(number) => Ok(number),
+            Value::UInt(number) => {
+                i64::try_from(number).map_err(|_| FromValueError(Value::UInt(number)))
+            }
+            Value::Bytes(bytes) => match parse_i64(&bytes) {
+                Some(number) => Ok(number),
+                None => Err(FromValueError(Value::Bytes(bytes))),
+            },
+            other => Err(FromValueError(other)),
+        }
+    }
+}
+
+/// A number in range, or bytes that write one in decimal, with an optional `+`.
+impl FromValue for u64 {
+    ghost use Rattle.mysql_values.specs.FromValue.{AsU64};
+
+    ghost Converts = { AsU64 };
+
+    fn from_value_opt(value: Value) -> Result<u64, FromValueError> {
+        match value {
+            Value::UInt(number) => Ok(number),
+            Value::Int(number) => {
+                u64::try_from(number).map_err(|_| FromValueError(Value::Int(number)))
+            }
+            Value::Bytes(bytes) => match parse_u64(&bytes) {
+                Some(number) => Ok(number),
+                None => Err(FromValueError(Value::Bytes(bytes))),
+            },
+            other => Err(FromValueError(other)),
+        }
+    }
+}
+
+/// Bytes, as they are.
+impl FromValue for Vec<u8> {
+    ghost use Rattle.mysql_values.specs.FromValue.{AsBytes};
+
+    ghost Converts = { AsBytes };
+
+    fn from_value_opt(value: Value) -> Result<Vec<u8>, FromValueError> {
+        match value {
+            Value::Bytes(bytes) => Ok(bytes),
+            other => Err(FromValueError(other)),
+        }
+    }
+}
+
+/// Bytes that are UTF-8.
+impl FromValue for String {
+    ghost use Rattle.mysql_values.specs.FromValue.{AsText};
+
+    ghost Converts = { AsText };
+
+    fn from_value_opt(value: Value) -> Result<String, FromValueError> {
+        match value {
+            Value::Bytes(bytes) => match String::from_utf8(bytes) {
+                Ok(text) => Ok(text),
+                Err(error) => Err(FromValueError(Value::Bytes(error.into_bytes()))),
+            },
+            other => Err(FromValueError(other)),
+        }
+    }
+}
+
+/// NULL is None; another value is what it is as `T`.
+impl<T: FromValue> FromValue for Option<T> {
+    ghost use Rattle.mysql_values.specs.FromValue.{AsOption};
+
+    ghost Converts = { AsOption T.Converts };
+
+    fn from_value_opt(value: Value) -> Result<Option<T>, FromValueError> {
+        match value {
+            Value::NULL => Ok(None),
+            other => Ok(Some(T::from_value_opt(other)?)),
+        }
+    }
+}
+
+ghost use Rattle.mysql_values.specs.Numeral.{WritesSigned, WritesUnsigned};
+
+/// The number that the bytes write.
+fn parse_i64(bytes: &[u8]) -> Option<i64>
+    ensures { MatchOption result ((x : ℤ) → WritesSigned bytes.now x → ⊥) (WritesSigned bytes.now) }
+{
+    match str::from_utf8(bytes) {
+        Ok(text) => text.parse().ok(),
+        Err(_) => None,
+    }
+}
+
+/// The number that the bytes write.
+fn parse_u64(bytes: &[u8]) -> Option<u64>
+    ensures { MatchOption result ((n : ℕ) → WritesUnsigned bytes.now n → ⊥) (WritesUnsigned bytes.now) }
+{
+    match str::from_utf8(bytes) {
+        Ok(text) => text.parse().ok(),
+        Err(_) => None,
+    }
+}

@@ -1,0 +1,24 @@
+//! Laws over the forms of values.
+
+ghost use Rattle.std.specs.Prelude.{◌≡◌, ◌++◌, ℕ, List, Bool, Ok, length};
+ghost use Rattle.mysql_wire.specs.declared.codes.column_type.ColumnType.{ColumnType};
+ghost use Rattle.mysql_values.specs.Value.{Content, bin, bin_size};
+ghost use Rattle.mysql_values.specs.ValueDeserializer.{bin_value};
+ghost use Rattle.mysql_values.specs.ReadingBack.{ReadsBack};
+
+/// The binary form of a value has the length that `Value::bin_len` answers.
+#[tactic(auto, using(crate::proofs::Sizes::sizes))]
+pub fn bin_has_its_size()
+    ensures { (content : Content) → length (bin content) ≡ bin_size content }
+{}
+
+/// What is written of a value is read again, whatever follows, under a column's type that it
+/// agrees with.
+pub fn value_again()
+    ensures spelled { (column_type : ColumnType) (is_unsigned : Bool) (content : Content) (rest : List ℕ) →
+        ReadsBack column_type is_unsigned content →
+        (bin_value column_type is_unsigned).Spells content (bin content ++ rest) rest }
+    ensures read { (column_type : ColumnType) (is_unsigned : Bool) (content : Content) (rest : List ℕ) →
+        ReadsBack column_type is_unsigned content →
+        (bin_value column_type is_unsigned).reads (bin content ++ rest) ≡ Ok (content, rest) }
+{}

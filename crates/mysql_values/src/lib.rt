@@ -1,0 +1,12 @@
+//! The values of statements and rows: their binary and text forms, and their conversions.
+#![tactic(auto)]
+
+mod from_value;
+pub mod laws;
+mod temporal;
+mod value;
+mod value_deserializer;
+
+pub use from_value::{FromValue, FromValueError};
+pub use value::Value;
+pub use value_deserializer::{BinValue, TextValue, ValueDeserializer};
