@@ -132,3 +132,5 @@ column_type = coded column_type_of (number 1)
 pub column_type-again : (v : Const ColumnType ℕ) → IsSpelling column_type v (le_bytes 1 (column_type_code v.0))
 unfolding column_type_code column_type_of
 column_type-again v = code-again column_type_code column_types refl column_type-back v
+
+pub ruleset column_type_again = (column_type-again)

@@ -18,6 +18,7 @@ pub mod ConstantValue
 pub mod Codes
 pub mod SessionStateType
 pub mod ColumnType
+pub mod MariadbBulkIndicator
 pub mod Bare
 pub mod CountedBytes
 pub mod Text

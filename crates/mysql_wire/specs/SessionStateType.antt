@@ -48,3 +48,5 @@ session_state_type = coded session_state_type_of (number 1)
 pub session_state_type-again : (v : Const SessionStateType ℕ) → IsSpelling session_state_type v (le_bytes 1 (session_state_type_code v.0))
 unfolding session_state_type_code session_state_type_of
 session_state_type-again v = code-again session_state_type_code session_state_types refl session_state_type-back v
+
+pub ruleset session_state_type_again = (session_state_type-again)

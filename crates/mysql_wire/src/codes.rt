@@ -1,7 +1,9 @@
 //! Values that are coded in one byte.
 
 mod column_type;
+mod mariadb_bulk_indicator;
 mod session_state_type;
 
 pub use column_type::{ColumnType, UnknownColumnType};
+pub use mariadb_bulk_indicator::{MariadbBulkIndicator, UnknownMariadbBulkIndicator};
 pub use session_state_type::{SessionStateType, UnknownSessionStateType};

@@ -14,13 +14,25 @@ use std::ops::{
     BitAnd, BitAndAssign, BitOr, BitOrAssign, BitXor, BitXorAssign, Not, Sub, SubAssign,
 };
 
+mod binlog_dump_flags;
 mod capability_flags;
 mod column_flags;
+mod cursor_type;
+mod mariadb_capabilities;
 mod status_flags;
+mod stmt_bulk_execute_flags;
+mod stmt_execute_param_flags;
+mod stmt_execute_params_flags;
 
+pub use binlog_dump_flags::{BinlogDumpFlags, BinlogDumpNames};
 pub use capability_flags::{CapabilityFlags, CapabilityNames};
 pub use column_flags::{ColumnFlagNames, ColumnFlags};
+pub use cursor_type::{CursorNames, CursorType};
+pub use mariadb_capabilities::{MariadbCapabilities, MariadbCapabilityNames};
 pub use status_flags::{StatusFlags, StatusNames};
+pub use stmt_bulk_execute_flags::{StmtBulkExecuteFlags, StmtBulkExecuteNames};
+pub use stmt_execute_param_flags::{StmtExecuteParamFlags, StmtExecuteParamNames};
+pub use stmt_execute_params_flags::{StmtExecuteParamsFlags, StmtExecuteParamsNames};
 
 /// The list of some flags with their names.
 macro_rules! named_flags {

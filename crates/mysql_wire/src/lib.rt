@@ -31,6 +31,10 @@ pub use bitflags::Flags;
 pub use buf::ParseBuf;
 pub use bytes::{BytesRepr, RawBytes};
 pub use codes::{ColumnType, SessionStateType, UnknownColumnType, UnknownSessionStateType};
+pub use codes::{
+    ColumnType, MariadbBulkIndicator, SessionStateType, UnknownColumnType,
+    UnknownMariadbBulkIndicator, UnknownSessionStateType,
+};
 pub use const_bytes::{ConstBytes, ConstBytesValue};
 pub use constant_value::{Const, ConstValue};
 pub use constant::{ConstFault, ConstU8, ConstU32};
@@ -40,8 +44,10 @@ pub use either::Either;
 pub use eof::EofBytes;
 pub use fault::{Fault, FaultKind, FaultOf};
 pub use flags::{
-    CapabilityFlags, CapabilityNames, ColumnFlagNames, ColumnFlags, FlagNames, FlagWord,
-    StatusFlags, StatusNames,
+    BinlogDumpFlags, BinlogDumpNames, CapabilityFlags, CapabilityNames, ColumnFlagNames,
+    ColumnFlags, CursorNames, CursorType, FlagNames, FlagWord, MariadbCapabilities,
+    MariadbCapabilityNames, StatusFlags, StatusNames, StmtBulkExecuteFlags, StmtBulkExecuteNames,
+    StmtExecuteParamFlags, StmtExecuteParamNames, StmtExecuteParamsFlags, StmtExecuteParamsNames,
 };
 pub use int::{IntRepr, IntWidth, RawInt};
 pub use items::{append_items, items_len};

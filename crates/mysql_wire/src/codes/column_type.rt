@@ -38,23 +38,23 @@ pub enum ColumnType {
     MYSQL_TYPE_DATETIME = 12,
     /// A year, as an integer of two bytes.
     MYSQL_TYPE_YEAR = 13,
-    /// A code inside a server.
+    /// Reserved: accepted, and no more is known of it.
     MYSQL_TYPE_CODE_14 = 14,
     /// A string.
     MYSQL_TYPE_VARCHAR = 15,
     /// Bits.
     MYSQL_TYPE_BIT = 16,
-    /// A code inside a server.
+    /// Reserved: accepted, and no more is known of it.
     MYSQL_TYPE_CODE_17 = 17,
-    /// A code inside a server.
+    /// Reserved: accepted, and no more is known of it.
     MYSQL_TYPE_CODE_18 = 18,
-    /// A code inside a server.
+    /// Reserved: accepted, and no more is known of it.
     MYSQL_TYPE_CODE_19 = 19,
-    /// A code inside a server.
+    /// Reserved: accepted, and no more is known of it.
     MYSQL_TYPE_CODE_20 = 20,
     /// A vector of numbers.
     MYSQL_TYPE_VECTOR = 242,
-    /// A code inside a server.
+    /// Reserved: accepted, and no more is known of it.
     MYSQL_TYPE_CODE_243 = 243,
     /// A JSON document.
     MYSQL_TYPE_JSON = 245,

@@ -1,0 +1,35 @@
+//! How a binary log is sent.
+
+ghost use Rattle.std.specs.Prelude.{◌≡◌, [], ◌∷◌, codes};
+
+use crate::flags::{FlagNames, FlagWord, named_flags};
+use bitflags::Flag;
+use std::marker::PhantomData;
+
+/// The names of [`BinlogDumpFlags`].
+pub struct BinlogDumpNames;
+
+/// `COM_BINLOG_DUMP`'s flags: how the binary log is sent, in two bytes.
+pub type BinlogDumpFlags = FlagWord<BinlogDumpNames, u16>;
+
+impl FlagWord<BinlogDumpNames, u16> {
+    /// At the end of the log an EOF packet is sent, in place of waiting.
+    pub const BINLOG_DUMP_NON_BLOCK: BinlogDumpFlags = FlagWord(1 << 0, PhantomData);
+
+    /// The log is sent from a position.
+    pub const BINLOG_THROUGH_POSITION: BinlogDumpFlags = FlagWord(1 << 1, PhantomData);
+
+    /// The log is sent without the transactions that the client names.
+    pub const BINLOG_THROUGH_GTID: BinlogDumpFlags = FlagWord(1 << 2, PhantomData);
+
+    const FLAGS: &'static [Flag<BinlogDumpFlags>] =
+        named_flags!(BinlogDumpFlags: BINLOG_DUMP_NON_BLOCK, BINLOG_THROUGH_POSITION, BINLOG_THROUGH_GTID);
+}
+
+impl FlagNames<u16> for BinlogDumpNames {
+    ghost table = { (codes "BINLOG_DUMP_NON_BLOCK", 1) ∷ (codes "BINLOG_THROUGH_POSITION", 2) ∷ (codes "BINLOG_THROUGH_GTID", 4) ∷ [] };
+
+    fn flags<'a>() -> &'a [Flag<BinlogDumpFlags>] {
+        BinlogDumpFlags::FLAGS
+    }
+}

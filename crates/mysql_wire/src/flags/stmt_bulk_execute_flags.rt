@@ -1,0 +1,32 @@
+//! How rows are sent and answered in bulk.
+
+ghost use Rattle.std.specs.Prelude.{◌≡◌, [], ◌∷◌, codes};
+
+use crate::flags::{FlagNames, FlagWord, named_flags};
+use bitflags::Flag;
+use std::marker::PhantomData;
+
+/// The names of [`StmtBulkExecuteFlags`].
+pub struct StmtBulkExecuteNames;
+
+/// `COM_STMT_BULK_EXECUTE`'s flags: how rows are sent and answered, in two bytes.
+pub type StmtBulkExecuteFlags = FlagWord<StmtBulkExecuteNames, u16>;
+
+impl FlagWord<StmtBulkExecuteNames, u16> {
+    /// Each row is answered with its own result.
+    pub const SEND_UNIT_RESULTS: StmtBulkExecuteFlags = FlagWord(1 << 6, PhantomData);
+
+    /// The types of the parameters are sent too.
+    pub const SEND_TYPES_TO_SERVER: StmtBulkExecuteFlags = FlagWord(1 << 7, PhantomData);
+
+    const FLAGS: &'static [Flag<StmtBulkExecuteFlags>] =
+        named_flags!(StmtBulkExecuteFlags: SEND_UNIT_RESULTS, SEND_TYPES_TO_SERVER);
+}
+
+impl FlagNames<u16> for StmtBulkExecuteNames {
+    ghost table = { (codes "SEND_UNIT_RESULTS", 64) ∷ (codes "SEND_TYPES_TO_SERVER", 128) ∷ [] };
+
+    fn flags<'a>() -> &'a [Flag<StmtBulkExecuteFlags>] {
+        StmtBulkExecuteFlags::FLAGS
+    }
+}

@@ -1,0 +1,29 @@
+//! What holds of one parameter of a statement.
+
+ghost use Rattle.std.specs.Prelude.{◌≡◌, [], ◌∷◌, codes};
+
+use crate::flags::{FlagNames, FlagWord, named_flags};
+use bitflags::Flag;
+use std::marker::PhantomData;
+
+/// The names of [`StmtExecuteParamFlags`].
+pub struct StmtExecuteParamNames;
+
+/// What holds of one parameter of a statement, in the byte behind its type.
+pub type StmtExecuteParamFlags = FlagWord<StmtExecuteParamNames, u8>;
+
+impl FlagWord<StmtExecuteParamNames, u8> {
+    /// The number is not negative.
+    pub const UNSIGNED: StmtExecuteParamFlags = FlagWord(1 << 7, PhantomData);
+
+    const FLAGS: &'static [Flag<StmtExecuteParamFlags>] =
+        named_flags!(StmtExecuteParamFlags: UNSIGNED);
+}
+
+impl FlagNames<u8> for StmtExecuteParamNames {
+    ghost table = { (codes "UNSIGNED", 128) ∷ [] };
+
+    fn flags<'a>() -> &'a [Flag<StmtExecuteParamFlags>] {
+        StmtExecuteParamFlags::FLAGS
+    }
+}
