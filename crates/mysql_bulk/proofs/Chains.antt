@@ -4,9 +4,10 @@ use Rattle.std.proofs.lemmas.List.{append-nil, map-append}
 use Rattle.std.specs.Prelude.{IfSome, is_none}
 use Rattle.std.specs.Global.{Vec}
 use Rattle.std.specs.Iterator.{Yields, YieldsThen}
-use Rattle.mysql_bulk.specs.declared.stand_in.Value.{Value}
+use Rattle.mysql_values.specs.declared.value.Value.{Value}
+use Rattle.mysql_values.specs.Value.{Content, contents_of}
 use Rattle.mysql_bulk.specs.Request.{BulkRequest}
-use Rattle.mysql_bulk.specs.Builder.{BuilderState, values_of}
+use Rattle.mysql_bulk.specs.Builder.{row_of, BuilderState, values_of}
 use Rattle.mysql_bulk.specs.Builder.{TakesArity, RowFits, Builds}
 use Rattle.mysql_bulk.specs.Run.{Accepts, Comes, RunState, Filled, EndsEmpty, NextRequest, RunsTo}
 use Rattle.mysql_bulk.specs.Refusal.{measure}
@@ -25,7 +26,7 @@ module _ {S : Type 0} (steps : S → Option (Vec Value) → S → Type 0) where
     pub rows : List (Vec Value)
     pub came : YieldsThen (Comes steps) (s.carried, s.rows) rows None (None, u.rows)
     pub waiting : u.builder.waiting ≡ []
-    pub goes_on : (all : List (List Value)) (requests : List BulkRequest) (ends : List ℕ) (sent : ℕ) → Running s₀ all requests ends sent s.builder (values_of rows)
+    pub goes_on : (all : List (List Content)) (requests : List BulkRequest) (ends : List ℕ) (sent : ℕ) → Running s₀ all requests ends sent s.builder (values_of rows)
         → (further : List ℕ) × ((n : ℕ) × Running s₀ all (requests ++ qs) further n u.builder [])
 
   -- the rows to come from a state that carries a row begin with it
@@ -53,7 +54,7 @@ module _ {S : Type 0} (steps : S → Option (Vec Value) → S → Type 0) where
         came = subst C e.0.carried f.came;
         waiting = e.0.waiting;
         goes_on = λ all requests ends sent r.
-            let P : List (List Value) → Type 0 = Running s₀ all requests ends sent s.builder in
+            let P : List (List Content) → Type 0 = Running s₀ all requests ends sent s.builder in
             let Q : List BulkRequest → Type 0 = λ q. Running s₀ all q ends sent u.builder [] in
             (ends, (sent, subst Q (sym (append-nil requests)) (running_accepts s₀ all requests ends sent s.builder u.builder (values_of f.taken) [] (subst P (sym (append-nil (values_of f.taken))) r) f.accepts)));
       }
@@ -67,7 +68,7 @@ module _ {S : Type 0} (steps : S → Option (Vec Value) → S → Type 0) where
         came = subst C c f.came;
         waiting = ap (λ (t : BuilderState). t.waiting) b.2;
         goes_on = λ all requests ends sent r.
-            let P : List (List Value) → Type 0 = Running s₀ all requests ends sent s.builder in
+            let P : List (List Content) → Type 0 = Running s₀ all requests ends sent s.builder in
             let here = running_accepts s₀ all requests ends sent s.builder m (values_of f.taken) [] (subst P (sym (append-nil (values_of f.taken))) r) f.accepts in
             (ends ++ length (joined here.cut ++ m.waiting) ∷ [], (length (joined here.cut ++ m.waiting), running_sends s₀ all requests ends sent m v.builder [] q here b (λ n. tt)));
       }
@@ -79,9 +80,9 @@ module _ {S : Type 0} (steps : S → Option (Vec Value) → S → Type 0) where
       let first = carried_first row v.rows later.rows u.rows (subst D c later.came) in
       let C : Option (Vec Value) → Type 0 = λ o. YieldsThen (Comes steps) (s.carried, s.rows) f.taken o (None, v.rows) in
       let upto = subst C c f.came in
-      let G : Option (Vec Value) → Type 0 = λ o. IfSome o (λ row. TakesArity m.arity (length row.items) × (RowFits m row.items → ⊥)) in
+      let G : Option (Vec Value) → Type 0 = λ o. IfSome o (λ row. TakesArity m.arity (length (row_of row)) × (RowFits m (row_of row) → ⊥)) in
       let full = subst G c f.full in
-      let rest : values_of later.rows ≡ row.items ∷ values_of first.0 = ap values_of first.1 in
+      let rest : values_of later.rows ≡ (row_of row) ∷ values_of first.0 = ap values_of first.1 in
       record {
         rows = f.taken ++ later.rows;
         came =
@@ -89,13 +90,13 @@ module _ {S : Type 0} (steps : S → Option (Vec Value) → S → Type 0) where
             subst T (sym first.1) (first.2.0, Yields-append (s.carried, s.rows) upto.0 first.2.0 f.taken (row ∷ first.0) upto.1 ((None, v.rows), upto.2, first.2.1), first.2.2);
         waiting = later.waiting;
         goes_on = λ all requests ends sent r.
-            let P : List (List Value) → Type 0 = Running s₀ all requests ends sent s.builder in
-            let seam : values_of (f.taken ++ later.rows) ≡ values_of f.taken ++ (row.items ∷ values_of first.0) =
-            map-append (λ r. r.items) f.taken later.rows ∙ ap (λ (l : List (List Value)). values_of f.taken ++ l) rest in
-            let here = running_accepts s₀ all requests ends sent s.builder m (values_of f.taken) (row.items ∷ values_of first.0) (subst P seam r) f.accepts in
-            let there = running_sends s₀ all requests ends sent m v.builder (row.items ∷ values_of first.0) q here b
-            (λ n g. full.1 (fits_from s₀ all requests ends sent m row.items (values_of first.0) n here (as_long m.arity (joined here.cut ++ m.waiting) row.items (values_of first.0) all (here.arity n) full.0 here.whole) g)) in
-            let V : List (List Value) → Type 0 = Running s₀ all (requests ++ q ∷ []) (ends ++ length (joined here.cut ++ m.waiting) ∷ []) (length (joined here.cut ++ m.waiting)) v.builder in
+            let P : List (List Content) → Type 0 = Running s₀ all requests ends sent s.builder in
+            let seam : values_of (f.taken ++ later.rows) ≡ values_of f.taken ++ ((row_of row) ∷ values_of first.0) =
+            map-append row_of f.taken later.rows ∙ ap (λ (l : List (List Content)). values_of f.taken ++ l) rest in
+            let here = running_accepts s₀ all requests ends sent s.builder m (values_of f.taken) ((row_of row) ∷ values_of first.0) (subst P seam r) f.accepts in
+            let there = running_sends s₀ all requests ends sent m v.builder ((row_of row) ∷ values_of first.0) q here b
+            (λ n g. full.1 (fits_from s₀ all requests ends sent m (row_of row) (values_of first.0) n here (as_long m.arity (joined here.cut ++ m.waiting) (row_of row) (values_of first.0) all (here.arity n) full.0 here.whole) g)) in
+            let V : List (List Content) → Type 0 = Running s₀ all (requests ++ q ∷ []) (ends ++ length (joined here.cut ++ m.waiting) ∷ []) (length (joined here.cut ++ m.waiting)) v.builder in
             let end = later.goes_on all (requests ++ q ∷ []) (ends ++ length (joined here.cut ++ m.waiting) ∷ []) (length (joined here.cut ++ m.waiting)) (subst V (sym rest) there) in
             let Q : List BulkRequest → Type 0 = λ l. Running s₀ all l end.0 end.1.0 u.builder [] in
             (end.0, (end.1.0, subst Q (append_assoc requests (q ∷ []) qs) end.1.1));
@@ -131,6 +132,6 @@ module _ {S : Type 0} (steps : S → Option (Vec Value) → S → Type 0) where
       let e = chain s.builder qs s t u g h n in
       let C : Option (Vec Value) → Type 0 = λ o. YieldsThen (Comes steps) (o, s.rows) e.rows None (None, u.rows) in
       let end = e.goes_on (s.builder.waiting ++ values_of e.rows) [] [] 0 (running_none s.builder (values_of e.rows)) in
-      let all : s.builder.waiting ++ values_of e.rows ≡ values_of e.rows = ap (λ (w : List (List Value)). w ++ values_of e.rows) new.waiting in
-      let F : List (List Value) → Type 0 = GivesFewest s.builder qs end.0 in
+      let all : s.builder.waiting ++ values_of e.rows ≡ values_of e.rows = ap (λ (w : List (List Content)). w ++ values_of e.rows) new.waiting in
+      let F : List (List Content) → Type 0 = GivesFewest s.builder qs end.0 in
       (e.rows, subst C c e.came, (end.0, subst F all (done_fewest s.builder (s.builder.waiting ++ values_of e.rows) qs end.0 end.1.0 u.builder end.1.1 e.waiting new)))

@@ -7,9 +7,10 @@ use Rattle.std.proofs.lemmas.List.Sums.{sum_by-append, fold-append}
 use Rattle.std.proofs.lemmas.List.FromFn.{length-map-range_with_len}
 use Rattle.mysql_wire.specs.Writing.{saturated}
 use Rattle.mysql_cuts.specs.Cut.{joined}
-use Rattle.mysql_bulk.specs.declared.stand_in.Value.{Value}
+use Rattle.mysql_values.specs.declared.value.Value.{Value}
+use Rattle.mysql_values.specs.Value.{Content, contents_of}
 use Rattle.mysql_bulk.specs.declared.param_type.StmtBulkExecuteParamType.{StmtBulkExecuteParamType}
-use Rattle.mysql_bulk.specs.declared.param_value.StmtBulkExecuteParamValue.{StmtBulkExecuteParamValue}
+use Rattle.mysql_bulk.specs.ParamValue.{ParamValue}
 use Rattle.mysql_bulk.specs.ParamType.{declared_type, column_of, first_length, declared_types, joined_types}
 use Rattle.mysql_bulk.specs.ParamValue.{given, plain, param_size, row_size}
 use Rattle.mysql_bulk.specs.Flat.{rows_of, waiting_rows, EqualLengths, IsFlat}
@@ -21,13 +22,13 @@ pub saturated_small : (n : ℕ) → n < 2 ^ 64 → n ≡ saturated n
 unfolding saturated
 saturated_small n h = omega arith
 
-equal_rows : (a n : ℕ) (values : List Value) → length values ≡ n * a → EqualLengths a (rows_of a n values)
+equal_rows : (a n : ℕ) (values : List Content) → length values ≡ n * a → EqualLengths a (rows_of a n values)
 equal_rows a zero values h = tt
 equal_rows a (suc n) values h =
     let more : suc n * a ≡ n * a + a = suc-mul n a in
     (length-take-le a values (omega (arith, h, more)), equal_rows a n (drop a values) (omega (arith, h, more, length-drop a values)))
 
-size_joined : (rows : List (List Value)) → row_size (joined rows) ≡ sum_by row_size rows
+size_joined : (rows : List (List Content)) → row_size (joined rows) ≡ sum_by row_size rows
 size_joined [] = refl
 size_joined (row ∷ rows) = omega (arith, sum_by-append param_size row (joined rows), size_joined rows, sum_by-append row_size (row ∷ []) rows)
 
@@ -39,7 +40,7 @@ length-if : (b : Bool) (a : ℕ) (types : List StmtBulkExecuteParamType) → len
 length-if true a types e = ap (λ n. 2 * n) e
 length-if false a types e = refl
 
-first_long : (a : ℕ) (rows : List (List Value)) → rows ≢ [] → EqualLengths a rows → first_length rows ≡ a
+first_long : (a : ℕ) (rows : List (List Content)) → rows ≢ [] → EqualLengths a rows → first_length rows ≡ a
 first_long a [] n e = absurd (n refl)
 first_long a (row ∷ rows) n e = e.0
 
@@ -47,7 +48,7 @@ as_many : (arity : Option ℕ) (n l : ℕ) → TakesArity arity n → l ≡ unwr
 as_many None n l t e = inr e
 as_many (Some a) n l t e = inl (e ∙ sym t)
 
-types_step : (b : Bool) (types : List StmtBulkExecuteParamType) (rows : List (List Value)) (row : List Value) → types ≡ (if b then fold joined_types [] rows else [])
+types_step : (b : Bool) (types : List StmtBulkExecuteParamType) (rows : List (List Content)) (row : List Content) → types ≡ (if b then fold joined_types [] rows else [])
     → (if b then joined_types types row else types) ≡ (if b then fold joined_types [] (rows ++ row ∷ []) else [])
 types_step true types rows row e = ap (λ (l : List StmtBulkExecuteParamType). joined_types l row) e ∙ sym (fold-append joined_types [] rows (row ∷ []))
 types_step false types rows row e = e
@@ -56,14 +57,14 @@ if_true : {X : Type 0} (b : Bool) (x y : X) → b ≡ true → (if b then x else
 if_true true x y e = refl
 if_true false x y e = cc
 
-plain_given : (row : List Value) → plain (map given row) ≡ row
+plain_given : (row : List Content) → plain (map given row) ≡ row
 plain_given [] = refl
-plain_given (v ∷ row) = ap (λ (l : List Value). v ∷ l) (plain_given row)
+plain_given (v ∷ row) = ap (λ (l : List Content). v ∷ l) (plain_given row)
 
-pub plain_more : (values : List StmtBulkExecuteParamValue) (row : List Value) → plain (values ++ map given row) ≡ plain values ++ row
-plain_more values row = map-append (λ v. v.value) values (map given row) ∙ ap (λ (l : List Value). plain values ++ l) (plain_given row)
+pub plain_more : (values : List ParamValue) (row : List Content) → plain (values ++ map given row) ≡ plain values ++ row
+plain_more values row = map-append (λ v. v.value) values (map given row) ∙ ap (λ (l : List Content). plain values ++ l) (plain_given row)
 
-module _ {s : BuilderState} {count size : ℕ} {values : List StmtBulkExecuteParamValue} {types : List StmtBulkExecuteParamType} (k : Keeps s count size values types) where
+module _ {s : BuilderState} {count size : ℕ} {values : List ParamValue} {types : List StmtBulkExecuteParamType} (k : Keeps s count size values types) where
   pub keeps_rows : count ≢ 0 → s.waiting ≢ []
   keeps_rows n e = n (flat_none s.arity count (plain values) (sym k.rows_is ∙ e))
 
@@ -103,52 +104,52 @@ module _ {s : BuilderState} {count size : ℕ} {values : List StmtBulkExecutePar
   keeps_bound n = (k.fits (keeps_rows n)).0
 
   -- before a row of the right length: there are as many types, or none
-  pub keeps_before : (row : List Value) → TakesArity s.arity (length row) → s.types_due ≡ true → (length types ≡ length row) ⊎ (types ≡ [])
+  pub keeps_before : (row : List Content) → TakesArity s.arity (length row) → s.types_due ≡ true → (length types ≡ length row) ⊎ (types ≡ [])
   keeps_before row t due =
       let is : types ≡ fold joined_types [] s.waiting = k.types_is ∙ if_true s.types_due (fold joined_types [] s.waiting) [] due in
-      let N : List (List Value) → Type 0 = λ l. types ≡ fold joined_types [] l in
+      let N : List (List Content) → Type 0 = λ l. types ≡ fold joined_types [] l in
       elim (types_before (unwrap_or s.arity 0) s.waiting keeps_equal) [
         | inl long ↦ elim (as_many s.arity (length row) (length types) t (ap length is ∙ long)) [ inl same ↦ inl same | inr none ↦ inr (nil_from_length types none) ]
         | inr none ↦ inr (subst N none is)
       ]
 
   -- one more row waits
-  pub keeps_more : (total : ℕ) (row : List Value) → TakesArity s.arity (length row) → RowFits s row → total ≡ sum_by row_size (s.waiting ++ row ∷ [])
+  pub keeps_more : (total : ℕ) (row : List Content) → TakesArity s.arity (length row) → RowFits s row → total ≡ sum_by row_size (s.waiting ++ row ∷ [])
       → Keeps (accepted s row) (count + 1) total (values ++ map given row) (if s.types_due then joined_types types row else types)
   keeps_more total row t f e =
       let rows = flat_rows s.arity count size (plain values) row k.flat t in
-      let flat = flat_more s.arity count size total (plain values) row k.flat t (e ∙ ap (λ (l : List (List Value)). sum_by row_size (l ++ row ∷ [])) k.rows_is) in
-      let I : List Value → Type 0 = IsFlat (Some (length row)) (count + 1) total in
+      let flat = flat_more s.arity count size total (plain values) row k.flat t (e ∙ ap (λ (l : List (List Content)). sum_by row_size (l ++ row ∷ [])) k.rows_is) in
+      let I : List Content → Type 0 = IsFlat (Some (length row)) (count + 1) total in
       let p = sym (plain_more values row) in
       record {
         limit_is = k.limit_is;
-        rows_is = ap (λ (l : List (List Value)). l ++ row ∷ []) k.rows_is ∙ sym rows ∙ ap (waiting_rows (Some (length row)) (count + 1)) p;
+        rows_is = ap (λ (l : List (List Content)). l ++ row ∷ []) k.rows_is ∙ sym rows ∙ ap (waiting_rows (Some (length row)) (count + 1)) p;
         flat = subst I p flat;
-        given_is = ap (λ (l : List StmtBulkExecuteParamValue). l ++ map given row) k.given_is ∙ sym (map-append given (plain values) row) ∙ ap (map given) p;
+        given_is = ap (λ (l : List ParamValue). l ++ map given row) k.given_is ∙ sym (map-append given (plain values) row) ∙ ap (map given) p;
         fits = λ n. f;
         types_is = types_step s.types_due types s.waiting row k.types_is;
       }
 
-  pub rows_more : (row : List Value) → TakesArity s.arity (length row) → waiting_rows (Some (length row)) (count + 1) (plain (values ++ map given row)) ≡ s.waiting ++ row ∷ []
+  pub rows_more : (row : List Content) → TakesArity s.arity (length row) → waiting_rows (Some (length row)) (count + 1) (plain (values ++ map given row)) ≡ s.waiting ++ row ∷ []
   rows_more row t =
       ap (waiting_rows (Some (length row)) (count + 1)) (plain_more values row)
       ∙ flat_rows s.arity count size (plain values) row k.flat t
-      ∙ ap (λ (l : List (List Value)). l ++ row ∷ []) (sym k.rows_is)
+      ∙ ap (λ (l : List (List Content)). l ++ row ∷ []) (sym k.rows_is)
 
-  abbrev pub with_row : ℕ → ℕ → List StmtBulkExecuteParamValue → BuilderState
+  abbrev pub with_row : ℕ → ℕ → List ParamValue → BuilderState
   with_row a n more = record s { arity = Some a; waiting = waiting_rows (Some a) n (plain more) }
 
-  pub keeps_next : (total a n : ℕ) (row : List Value) (more : List StmtBulkExecuteParamValue) (further : List StmtBulkExecuteParamType) → TakesArity s.arity (length row) → RowFits s row
+  pub keeps_next : (total a n : ℕ) (row : List Content) (more : List ParamValue) (further : List StmtBulkExecuteParamType) → TakesArity s.arity (length row) → RowFits s row
       → total ≡ sum_by row_size (s.waiting ++ row ∷ []) → a ≡ length row → n ≡ count + 1 → more ≡ values ++ map given row → further ≡ (if s.types_due then joined_types types row else types)
       → Keeps (with_row a n more) n total more further
   keeps_next total a n row more further t f e la ln lm lf =
-      let P : List (List Value) → Type 0 = λ w.
+      let P : List (List Content) → Type 0 = λ w.
           Keeps (record s { arity = Some (length row); waiting = w }) (count + 1) total (values ++ map given row) (if s.types_due then joined_types types row else types) in
       rw (la, ln, lm, lf) (subst P (sym (rows_more row t)) (keeps_more total row t f e))
 
-  pub state_next : (a n : ℕ) (row : List Value) (more : List StmtBulkExecuteParamValue) → TakesArity s.arity (length row) → a ≡ length row → n ≡ count + 1 → more ≡ values ++ map given row
+  pub state_next : (a n : ℕ) (row : List Content) (more : List ParamValue) → TakesArity s.arity (length row) → a ≡ length row → n ≡ count + 1 → more ≡ values ++ map given row
       → with_row a n more ≡ accepted s row
-  state_next a n row more t la ln lm = rw (la, ln, lm) (ap (λ (w : List (List Value)). record s { arity = Some (length row); waiting = w }) (rows_more row t))
+  state_next a n row more t la ln lm = rw (la, ln, lm) (ap (λ (w : List (List Content)). record s { arity = Some (length row); waiting = w }) (rows_more row t))
 
   pub keeps_fits : count ≢ 0 → 7 + 2 * length types + size < 2 ^ 64
   keeps_fits n = omega (arith, keeps_size n, keeps_bound n, k.limit_is)

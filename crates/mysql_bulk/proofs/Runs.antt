@@ -4,10 +4,11 @@ use Rattle.std.proofs.lemmas.List.{append-nil, map-append, map_push}
 use Rattle.std.proofs.iter.Next.{Yields-more}
 use Rattle.std.specs.Iterator.{Yields, YieldsThen}
 use Rattle.std.specs.Global.{Vec}
-use Rattle.mysql_bulk.specs.declared.stand_in.Value.{Value}
+use Rattle.mysql_values.specs.declared.value.Value.{Value}
+use Rattle.mysql_values.specs.Value.{Content, contents_of}
 use Rattle.mysql_bulk.specs.declared.error.BulkExecuteRequestError.{BulkExecuteRequestError}
 use Rattle.mysql_bulk.specs.declared.error.BulkExecuteRequestError.TheVariants.{MixedArity, RowTooLarge, MemoryRow, NoParams, Memory}
-use Rattle.mysql_bulk.specs.Builder.{BuilderState, values_of, packing}
+use Rattle.mysql_bulk.specs.Builder.{row_of, BuilderState, values_of, packing}
 use Rattle.mysql_bulk.specs.Builder.{TakesArity, RowFits, accepted, Adds, Builds}
 use Rattle.mysql_bulk.specs.declared.error.BulkExecuteRequestBuilderError.TheVariants.{Request}
 use Rattle.mysql_bulk.specs.Request.{BulkRequest}
@@ -15,18 +16,18 @@ use Rattle.mysql_bulk.specs.Run.{Accepts, Comes, Fills, RunState, Filled, Refuse
 use Rattle.std.specs.Prelude.{IfSome, is_none, is_some, not}
 
 -- one more row is accepted
-pub Accepts-more : (s m t : BuilderState) (rows : List (List Value)) (row : List Value) → Accepts s rows m → TakesArity m.arity (length row) → RowFits m row → t ≡ accepted m row → Accepts s (rows ++ row ∷ []) t
+pub Accepts-more : (s m t : BuilderState) (rows : List (List Content)) (row : List Content) → Accepts s rows m → TakesArity m.arity (length row) → RowFits m row → t ≡ accepted m row → Accepts s (rows ++ row ∷ []) t
 Accepts-more s m t [] row a n f e =
     let P : BuilderState → Type 0 = λ s. TakesArity s.arity (length row) × RowFits s row × (t ≡ accepted s row) in
     subst P a (n, f, e)
 Accepts-more s m t (r ∷ rows) row a n f e = (a.0, a.1, Accepts-more (accepted s r) m t rows row a.2 n f e)
 
-pub Accepts-append : (s m t : BuilderState) (rows others : List (List Value)) → Accepts s rows m → Accepts m others t → Accepts s (rows ++ others) t
+pub Accepts-append : (s m t : BuilderState) (rows others : List (List Content)) → Accepts s rows m → Accepts m others t → Accepts s (rows ++ others) t
 Accepts-append s m t [] others a b = subst (λ s. Accepts s others t) a b
 Accepts-append s m t (r ∷ rows) others a b = (a.0, a.1, Accepts-append (accepted s r) m t rows others a.2 b)
 
 -- what a run leaves
-pub record Accepted (s : BuilderState) (rows : List (List Value)) (t : BuilderState) : Type 0 where
+pub record Accepted (s : BuilderState) (rows : List (List Content)) (t : BuilderState) : Type 0 where
   pub stmt_id : t.stmt_id ≡ s.stmt_id
   pub limit : t.limit ≡ s.limit
   pub results : t.results ≡ s.results
@@ -35,7 +36,7 @@ pub record Accepted (s : BuilderState) (rows : List (List Value)) (t : BuilderSt
   pub types_due : t.types_due ≡ s.types_due
   pub waiting : t.waiting ≡ s.waiting ++ rows
 
-pub Accepts-leaves : (s t : BuilderState) (rows : List (List Value)) → Accepts s rows t → Accepted s rows t
+pub Accepts-leaves : (s t : BuilderState) (rows : List (List Content)) → Accepts s rows t → Accepted s rows t
 Accepts-leaves s t [] a = record {
   stmt_id = ap (λ s. s.stmt_id) a;
   limit = ap (λ s. s.limit) a;
@@ -97,7 +98,7 @@ module _ {S : Type 0} (steps : S → Option (Vec Value) → S → Type 0) where
   taken_more s m t rows left rest row k came a = record {
     taken = k.taken ++ row ∷ [];
     came = Yields-more (Comes steps) (None, rows) k.taken (None, left) row (None, rest) k.came (refl, came);
-    accepts = subst (λ l. Accepts s l t) (sym (map_push (λ r. r.items) k.taken row)) (Accepts-more s m t (values_of k.taken) row.items k.accepts a.0 a.1 a.2);
+    accepts = subst (λ l. Accepts s l t) (sym (map_push row_of k.taken row)) (Accepts-more s m t (values_of k.taken) (row_of row) k.accepts a.0 a.1 a.2);
   }
 
   -- the next row does not fit with those that wait
@@ -149,7 +150,7 @@ module _ {S : Type 0} (steps : S → Option (Vec Value) → S → Type 0) where
 
   -- ---- what a call of `next` leads to
 
-  full_from : (m : BuilderState) (last : Option (Vec Value)) → IfSome last (λ row. Adds m row (Ok (Some row)) m) → IfSome last (λ row. TakesArity m.arity (length row.items) × (RowFits m row.items → ⊥))
+  full_from : (m : BuilderState) (last : Option (Vec Value)) → IfSome last (λ row. Adds m row (Ok (Some row)) m) → IfSome last (λ row. TakesArity m.arity (length (row_of row)) × (RowFits m (row_of row) → ⊥))
   full_from m None a = tt
   full_from m (Some row) a = (a.0, a.1)
 

@@ -6,11 +6,12 @@ use Rattle.std.specs.Global.{Vec, Global}
 use Rattle.std.specs.Vec.Iter.{into_iter_items, into_iter_len, into_iter_steps}
 use Rattle.std.specs.declared.vec.IntoIter.{IntoIter}
 use Rattle.std.specs.Iterator.{Yields, YieldsThen}
-use Rattle.mysql_bulk.specs.declared.stand_in.Value.{Value}
+use Rattle.mysql_values.specs.declared.value.Value.{Value}
+use Rattle.mysql_values.specs.Value.{Content, contents_of}
 use Rattle.mysql_bulk.specs.declared.error.BulkExecuteRequestError.{BulkExecuteRequestError}
 use Rattle.mysql_bulk.specs.Request.{BulkRequest}
 use Rattle.mysql_cuts.specs.Cut.{joined, PartFits}
-use Rattle.mysql_bulk.specs.Builder.{BuilderState, values_of}
+use Rattle.mysql_bulk.specs.Builder.{row_of, BuilderState, values_of}
 use Rattle.mysql_bulk.specs.Builder.{TakesArity, RowFits, Adds, Builds, SendsRequest}
 use Rattle.mysql_bulk.specs.Run.{Accepts, ComesAfter, Comes, Fills}
 use Rattle.mysql_bulk.specs.declared.error.BulkExecuteRequestError.TheVariants.{Memory}
@@ -54,7 +55,7 @@ came c s taken last t y =
     (comes_all c s taken y.0.0 y.0.1 y.1 ∙ ap (λ (l : List (Vec Value)). taken ++ l) end.0, end.1)
 
 -- where a run stands: what it carries and what its input holds are still to come
-pub record Stands (s : BuilderState) (rows : List (List Value)) (requests : List BulkRequest) (ends : List ℕ) (sent : ℕ) (b : BuilderState) (carried : Option (Vec Value)) (input : Input) : Type 0 where
+pub record Stands (s : BuilderState) (rows : List (List Content)) (requests : List BulkRequest) (ends : List ℕ) (sent : ℕ) (b : BuilderState) (carried : Option (Vec Value)) (input : Input) : Type 0 where
   pub running : Running s (s.waiting ++ rows) requests ends sent b (values_of (held carried input))
 
 pub stands_none : (s : BuilderState) (rows : List (Vec Value)) (input : Input) → into_iter_items input ≡ rows → Stands s (values_of rows) [] [] 0 s None input
@@ -62,14 +63,14 @@ stands_none s rows input e =
     let P : List (Vec Value) → Type 0 = λ r. Stands s (values_of r) [] [] 0 s None input in
     subst P e (record { running = running_none s (values_of (into_iter_items input)) })
 
-module _ (s : BuilderState) (rows : List (List Value)) (requests : List BulkRequest) (ends : List ℕ) (sent : ℕ) where
+module _ (s : BuilderState) (rows : List (List Content)) (requests : List BulkRequest) (ends : List ℕ) (sent : ℕ) where
   -- rows were accepted
   pub stands_fill : (b m : BuilderState) (carried last : Option (Vec Value)) (input left : Input) → Stands s rows requests ends sent b carried input → Fills into_iter_steps b carried input (Ok last) m left
       → Stands s rows requests ends sent m last left
   stands_fill b m carried last input left w f =
       let came_is = came carried input f.0 last left f.1 in
-      let seam : values_of (held carried input) ≡ values_of f.0 ++ values_of (held last left) = ap values_of came_is.0 ∙ map-append (λ r. r.items) f.0 (held last left) in
-      let P : List (List Value) → Type 0 = Running s (s.waiting ++ rows) requests ends sent b in
+      let seam : values_of (held carried input) ≡ values_of f.0 ++ values_of (held last left) = ap values_of came_is.0 ∙ map-append row_of f.0 (held last left) in
+      let P : List (List Content) → Type 0 = Running s (s.waiting ++ rows) requests ends sent b in
       record { running = running_accepts s (s.waiting ++ rows) requests ends sent b m (values_of f.0) (values_of (held last left)) (subst P seam w.running) f.2 }
 
   -- where the input has ended, nothing is held
@@ -97,8 +98,8 @@ module _ (s : BuilderState) (rows : List (List Value)) (requests : List BulkRequ
       let N : List (Vec Value) → Type 0 = λ h. NextDoesNotFit (measure s (s.waiting ++ rows)) (types_after (measure s (s.waiting ++ rows)) true r.cut) m.waiting (values_of h) in
       subst N (sym (e refl)) tt
   next_does_not_fit m (Some row) left r a e n = λ f.
-      a.1 (fits_from s (s.waiting ++ rows) requests ends sent m row.items (values_of (into_iter_items left)) n r
-      (as_long m.arity (joined r.cut ++ m.waiting) row.items (values_of (into_iter_items left)) (s.waiting ++ rows) (r.arity n) a.0 r.whole) f)
+      a.1 (fits_from s (s.waiting ++ rows) requests ends sent m (row_of row) (values_of (into_iter_items left)) n r
+      (as_long m.arity (joined r.cut ++ m.waiting) (row_of row) (values_of (into_iter_items left)) (s.waiting ++ rows) (r.arity n) a.0 r.whole) f)
 
   -- the waiting rows were sent
   pub stands_send : (m t : BuilderState) (last : Option (Vec Value)) (left : Input) (more : List BulkRequest) (further : List ℕ) (end : ℕ) → Stands s rows requests ends sent m last left
@@ -122,14 +123,14 @@ module _ (s : BuilderState) (rows : List (List Value)) (requests : List BulkRequ
       × (IsNew s → refusal ≡ None → GivesFewest s requests ends rows)
 
   new_rows : IsNew s → s.waiting ++ rows ≡ rows
-  new_rows n = ap (λ (w : List (List Value)). w ++ rows) n.waiting
+  new_rows n = ap (λ (w : List (List Content)). w ++ rows) n.waiting
 
   -- it ends for memory
   pub ends_memory : (b : BuilderState) (carried : Option (Vec Value)) (input : Input) (e : BulkExecuteRequestError) → Stands s rows requests ends sent b carried input → e ≡ Memory → Facts (Some e) b
   ends_memory b carried input e w is =
       let r = w.running in
       let H : BulkExecuteRequestError → Type 0 = λ e. HadMemory (Some e) in
-      let G : List (List Value) → Type 0 = GivesFull s requests ends in (
+      let G : List (List Content) → Type 0 = GivesFull s requests ends in (
         running_gives s (s.waiting ++ rows) requests ends sent b (values_of (held carried input)) e r,
         λ n. subst G (new_rows n) (running_full s (s.waiting ++ rows) requests ends sent b (values_of (held carried input)) r n),
         λ n h. absurd (subst H is h),
@@ -141,9 +142,9 @@ module _ (s : BuilderState) (rows : List (List Value)) (requests : List BulkRequ
   ends_done b last left w e m =
       let R : List (Vec Value) → Type 0 = λ h. Running s (s.waiting ++ rows) requests ends sent b (values_of h) in
       let r = subst R e w.running in
-      let G : List (List Value) → Type 0 = GivesFull s requests ends in
-      let F : List (List Value) → Type 0 = GivesFewest s requests ends in
-      let D : List (List Value) → Type 0 = λ l. IsRefusal s l None in (
+      let G : List (List Content) → Type 0 = GivesFull s requests ends in
+      let F : List (List Content) → Type 0 = GivesFewest s requests ends in
+      let D : List (List Content) → Type 0 = λ l. IsRefusal s l None in (
         done_gives s (s.waiting ++ rows) requests ends sent b r m,
         λ n. subst G (new_rows n) (running_full s (s.waiting ++ rows) requests ends sent b [] r n),
         λ n h. subst D (new_rows n) (done_refusal s (s.waiting ++ rows) requests ends sent b r m n),
@@ -155,13 +156,13 @@ module _ (s : BuilderState) (rows : List (List Value)) (requests : List BulkRequ
   ends_refused b t carried input left e w f =
       let came_is = came carried input f.0 (Some f.1) left f.2 in
       let rest = values_of (into_iter_items left) in
-      let seam : values_of (held carried input) ≡ values_of f.0 ++ f.1.items ∷ rest = ap values_of came_is.0 ∙ map-append (λ r. r.items) f.0 (held (Some f.1) left) in
-      let P : List (List Value) → Type 0 = Running s (s.waiting ++ rows) requests ends sent b in
-      let r = running_accepts s (s.waiting ++ rows) requests ends sent b t (values_of f.0) (f.1.items ∷ rest) (subst P seam w.running) f.3 in
-      let G : List (List Value) → Type 0 = GivesFull s requests ends in
-      let D : List (List Value) → Type 0 = λ l. IsRefusal s l (Some e) in (
-        running_gives s (s.waiting ++ rows) requests ends sent t (f.1.items ∷ rest) e r,
-        λ n. subst G (new_rows n) (running_full s (s.waiting ++ rows) requests ends sent t (f.1.items ∷ rest) r n),
+      let seam : values_of (held carried input) ≡ values_of f.0 ++ (row_of f.1) ∷ rest = ap values_of came_is.0 ∙ map-append row_of f.0 (held (Some f.1) left) in
+      let P : List (List Content) → Type 0 = Running s (s.waiting ++ rows) requests ends sent b in
+      let r = running_accepts s (s.waiting ++ rows) requests ends sent b t (values_of f.0) ((row_of f.1) ∷ rest) (subst P seam w.running) f.3 in
+      let G : List (List Content) → Type 0 = GivesFull s requests ends in
+      let D : List (List Content) → Type 0 = λ l. IsRefusal s l (Some e) in (
+        running_gives s (s.waiting ++ rows) requests ends sent t ((row_of f.1) ∷ rest) e r,
+        λ n. subst G (new_rows n) (running_full s (s.waiting ++ rows) requests ends sent t ((row_of f.1) ∷ rest) r n),
         λ n h. subst D (new_rows n) (refused_row s (s.waiting ++ rows) requests ends sent t f.1 rest e r f.4 n h),
         λ n h. cc,
       )

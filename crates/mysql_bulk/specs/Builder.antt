@@ -3,15 +3,15 @@ use Rattle.std.specs.Prelude.{◌≡◌, ◌≢◌, ℕ, ◌+◌, ◌^◌, ◌<�
 use Rattle.std.specs.Global.{Vec}
 use Rattle.mysql_cuts.specs.declared.rule.BulkRule.{BulkRule}
 use Rattle.mysql_cuts.specs.Cut.{Packing, PartFits, joined, request_size}
-use Rattle.mysql_bulk.specs.declared.stand_in.Value.{Value}
-use Rattle.mysql_bulk.specs.declared.param_value.StmtBulkExecuteParamValue.{StmtBulkExecuteParamValue}
+use Rattle.mysql_values.specs.declared.value.Value.{Value}
+use Rattle.mysql_values.specs.Value.{Content, contents_of}
 use Rattle.mysql_bulk.specs.declared.param_type.StmtBulkExecuteParamType.{StmtBulkExecuteParamType}
 use Rattle.mysql_bulk.specs.declared.error.BulkExecuteRequestError.{BulkExecuteRequestError}
 use Rattle.mysql_bulk.specs.declared.error.BulkExecuteRequestError.TheVariants.{MixedArity, RowTooLarge, MemoryRow, NoParams, Memory}
 use Rattle.mysql_bulk.specs.declared.error.BulkExecuteRequestBuilderError.{BulkExecuteRequestBuilderError}
 use Rattle.mysql_bulk.specs.declared.error.BulkExecuteRequestBuilderError.TheVariants.{Request, Params}
 use Rattle.mysql_bulk.specs.ParamType.{declared_types, joined_types}
-use Rattle.mysql_bulk.specs.ParamValue.{given, plain, row_size}
+use Rattle.mysql_bulk.specs.ParamValue.{ParamValue, given, plain, row_size}
 use Rattle.mysql_bulk.specs.Request.{BulkRequest, request_flags}
 use Rattle.mysql_bulk.specs.Flat.{IsFlat, waiting_rows}
 
@@ -29,10 +29,10 @@ pub record BuilderState : Type 0 where
   pub arity : Option ℕ
   -- the next request sends types
   pub types_due : Bool
-  pub waiting : List (List Value)
+  pub waiting : List (List Content)
 
 -- how requests of rows of a length are measured, under a rule and a limit
-abbrev pub rows_packing : BulkRule → ℕ → ℕ → Packing (List Value)
+abbrev pub rows_packing : BulkRule → ℕ → ℕ → Packing (List Content)
 rows_packing rule limit arity = record {
   limit = limit;
   arity = arity;
@@ -41,12 +41,16 @@ rows_packing rule limit arity = record {
   max_rows = rule.max_rows;
 }
 
-abbrev pub packing : BuilderState → ℕ → Packing (List Value)
+abbrev pub packing : BuilderState → ℕ → Packing (List Content)
 packing s arity = rows_packing s.rule s.limit arity
 
--- the values of each row
-abbrev pub values_of : List (Vec Value) → List (List Value)
-values_of rows = map (λ row. row.items) rows
+-- what the values of a row hold
+abbrev pub row_of : Vec Value → List Content
+row_of row = contents_of row.items
+
+-- of each row
+abbrev pub values_of : List (Vec Value) → List (List Content)
+values_of rows = map row_of rows
 
 -- ---- a row is offered
 
@@ -56,20 +60,20 @@ TakesArity None n = Unit {0}
 TakesArity (Some arity) n = n ≡ arity
 
 -- the row fits in the open request
-abbrev pub RowFits : BuilderState → List Value → Type 0
+abbrev pub RowFits : BuilderState → List Content → Type 0
 RowFits s row = PartFits (packing s (length row)) s.types_due (s.waiting ++ row ∷ [])
 
 -- the state after a row is accepted
-abbrev pub accepted : BuilderState → List Value → BuilderState
+abbrev pub accepted : BuilderState → List Content → BuilderState
 accepted s row = record s { arity = Some (length row); waiting = s.waiting ++ row ∷ [] }
 
 -- it waits, or is given back since it does not fit with those that wait, or is refused
 abbrev pub Adds : BuilderState → Vec Value → Result (Option (Vec Value)) BulkExecuteRequestError → BuilderState → Type 0
-Adds s row (Ok None) t = TakesArity s.arity (length row.items) × RowFits s row.items × (t ≡ accepted s row.items)
-Adds s row (Ok (Some back)) t = TakesArity s.arity (length row.items) × (RowFits s row.items → ⊥) × (s.waiting ≢ []) × (back ≡ row) × (t ≡ s)
-Adds s row (Err MixedArity) t = (TakesArity s.arity (length row.items) → ⊥) × (t ≡ s)
-Adds s row (Err (RowTooLarge back)) t = TakesArity s.arity (length row.items) × (RowFits s row.items → ⊥) × (s.waiting ≡ []) × (back ≡ row) × (t ≡ s)
-Adds s row (Err (MemoryRow back)) t = TakesArity s.arity (length row.items) × RowFits s row.items × (back ≡ row) × (t ≡ s)
+Adds s row (Ok None) t = TakesArity s.arity (length (row_of row)) × RowFits s (row_of row) × (t ≡ accepted s (row_of row))
+Adds s row (Ok (Some back)) t = TakesArity s.arity (length (row_of row)) × (RowFits s (row_of row) → ⊥) × (s.waiting ≢ []) × (back ≡ row) × (t ≡ s)
+Adds s row (Err MixedArity) t = (TakesArity s.arity (length (row_of row)) → ⊥) × (t ≡ s)
+Adds s row (Err (RowTooLarge back)) t = TakesArity s.arity (length (row_of row)) × (RowFits s (row_of row) → ⊥) × (s.waiting ≡ []) × (back ≡ row) × (t ≡ s)
+Adds s row (Err (MemoryRow back)) t = TakesArity s.arity (length (row_of row)) × RowFits s (row_of row) × (back ≡ row) × (t ≡ s)
 Adds s row (Err NoParams) t = ⊥
 Adds s row (Err Memory) t = ⊥
 
@@ -82,7 +86,7 @@ AddsRow s row (Err (Params e)) t = ⊥
 -- ---- a request is asked for
 
 -- the request of these rows
-pub record IsRequest (s : BuilderState) (rows : List (List Value)) (request : BulkRequest) : Type 0 where
+pub record IsRequest (s : BuilderState) (rows : List (List Content)) (request : BulkRequest) : Type 0 where
   pub id : request.stmt_id ≡ s.stmt_id
   pub flags : request.bulk_flags ≡ request_flags s.types_due s.results
   pub types : request.types ≡ (if s.types_due then declared_types rows else [])
@@ -116,7 +120,7 @@ WaitingFits s = PartFits (packing s (unwrap_or s.arity 0)) s.types_due s.waiting
 -- ---- what a builder keeps
 
 -- so many rows wait, of so many bytes: their values stand in one list, and beside it the types of their columns so far
-pub record Keeps (s : BuilderState) (count size : ℕ) (values : List StmtBulkExecuteParamValue) (types : List StmtBulkExecuteParamType) : Type 0 where
+pub record Keeps (s : BuilderState) (count size : ℕ) (values : List ParamValue) (types : List StmtBulkExecuteParamType) : Type 0 where
   pub limit_is : s.limit < 2 ^ 64
   pub rows_is : s.waiting ≡ waiting_rows s.arity count (plain values)
   pub flat : IsFlat s.arity count size (plain values)

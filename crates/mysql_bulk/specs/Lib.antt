@@ -1,4 +1,3 @@
-pub mod StandIn
 pub mod ParamType
 pub mod ParamValue
 pub mod Request

@@ -2,18 +2,19 @@
 use Rattle.std.specs.Prelude.{◌≡◌, ◌≢◌, Bool, true, false, List, [], ◌∷◌, length, Option, Some, None, Result, Ok, Err, is_none, IfSome, option_to_list, ◌⊎◌, ℕ, ◌+◌}
 use Rattle.std.specs.Global.{Vec}
 use Rattle.std.specs.Iterator.{YieldsThen, Count, count_unless, count_map}
-use Rattle.mysql_bulk.specs.declared.stand_in.Value.{Value}
+use Rattle.mysql_values.specs.declared.value.Value.{Value}
+use Rattle.mysql_values.specs.Value.{Content, contents_of}
 use Rattle.mysql_bulk.specs.declared.error.BulkExecuteRequestError.{BulkExecuteRequestError}
 use Rattle.mysql_bulk.specs.declared.error.BulkExecuteRequestError.TheVariants.{Memory}
 use Rattle.mysql_bulk.specs.declared.error.BulkExecuteRequestBuilderError.{BulkExecuteRequestBuilderError}
 use Rattle.mysql_bulk.specs.declared.error.BulkExecuteRequestBuilderError.TheVariants.{Request, Params}
 use Rattle.mysql_bulk.specs.declared.run.BulkRequests.{BulkRequests}
 use Rattle.mysql_bulk.specs.Request.{BulkRequest}
-use Rattle.mysql_bulk.specs.Builder.{BuilderState, values_of}
+use Rattle.mysql_bulk.specs.Builder.{row_of, BuilderState, values_of}
 use Rattle.mysql_bulk.specs.Builder.{TakesArity, RowFits, accepted, Adds, Builds}
 
 -- the rows are accepted one after another
-abbrev pub Accepts : BuilderState → List (List Value) → BuilderState → Type 0
+abbrev pub Accepts : BuilderState → List (List Content) → BuilderState → Type 0
 Accepts s [] t = t ≡ s
 Accepts s (row ∷ rows) t = TakesArity s.arity (length row) × RowFits s row × Accepts (accepted s row) rows t
 
@@ -64,7 +65,7 @@ module _ {S : Type 0} (steps : S → Option (Vec Value) → S → Type 0) where
     pub taken : List (Vec Value)
     pub came : YieldsThen (Comes steps) (s.carried, s.rows) taken t.carried (None, t.rows)
     pub accepts : Accepts s.builder (values_of taken) m
-    pub full : IfSome t.carried (λ row. TakesArity m.arity (length row.items) × (RowFits m row.items → ⊥))
+    pub full : IfSome t.carried (λ row. TakesArity m.arity (length (row_of row)) × (RowFits m (row_of row) → ⊥))
 
   -- rows to come were accepted, up to one that was refused
   pub record RefusesRow (s : RunState S) (e : BulkExecuteRequestError) (t : RunState S) : Type 0 where

@@ -3,7 +3,8 @@ use Rattle.std.specs.Prelude.{◌≡◌, ℕ, true, false, List, [], ◌∷◌, 
 use Rattle.std.specs.Global.{Vec}
 use Rattle.std.specs.Iterator.{YieldsThen}
 use Rattle.mysql_cuts.specs.Cut.{joined, NoneEmpty, IsFewest, IsFullFromFront, ends_after}
-use Rattle.mysql_bulk.specs.declared.stand_in.Value.{Value}
+use Rattle.mysql_values.specs.declared.value.Value.{Value}
+use Rattle.mysql_values.specs.Value.{Content, contents_of}
 use Rattle.mysql_bulk.specs.declared.error.BulkExecuteRequestError.{BulkExecuteRequestError}
 use Rattle.mysql_bulk.specs.declared.error.BulkExecuteRequestError.TheVariants.{MixedArity, RowTooLarge, MemoryRow, NoParams, Memory}
 use Rattle.mysql_bulk.specs.declared.error.BulkExecuteRequestBuilderError.{BulkExecuteRequestBuilderError}
@@ -32,14 +33,14 @@ pub record IsNew (s : BuilderState) : Type 0 where
   pub waiting : s.waiting ≡ []
 
 -- the requests of these parts, the first of which a builder in this state builds
-abbrev pub AreRequests : BuilderState → List (List (List Value)) → List BulkRequest → Type 0
+abbrev pub AreRequests : BuilderState → List (List (List Content)) → List BulkRequest → Type 0
 AreRequests s [] [] = Unit {0}
 AreRequests s (part ∷ parts) (request ∷ requests) = IsRequest s part request × AreRequests (sent s) parts requests
 AreRequests s [] (request ∷ requests) = ⊥
 AreRequests s (part ∷ parts) [] = ⊥
 
 -- a run gave the requests of the parts of a cut, which the ends name
-pub record GivesCut (s : BuilderState) (requests : List BulkRequest) (ends : List ℕ) (cut : List (List (List Value))) : Type 0 where
+pub record GivesCut (s : BuilderState) (requests : List BulkRequest) (ends : List ℕ) (cut : List (List (List Content))) : Type 0 where
   pub none_empty : NoneEmpty cut
   pub named : ends ≡ ends_after 0 cut
   pub requests_are : AreRequests s cut requests
@@ -53,21 +54,21 @@ pub record SameSettings (s t : BuilderState) : Type 0 where
   pub names : t.names ≡ s.names
 
 -- a run from s to t over these rows gave a cut of a beginning of them; further rows wait, and others were dropped
-pub record GivesFront (s : BuilderState) (rows : List (List Value)) (requests : List BulkRequest) (ends : List ℕ) (refusal : Option BulkExecuteRequestError) (t : BuilderState) : Type 0 where
-  pub cut : List (List (List Value))
+pub record GivesFront (s : BuilderState) (rows : List (List Content)) (requests : List BulkRequest) (ends : List ℕ) (refusal : Option BulkExecuteRequestError) (t : BuilderState) : Type 0 where
+  pub cut : List (List (List Content))
   pub gives : GivesCut s requests ends cut
-  pub dropped : List (List Value)
+  pub dropped : List (List Content)
   pub whole : (joined cut ++ t.waiting) ++ dropped ≡ rows
   pub all_sent : refusal ≡ None → (t.waiting ≡ []) × (dropped ≡ [])
   pub same : SameSettings s t
 
 -- a fewest cut of the rows was given
-abbrev pub GivesFewest : BuilderState → List BulkRequest → List ℕ → List (List Value) → Type 0
-GivesFewest s requests ends rows = (cut : List (List (List Value))) × GivesCut s requests ends cut × IsFewest (measure s rows) rows cut
+abbrev pub GivesFewest : BuilderState → List BulkRequest → List ℕ → List (List Content) → Type 0
+GivesFewest s requests ends rows = (cut : List (List (List Content))) × GivesCut s requests ends cut × IsFewest (measure s rows) rows cut
 
 -- the given cut is full from the front
-abbrev pub GivesFull : BuilderState → List BulkRequest → List ℕ → List (List Value) → Type 0
-GivesFull s requests ends rows = (cut : List (List (List Value))) × GivesCut s requests ends cut × IsFullFromFront (measure s rows) (equal_front rows) cut
+abbrev pub GivesFull : BuilderState → List BulkRequest → List ℕ → List (List Content) → Type 0
+GivesFull s requests ends rows = (cut : List (List (List Content))) × GivesCut s requests ends cut × IsFullFromFront (measure s rows) (equal_front rows) cut
 
 -- a run of calls for requests up to one that answers that there is no more, on a new builder
 pub record WholeRun {S : Type 0} (steps : S → Option (Vec Value) → S → Type 0) (s t u : RunState S) (requests : List BulkRequest) : Type 0 where

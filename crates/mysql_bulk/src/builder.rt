@@ -2,9 +2,9 @@
 
 ghost use Rattle.std.specs.Prelude.{◌≡◌, ◌≢◌, ◌+◌, ◌≤◌, ◌-◌, ◌↔◌, ◌++◌, ◌∷◌, [], length, IsTrue, IfOk, OnOk, OnErr, MatchOption, Some, None, true, false, sum_by, map, vec_len, vec_capacity, List, ℕ};
 ghost use Rattle.mysql_cuts.specs.Cut.{PartFits};
-ghost use Rattle.mysql_bulk.specs.declared.stand_in.Value.{Value};
+ghost use Rattle.mysql_values.specs.Value.{Content, contents_of};
 ghost use Rattle.mysql_bulk.specs.ParamValue.{given, row_size};
-ghost use Rattle.mysql_bulk.specs.Request.{bytes_of, request_flags};
+ghost use Rattle.mysql_bulk.specs.Request.{written_size, request_flags};
 ghost use Rattle.mysql_bulk.specs.Builder.{TakesArity, RowFits, Adds, AddsRow, Builds, WaitingFits, waiting_size, rows_packing};
 
 use crate::error::{BulkExecuteRequestBuilderError, BulkExecuteRequestError};
@@ -13,7 +13,7 @@ use crate::param_value::StmtBulkExecuteParamValue;
 use crate::request::ComStmtBulkExecuteRequest;
 use crate::row_type::join_row;
 use crate::size::{request_len, row_len};
-use crate::stand_in::Value;
+use mysql_values::Value;
 use mysql_cuts::BulkRule;
 use std::alloc::{AllocError, Global};
 use std::marker::Model;
@@ -82,9 +82,9 @@ fn size_with(
     size: u64,
     row: &[Value],
 ) -> Option<u64>
-    ensures { (rows : List (List Value)) → length rows ≡ count → size ≡ sum_by row_size rows →
-        MatchOption result (PartFits (rows_packing rule limit (length row.now)) types (rows ++ row.now ∷ []) → ⊥)
-        (λ n. PartFits (rows_packing rule limit (length row.now)) types (rows ++ row.now ∷ []) × (n ≡ sum_by row_size (rows ++ row.now ∷ []))) }
+    ensures { (rows : List (List Content)) → length rows ≡ count → size ≡ sum_by row_size rows →
+        MatchOption result (PartFits (rows_packing rule limit (length row.now)) types (rows ++ contents_of row.now ∷ []) → ⊥)
+        (λ n. PartFits (rows_packing rule limit (length row.now)) types (rows ++ contents_of row.now ∷ []) × (n ≡ sum_by row_size (rows ++ contents_of row.now ∷ []))) }
 {
     if rule.max_rows.is_some_and(|most| most <= count) {
         return None;
@@ -119,7 +119,7 @@ fn find_room(
 /// Moves the values of a row to the end, where there is room.
 fn append_row(values: &mut Vec<StmtBulkExecuteParamValue>, row: Vec<Value>)
     requires { vec_len values.old + length row.items ≤ vec_capacity values.old }
-    ensures { values.new.items ≡ values.old.items ++ map given row.items }
+    ensures { values.new.items ≡ values.old.items ++ map given (contents_of row.items) }
 {
     for value in row {
         values.push_reserved(StmtBulkExecuteParamValue::new(value));
@@ -227,8 +227,8 @@ impl<'a> ComStmtBulkExecuteRequestBuilder<'a> {
 
     /// The bytes of the waiting rows with one more, if these may be one request.
     fn size_after(&self, row: &[Value]) -> Option<u64>
-        ensures { MatchOption result (RowFits self.now row.now → ⊥)
-            (λ n. RowFits self.now row.now × (n ≡ sum_by row_size (self.now.waiting ++ row.now ∷ []))) }
+        ensures { MatchOption result (RowFits self.now (contents_of row.now) → ⊥)
+            (λ n. RowFits self.now (contents_of row.now) × (n ≡ sum_by row_size (self.now.waiting ++ contents_of row.now ∷ []))) }
     {
         size_with(
             self.rule,
@@ -291,7 +291,7 @@ impl<'a> ComStmtBulkExecuteRequestBuilder<'a> {
         ensures builds { Builds self.old result self.new }
 
         // the request has the bytes that its rows have, and is not past the limit
-        ensures size { IfOk result (λ request. bytes_of request ≡ waiting_size self.old) }
+        ensures size { IfOk result (λ request. written_size request ≡ waiting_size self.old) }
         ensures fits { OnOk result (WaitingFits self.old) }
     {
         if self.count == 0 {

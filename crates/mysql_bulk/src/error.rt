@@ -1,6 +1,7 @@
 //! Why rows are refused.
 
-use crate::stand_in::{ParamsError, Value};
+use crate::stand_in::ParamsError;
+use mysql_values::Value;
 use thiserror::Error;
 
 /// Why a row or a request was refused.

@@ -1,8 +1,9 @@
 //! The type that a bulk request declares for a parameter.
 
-ghost use Rattle.std.specs.Prelude.{◌≡◌};
+ghost use Rattle.std.specs.Prelude.{false, ◌≡◌, ◌≤◌, ◌+◌, ◌++◌, length, List, ℕ, Option, Some, None};
 
-use crate::stand_in::{ColumnType, Value};
+use mysql_values::Value;
+use mysql_wire::{ColumnType, Const, FaultOf, Fixed, MyDeserialize, MySerialize, ParseBuf, RawInt, append_all, len_of};
 
 /// The type of a parameter in a bulk request: the column type in a byte, and a byte of flags, in which 128 is `UNSIGNED`.
 #[derive(Clone, Copy, Debug, PartialEq, Eq)]
@@ -13,10 +14,11 @@ pub struct StmtBulkExecuteParamType {
 
 impl StmtBulkExecuteParamType {
     ghost use Rattle.mysql_bulk.specs.ParamType.{type_of, joined_type};
+    ghost use Rattle.mysql_values.specs.Value.{content_of};
 
     /// The type that a value is sent as.
     pub fn from_value(value: &Value) -> Self
-        ensures { result ≡ type_of value.now }
+        ensures { result ≡ type_of (content_of value.now) }
     {
         let (column_type, flags) = match value {
             Value::NULL => (ColumnType::MYSQL_TYPE_NULL, 0),
@@ -34,7 +36,7 @@ impl StmtBulkExecuteParamType {
     /// The type of a column so far, after one more value.
     #[inline]
     pub(crate) fn joined(self, value: &Value) -> Self
-        ensures { result ≡ joined_type self value.now }
+        ensures { result ≡ joined_type self (content_of value.now) }
     {
         match self.column_type {
             ColumnType::MYSQL_TYPE_NULL => StmtBulkExecuteParamType::from_value(value),
@@ -46,5 +48,56 @@ impl StmtBulkExecuteParamType {
             }
             _ => self,
         }
+    }
+}
+
+impl<'de> MyDeserialize<'de> for StmtBulkExecuteParamType {
+    const SIZE: Option<usize> = Some(2);
+
+    type Size = Fixed<2>;
+
+    ghost takes_memory = { false };
+
+    type Ctx = ();
+
+    ghost use Rattle.mysql_bulk.specs.ParamType.{param_type};
+
+    ghost form = { λ _. param_type };
+
+    #[tactic(auto, using(mysql_wire::proofs::Blocks::blocks))]
+    fn deserialize<'s>(_ctx: (), buf: &mut ParseBuf<'de>) -> Result<Self, FaultOf<'s>> {
+        let mut fields: ParseBuf<'de> = buf.parse(2)?;
+        let column_type: Const<ColumnType, u8> = fields.parse_unchecked(())?;
+        let flags: RawInt<u8> = fields.parse_unchecked(())?;
+        Ok(StmtBulkExecuteParamType {
+            column_type: column_type.0,
+            flags: flags.0,
+        })
+    }
+
+    ghost use Rattle.mysql_wire.specs.Form.{size-bytes};
+
+    ghost size_is = { λ _. size-bytes 2 };
+}
+
+impl MySerialize for StmtBulkExecuteParamType {
+    ghost use Rattle.mysql_bulk.specs.ParamType.{param_type_bytes};
+
+    ghost bytes = { param_type_bytes };
+
+    #[tactic(auto, using(mysql_wire::specs::Writing::lengths), unfolding(mysql_wire::specs::Writing::le_bytes))]
+    fn defined_len(&self) -> usize {
+        len_of!(
+            Const::<ColumnType, u8>::new(self.column_type),
+            RawInt::<u8>::new(self.flags),
+        )
+    }
+
+    #[tactic(auto, using(mysql_wire::specs::Writing::lengths))]
+    fn append(&self, out: &mut Vec<u8>) {
+        append_all!(out;
+            Const::<ColumnType, u8>::new(self.column_type),
+            RawInt::<u8>::new(self.flags),
+        );
     }
 }

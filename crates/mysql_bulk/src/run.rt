@@ -8,7 +8,7 @@ ghost use Rattle.mysql_bulk.specs.Run.{Fills, NextRequest, results_left, carried
 use crate::builder::ComStmtBulkExecuteRequestBuilder;
 use crate::error::{BulkExecuteRequestBuilderError, BulkExecuteRequestError};
 use crate::request::ComStmtBulkExecuteRequest;
-use crate::stand_in::Value;
+use mysql_values::Value;
 
 /// Adds rows until one does not fit with those that wait, which is given back, or the input ends.
 fn take_rows<I: Iterator<Item = Vec<Value>>>(

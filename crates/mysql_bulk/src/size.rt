@@ -1,13 +1,13 @@
 //! The bytes of rows and requests.
 
 ghost use Rattle.std.specs.Prelude.{◌≡◌, ◌+◌, ◌*◌, ◌^◌, ◌≤◌, MatchOption, if◌then◌else◌};
-ghost use Rattle.mysql_bulk.specs.ParamValue.{row_size};
+ghost use Rattle.mysql_bulk.specs.ParamValue.{values_size};
 
-use crate::stand_in::Value;
+use mysql_values::Value;
 
 /// How many bytes a row has in a request, if that fits a number.
 pub(crate) fn row_len(row: &[Value]) -> Option<u64>
-    ensures { MatchOption result (2 ^ 64 ≤ row_size row.now) (λ n. n ≡ row_size row.now) }
+    ensures { MatchOption result (2 ^ 64 ≤ values_size row.now) (λ n. n ≡ values_size row.now) }
 {
     let mut len = 0u64;
     for value in row {

@@ -9,7 +9,7 @@ use crate::builder::ComStmtBulkExecuteRequestBuilder;
 use crate::error::{BulkExecuteRequestBuilderError, BulkExecuteRequestError};
 use crate::request::ComStmtBulkExecuteRequest;
 use crate::run::fill;
-use crate::stand_in::Value;
+use mysql_values::Value;
 
 /// What a whole run gave.
 #[derive(Debug, Drop)]

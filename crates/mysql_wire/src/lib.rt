@@ -30,13 +30,11 @@ pub use bare::BareBytes;
 pub use bitflags::Flags;
 pub use buf::ParseBuf;
 pub use bytes::{BytesRepr, RawBytes};
-pub use codes::{ColumnType, SessionStateType, UnknownColumnType, UnknownSessionStateType};
 pub use codes::{
     ColumnType, MariadbBulkIndicator, SessionStateType, UnknownColumnType,
     UnknownMariadbBulkIndicator, UnknownSessionStateType,
 };
 pub use const_bytes::{ConstBytes, ConstBytesValue};
-pub use constant_value::{Const, ConstValue};
 pub use constant::{ConstFault, ConstU8, ConstU32};
 pub use constant_value::{Const, ConstValue};
 pub use counted_bytes::{U8Bytes, U32Bytes};

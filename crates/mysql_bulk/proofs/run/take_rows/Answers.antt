@@ -1,8 +1,9 @@
 use Rattle.std.proofs.Common.{◌≡◌, ◌+◌, ◌≤◌, ◌++◌, ◌∷◌, [], length, Option, None, Some, Ok, subst, ap, arith, length-append}
 use Rattle.std.proofs.lemmas.Result.{err_from_is_err_and}
 use Rattle.std.specs.Global.{Vec}
-use Rattle.mysql_bulk.specs.declared.stand_in.Value.{Value}
-use Rattle.mysql_bulk.specs.Builder.{BuilderState}
+use Rattle.mysql_values.specs.declared.value.Value.{Value}
+use Rattle.mysql_values.specs.Value.{Content, contents_of}
+use Rattle.mysql_bulk.specs.Builder.{row_of, BuilderState}
 use Rattle.mysql_bulk.specs.Builder.{Adds, accepted}
 use Rattle.mysql_bulk.proofs.Runs.{taken_more, taken_full, taken_refused, taken_end}
 use Rattle.mysql_bulk.proofs.run.take_rows.Goals as goal
@@ -24,14 +25,14 @@ loop-row-preserved g c =
     let A : Option (Vec Value) → Type 0 = λ o. Adds c.loop-row.builder c.in-Some.row (Ok o) c.add.new.self in
     let a = subst A c.in_default-2.is c.in_ok-row.ensures in
     let goes = c.in-Some.ensures.goes.on c.loop-row.invariant.ends in
-    let lengths : length c.add.new.self.waiting ≡ length (c.loop-row.builder.waiting ++ c.in-Some.row.items ∷ []) = ap (λ (s : BuilderState). length s.waiting) a.2 in
+    let lengths : length c.add.new.self.waiting ≡ length (c.loop-row.builder.waiting ++ (row_of c.in-Some.row) ∷ []) = ap (λ (s : BuilderState). length s.waiting) a.2 in
     let less = c.loop-row.invariant.less in
     record {
       can = goes.0;
       ends = goes.1;
       so_far = taken_more g.I.Iterator.next_gives c.args.builder.now c.loop-row.builder c.add.new.self c.args.rows.now c.loop-row.rows c.next.new.self c.in-Some.row
           c.loop-row.invariant.so_far c.in-Some.ensures.steps a;
-      less = omega (arith, less, lengths, goes.2, length-append c.loop-row.builder.waiting (c.in-Some.row.items ∷ []));
+      less = omega (arith, less, lengths, goes.2, length-append c.loop-row.builder.waiting ((row_of c.in-Some.row) ∷ []));
     }
 
 pub returns-clause-fills : goal.returns-clause-fills

@@ -1,6 +1,6 @@
 use Rattle.std.proofs.Common.{◌≡◌, ◌≢◌, ◌+◌, ◌*◌, ◌<◌, ◌^◌, ℕ, Bool, List, [], length, if◌then◌else◌, refl, sym, ◌∙◌, ap, subst, arith}
 use Rattle.mysql_bulk.specs.declared.param_type.StmtBulkExecuteParamType.{StmtBulkExecuteParamType}
-use Rattle.mysql_bulk.specs.declared.param_value.StmtBulkExecuteParamValue.{StmtBulkExecuteParamValue}
+use Rattle.mysql_bulk.specs.ParamValue.{ParamValue}
 use Rattle.mysql_bulk.specs.ParamValue.{plain, row_size}
 use Rattle.mysql_bulk.specs.Builder.{BuilderState, waiting_size}
 use Rattle.mysql_bulk.proofs.Kept.{saturated_small, keeps_rows, keeps_types, keeps_values, keeps_size, keeps_bytes, keeps_fits}
