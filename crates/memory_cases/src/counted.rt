@@ -18,12 +18,12 @@ pub fn stop(alloc: Global) {
     let _ = Vec::<u8>::with_capacity(alloc, STOP);
 }
 
-/// Evaluates an expression with its growths counted.
+/// Makes a call that answers a `Result`, with its growths counted.
 #[macro_export]
 macro_rules! counted {
     ($alloc:expr; $call:expr) => {{
         $crate::counted::start($alloc);
-        let answer = $call;
+        let answer: Result<_, _> = $call;
         $crate::counted::stop($alloc);
         answer
     }};

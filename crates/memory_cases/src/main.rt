@@ -5,7 +5,10 @@
 
 mod bench;
 mod counted;
-mod wire;
+mod raw_bytes;
+mod seq;
+mod shown;
+mod stmt;
 
 use bench::{Asked, Bench};
 use std::process::ExitCode;
@@ -23,7 +26,9 @@ fn run(rt: &(impl Env + Print + AllocGlobal)) -> io::Result<ExitCode> {
         _ => Asked::One(word),
     };
     let mut bench = Bench::new(rt.alloc(), asked);
-    wire::cases(&mut bench)?;
+    raw_bytes::cases(&mut bench)?;
+    seq::cases(&mut bench)?;
+    stmt::cases(&mut bench)?;
     rt.print(bench.lines())?;
     Ok(ExitCode::SUCCESS)
 }

@@ -4,3 +4,5 @@ pub mod ValueDeserializer
 pub mod Numeral
 pub mod FromValue
 pub mod ReadingBack
+pub mod Params
+pub mod ParamsEq

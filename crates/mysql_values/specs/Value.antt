@@ -1,5 +1,5 @@
 -- Values, and their binary form.
-use Rattle.std.specs.Prelude.{ℕ, ℤ, Bool, List, [], Result, Ok, Err, ◌+◌, ◌^◌, length, nat_lt, if◌then◌else◌}
+use Rattle.std.specs.Prelude.{ℕ, ℤ, Bool, List, [], map, Result, Ok, Err, ◌+◌, ◌^◌, length, nat_lt, if◌then◌else◌}
 use Rattle.std.specs.Int.{w64, cast_unsigned}
 use Rattle.mysql_wire.specs.Writing.{le_bytes}
 use Rattle.mysql_wire.specs.LenEnc.{lenenc_string_bytes}
@@ -82,3 +82,6 @@ size_of v = bin_size (content_of v)
 abbrev pub contents : {E : Type 0} → Result Value E → Result Content E
 contents (Ok v) = Ok (content_of v)
 contents (Err e) = Err e
+
+abbrev pub contents_of : List Value → List Content
+contents_of values = map content_of values

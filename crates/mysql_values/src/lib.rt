@@ -3,10 +3,16 @@
 
 mod from_value;
 pub mod laws;
+mod params;
+mod side;
 mod temporal;
+#[cfg(test)]
+mod tests;
 mod value;
 mod value_deserializer;
 
 pub use from_value::{FromValue, FromValueError};
+pub use params::{Params, ParamsError};
+pub use side::{Binary, ClientSide, SerializationSide, ServerSide, Text};
 pub use value::Value;
 pub use value_deserializer::{BinValue, TextValue, ValueDeserializer};

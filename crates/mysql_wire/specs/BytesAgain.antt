@@ -6,7 +6,7 @@ use Rattle.mysql_wire.specs.declared.int.RawInt.{RawInt}
 use Rattle.mysql_wire.specs.Form.{Form, all_left, bytes}
 use Rattle.mysql_wire.specs.Int.{byte, le_u32, raw_int}
 use Rattle.mysql_wire.specs.Null.{HasNoZero, null_string, null_bytes, before_zero}
-use Rattle.mysql_wire.specs.CountedBytes.{counted_bytes, counted_bytes_of}
+use Rattle.mysql_wire.specs.CountedBytes.{counted_bytes, counted_bytes_of, u8_string, u8_string_bytes, u32_string, u32_string_bytes}
 use Rattle.std.specs.Cmp.Lexicographic.{pointwise}
 use Rattle.mysql_wire.specs.Bare.{bare}
 use Rattle.mysql_wire.specs.ConstBytes.{const_bytes, const_value}
@@ -36,11 +36,11 @@ counted_bytes-again count width most content short p rest =
     let n = length content in
     rw (take_all most content short, append_assoc) (n, content ++ rest, (raw_int n, refl, p (content ++ rest)), (refl, refl))
 
-pub u8_bytes-again : (content : List ℕ) → length content < 2 ^ 8 → IsSpelling (counted_bytes byte) content (counted_bytes_of 1 255 content)
-u8_bytes-again content short = counted_bytes-again byte 1 255 content (omega arith) (byte-again (length content) short)
+pub u8_string-again : (content : List ℕ) → length content < 2 ^ 8 → IsSpelling u8_string content (u8_string_bytes content)
+u8_string-again content short = counted_bytes-again byte 1 255 content (omega arith) (byte-again (length content) short)
 
-pub u32_bytes-again : (content : List ℕ) → length content < 2 ^ 32 → IsSpelling (counted_bytes le_u32) content (counted_bytes_of 4 4294967295 content)
-u32_bytes-again content short = counted_bytes-again le_u32 4 4294967295 content (omega arith) (le_u32-again (length content) short)
+pub u32_string-again : (content : List ℕ) → length content < 2 ^ 32 → IsSpelling u32_string content (u32_string_bytes content)
+u32_string-again content short = counted_bytes-again le_u32 4 4294967295 content (omega arith) (le_u32-again (length content) short)
 
 -- ---- a count that stands elsewhere
 
@@ -69,4 +69,4 @@ const_bytes-again {T} len value v long rest =
     let e : const_value {T = T} len value value ≡ Some v = rw (same-bytes value) refl in
     (value, e, (long, refl))
 
-pub ruleset byte_strings_again = (null_string-again, u8_bytes-again, u32_bytes-again, bare-again, all_left-again, bytes-again, const_bytes-again)
+pub ruleset byte_strings_again = (null_string-again, u8_string-again, u32_string-again, bare-again, all_left-again, bytes-again, const_bytes-again)

@@ -2,7 +2,7 @@
 use Rattle.std.specs.Prelude.{◌≡◌, ◌++◌, ℕ, List, Option, None, length, take, refl}
 use Rattle.mysql_wire.specs.Writing.{le_bytes}
 use Rattle.mysql_wire.specs.Form.{Form, ◌>>=◌, bytes}
-use Rattle.mysql_wire.specs.Int.{raw, number_of}
+use Rattle.mysql_wire.specs.Int.{byte, le_u32, number_of}
 use Rattle.mysql_wire.specs.declared.int.RawInt.{RawInt}
 
 -- the count in its form, and that many bytes
@@ -18,3 +18,19 @@ size-counted_bytes count = refl
 -- the first bytes of a content, so many at most, behind their count
 unfoldable pub counted_bytes_of : (width most : ℕ) → List ℕ → List ℕ
 counted_bytes_of width most content = le_bytes width (length (take most content)) ++ take most content
+
+-- a count of one byte, and that many bytes
+abbrev pub u8_string : Form (List ℕ)
+u8_string = counted_bytes byte
+
+-- the first 255 bytes of a content, behind their count
+abbrev pub u8_string_bytes : List ℕ → List ℕ
+u8_string_bytes = counted_bytes_of 1 255
+
+-- a count of four bytes, and that many bytes
+abbrev pub u32_string : Form (List ℕ)
+u32_string = counted_bytes le_u32
+
+-- the first 2^32 - 1 bytes of a content, behind their count
+abbrev pub u32_string_bytes : List ℕ → List ℕ
+u32_string_bytes = counted_bytes_of 4 4294967295

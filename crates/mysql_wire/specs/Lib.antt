@@ -11,6 +11,7 @@ pub mod Spelling
 pub mod Seq
 pub mod Many
 pub mod Either
+pub mod Varlen
 pub mod Null
 pub mod Again
 pub mod Flags

@@ -19,7 +19,9 @@ pub(crate) fn first_bytes(content: &[u8], most: usize) -> &[u8]
     &content[..min(content.len(), most)]
 }
 
-/// So many bytes, the count being handed in. The first `MAX` bytes of a content are written.
+/// So many bytes, the count being handed in. Fewer bytes than the count: `UnexpectedEof`.
+///
+/// The first `MAX` bytes of a content are written. Reading knows no such limit.
 #[derive(Clone, Copy, Debug)]
 pub struct BareBytes<const MAX: usize>;
 

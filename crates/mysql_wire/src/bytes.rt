@@ -26,7 +26,7 @@ pub trait BytesRepr {
     /// How a content is spelled.
     ghost form: { Self.Ctx → Form (List ℕ) };
 
-    /// Reads a content from the front.
+    /// Reads a content from the front. The answer is a buffer over the content alone.
     fn deserialize<'s, 'de>(
         ctx: Self::Ctx,
         buf: &mut ParseBuf<'de>,
@@ -34,18 +34,19 @@ pub trait BytesRepr {
         ensures value { Answers false result buf.new ((form ctx).reads buf.old) }
         ensures tail { OnErr result (IsTail buf.new buf.old) };
 
-    /// The part of a content that is written: as much as the form can hold.
     ghost kept: { List ℕ → List ℕ };
 
+    /// The part of a content that is written: as much as the form can hold.
     fn kept(content: &[u8]) -> &[u8]
         ensures { result.now ≡ kept content.now };
 
-    /// The bytes that a content is written as.
     ghost written: { List ℕ → List ℕ };
 
+    /// How many bytes a content is written as, or `usize::MAX` where that is less.
     fn written_len(content: &[u8]) -> usize
         ensures { result ≡ saturated (length (written content.now)) };
 
+    /// Writes a content to a buffer that has room.
     fn append(content: &[u8], out: &mut Vec<u8>)
         requires { vec_len out.old + length (written content.now) ≤ vec_capacity out.old }
         ensures items { out.new.items ≡ out.old.items ++ written content.now }
@@ -55,7 +56,11 @@ pub trait BytesRepr {
     ghost size_is: { (ctx : Self.Ctx) → (form ctx).size ≡ None };
 }
 
-/// A byte string in a wire form, borrowed or owned.
+/// A byte string in the wire form `R`, borrowed or owned.
+///
+/// Its value is its content alone: a borrowed and an owned string with the same bytes are equal and
+/// hash equally. Reading borrows the content from the packet and takes no memory. Writing cuts the
+/// content to what the form can hold, `len()` bytes.
 #[derive(Drop)]
 pub struct RawBytes<'a, R>(CowSlice<'a, u8>, PhantomData<R>);
 
@@ -69,6 +74,7 @@ impl<'a, R> Model for RawBytes<'a, R> {
 }
 
 impl<'a, R> RawBytes<'a, R> {
+    /// A byte string with that content.
     #[inline(always)]
     pub fn new(content: CowSlice<'a, u8>) -> Self
         ensures { result ≡ cow_slice_items content.entry }
@@ -76,7 +82,7 @@ impl<'a, R> RawBytes<'a, R> {
         RawBytes(content, PhantomData)
     }
 
-    /// The content.
+    /// The whole content, also what is past the form's limit.
     #[inline(always)]
     pub fn as_bytes(&self) -> &[u8]
         ensures value { result.now ≡ self.now }
@@ -92,7 +98,9 @@ impl<'a, R> RawBytes<'a, R> {
         self.as_bytes().to_str_lossy(alloc)
     }
 
-    /// The same content, on memory of its own.
+    /// The same content, on memory of its own. An owned content is kept as it is.
+    ///
+    /// Where the copy is refused, the string is given up, and the bytes that it borrowed stay.
     pub fn into_owned(self, alloc: Global) -> Result<RawBytes<'static, R>, AllocError>
         ensures { IfOk result (λ owned. owned ≡ self.entry) }
     {
@@ -105,7 +113,7 @@ impl<R: BytesRepr> RawBytes<'_, R> {
     /// How many bytes of the content are written: all that the form can hold.
     #[inline(always)]
     pub fn len(&self) -> usize
-        ensures { result ≡ length (R.kept self.now) }
+        ensures value { result ≡ length (R.kept self.now) }
     {
         R::kept(self.as_bytes()).len()
     }
@@ -113,7 +121,7 @@ impl<R: BytesRepr> RawBytes<'_, R> {
     /// Whether no byte of the content is written.
     #[inline(always)]
     pub fn is_empty(&self) -> bool
-        ensures { IsTrue result ↔ (R.kept self.now ≡ []) }
+        ensures value { IsTrue result ↔ (R.kept self.now ≡ []) }
     {
         R::kept(self.as_bytes()).is_empty()
     }

@@ -15,9 +15,10 @@ use std::marker::PhantomData;
 pub trait ConstBytesValue<const LEN: usize> {
     ghost VALUE: { List ℕ };
 
+    /// The bytes.
     const VALUE: [u8; LEN];
 
-    /// Its text goes into the refusal of another value.
+    /// The marker whose text goes into the refusal of other bytes.
     type Error: ConstFault;
 
     /// The value has that length.
@@ -25,10 +26,14 @@ pub trait ConstBytesValue<const LEN: usize> {
 }
 
 /// `LEN` bytes that have one value, that of `T`.
+///
+/// Other bytes are `InvalidData` with the text of the marker `T::Error`.
 #[derive_where(Clone, Copy, PartialEq, Eq, Hash, Debug)]
 pub struct ConstBytes<T, const LEN: usize>(PhantomData<T>);
 
 impl<T, const LEN: usize> ConstBytes<T, LEN> {
+    /// The bytes.
+    #[inline(always)]
     pub fn new() -> Self {
         ConstBytes(PhantomData)
     }

@@ -12,7 +12,9 @@ use crate::fault::FaultOf;
 use crate::int::{IntRepr, RawInt};
 use crate::little_endian::LeU32;
 
-/// The bytes behind a count of one byte. The first 255 bytes of a content are written.
+/// The bytes behind a count of one byte. Fewer bytes than the count: `UnexpectedEof`.
+///
+/// The first 255 bytes of a content are written.
 #[derive(Clone, Copy, Debug)]
 pub struct U8Bytes;
 
@@ -20,9 +22,9 @@ impl BytesRepr for U8Bytes {
     type Ctx = ();
 
     ghost use Rattle.mysql_wire.specs.Int.{byte};
-    ghost use Rattle.mysql_wire.specs.CountedBytes.{counted_bytes, size-counted_bytes};
+    ghost use Rattle.mysql_wire.specs.CountedBytes.{u8_string, size-counted_bytes};
 
-    ghost form = { λ _. counted_bytes byte };
+    ghost form = { λ _. u8_string };
 
     #[inline(always)]
     #[tactic(auto, using(crate::proofs::Tails::tails), unfolding(crate::specs::CountedBytes::counted_bytes))]
@@ -34,7 +36,7 @@ impl BytesRepr for U8Bytes {
         buf.parse(usize::from(count.0))
     }
 
-    ghost use Rattle.mysql_wire.specs.CountedBytes.{counted_bytes_of};
+    ghost use Rattle.mysql_wire.specs.CountedBytes.{u8_string_bytes};
 
     ghost kept = { take 255 };
 
@@ -43,7 +45,7 @@ impl BytesRepr for U8Bytes {
         first_bytes(content, u8::MAX as usize)
     }
 
-    ghost written = { counted_bytes_of 1 255 };
+    ghost written = { u8_string_bytes };
 
     #[inline(always)]
     #[tactic(auto, using(crate::proofs::CountedBytes::cuts), unfolding(crate::specs::Writing::saturated, crate::specs::Writing::le_bytes, crate::specs::CountedBytes::counted_bytes_of))]
@@ -62,8 +64,10 @@ impl BytesRepr for U8Bytes {
     ghost size_is = { λ _. size-counted_bytes byte };
 }
 
-/// The bytes behind a count of four bytes, the low one first. The first 4,294,967,295 bytes of a
-/// content are written.
+/// The bytes behind a count of four bytes, the low one first. Fewer bytes than the count:
+/// `UnexpectedEof`.
+///
+/// The first 4,294,967,295 bytes of a content are written.
 #[derive(Clone, Copy, Debug)]
 pub struct U32Bytes;
 
@@ -71,9 +75,9 @@ impl BytesRepr for U32Bytes {
     type Ctx = ();
 
     ghost use Rattle.mysql_wire.specs.Int.{le_u32};
-    ghost use Rattle.mysql_wire.specs.CountedBytes.{counted_bytes, size-counted_bytes};
+    ghost use Rattle.mysql_wire.specs.CountedBytes.{u32_string, size-counted_bytes};
 
-    ghost form = { λ _. counted_bytes le_u32 };
+    ghost form = { λ _. u32_string };
 
     #[inline(always)]
     #[tactic(auto, using(crate::proofs::Tails::tails), unfolding(crate::specs::CountedBytes::counted_bytes))]
@@ -85,7 +89,7 @@ impl BytesRepr for U32Bytes {
         buf.parse(count.0 as usize)
     }
 
-    ghost use Rattle.mysql_wire.specs.CountedBytes.{counted_bytes_of};
+    ghost use Rattle.mysql_wire.specs.CountedBytes.{u32_string_bytes};
 
     ghost kept = { take 4294967295 };
 
@@ -94,7 +98,7 @@ impl BytesRepr for U32Bytes {
         first_bytes(content, u32::MAX as usize)
     }
 
-    ghost written = { counted_bytes_of 4 4294967295 };
+    ghost written = { u32_string_bytes };
 
     #[inline(always)]
     #[tactic(auto, using(crate::proofs::CountedBytes::cuts), unfolding(crate::specs::Writing::saturated, crate::specs::Writing::le_bytes, crate::specs::CountedBytes::counted_bytes_of))]

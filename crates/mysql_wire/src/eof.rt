@@ -10,7 +10,7 @@ use crate::buf::ParseBuf;
 use crate::bytes::BytesRepr;
 use crate::fault::FaultOf;
 
-/// All the bytes that are left.
+/// All the bytes that are left (`string<EOF>`). A content is written whole.
 #[derive(Clone, Copy, Debug)]
 pub struct EofBytes;
 

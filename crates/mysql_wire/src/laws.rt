@@ -11,8 +11,14 @@ ghost use Rattle.mysql_wire.specs.LenEnc.{lenenc, lenenc_bytes, lenenc_string, l
 ghost use Rattle.mysql_wire.specs.Writing.{le_bytes};
 ghost use Rattle.mysql_wire.specs.Spelling.{IsSpelling};
 
+mod byte_strings;
+
 use crate::bytes::RawBytes;
 use crate::proto::MyDeserialize;
+pub use byte_strings::{
+    array_again, bare_string_again, const_bytes_again, null_string_again, rest_again,
+    u8_string_again, u32_string_again,
+};
 use std::hash::Hash;
 
 /// Bytes are spellings of at most one value of a type, with one rest.

@@ -25,6 +25,7 @@ mod null;
 mod proto;
 mod seq;
 mod skip;
+mod varlen;
 
 pub use bare::BareBytes;
 pub use bitflags::Flags;
@@ -56,3 +57,8 @@ pub use null::NullBytes;
 pub use proto::{AnyWidth, Fixed, MyDeserialize, MySerialize, Width, total_len};
 pub use seq::{Seq, SeqRepr, Unknown};
 pub use skip::Skip;
+
+#[cfg(test)]
+mod tests;
+
+pub use varlen::{VarLen, read_varlen_uint, varlen_uint_size, write_varlen_uint};

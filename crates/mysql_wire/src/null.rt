@@ -10,7 +10,7 @@ use crate::bytes::BytesRepr;
 use crate::fault::FaultOf;
 use memchr::memchr;
 
-/// The bytes up to a zero (`string<NUL>`), which is eaten. Without a zero, bytes are missing.
+/// The bytes up to a zero (`string<NUL>`), which is eaten. Without a zero: `UnexpectedEof`.
 ///
 /// A content is written up to its first zero, and then a zero.
 #[derive(Clone, Copy, Debug)]

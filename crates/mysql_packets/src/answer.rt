@@ -1,0 +1,62 @@
+//! What the program answers.
+
+ghost use Rattle.std.specs.Prelude.{◌≡◌, IfOk, string_bytes};
+ghost use Rattle.mysql_packets.specs.Answer.{done, IsRefusal};
+
+use crate::lines::{Line, append_lines};
+use mysql_wire::Fault;
+use std::alloc::{AllocError, Global};
+use std::marker::Model;
+
+/// The lines that are written, and the status.
+#[derive(Drop)]
+pub struct Answer {
+    text: String,
+    status: u8,
+}
+
+impl Model for Answer {
+    ghost use Rattle.std.specs.Prelude.{string_bytes};
+    ghost use Rattle.mysql_packets.specs.Answer;
+
+    ghost Value = { Answer.Answer };
+
+    ghost view = { λ a. record { text = string_bytes a.text; status = a.status } };
+}
+
+impl Answer {
+    /// All is done: status 0.
+    pub fn done(text: String) -> Answer
+        ensures value { result ≡ done (string_bytes text) }
+    {
+        Answer { text, status: 0 }
+    }
+
+    /// The lines so far, and then that the rest was refused: status 1.
+    ///
+    /// A growth that was refused gives no answer of its own, but the error.
+    pub fn refused(alloc: Global, mut text: String, fault: Fault) -> Result<Answer, AllocError>
+        ensures value { IfOk result (λ answer. IsRefusal (string_bytes text) fault answer) }
+    {
+        let name = match fault {
+            Fault::UnexpectedEof => "UnexpectedEof",
+            Fault::InvalidData(_) => "InvalidData",
+            Fault::InvalidInput(_) => "InvalidInput",
+            Fault::Memory => return Err(AllocError),
+        };
+        append_lines(alloc, &mut text, &[Line::text("refused", name)])?;
+        Ok(Answer { text, status: 1 })
+    }
+
+    pub fn text(&self) -> &str
+        ensures value { result.now ≡ self.now.text }
+    {
+        self.text.as_str()
+    }
+
+    pub fn status(&self) -> u8
+        ensures value { result ≡ self.now.status }
+    {
+        self.status
+    }
+}

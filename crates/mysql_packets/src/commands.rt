@@ -1,0 +1,3 @@
+//! The program's commands, one a file.
+
+pub mod stmt;

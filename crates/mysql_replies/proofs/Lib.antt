@@ -1,0 +1,4 @@
+pub mod LocalInfileAgain
+pub mod SqlStateAgain
+pub mod ServerErrorAgain
+pub mod ProgressReportAgain

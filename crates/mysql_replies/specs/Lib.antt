@@ -1,0 +1,4 @@
+pub mod LocalInfile
+pub mod SqlState
+pub mod ServerError
+pub mod ProgressReport

@@ -1,0 +1,101 @@
+//! The request for a file of the client's.
+
+ghost use Rattle.std.specs.Prelude.{false, ◌≡◌, None, refl, IfOk};
+ghost use Rattle.std.specs.Cow.{cow_slice_items};
+ghost use Rattle.mysql_replies.specs.LocalInfile as infile;
+
+use mysql_wire::{
+    AnyWidth, ConstFault, ConstU8, EofBytes, FaultOf, MyDeserialize, MySerialize, ParseBuf,
+    RawBytes, append_all, len_of,
+};
+use std::alloc::{AllocError, Global};
+use std::borrow::CowSlice;
+use thiserror::Error;
+
+/// The first byte of a request for a local file is not `fb`.
+#[derive(Clone, Copy, Debug, Default, PartialEq, Eq, Hash, Error)]
+#[error("Invalid LOCAL_INFILE header")]
+pub struct InvalidLocalInfileHeader;
+
+impl ConstFault for InvalidLocalInfileHeader {
+    const MESSAGE: &'static str = "Invalid LOCAL_INFILE header";
+}
+
+/// The first byte of a request for a local file: `fb`.
+pub type LocalInfileHeader = ConstU8<InvalidLocalInfileHeader, 0xfb>;
+
+/// A server's request for a file of the client's (`Protocol::LOCAL_INFILE_Request`): the byte
+/// `fb`, and the file's name to the end of the packet.
+///
+/// A packet that begins with another byte is `InvalidData`, an empty one `UnexpectedEof`.
+#[derive(Clone, Debug, PartialEq, Eq, Drop)]
+pub struct LocalInfilePacket<'a> {
+    header: LocalInfileHeader,
+    file_name: RawBytes<'a, EofBytes>,
+}
+
+impl<'a> LocalInfilePacket<'a> {
+    /// A request for the file of that name.
+    #[inline]
+    pub fn new(file_name: CowSlice<'a, u8>) -> Self
+        ensures value { result ≡ infile.request_for (cow_slice_items file_name.entry) }
+    {
+        LocalInfilePacket {
+            header: ConstU8::new(),
+            file_name: RawBytes::new(file_name),
+        }
+    }
+
+    /// The bytes of the file's name.
+    #[inline]
+    pub fn file_name_ref(&self) -> &[u8]
+        ensures value { result.now ≡ infile.file_name self.now }
+    {
+        self.file_name.as_bytes()
+    }
+
+    /// The same request, on memory of its own.
+    pub fn into_owned(self, alloc: Global) -> Result<LocalInfilePacket<'static>, AllocError>
+        ensures value { IfOk result (λ owned. owned ≡ self.entry) }
+    {
+        Ok(LocalInfilePacket {
+            header: self.header,
+            file_name: self.file_name.into_owned(alloc)?,
+        })
+    }
+}
+
+impl<'de> MyDeserialize<'de> for LocalInfilePacket<'de> {
+    const SIZE: Option<usize> = None;
+
+    type Size = AnyWidth;
+
+    ghost takes_memory = { false };
+
+    type Ctx = ();
+
+    ghost form = { λ _. infile.local_infile };
+
+    #[tactic(auto, using(mysql_wire::proofs::Tails::tails))]
+    fn deserialize<'s>(_ctx: (), buf: &mut ParseBuf<'de>) -> Result<Self, FaultOf<'s>> {
+        Ok(LocalInfilePacket {
+            header: buf.parse(())?,
+            file_name: buf.parse(())?,
+        })
+    }
+
+    ghost size_is = { λ _. refl };
+}
+
+impl MySerialize for LocalInfilePacket<'_> {
+    ghost bytes = { infile.local_infile_bytes };
+
+    #[tactic(auto, using(mysql_wire::specs::Writing::lengths), unfolding(mysql_wire::specs::Writing::le_bytes))]
+    fn defined_len(&self) -> usize {
+        len_of!(self.header, self.file_name)
+    }
+
+    fn append(&self, out: &mut Vec<u8>) {
+        append_all!(out; self.header, self.file_name);
+    }
+}

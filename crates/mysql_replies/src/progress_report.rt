@@ -1,0 +1,151 @@
+//! How far a server is with a long statement.
+
+ghost use Rattle.std.specs.Prelude.{false, ◌≡◌, None, Some, refl, IfOk};
+ghost use Rattle.std.specs.Cow.{cow_slice_items};
+ghost use Rattle.mysql_replies.specs.ProgressReport as spec;
+
+use bstr::BStr;
+use mysql_wire::{
+    AnyWidth, FaultOf, LeU24, LenEnc, MyDeserialize, MySerialize, ParseBuf, RawBytes, RawInt,
+    append_all, len_of,
+};
+use std::alloc::{AllocError, Global};
+use std::borrow::CowSlice;
+use std::fmt;
+
+/// How far a MariaDB server is with a long statement, sent in an error packet.
+///
+/// Six bytes: a count of strings (ignored, written as 1), the stage, the last stage, and the
+/// progress in thousandths of a percent (three bytes, the low one first). Then the stage's text,
+/// length-encoded.
+#[derive(Clone, Debug, PartialEq, Eq, Drop)]
+pub struct ProgressReport<'a> {
+    stage: RawInt<u8>,
+    max_stage: RawInt<u8>,
+    progress: RawInt<LeU24>,
+    stage_info: RawBytes<'a, LenEnc>,
+}
+
+impl<'a> ProgressReport<'a> {
+    /// A report. Of `progress` the low 24 bits are written.
+    #[inline]
+    pub fn new(stage: u8, max_stage: u8, progress: u32, stage_info: CowSlice<'a, u8>) -> Self
+        ensures value { result ≡ spec.report_of stage max_stage progress (cow_slice_items stage_info.entry) }
+    {
+        ProgressReport {
+            stage: RawInt::new(stage),
+            max_stage: RawInt::new(max_stage),
+            progress: RawInt::new(progress),
+            stage_info: RawBytes::new(stage_info),
+        }
+    }
+
+    /// The stage, from 1 to `max_stage`.
+    #[inline]
+    pub fn stage(&self) -> u8
+        ensures value { result ≡ spec.stage self.now }
+    {
+        self.stage.0
+    }
+
+    /// The last stage.
+    #[inline]
+    pub fn max_stage(&self) -> u8
+        ensures value { result ≡ spec.max_stage self.now }
+    {
+        self.max_stage.0
+    }
+
+    /// The progress in thousandths of a percent.
+    #[inline]
+    pub fn progress(&self) -> u32
+        ensures value { result ≡ spec.progress self.now }
+    {
+        self.progress.0
+    }
+
+    /// The bytes of the stage's text.
+    #[inline]
+    pub fn stage_info_ref(&self) -> &[u8]
+        ensures value { result.now ≡ spec.stage_info self.now }
+    {
+        self.stage_info.as_bytes()
+    }
+
+    /// The same report, on memory of its own.
+    pub fn into_owned(self, alloc: Global) -> Result<ProgressReport<'static>, AllocError>
+        ensures value { IfOk result (λ owned. owned ≡ self.entry) }
+    {
+        Ok(ProgressReport {
+            stage: self.stage,
+            max_stage: self.max_stage,
+            progress: self.progress,
+            stage_info: self.stage_info.into_owned(alloc)?,
+        })
+    }
+}
+
+impl<'de> MyDeserialize<'de> for ProgressReport<'de> {
+    const SIZE: Option<usize> = None;
+
+    type Size = AnyWidth;
+
+    ghost takes_memory = { false };
+
+    type Ctx = ();
+
+    ghost form = { λ _. spec.progress_report };
+
+    #[tactic(auto, using(mysql_wire::proofs::Blocks::blocks), unfolding(crate::specs::ProgressReport::progress_report))]
+    fn deserialize<'s>(_ctx: (), buf: &mut ParseBuf<'de>) -> Result<Self, FaultOf<'s>> {
+        let mut rest = buf.rest();
+        let mut numbers: ParseBuf<'de> = rest.parse(6)?;
+        let _count: RawInt<u8> = numbers.parse_unchecked(())?;
+        let stage = numbers.parse_unchecked(())?;
+        let max_stage = numbers.parse_unchecked(())?;
+        let progress = numbers.parse_unchecked(())?;
+        let stage_info = rest.parse(())?;
+        *buf = rest;
+        Ok(ProgressReport {
+            stage,
+            max_stage,
+            progress,
+            stage_info,
+        })
+    }
+
+    ghost size_is = { λ _. spec.size-progress_report };
+}
+
+impl MySerialize for ProgressReport<'_> {
+    ghost bytes = { spec.progress_report_bytes };
+
+    #[tactic(auto, using(mysql_wire::specs::Writing::lengths), unfolding(mysql_wire::specs::Writing::le_bytes, crate::specs::ProgressReport::progress_report_bytes))]
+    fn defined_len(&self) -> usize {
+        let count: RawInt<u8> = RawInt::new(1);
+        len_of!(count, self.stage, self.max_stage, self.progress, self.stage_info)
+    }
+
+    #[tactic(auto, unfolding(crate::specs::ProgressReport::progress_report_bytes))]
+    fn append(&self, out: &mut Vec<u8>) {
+        let count: RawInt<u8> = RawInt::new(1);
+        append_all!(out; count, self.stage, self.max_stage, self.progress, self.stage_info);
+    }
+}
+
+impl fmt::Display for ProgressReport<'_> {
+    ghost output = { λ r. Some (spec.progress_text r) };
+
+    fn fmt<W: fmt::Write>(&self, f: &mut fmt::Formatter<W>) -> fmt::Result {
+        let stage = self.stage.0;
+        let max_stage = self.max_stage.0;
+        let info = BStr::new(self.stage_info.as_bytes());
+        let whole = self.progress.0 / 1000;
+        let tens = self.progress.0 % 1000 / 100;
+        let ones = self.progress.0 % 100 / 10;
+        write!(
+            f,
+            "Stage: {stage} of {max_stage} '{info}'  {whole}.{tens}{ones}% of stage done"
+        )
+    }
+}

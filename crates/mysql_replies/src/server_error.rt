@@ -1,0 +1,141 @@
+//! An error that a server reports.
+
+ghost use Rattle.std.specs.Prelude.{false, ◌≡◌, None, Some, refl, IfOk, option_map};
+ghost use Rattle.std.specs.Cow.{cow_slice_items};
+ghost use Rattle.mysql_replies.specs.ServerError as spec;
+
+use crate::sql_state::SqlState;
+use bstr::BStr;
+use mysql_wire::{
+    AnyWidth, EofBytes, FaultOf, MyDeserialize, MySerialize, ParseBuf, RawBytes, append_all, len_of,
+};
+use std::alloc::{AllocError, Global};
+use std::borrow::CowSlice;
+use std::fmt;
+
+/// An error that a server reports: its code, its SQL state where one was sent, its message.
+///
+/// The code stands in the packet that the error is a part of: reading is told it, and writing
+/// leaves it out.
+#[derive(Clone, Debug, PartialEq, Drop)]
+pub struct ServerError<'a> {
+    code: u16,
+    state: Option<SqlState>,
+    message: RawBytes<'a, EofBytes>,
+}
+
+impl<'a> ServerError<'a> {
+    /// An error of this code, state and message.
+    #[inline]
+    pub fn new(code: u16, state: Option<SqlState>, msg: CowSlice<'a, u8>) -> Self
+        ensures value { result ≡ spec.error_of code state (cow_slice_items msg.entry) }
+    {
+        ServerError {
+            code,
+            state,
+            message: RawBytes::new(msg),
+        }
+    }
+
+    /// The error's number.
+    #[inline]
+    pub fn error_code(&self) -> u16
+        ensures value { result ≡ spec.error_code self.now }
+    {
+        self.code
+    }
+
+    /// The SQL state, where one was sent.
+    #[inline]
+    pub fn sql_state_ref(&self) -> Option<&SqlState>
+        ensures value { option_map (λ s. s.now) result ≡ spec.sql_state_of self.now }
+    {
+        self.state.as_ref()
+    }
+
+    /// The bytes of the message.
+    #[inline]
+    pub fn message_ref(&self) -> &[u8]
+        ensures value { result.now ≡ spec.message self.now }
+    {
+        self.message.as_bytes()
+    }
+
+    /// The same error, on memory of its own.
+    pub fn into_owned(self, alloc: Global) -> Result<ServerError<'static>, AllocError>
+        ensures value { IfOk result (λ owned. owned ≡ self.entry) }
+    {
+        Ok(ServerError {
+            code: self.code,
+            state: self.state,
+            message: self.message.into_owned(alloc)?,
+        })
+    }
+}
+
+impl<'de> MyDeserialize<'de> for ServerError<'de> {
+    const SIZE: Option<usize> = None;
+
+    type Size = AnyWidth;
+
+    ghost takes_memory = { false };
+
+    /// The code, and whether an SQL state stands in front of the message.
+    type Ctx = (u16, bool);
+
+    ghost form = { λ ctx. spec.server_error ctx.0 ctx.1 };
+
+    #[tactic(auto, using(mysql_wire::proofs::Tails::tails), unfolding(crate::specs::ServerError::server_error))]
+    fn deserialize<'s>(ctx: (u16, bool), buf: &mut ParseBuf<'de>) -> Result<Self, FaultOf<'s>> {
+        let (code, has_state) = ctx;
+        let state = if has_state {
+            Some(buf.parse(())?)
+        } else {
+            None
+        };
+        Ok(ServerError {
+            code,
+            state,
+            message: buf.parse(())?,
+        })
+    }
+
+    ghost size_is = { λ ctx. spec.size-server_error ctx.0 ctx.1 };
+}
+
+impl MySerialize for ServerError<'_> {
+    ghost bytes = { spec.server_error_bytes };
+
+    #[tactic(auto, using(mysql_wire::specs::Writing::lengths), unfolding(crate::specs::ServerError::server_error_bytes))]
+    fn defined_len(&self) -> usize {
+        match &self.state {
+            Some(state) => len_of!(*state, self.message),
+            None => self.message.defined_len(),
+        }
+    }
+
+    #[tactic(auto, unfolding(crate::specs::ServerError::server_error_bytes))]
+    fn append(&self, out: &mut Vec<u8>) {
+        match &self.state {
+            Some(state) => append_all!(out; *state, self.message),
+            None => self.message.append(out),
+        }
+    }
+}
+
+impl fmt::Display for ServerError<'_> {
+    ghost output = { λ e. Some (spec.error_text e) };
+
+    fn fmt<W: fmt::Write>(&self, f: &mut fmt::Formatter<W>) -> fmt::Result {
+        let code = self.code;
+        let message = BStr::new(self.message.as_bytes());
+        match self.state {
+            Some(state) => {
+                let bytes = state.as_bytes();
+                let state = BStr::new(&bytes);
+                write!(f, "ERROR {code} ({state}): {message}")
+            }
+            None => write!(f, "ERROR {code}: {message}"),
+        }
+    }
+}

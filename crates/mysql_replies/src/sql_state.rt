@@ -1,0 +1,91 @@
+//! The SQL state of an error.
+
+ghost use Rattle.std.specs.Prelude.{false, ◌≡◌, Some, refl, IfOk};
+ghost use Rattle.mysql_replies.specs.SqlState as spec;
+
+use mysql_wire::{
+    ConstFault, ConstU8, FaultOf, Fixed, MyDeserialize, MySerialize, ParseBuf, append_all,
+};
+use thiserror::Error;
+
+/// The byte in front of an SQL state is not `#`.
+#[derive(Clone, Copy, Debug, Default, PartialEq, Eq, Hash, Error)]
+#[error("Invalid SqlStateMarker value")]
+pub struct InvalidSqlStateMarker;
+
+impl ConstFault for InvalidSqlStateMarker {
+    const MESSAGE: &'static str = "Invalid SqlStateMarker value";
+}
+
+/// The byte in front of an SQL state: `#`.
+pub type SqlStateMarker = ConstU8<InvalidSqlStateMarker, 35>;
+
+/// The SQL state of an error: the byte `#`, and five bytes, mostly ASCII such as `HY000`.
+///
+/// Fewer than six bytes are `UnexpectedEof`, another first byte is `InvalidData`.
+#[derive(Clone, Copy, Debug, PartialEq, Eq, Hash)]
+pub struct SqlState {
+    marker: SqlStateMarker,
+    state: [u8; 5],
+}
+
+impl SqlState {
+    /// The state of these five bytes.
+    #[inline]
+    pub fn new(state: [u8; 5]) -> Self
+        ensures value { result ≡ spec.state_of state }
+    {
+        SqlState {
+            marker: ConstU8::new(),
+            state,
+        }
+    }
+
+    /// The five bytes, without the marker.
+    #[inline]
+    pub fn as_bytes(&self) -> [u8; 5]
+        ensures value { result ≡ spec.state_bytes self.now }
+    {
+        self.state
+    }
+}
+
+impl<'de> MyDeserialize<'de> for SqlState {
+    const SIZE: Option<usize> = Some(6);
+
+    type Size = Fixed<6>;
+
+    ghost takes_memory = { false };
+
+    type Ctx = ();
+
+    ghost form = { λ _. spec.sql_state };
+
+    #[tactic(auto, using(mysql_wire::proofs::Blocks::blocks), unfolding(mysql_wire::specs::Form::bytes, crate::specs::SqlState::sql_state))]
+    fn deserialize<'s>(_ctx: (), buf: &mut ParseBuf<'de>) -> Result<Self, FaultOf<'s>> {
+        let mut fields: ParseBuf<'de> = buf.parse(6)?;
+        let marker = fields.parse_unchecked(())?;
+        let state = fields.eat(5);
+        Ok(SqlState {
+            marker,
+            state: [state[0], state[1], state[2], state[3], state[4]],
+        })
+    }
+
+    ghost size_is = { λ _. spec.size-sql_state };
+}
+
+impl MySerialize for SqlState {
+    ghost bytes = { spec.sql_state_bytes };
+
+    #[tactic(auto, unfolding(mysql_wire::specs::Writing::saturated, crate::specs::SqlState::sql_state_bytes))]
+    fn defined_len(&self) -> usize {
+        6
+    }
+
+    #[tactic(auto, unfolding(crate::specs::SqlState::sql_state_bytes))]
+    fn append(&self, out: &mut Vec<u8>) {
+        append_all!(out; self.marker);
+        out.extend_from_slice(&self.state).unwrap();
+    }
+}

@@ -1,0 +1,4 @@
+pub mod Lengths
+pub mod PartsAgain
+pub mod SystemVariableAgain
+pub mod SessionStateChangeAgain

@@ -1,0 +1,36 @@
+use Rattle.std.proofs.Common.{◌≡◌, ℕ, ◌<◌, List, [], ◌∷◌, ◌++◌, length, Bool, true, false, refl, arith, sym}
+use Rattle.std.proofs.lemmas.List.{append-nil}
+use Rattle.mysql_wire.specs.declared.codes.session_state_type.SessionStateType.{SessionStateType}
+use Rattle.mysql_wire.specs.declared.codes.session_state_type.SessionStateType.TheVariants as kind
+use Rattle.mysql_wire.specs.LenEnc.{lenenc_string, lenenc_string_bytes, lenenc_bytes}
+use Rattle.mysql_wire.specs.Again.{lenenc_string-again}
+use Rattle.mysql_session.specs.declared.session_state_change.SessionStateChange.{SessionStateChange}
+use Rattle.mysql_session.specs.declared.session_state_change.SessionStateChange.TheVariants as change
+use Rattle.mysql_session.specs.declared.unsupported.Unsupported.{Unsupported}
+use Rattle.mysql_session.specs.SessionStateChange.{session_state_change, session_state_change_bytes, ChangeFits}
+use Rattle.mysql_session.proofs.PartsAgain.{schema-again, transaction_characteristics-again, transaction_state-again, gtids-again}
+use Rattle.mysql_session.proofs.SystemVariableAgain.{system_variables-again}
+
+one_character : (b : ℕ) (rest : List ℕ) → lenenc_string.Spells (b ∷ []) (1 ∷ b ∷ rest) rest
+unfolding lenenc_string_bytes lenenc_bytes
+one_character b rest = lenenc_string-again (b ∷ []) (omega arith) rest
+
+pub session_state_change-again : (k : SessionStateType) (c : SessionStateChange) (rest : List ℕ) → ChangeFits k c rest → (session_state_change k).Spells c (session_state_change_bytes c ++ rest) rest
+unfolding session_state_change session_state_change_bytes
+session_state_change-again k (change.IsTracked true) rest fits = rw fits (49 ∷ [], refl, one_character 49 rest)
+session_state_change-again k (change.IsTracked false) rest fits = rw fits (48 ∷ [], refl, one_character 48 rest)
+session_state_change-again k (change.Schema s) rest fits = rw fits.0 (s, refl, schema-again s fits.1 rest)
+session_state_change-again k (change.SystemVariables vs) rest fits = rw (fits.0, fits.2, append-nil) (vs, refl, system_variables-again vs fits.1)
+session_state_change-again k (change.Gtids g) rest fits = rw (fits.0, fits.1, append-nil) (g, refl, gtids-again g)
+session_state_change-again k (change.TransactionCharacteristics c) rest fits = rw fits.0 (c, refl, transaction_characteristics-again c fits.1 rest)
+session_state_change-again k (change.TransactionState s) rest fits = rw fits.0 (s, refl, transaction_state-again s fits.1 rest)
+session_state_change-again k (change.Unsupported u) rest fits = absurd fits
+
+pub never-unsupported : (k : SessionStateType) (u : Unsupported) (bytes rest : List ℕ) → (session_state_change k).Spells (change.Unsupported u) bytes rest → ⊥
+unfolding session_state_change
+never-unsupported kind.SESSION_TRACK_SYSTEM_VARIABLES u bytes rest s = absurd (let e = s.1 in cc)
+never-unsupported kind.SESSION_TRACK_SCHEMA u bytes rest s = absurd (let e = s.1 in cc)
+never-unsupported kind.SESSION_TRACK_STATE_CHANGE u bytes rest s = absurd (let e = s.1 in cc)
+never-unsupported kind.SESSION_TRACK_GTIDS u bytes rest s = absurd (let e = s.1 in cc)
+never-unsupported kind.SESSION_TRACK_TRANSACTION_CHARACTERISTICS u bytes rest s = absurd (let e = s.1 in cc)
+never-unsupported kind.SESSION_TRACK_TRANSACTION_STATE u bytes rest s = absurd (let e = s.1 in cc)

@@ -1,0 +1,47 @@
+//! Laws over the grammars and the defined bytes of session changes.
+//!
+//! Each law is a function with nothing in it, whose contract holds for all values.
+
+ghost use Rattle.std.specs.Prelude.{◌++◌, [], List, ℕ};
+ghost use Rattle.mysql_wire.specs.declared.codes.session_state_type.SessionStateType.{SessionStateType};
+ghost use Rattle.mysql_session.specs.declared.gtids.Gtids.{Gtids};
+ghost use Rattle.mysql_session.specs.declared.schema.Schema.{Schema};
+ghost use Rattle.mysql_session.specs.declared.session_state_change.SessionStateChange.{SessionStateChange};
+ghost use Rattle.mysql_session.specs.declared.session_state_change.SessionStateChange.TheVariants as change;
+ghost use Rattle.mysql_session.specs.declared.system_variable.SystemVariable.{SystemVariable};
+ghost use Rattle.mysql_session.specs.declared.transaction_characteristics.TransactionCharacteristics.{TransactionCharacteristics};
+ghost use Rattle.mysql_session.specs.declared.transaction_state.TransactionState.{TransactionState};
+ghost use Rattle.mysql_session.specs.declared.unsupported.Unsupported.{Unsupported};
+ghost use Rattle.mysql_session.specs.Gtids.{gtids, gtids_bytes};
+ghost use Rattle.mysql_session.specs.Schema.{schema, schema_bytes, SchemaFits};
+ghost use Rattle.mysql_session.specs.SessionStateChange.{session_state_change, session_state_change_bytes, ChangeFits};
+ghost use Rattle.mysql_session.specs.SystemVariable.{system_variable, system_variable_bytes, SystemVariableFits};
+ghost use Rattle.mysql_session.specs.SystemVariables.{system_variables, system_variables_bytes, SystemVariablesFit};
+ghost use Rattle.mysql_session.specs.TransactionCharacteristics.{transaction_characteristics, transaction_characteristics_bytes, TransactionCharacteristicsFits};
+ghost use Rattle.mysql_session.specs.TransactionState.{transaction_state, transaction_state_bytes, TransactionStateFits};
+ghost use Rattle.mysql_session.specs.Unsupported.{unsupported, unsupported_bytes, UnsupportedFits};
+
+/// What is written of each part of a change is read again, whatever follows.
+pub fn session_parts_again()
+    ensures schema { (x : Schema) (rest : List ℕ) → SchemaFits x → schema.Spells x (schema_bytes x ++ rest) rest }
+    ensures characteristics { (x : TransactionCharacteristics) (rest : List ℕ) → TransactionCharacteristicsFits x → transaction_characteristics.Spells x (transaction_characteristics_bytes x ++ rest) rest }
+    ensures state { (x : TransactionState) (rest : List ℕ) → TransactionStateFits x → transaction_state.Spells x (transaction_state_bytes x ++ rest) rest }
+    ensures unsupported { (x : Unsupported) (rest : List ℕ) → UnsupportedFits x → unsupported.Spells x (unsupported_bytes x ++ rest) rest }
+    ensures variable { (x : SystemVariable) (rest : List ℕ) → SystemVariableFits x → system_variable.Spells x (system_variable_bytes x ++ rest) rest }
+{}
+
+/// What is written of a part that runs to the end is read again, where nothing follows.
+pub fn session_ends_again()
+    ensures gtids { (x : Gtids) → gtids.Spells x (gtids_bytes x) [] }
+    ensures variables { (xs : List SystemVariable) → SystemVariablesFit xs → system_variables.Spells xs (system_variables_bytes xs) [] }
+{}
+
+/// What is written of a change is read again, where the reader is told its type.
+pub fn session_state_change_again()
+    ensures spelled { (kind : SessionStateType) (c : SessionStateChange) (rest : List ℕ) → ChangeFits kind c rest → (session_state_change kind).Spells c (session_state_change_bytes c ++ rest) rest }
+{}
+
+/// No bytes are read as a change of another kind.
+pub fn no_change_is_unsupported()
+    ensures never { (kind : SessionStateType) (u : Unsupported) (bytes rest : List ℕ) → (session_state_change kind).Spells (change.Unsupported u) bytes rest → ⊥ }
+{}

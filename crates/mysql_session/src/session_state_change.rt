@@ -1,0 +1,140 @@
+//! A change of a session's state.
+
+ghost use Rattle.std.specs.Prelude.{true, ◌≡◌, None, refl, IfOk};
+ghost use Rattle.mysql_session.specs.SessionStateChange as spec;
+
+use crate::gtids::Gtids;
+use crate::schema::Schema;
+use crate::system_variables::SystemVariables;
+use crate::transaction_characteristics::TransactionCharacteristics;
+use crate::transaction_state::TransactionState;
+use crate::unsupported::Unsupported;
+use mysql_wire::{
+    AnyWidth, FaultOf, LenEnc, MyDeserialize, MySerialize, ParseBuf, RawBytes, SessionStateType,
+};
+use std::alloc::{AllocError, Global};
+
+/// A change of a session's state, as the data of one entry behind an OK packet gives it.
+///
+/// Reading is told the entry's [`SessionStateType`], and never gives `Unsupported`.
+#[derive(Clone, Debug, PartialEq, Eq, Drop)]
+pub enum SessionStateChange<'a> {
+    /// Whether changes are tracked (`SESSION_TRACK_STATE_CHANGE`): a length-encoded string, true
+    /// exactly if it is `1`. It is written as `1` or `0`.
+    IsTracked(bool),
+    /// The default schema (`SESSION_TRACK_SCHEMA`).
+    Schema(Schema<'a>),
+    /// System variables (`SESSION_TRACK_SYSTEM_VARIABLES`).
+    SystemVariables(SystemVariables<'a>),
+    /// GTIDs (`SESSION_TRACK_GTIDS`).
+    Gtids(Gtids<'a>),
+    /// What would start the transaction again (`SESSION_TRACK_TRANSACTION_CHARACTERISTICS`).
+    TransactionCharacteristics(TransactionCharacteristics<'a>),
+    /// The state of the transaction (`SESSION_TRACK_TRANSACTION_STATE`).
+    TransactionState(TransactionState<'a>),
+    /// A change of another kind.
+    Unsupported(Unsupported<'a>),
+}
+
+impl<'a> SessionStateChange<'a> {
+    /// The same change, on memory of its own.
+    pub fn into_owned(self, alloc: Global) -> Result<SessionStateChange<'static>, AllocError>
+        ensures value { IfOk result (λ owned. owned ≡ self.entry) }
+    {
+        Ok(match self {
+            SessionStateChange::IsTracked(is_tracked) => SessionStateChange::IsTracked(is_tracked),
+            SessionStateChange::Schema(schema) => {
+                SessionStateChange::Schema(schema.into_owned(alloc)?)
+            }
+            SessionStateChange::SystemVariables(variables) => {
+                SessionStateChange::SystemVariables(variables.into_owned(alloc)?)
+            }
+            SessionStateChange::Gtids(gtids) => {
+                SessionStateChange::Gtids(gtids.into_owned(alloc)?)
+            }
+            SessionStateChange::TransactionCharacteristics(characteristics) => {
+                SessionStateChange::TransactionCharacteristics(characteristics.into_owned(alloc)?)
+            }
+            SessionStateChange::TransactionState(state) => {
+                SessionStateChange::TransactionState(state.into_owned(alloc)?)
+            }
+            SessionStateChange::Unsupported(unsupported) => {
+                SessionStateChange::Unsupported(unsupported.into_owned(alloc)?)
+            }
+        })
+    }
+}
+
+impl<'de> MyDeserialize<'de> for SessionStateChange<'de> {
+    const SIZE: Option<usize> = None;
+
+    type Size = AnyWidth;
+
+    ghost takes_memory = { true };
+
+    /// What of the session's state has changed.
+    type Ctx = SessionStateType;
+
+    ghost form = { λ kind. spec.session_state_change kind };
+
+    #[tactic(auto, using(mysql_wire::proofs::Tails::tails), unfolding(crate::specs::SessionStateChange::session_state_change))]
+    fn deserialize<'s>(
+        kind: SessionStateType,
+        buf: &mut ParseBuf<'de>,
+    ) -> Result<Self, FaultOf<'s>> {
+        Ok(match kind {
+            SessionStateType::SESSION_TRACK_SYSTEM_VARIABLES => {
+                SessionStateChange::SystemVariables(buf.parse(())?)
+            }
+            SessionStateType::SESSION_TRACK_SCHEMA => SessionStateChange::Schema(buf.parse(())?),
+            SessionStateType::SESSION_TRACK_STATE_CHANGE => {
+                let tracked: RawBytes<'de, LenEnc> = buf.parse(())?;
+                SessionStateChange::IsTracked(tracked.as_bytes() == b"1".as_slice())
+            }
+            SessionStateType::SESSION_TRACK_GTIDS => SessionStateChange::Gtids(buf.parse(())?),
+            SessionStateType::SESSION_TRACK_TRANSACTION_CHARACTERISTICS => {
+                SessionStateChange::TransactionCharacteristics(buf.parse(())?)
+            }
+            SessionStateType::SESSION_TRACK_TRANSACTION_STATE => {
+                SessionStateChange::TransactionState(buf.parse(())?)
+            }
+        })
+    }
+
+    ghost size_is = { λ kind. spec.size-session_state_change kind };
+}
+
+impl MySerialize for SessionStateChange<'_> {
+    ghost bytes = { spec.session_state_change_bytes };
+
+    #[tactic(auto, unfolding(mysql_wire::specs::Writing::saturated, crate::specs::SessionStateChange::session_state_change_bytes))]
+    fn defined_len(&self) -> usize {
+        match self {
+            SessionStateChange::IsTracked(_) => 2,
+            SessionStateChange::Schema(schema) => schema.defined_len(),
+            SessionStateChange::SystemVariables(variables) => variables.defined_len(),
+            SessionStateChange::Gtids(gtids) => gtids.defined_len(),
+            SessionStateChange::TransactionCharacteristics(characteristics) => {
+                characteristics.defined_len()
+            }
+            SessionStateChange::TransactionState(state) => state.defined_len(),
+            SessionStateChange::Unsupported(unsupported) => unsupported.defined_len(),
+        }
+    }
+
+    #[tactic(auto, unfolding(crate::specs::SessionStateChange::session_state_change_bytes))]
+    fn append(&self, out: &mut Vec<u8>) {
+        match self {
+            SessionStateChange::IsTracked(true) => out.extend_from_slice(b"\x011").unwrap(),
+            SessionStateChange::IsTracked(false) => out.extend_from_slice(b"\x010").unwrap(),
+            SessionStateChange::Schema(schema) => schema.append(out),
+            SessionStateChange::SystemVariables(variables) => variables.append(out),
+            SessionStateChange::Gtids(gtids) => gtids.append(out),
+            SessionStateChange::TransactionCharacteristics(characteristics) => {
+                characteristics.append(out)
+            }
+            SessionStateChange::TransactionState(state) => state.append(out),
+            SessionStateChange::Unsupported(unsupported) => unsupported.append(out),
+        }
+    }
+}

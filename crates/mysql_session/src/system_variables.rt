@@ -1,0 +1,129 @@
+//! System variables and their values.
+
+ghost use Rattle.std.specs.Prelude.{true, ◌≡◌, None, refl, IfOk};
+ghost use Rattle.mysql_session.specs.SystemVariables as spec;
+
+use crate::system_variable::SystemVariable;
+use mysql_wire::{
+    AnyWidth, FaultOf, MyDeserialize, MySerialize, ParseBuf, append_items, items_len, read_all,
+};
+use std::alloc::{AllocError, Global};
+use std::fmt;
+use std::fmt::Debug;
+use std::marker::Model;
+
+/// The system variables that were assigned values (`SESSION_TRACK_SYSTEM_VARIABLES`), one after
+/// another to the end of the data. In contracts it is the list of the variables.
+#[derive(Drop)]
+pub struct SystemVariables<'a>(Vec<SystemVariable<'a>>);
+
+impl<'a> Model for SystemVariables<'a> {
+    ghost use Rattle.std.specs.Prelude.{List};
+    ghost use Rattle.mysql_session.specs.declared.system_variable.SystemVariable.{SystemVariable};
+
+    ghost Value = { List SystemVariable };
+
+    ghost view = { λ v. v.0.items };
+}
+
+impl<'a> SystemVariables<'a> {
+    /// These variables.
+    #[inline]
+    pub fn new(variables: Vec<SystemVariable<'a>>) -> Self
+        ensures value { result ≡ variables.entry.items }
+    {
+        SystemVariables(variables)
+    }
+
+    /// The variables.
+    #[inline]
+    pub fn as_slice(&self) -> &[SystemVariable<'a>]
+        ensures value { result.now ≡ self.now }
+    {
+        self.0.as_slice()
+    }
+
+    /// The variables, in the `Vec` that holds them.
+    #[inline]
+    pub fn into_inner(self) -> Vec<SystemVariable<'a>>
+        ensures value { result.items ≡ self.entry }
+    {
+        self.0
+    }
+
+    /// The same, on memory of its own.
+    pub fn into_owned(self, alloc: Global) -> Result<SystemVariables<'static>, AllocError>
+        ensures value { IfOk result (λ owned. owned ≡ self.entry) }
+    {
+        let mut owned = Vec::with_capacity(alloc, self.0.len())?;
+        for variable in self.0 {
+            owned.push(variable.into_owned(alloc)?)?;
+        }
+        Ok(SystemVariables(owned))
+    }
+}
+
+impl Clone for SystemVariables<'_> {
+    ghost is_clone = { λ v copy. copy ≡ v };
+
+    fn clone(&self) -> Result<Self, AllocError> {
+        Ok(SystemVariables(self.0.clone()?))
+    }
+}
+
+impl PartialEq for SystemVariables<'_> {
+    ghost use Rattle.std.specs.Cmp.Lexicographic.{pointwise, lists_per};
+    ghost use Rattle.mysql_session.specs.contracts.system_variable.SystemVariablePartialEq.TheImpl.Laws as of_one;
+
+    ghost eq = { pointwise ⟦<SystemVariable<'static> as PartialEq>⟧.eq };
+
+    ghost laws = { lists_per of_one.laws-law };
+
+    fn eq(&self, other: &Self) -> bool {
+        self.0 == other.0
+    }
+}
+
+impl Eq for SystemVariables<'_> {
+    ghost use Rattle.std.specs.Cmp.Lexicographic.{lists_equiv};
+    ghost use Rattle.mysql_session.specs.contracts.system_variable.SystemVariableEq.TheImpl.Laws as of_one;
+
+    ghost laws = { lists_equiv of_one.laws-law };
+}
+
+impl Debug for SystemVariables<'_> {
+    fn fmt<W: fmt::Write>(&self, f: &mut fmt::Formatter<W>) -> fmt::Result {
+        self.0.fmt(f)
+    }
+}
+
+impl<'de> MyDeserialize<'de> for SystemVariables<'de> {
+    const SIZE: Option<usize> = None;
+
+    type Size = AnyWidth;
+
+    ghost takes_memory = { true };
+
+    type Ctx = ();
+
+    ghost form = { λ _. spec.system_variables };
+
+    #[tactic(auto, using(mysql_wire::proofs::Tails::tails), unfolding(crate::specs::SystemVariables::system_variables))]
+    fn deserialize<'s>(_ctx: (), buf: &mut ParseBuf<'de>) -> Result<Self, FaultOf<'s>> {
+        Ok(SystemVariables(read_all(buf)?))
+    }
+
+    ghost size_is = { λ _. spec.size-system_variables };
+}
+
+impl MySerialize for SystemVariables<'_> {
+    ghost bytes = { spec.system_variables_bytes };
+
+    fn defined_len(&self) -> usize {
+        items_len(self.as_slice())
+    }
+
+    fn append(&self, out: &mut Vec<u8>) {
+        append_items(self.as_slice(), out);
+    }
+}

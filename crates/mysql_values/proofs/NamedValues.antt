@@ -1,0 +1,47 @@
+-- A loop that looks up names in order.
+use Rattle.std.proofs.Common.{◌≡◌, ℕ, suc, ◌+◌, ◌<◌, ◌≤◌, List, [], ◌∷◌, ◌++◌, drop, length, get_or, Option, Some, None, Result, Ok, Err, refl, sym, ap, ◌∙◌, append_assoc, map, arith, add-one}
+use Rattle.std.proofs.Math.Seq.{drop-cons}
+use Rattle.std.proofs.Math.ListN.{drop_of_length-le}
+use Rattle.std.proofs.lemmas.List.{map-append, append-nil}
+use Rattle.std.specs.Global.{Vec}
+use Rattle.mysql_values.specs.declared.value.Value.{Value}
+use Rattle.mysql_values.specs.Value.{Content, content_of, contents_of}
+use Rattle.mysql_values.specs.Params.{NamedValues, value_of, values_of_names, then_values, Refusal, Missing}
+
+-- the contents, behind those of the names before
+abbrev pub behind : List Content → Result (List Content) Refusal → Result (List Content) Refusal
+behind front (Ok contents) = Ok (front ++ contents)
+behind front (Err refusal) = Err refusal
+
+regroup : (front : List Content) (name : Vec ℕ) (v : Value) (others : Result (List Content) Refusal) → behind front (then_values name (Some v) others) ≡ behind (front ++ content_of v ∷ []) others
+regroup front name v (Ok others) = ap Ok (sym (append_assoc front (content_of v ∷ []) others))
+regroup front name v (Err refusal) = refl
+
+-- what is left, with the name at the index before the others
+left_at : (values : NamedValues) (names : List (Vec ℕ)) (i : ℕ) (name : Vec ℕ) → i < length names → name ≡ get_or names i name
+    → values_of_names values (drop i names) ≡ then_values name (value_of values name) (values_of_names values (drop (i + 1) names))
+unfolding values_of_names
+left_at values names i name lt is =
+    let after : drop i names ≡ name ∷ drop (i + 1) names = rw (drop-cons names i name lt, ← is, add-one) refl in
+    rw after refl
+
+pub next-name : (values : NamedValues) (names : List (Vec ℕ)) (i : ℕ) (name : Vec ℕ) (v copy : Value) (row : List Value) (total : Result (List Content) Refusal)
+    → i < length names → name ≡ get_or names i name → value_of values name ≡ Some v → content_of copy ≡ content_of v
+    → behind (contents_of row) (values_of_names values (drop i names)) ≡ total
+    → behind (contents_of (row ++ copy ∷ [])) (values_of_names values (drop (i + 1) names)) ≡ total
+next-name values names i name v copy row total lt is found same so_far =
+    let left = left_at values names i name lt is in
+    rw (map-append content_of row (copy ∷ []), same) (sym (regroup (contents_of row) name v (values_of_names values (drop (i + 1) names))) ∙ (rw (left, found) at so_far))
+
+pub no-value : (values : NamedValues) (names : List (Vec ℕ)) (i : ℕ) (name : Vec ℕ) (row : List Value) (total : Result (List Content) Refusal)
+    → i < length names → name ≡ get_or names i name → value_of values name ≡ None
+    → behind (contents_of row) (values_of_names values (drop i names)) ≡ total
+    → total ≡ Err (Missing name.items)
+no-value values names i name row total lt is none so_far =
+    let left = left_at values names i name lt is in
+    sym (rw (left, none) at so_far)
+
+pub all-named : (values : NamedValues) (names : List (Vec ℕ)) (i : ℕ) (row : List Value) (total : Result (List Content) Refusal)
+    → length names ≤ i → behind (contents_of row) (values_of_names values (drop i names)) ≡ total → total ≡ Ok (contents_of row)
+unfolding values_of_names
+all-named values names i row total le so_far = sym (rw (drop_of_length-le names le, append-nil (contents_of row)) at so_far)

@@ -1,0 +1,124 @@
+//! Parameters of statements.
+
+ghost use Rattle.std.specs.Prelude.{◌≡◌, Ok, IfOk, IfErr};
+ghost use Rattle.std.specs.Option.{option_copied};
+
+use crate::value::Value;
+use indexmap::IndexMap;
+use std::alloc::{AllocError, AllocFailed, Global};
+use thiserror::Error;
+
+/// The parameters that a statement is executed with.
+#[derive(Clone, Debug, Drop)]
+pub enum Params {
+    /// No parameters.
+    Empty,
+    /// Parameters by name.
+    Named(IndexMap<Vec<u8>, Value>),
+    /// Parameters in the order of the statement.
+    Positional(Vec<Value>),
+}
+
+/// Why parameters give no values.
+#[derive(Clone, Debug, PartialEq, Drop, Error)]
+pub enum ParamsError {
+    /// The first name without a value.
+    #[error("Missing")]
+    Missing(Vec<u8>),
+    /// Named parameters for a statement without names.
+    #[error("NamedForPositional")]
+    NamedForPositional,
+    /// Parameters without names for a statement with names.
+    #[error("PositionalForNamed")]
+    PositionalForNamed,
+    /// Memory ran out.
+    #[error("Memory")]
+    Memory,
+}
+
+impl From<AllocError> for ParamsError {
+    ghost use Rattle.mysql_values.specs.declared.params.ParamsError.TheVariants.{Memory};
+
+    ghost from_gives = { λ _ e. e ≡ Memory };
+
+    fn from(_error: AllocError) -> ParamsError {
+        ParamsError::Memory
+    }
+}
+
+impl<T: Drop> From<AllocFailed<T>> for ParamsError {
+    ghost use Rattle.mysql_values.specs.declared.params.ParamsError.TheVariants.{Memory};
+
+    ghost from_gives = { λ _ e. e ≡ Memory };
+
+    fn from(_error: AllocFailed<T>) -> ParamsError {
+        ParamsError::Memory
+    }
+}
+
+impl PartialEq for Params {
+    ghost use Rattle.mysql_values.specs.Params.{params_eq};
+    ghost use Rattle.mysql_values.specs.ParamsEq.{params_per};
+    ghost use Rattle.mysql_values.specs.contracts.value.ValuePartialEq.TheImpl.Laws.{laws-law};
+
+    ghost eq = { params_eq ⟦<Value as PartialEq>⟧.eq };
+
+    ghost laws = { params_per ⟦<Value as PartialEq>⟧.eq laws-law };
+
+    fn eq(&self, other: &Self) -> bool {
+        match (self, other) {
+            (Params::Empty, Params::Empty) => true,
+            (Params::Named(a), Params::Named(b)) => a.as_slice() == b.as_slice(),
+            (Params::Positional(a), Params::Positional(b)) => a == b,
+            _ => false,
+        }
+    }
+}
+
+impl Params {
+    ghost use Rattle.mysql_values.specs.Params.{values_of, Refuses};
+    ghost use Rattle.mysql_values.specs.Value.{contents_of};
+
+    /// The values of the parameters, in the order of the statement, whose names of parameters
+    /// are handed in where it has any. Values whose names it does not have are dropped.
+    ///
+    /// A name that stands twice gets its value twice. No parameters give an empty row.
+    pub fn into_values(
+        self,
+        alloc: Global,
+        names: Option<&[Vec<u8>]>,
+    ) -> Result<Vec<Value>, ParamsError>
+        ensures ok { IfOk result (λ row. values_of self (option_copied names.entry) ≡ Ok (contents_of row.items)) }
+        ensures err { IfErr result (Refuses self (option_copied names.entry)) }
+    {
+        match (self, names) {
+            (Params::Empty, _) => Ok(Vec::new(alloc)),
+            (Params::Positional(values), None) => Ok(values),
+            (Params::Positional(_), Some(_)) => Err(ParamsError::PositionalForNamed),
+            (Params::Named(_), None) => Err(ParamsError::NamedForPositional),
+            (Params::Named(values), Some(names)) => values_of_names(alloc, &values, names),
+        }
+    }
+}
+
+ghost use Rattle.mysql_values.specs.Value.{contents_of};
+ghost use Rattle.mysql_values.specs.Params.{values_of_names, RefusesNames};
+
+/// The value of each name, in order.
+fn values_of_names(
+    alloc: Global,
+    values: &IndexMap<Vec<u8>, Value>,
+    names: &[Vec<u8>],
+) -> Result<Vec<Value>, ParamsError>
+    ensures ok { IfOk result (λ row. values_of_names values.now names.now ≡ Ok (contents_of row.items)) }
+    ensures err { IfErr result (RefusesNames values.now names.now) }
+{
+    let mut row = Vec::with_capacity(alloc, names.len())?;
+    for name in names {
+        let Some(value) = values.get(name) else {
+            return Err(ParamsError::Missing(Vec::from_slice(alloc, name.as_slice())?));
+        };
+        row.push(value.clone()?)?;
+    }
+    Ok(row)
+}

@@ -1,0 +1,39 @@
+//! The sides of a connection, and the two protocols of rows.
+
+/// The side of a connection that makes a bitmap of NULLs.
+pub trait SerializationSide {
+    ghost use Rattle.std.specs.Prelude.{ℕ};
+
+    ghost BIT_OFFSET: { ℕ };
+
+    /// The place of the first value's bit.
+    const BIT_OFFSET: usize;
+}
+
+/// A client, as in `COM_STMT_EXECUTE`: the first value has the first bit.
+#[derive(Clone, Copy, Debug)]
+pub struct ClientSide;
+
+impl SerializationSide for ClientSide {
+    ghost BIT_OFFSET = { 0 };
+
+    const BIT_OFFSET: usize = 0;
+}
+
+/// A server, as in `ProtocolBinary::ResultsetRow`: two bits stand before the first value's.
+#[derive(Clone, Copy, Debug)]
+pub struct ServerSide;
+
+impl SerializationSide for ServerSide {
+    ghost BIT_OFFSET = { 2 };
+
+    const BIT_OFFSET: usize = 2;
+}
+
+/// `ProtocolText::ResultsetRow`: each value is text.
+#[derive(Clone, Copy, Debug)]
+pub struct Text;
+
+/// `ProtocolBinary::ResultsetRow`: each value is in the binary form of its column's type.
+#[derive(Clone, Copy, Debug)]
+pub struct Binary;

@@ -1,0 +1,120 @@
+//! Numbers of varying length.
+
+ghost use Rattle.std.specs.Prelude.{false, ◌≡◌, ◌+◌, ◌-◌, ◌*◌, ◌^◌, ◌++◌, ◌<◌, ◌≤◌, vec_len, vec_capacity, length, List, ℕ, Option, None, OnOk, OnErr};
+ghost use Rattle.mysql_wire.specs.Form.{Form};
+ghost use Rattle.mysql_wire.specs.Reading.{Answers, IsTail, HasBytes};
+ghost use Rattle.mysql_wire.specs.Varlen.{varlen, varlen_bytes, varlen_size, size-varlen};
+
+use crate::buf::ParseBuf;
+use crate::fault::FaultOf;
+use crate::int::{IntRepr, RawInt};
+use crate::little_endian::LeU64;
+use crate::proto::MySerialize;
+use std::alloc::AllocError;
+
+/// A number of varying length: the low ones of the first byte count the bytes that follow it, and stand below a zero
+/// and the number. The byte `ff` stands before the eight bytes of a number, the low one first.
+#[derive(Clone, Copy, Debug)]
+pub struct VarLen;
+
+impl IntRepr for VarLen {
+    type Primitive = u64;
+
+    const SIZE: Option<usize> = None;
+
+    ghost SIZE = { None };
+
+    ghost form = { varlen };
+
+    fn deserialize<'s>(buf: &mut ParseBuf<'_>) -> Result<u64, FaultOf<'s>> {
+        read_varlen_uint(buf)
+    }
+
+    ghost written = { varlen_bytes };
+
+    #[inline]
+    fn written_len(value: u64) -> usize {
+        varlen_uint_size(value)
+    }
+
+    #[tactic(auto, using(crate::proofs::Varlens::writing))]
+    fn append(value: u64, out: &mut Vec<u8>) {
+        let size = varlen_uint_size(value);
+        if size == 9 {
+            out.push(0xff).unwrap();
+            <LeU64 as IntRepr>::append(value, out);
+        } else {
+            let word = above_ones(value, size);
+            out.extend_from_slice(&word.to_le_bytes()[..size]).unwrap();
+        }
+    }
+
+    ghost size_is = { size-varlen };
+}
+
+/// The number above a zero, which stands above the ones that count the bytes behind the first of so many.
+#[inline]
+fn above_ones(value: u64, size: usize) -> u64
+    requires some { 0 < size }
+    requires most { size ≤ 8 }
+    requires fits { value < 2 ^ (7 * size) }
+    ensures { result ≡ value * 2 ^ size + (2 ^ (size - 1) - 1) }
+{
+    (value << size) + ((1 << (size - 1)) - 1)
+}
+
+/// Reads a number of varying length. A longer spelling than its shortest is read too.
+///
+/// Missing bytes are `UnexpectedEof`, and then the buffer is as it was.
+#[tactic(auto, using(crate::proofs::Varlens::reading))]
+pub fn read_varlen_uint<'s>(buf: &mut ParseBuf<'_>) -> Result<u64, FaultOf<'s>>
+    ensures value { Answers false result buf.new (varlen.reads buf.old) }
+    ensures err { OnErr result (buf.new ≡ buf.old) }
+{
+    let mut rest = buf.rest();
+    let Some(first) = rest.checked_eat_u8() else {
+        return Err(FaultOf::UnexpectedEof);
+    };
+    if first == 0xff {
+        let number: RawInt<LeU64> = rest.parse(())?;
+        *buf = rest;
+        return Ok(number.0);
+    }
+    let size = first.trailing_ones() as usize + 1;
+    let Some(front) = buf.checked_eat(size) else {
+        return Err(FaultOf::UnexpectedEof);
+    };
+    let mut bytes = [0; 8];
+    bytes[..size].copy_from_slice(front);
+    Ok(u64::from_le_bytes(bytes) >> size)
+}
+
+/// Writes a number in the fewest bytes that hold it at seven bits each, at most eight of them; or else as `ff` and
+/// eight bytes. The buffer grows once at the most.
+///
+/// Where that growth is refused, the buffer is as it was.
+pub fn write_varlen_uint(value: u64, out: &mut Vec<u8>) -> Result<(), AllocError>
+    ensures ok { OnOk result (out.new.items ≡ out.old.items ++ varlen_bytes value) }
+    ensures err { OnErr result (out.new.items ≡ out.old.items) }
+{
+    RawInt::<VarLen>::new(value).serialize(out)
+}
+
+/// How many bytes a number is written in: from 1 to 9.
+#[tactic(auto, using(crate::proofs::Varlens::sizes), unfolding(crate::specs::Varlen::varlen_size))]
+pub fn varlen_uint_size(value: u64) -> usize
+    ensures value { result ≡ varlen_size value }
+    ensures len { result ≡ length (varlen_bytes value) }
+{
+    match value {
+        0..0x80 => 1,
+        0x80..0x4000 => 2,
+        0x4000..0x20_0000 => 3,
+        0x20_0000..0x1000_0000 => 4,
+        0x1000_0000..0x8_0000_0000 => 5,
+        0x8_0000_0000..0x400_0000_0000 => 6,
+        0x400_0000_0000..0x2_0000_0000_0000 => 7,
+        0x2_0000_0000_0000..0x100_0000_0000_0000 => 8,
+        _ => 9,
+    }
+}

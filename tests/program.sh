@@ -1,0 +1,70 @@
+#!/usr/bin/env bash
+# Runs ./mypackets as a user would, and compares what it writes and the status that it ends with.
+# The last line is 'N passed, N failed'.
+set -uo pipefail
+top=$(cd -- "$(dirname -- "${BASH_SOURCE[0]}")/.." && pwd) || exit 1
+work=$(mktemp -d) || exit 1
+trap 'rm -rf -- "$work"' EXIT
+# (from another folder, and by a relative path and by a link, as it may be called)
+mkdir -- "$work/an other folder" && cd -- "$work/an other folder" || exit 1
+ln -s -- "$top/mypackets" linked
+
+passed=0
+failed=0
+
+# judge WHAT TEXT: a text says what is wrong
+judge() {
+    if [[ -z $2 ]]; then
+        passed=$((passed + 1))
+    else
+        failed=$((failed + 1))
+        printf 'program: %s: %s\n' "$1" "$2"
+    fi
+}
+
+# expect WHAT STATUS OUTPUT COMMAND ..: on what stands in the file input, it writes the lines of OUTPUT and
+# nothing to standard error, and ends with STATUS
+expect() {
+    local wrong= status
+    "${@:4}" <input >output 2>errors
+    status=$?
+    if ((status != $2)); then
+        wrong="it ended with status $status, and not $2"
+    elif ! cmp -s output <(printf '%s' "$3"); then
+        wrong="it wrote: $(head -c 400 output)"
+    elif [[ -s errors ]]; then
+        wrong="it wrote to standard error: $(head -c 400 errors)"
+    fi
+    judge "$1" "$wrong"
+}
+
+# fails_to_write WHAT COMMAND ..: its output takes nothing, so it ends with status 3
+fails_to_write() {
+    "${@:2}" <input >/dev/full 2>errors
+    local status=$?
+    judge "$1" "$( ((status == 3)) || printf 'it ended with status %d, and not 3' "$status")"
+}
+
+usage=$'usage: mypackets COMMAND ARGS\n'
+statement=$'statement_id: 1\nnum_columns: 1\nnum_params: 2\nwarning_count: 0\nrest: 0\nbytes: 000100000001000200000000\n'
+: >input
+
+"$top/mypackets" >build_output 2>build_errors
+judge 'the first call' "$( (($? == 2)) || cat build_errors)"
+
+expect 'a statement packet' 0 "$statement" "$top/mypackets" stmt 000100000001000200000000
+expect 'a statement packet, by a link' 0 "$statement" ./linked stmt 000100000001000200000000
+expect 'a cut statement packet' 1 $'refused: UnexpectedEof\n' "$top/mypackets" stmt 0001000000010002000000
+expect 'a statement packet of status 1' 1 $'refused: InvalidData\n' "$top/mypackets" stmt 010100000001000200000000
+expect 'no word' 2 "$usage" "$top/mypackets"
+expect 'an unknown command' 2 "$usage" "$top/mypackets" nothing
+expect 'an empty word' 2 "$usage" "$top/mypackets" ''
+expect 'a command without its words' 2 "$usage" "$top/mypackets" stmt
+expect 'a word too many' 2 "$usage" "$top/mypackets" stmt 00 00
+expect 'no digits' 2 "$usage" "$top/mypackets" stmt 'not hex'
+expect 'half a byte' 2 "$usage" "$top/mypackets" stmt 000
+fails_to_write 'a statement packet on a full device' "$top/mypackets" stmt 000100000001000200000000
+fails_to_write 'a bad call on a full device' "$top/mypackets"
+
+printf '%d passed, %d failed\n' "$passed" "$failed"
+((failed == 0))
