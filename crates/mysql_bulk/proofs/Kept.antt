@@ -5,14 +5,18 @@ use Rattle.std.proofs.Math.Nat.{suc-mul}
 use Rattle.std.proofs.lemmas.List.{length-drop, length-take-le, map-append, nil_from_length}
 use Rattle.std.proofs.lemmas.List.Sums.{sum_by-append, fold-append}
 use Rattle.std.proofs.lemmas.List.FromFn.{length-map-range_with_len}
-use Rattle.mysql_wire.specs.Writing.{saturated}
+use Rattle.mysql_wire.specs.Writing.{saturated, le_bytes}
+use Rattle.mysql_wire.specs.MariadbBulkIndicator.{mariadb_bulk_indicator_code}
+use Rattle.mysql_values.specs.Value.{bin, bin_size}
+use Rattle.mysql_values.proofs.Sizes.{length-bin}
+use Rattle.mysql_bulk.specs.Request.{BulkRequest, request_bytes, written_size}
 use Rattle.mysql_cuts.specs.Cut.{joined}
 use Rattle.mysql_values.specs.declared.value.Value.{Value}
 use Rattle.mysql_values.specs.Value.{Content, contents_of}
 use Rattle.mysql_bulk.specs.declared.param_type.StmtBulkExecuteParamType.{StmtBulkExecuteParamType}
 use Rattle.mysql_bulk.specs.ParamValue.{ParamValue}
-use Rattle.mysql_bulk.specs.ParamType.{declared_type, column_of, first_length, declared_types, joined_types}
-use Rattle.mysql_bulk.specs.ParamValue.{given, plain, param_size, row_size}
+use Rattle.mysql_bulk.specs.ParamType.{declared_type, column_of, first_length, declared_types, joined_types, param_type_bytes, types_bytes}
+use Rattle.mysql_bulk.specs.ParamValue.{given, plain, param_size, row_size, param_value_bytes, values_bytes}
 use Rattle.mysql_bulk.specs.Flat.{rows_of, waiting_rows, EqualLengths, IsFlat}
 use Rattle.mysql_bulk.specs.Builder.{BuilderState, Keeps, WaitingFits, waiting_size, TakesArity, RowFits, accepted}
 use Rattle.mysql_bulk.proofs.FlatRows.{flat_values, flat_none, flat_rows, flat_more}
@@ -144,7 +148,7 @@ module _ {s : BuilderState} {count size : ℕ} {values : List ParamValue} {types
       → Keeps (with_row a n more) n total more further
   keeps_next total a n row more further t f e la ln lm lf =
       let P : List (List Content) → Type 0 = λ w.
-          Keeps (record s { arity = Some (length row); waiting = w }) (count + 1) total (values ++ map given row) (if s.types_due then joined_types types row else types) in
+      Keeps (record s { arity = Some (length row); waiting = w }) (count + 1) total (values ++ map given row) (if s.types_due then joined_types types row else types) in
       rw (la, ln, lm, lf) (subst P (sym (rows_more row t)) (keeps_more total row t f e))
 
   pub state_next : (a n : ℕ) (row : List Content) (more : List ParamValue) → TakesArity s.arity (length row) → a ≡ length row → n ≡ count + 1 → more ≡ values ++ map given row
@@ -153,3 +157,35 @@ module _ {s : BuilderState} {count size : ℕ} {values : List ParamValue} {types
 
   pub keeps_fits : count ≢ 0 → 7 + 2 * length types + size < 2 ^ 64
   keeps_fits n = omega (arith, keeps_size n, keeps_bound n, k.limit_is)
+
+-- ---- the bytes of a request
+
+length-types : (types : List StmtBulkExecuteParamType) → length (types_bytes types) ≡ 2 * length types
+unfolding le_bytes
+length-types [] = refl
+length-types (t ∷ types) = omega (arith, length-append (param_type_bytes t) (types_bytes types), length-types types)
+
+length-values : (values : List ParamValue) → length (values_bytes values) ≡ row_size (plain values)
+unfolding le_bytes
+length-values [] = refl
+length-values (v ∷ values) =
+    omega (
+      arith,
+      length-append (param_value_bytes v) (values_bytes values),
+      length-values values,
+      length-bin v.content,
+      length-append (le_bytes 1 (mariadb_bulk_indicator_code v.indicator)) (bin v.content),
+      sum_by-append param_size (v.content ∷ []) (plain values),
+    )
+
+-- a request is written as so many bytes
+pub length-request : (r : BulkRequest) → length (request_bytes r) ≡ written_size r
+unfolding le_bytes
+length-request r =
+    omega (
+      arith,
+      length-types r.types,
+      length-values r.values,
+      length-append ((((0xfa ∷ []) ++ le_bytes 4 r.stmt_id) ++ le_bytes 2 r.bulk_flags) ++ types_bytes r.types) (values_bytes r.values),
+      length-append (((0xfa ∷ []) ++ le_bytes 4 r.stmt_id) ++ le_bytes 2 r.bulk_flags) (types_bytes r.types),
+    )

@@ -5,3 +5,4 @@ pub mod Runs
 pub mod Running
 pub mod Whole
 pub mod Chains
+pub mod EachValue

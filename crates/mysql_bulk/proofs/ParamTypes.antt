@@ -6,7 +6,7 @@ use Rattle.std.proofs.Math.Bool.{or_assoc}
 use Rattle.std.proofs.lemmas.List.{ext_get_or, append-nil, append_assoc}
 use Rattle.std.proofs.lemmas.List.FromFn.{get_or-map-range_with_len, length-map-range_with_len}
 use Rattle.mysql_values.specs.declared.value.Value.{Value}
-use Rattle.mysql_values.specs.Value.{Content, contents_of}
+use Rattle.mysql_values.specs.Value.{Content, content_of, contents_of}
 use Rattle.mysql_values.specs.Value.{NULL, Bytes, Int, UInt, Float, Double, Date, Time}
 use Rattle.mysql_wire.specs.declared.codes.column_type.ColumnType.TheVariants as column
 use Rattle.mysql_bulk.specs.declared.param_type.StmtBulkExecuteParamType.{StmtBulkExecuteParamType}
@@ -84,13 +84,15 @@ column_joined (Time t ∷ values) = times_stay values
 
 -- ---- the columns of rows
 
-first_next : (row : List Content) (i : ℕ) (d : Content) → i < length row → joined_types [] (take (suc i) row) ≡ joined_types [] (take i row) ++ type_of (get_or row i d) ∷ []
+first_next : (row : List Value) (i : ℕ) (d : Value) → i < length row
+    → joined_types [] (contents_of (take (suc i) row)) ≡ joined_types [] (contents_of (take i row)) ++ type_of (content_of (get_or row i d)) ∷ []
 first_next [] i d h = absurd (omega arith)
 first_next (v ∷ row) zero d h = refl
-first_next (v ∷ row) (suc i) d h = ap (λ (l : List StmtBulkExecuteParamType). type_of v ∷ l) (first_next row i d (omega arith))
+first_next (v ∷ row) (suc i) d h = ap (λ (l : List StmtBulkExecuteParamType). type_of (content_of v) ∷ l) (first_next row i d (omega arith))
 
 -- the types of a first row, one value after another
-pub first_more : (row : List Content) (i : ℕ) (d : Content) → i < length row → joined_types [] (take (i + 1) row) ≡ joined_types [] (take i row) ++ type_of (get_or row i d) ∷ []
+pub first_more : (row : List Value) (i : ℕ) (d : Value) → i < length row
+    → joined_types [] (contents_of (take (i + 1) row)) ≡ joined_types [] (contents_of (take i row)) ++ type_of (content_of (get_or row i d)) ∷ []
 first_more row i d h = rw add-one (first_next row i d h)
 
 length-joined : (types : List StmtBulkExecuteParamType) (row : List Content) → length types ≡ length row → length (joined_types types row) ≡ length row
@@ -141,10 +143,10 @@ types_joined a row rows r =
     let f : ℕ → StmtBulkExecuteParamType = λ i. declared_type (column_of (row ∷ rows) i) in
     ext_get_or d (fold joined_types (joined_types [] row) rows) (declared_types (row ∷ rows)) (long ∙ sym r.0 ∙ sym (length-map-range_with_len f 0 (length row)))
     (λ i h.
-        get-more a (joined_types [] row) rows i d first r.1 (omega (arith, long, h))
-        ∙ ap (λ (t : StmtBulkExecuteParamType). fold joined_type t (column_of rows i)) (get-first row i d (let l = r.0 in omega (arith, long, h, l)))
-        ∙ column_joined (column_of (row ∷ rows) i)
-        ∙ sym (get_or-map-range_with_len f 0 (length row) i i d (let l = r.0 in omega (arith, long, h, l)) (omega arith)))
+    get-more a (joined_types [] row) rows i d first r.1 (omega (arith, long, h))
+    ∙ ap (λ (t : StmtBulkExecuteParamType). fold joined_type t (column_of rows i)) (get-first row i d (let l = r.0 in omega (arith, long, h, l)))
+    ∙ column_joined (column_of (row ∷ rows) i)
+    ∙ sym (get_or-map-range_with_len f 0 (length row) i i d (let l = r.0 in omega (arith, long, h, l)) (omega arith)))
 
 pub types_all : (a : ℕ) (rows : List (List Content)) → rows ≢ [] → EqualLengths a rows → fold joined_types [] rows ≡ declared_types rows
 types_all a [] n r = absurd (n refl)

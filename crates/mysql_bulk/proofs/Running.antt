@@ -157,12 +157,11 @@ AreRequests-push : (s : BuilderState) (cut : List (List (List Content))) (reques
 AreRequests-push s [] [] part request a id flags types values = (record { id = id; flags = flags; types = types; values = values }, tt)
 AreRequests-push s [] (q ∷ requests) part request a id flags types values = absurd a
 AreRequests-push s (p ∷ cut) [] part request a id flags types values = absurd a
-AreRequests-push s (p ∷ cut) (q ∷ requests) part request a id flags types values =
-    (
-      a.0,
-      AreRequests-push (sent s) cut requests part request a.1 id (flags ∙ ap (λ t. request_flags t s.results) (sym (due_sent s cut)))
-          (types ∙ ap (λ t. if t then declared_types part else []) (sym (due_sent s cut))) values,
-    )
+AreRequests-push s (p ∷ cut) (q ∷ requests) part request a id flags types values = (
+  a.0,
+  AreRequests-push (sent s) cut requests part request a.1 id (flags ∙ ap (λ t. request_flags t s.results) (sym (due_sent s cut)))
+      (types ∙ ap (λ t. if t then declared_types part else []) (sym (due_sent s cut))) values,
+)
   where
     due_sent : (s : BuilderState) (cut : List (List (List Content))) → due_after (sent s) cut ≡ s.rule.types_always
     due_sent s [] = refl

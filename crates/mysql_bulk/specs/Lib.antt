@@ -6,3 +6,7 @@ pub mod Builder
 pub mod Run
 pub mod Refusal
 pub mod WholeRun
+pub mod ParamValues
+pub mod Head
+pub mod Rows
+pub mod RequestForm

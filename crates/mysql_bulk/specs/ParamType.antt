@@ -16,6 +16,12 @@ use Rattle.mysql_bulk.specs.declared.param_type.StmtBulkExecuteParamType.{StmtBu
 abbrev pub typed : ColumnType → Bool → StmtBulkExecuteParamType
 typed t unsigned = record { column_type = t; flags = if unsigned then 128 else 0 }
 
+abbrev pub type_column : StmtBulkExecuteParamType → ColumnType
+type_column t = t.column_type
+
+abbrev pub type_flags : StmtBulkExecuteParamType → ℕ
+type_flags t = t.flags
+
 -- the type that a value is sent as
 abbrev pub type_of : Content → StmtBulkExecuteParamType
 type_of NULL = typed column.MYSQL_TYPE_NULL false

@@ -13,8 +13,8 @@ use crate::param_value::StmtBulkExecuteParamValue;
 use crate::request::ComStmtBulkExecuteRequest;
 use crate::row_type::join_row;
 use crate::size::{request_len, row_len};
-use mysql_values::Value;
 use mysql_cuts::BulkRule;
+use mysql_values::Value;
 use std::alloc::{AllocError, Global};
 use std::marker::Model;
 use std::mem;
@@ -117,7 +117,7 @@ fn find_room(
 }
 
 /// Moves the values of a row to the end, where there is room.
-fn append_row(values: &mut Vec<StmtBulkExecuteParamValue>, row: Vec<Value>)
+pub(crate) fn append_row(values: &mut Vec<StmtBulkExecuteParamValue>, row: Vec<Value>)
     requires { vec_len values.old + length row.items ≤ vec_capacity values.old }
     ensures { values.new.items ≡ values.old.items ++ map given (contents_of row.items) }
 {
@@ -241,7 +241,10 @@ impl<'a> ComStmtBulkExecuteRequestBuilder<'a> {
     }
 
     /// Offers a row, and answers one that does not fit with those that wait.
-    pub(crate) fn add(&mut self, row: Vec<Value>) -> Result<Option<Vec<Value>>, BulkExecuteRequestError>
+    pub(crate) fn add(
+        &mut self,
+        row: Vec<Value>,
+    ) -> Result<Option<Vec<Value>>, BulkExecuteRequestError>
         ensures { Adds self.old row result self.new }
     {
         if !self.takes_arity(row.len()) {

@@ -1,7 +1,6 @@
 //! Why rows are refused.
 
-use crate::stand_in::ParamsError;
-use mysql_values::Value;
+use mysql_values::{ParamsError, Value};
 use thiserror::Error;
 
 /// Why a row or a request was refused.

@@ -3,7 +3,10 @@
 ghost use Rattle.std.specs.Prelude.{false, ◌≡◌, ◌≤◌, ◌+◌, ◌++◌, length, List, ℕ, Option, Some, None};
 
 use mysql_values::Value;
-use mysql_wire::{ColumnType, Const, FaultOf, Fixed, MyDeserialize, MySerialize, ParseBuf, RawInt, append_all, len_of};
+use mysql_wire::{
+    ColumnFlags, ColumnType, Const, FaultOf, Fixed, Flags, MyDeserialize, MySerialize, ParseBuf,
+    RawInt, StmtExecuteParamFlags, append_all, len_of,
+};
 
 /// The type of a parameter in a bulk request: the column type in a byte, and a byte of flags, in which 128 is `UNSIGNED`.
 #[derive(Clone, Copy, Debug, PartialEq, Eq)]
@@ -13,7 +16,8 @@ pub struct StmtBulkExecuteParamType {
 }
 
 impl StmtBulkExecuteParamType {
-    ghost use Rattle.mysql_bulk.specs.ParamType.{type_of, joined_type};
+    ghost use Rattle.mysql_bulk.specs.ParamType.{type_of, joined_type, type_column, type_flags};
+    ghost use Rattle.mysql_bulk.specs.Head.{column_of};
     ghost use Rattle.mysql_values.specs.Value.{content_of};
 
     /// The type that a value is sent as.
@@ -31,6 +35,43 @@ impl StmtBulkExecuteParamType {
             Value::Time(..) => (ColumnType::MYSQL_TYPE_TIME, 0),
         };
         StmtBulkExecuteParamType { column_type, flags }
+    }
+
+    /// The type with its byte of flags.
+    pub fn new(column_type: ColumnType, flags: StmtExecuteParamFlags) -> Self
+        ensures column_type { type_column result ≡ column_type }
+        ensures flags { type_flags result ≡ flags.0 }
+    {
+        StmtBulkExecuteParamType {
+            column_type,
+            flags: flags.0,
+        }
+    }
+
+    /// The column type.
+    pub fn column_type(&self) -> ColumnType
+        ensures value { result ≡ type_column self.now }
+    {
+        self.column_type
+    }
+
+    /// The flags.
+    pub fn flags(&self) -> StmtExecuteParamFlags
+        ensures value { result.0 ≡ type_flags self.now }
+    {
+        StmtExecuteParamFlags::from_bits_retain(self.flags)
+    }
+
+    /// The column that the type tells of.
+    pub(crate) fn column(&self) -> (ColumnType, ColumnFlags)
+        ensures { result ≡ column_of self.now }
+    {
+        let flags = if self.flags().contains(StmtExecuteParamFlags::UNSIGNED) {
+            ColumnFlags::UNSIGNED_FLAG
+        } else {
+            ColumnFlags::from_bits_retain(0)
+        };
+        (self.column_type, flags)
     }
 
     /// The type of a column so far, after one more value.

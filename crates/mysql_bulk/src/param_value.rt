@@ -3,8 +3,10 @@
 ghost use Rattle.std.specs.Prelude.{true, ◌≡◌, ◌≤◌, ◌+◌, ◌++◌, length, List, ℕ, Option, Some, None, refl};
 
 use mysql_values::{BinValue, Value, ValueDeserializer};
-use mysql_wire::{AnyWidth, ColumnFlags, ColumnType, Const, FaultOf, Flags, MariadbBulkIndicator, MyDeserialize, MySerialize, ParseBuf, append_all, len_of};
-
+use mysql_wire::{
+    AnyWidth, ColumnFlags, ColumnType, Const, FaultOf, Flags, MariadbBulkIndicator, MyDeserialize,
+    MySerialize, ParseBuf, append_all, len_of,
+};
 use std::marker::Model;
 
 /// A value in a bulk request: the indicator in a byte, and after `BULK_INDICATOR_NONE` the value's binary form.
@@ -51,6 +53,13 @@ impl StmtBulkExecuteParamValue {
         ensures value { content_of result.now ≡ self.now.content }
     {
         &self.value
+    }
+
+    /// The value alone.
+    pub(crate) fn into_value(self) -> Value
+        ensures { content_of result ≡ self.entry.content }
+    {
+        self.value
     }
 }
 

@@ -1,24 +1,53 @@
 //! A bulk request.
 
-ghost use Rattle.std.specs.Prelude.{◌≡◌, ◌≤◌, ◌+◌, ◌++◌, length, List, ℕ};
+ghost use Rattle.std.specs.Prelude.{true, ◌≡◌, ◌≤◌, ◌+◌, ◌++◌, length, List, ℕ, None, refl};
+ghost use Rattle.std.specs.Prelude.{IfOk};
+ghost use Rattle.mysql_wire.specs.Writing.{saturated};
+ghost use Rattle.mysql_bulk.specs.ParamType.{types_bytes};
+ghost use Rattle.mysql_bulk.specs.ParamValue.{values_bytes};
+ghost use Rattle.mysql_bulk.specs.RequestForm.{with_head};
 
+use crate::head::{ComStmtBulkExecuteHeader, Head};
 use crate::param_type::StmtBulkExecuteParamType;
 use crate::param_value::StmtBulkExecuteParamValue;
-use mysql_wire::{ConstFault, ConstU8, LeU16, LeU32, MySerialize, RawInt, append_all, append_items};
+use crate::param_values::read_values;
+use mysql_wire::{
+    AnyWidth, ColumnFlags, ColumnType, FaultOf, Flags, LeU16, LeU32, MyDeserialize, MySerialize,
+    ParseBuf, RawInt, StmtBulkExecuteFlags, append_all, append_items, items_len,
+};
+use std::alloc::{AllocError, Global};
 use std::marker::Model;
-use thiserror::Error;
 
-/// The header of a bulk request is not 0xfa.
-#[derive(Clone, Copy, Debug, Default, PartialEq, Eq, Hash, Error)]
-#[error("Invalid header for COM_STMT_BULK_EXECUTE")]
-pub struct InvalidComStmtBulkExecuteHeader;
-
-impl ConstFault for InvalidComStmtBulkExecuteHeader {
-    const MESSAGE: &'static str = "Invalid header for COM_STMT_BULK_EXECUTE";
+/// The request of a head and its values.
+fn made(
+    head: Head<'_>,
+    alloc: Global,
+    values: Vec<StmtBulkExecuteParamValue>,
+) -> Result<ComStmtBulkExecuteRequest, AllocError>
+    ensures { IfOk result (λ request. request ≡ with_head head values.items) }
+{
+    let stmt_id = head.stmt_id();
+    let bulk_flags = head.bulk_flags();
+    let types = head.into_types(alloc)?;
+    let size = written_len(types.as_slice(), values.as_slice());
+    Ok(ComStmtBulkExecuteRequest {
+        stmt_id,
+        bulk_flags,
+        types,
+        values,
+        size,
+    })
 }
 
-/// The first byte of a bulk request.
-pub type ComStmtBulkExecuteHeader = ConstU8<InvalidComStmtBulkExecuteHeader, 0xfa>;
+/// How many bytes a request is written as, or `usize::MAX` where that is less.
+#[tactic(auto, unfolding(mysql_wire::specs::Writing::saturated))]
+fn written_len(types: &[StmtBulkExecuteParamType], values: &[StmtBulkExecuteParamValue]) -> usize
+    ensures { result ≡ saturated (7 + length (types_bytes types.now) + length (values_bytes values.now)) }
+{
+    items_len(types)
+        .saturating_add(items_len(values))
+        .saturating_add(7)
+}
 
 /// `COM_STMT_BULK_EXECUTE`: the values of some rows, with which a prepared statement is executed for each row.
 #[derive(Debug, Drop)]
@@ -51,6 +80,70 @@ impl Model for ComStmtBulkExecuteRequest {
       types = a.types.items;
       values = a.values.items;
     })) };
+}
+
+impl ComStmtBulkExecuteRequest {
+    /// The number of the statement.
+    pub fn stmt_id(&self) -> u32
+        ensures value { result ≡ self.now.stmt_id }
+    {
+        self.stmt_id
+    }
+
+    /// Whether types are sent, and whether the results of each row are asked for.
+    pub fn bulk_flags(&self) -> StmtBulkExecuteFlags
+        ensures value { result.0 ≡ self.now.bulk_flags }
+    {
+        StmtBulkExecuteFlags::from_bits_retain(self.bulk_flags)
+    }
+
+    /// The types of the columns, or none where they are not sent.
+    pub fn types(&self) -> &[StmtBulkExecuteParamType]
+        ensures value { result.now ≡ self.now.types }
+    {
+        self.types.as_slice()
+    }
+
+    /// The values, row after row.
+    pub fn values(&self) -> &[StmtBulkExecuteParamValue]
+        ensures value { result.now ≡ self.now.values }
+    {
+        self.values.as_slice()
+    }
+}
+
+/// The header, the statement's number, the flags, the types where they are sent, and one row of values.
+///
+/// The types and flags of the columns are handed in; where the request sends types, those stand in their place.
+/// Further rows stay unread: see `read_bulk_rows`.
+impl<'de> MyDeserialize<'de> for ComStmtBulkExecuteRequest {
+    const SIZE: Option<usize> = None;
+
+    type Size = AnyWidth;
+
+    ghost takes_memory = { true };
+
+    type Ctx = Vec<(ColumnType, ColumnFlags)>;
+
+    ghost use Rattle.mysql_bulk.specs.RequestForm.{bulk_request};
+
+    ghost form = { λ columns. bulk_request columns.items };
+
+    #[tactic(auto, using(mysql_wire::proofs::Tails::tails))]
+    fn deserialize<'s>(
+        columns: Vec<(ColumnType, ColumnFlags)>,
+        buf: &mut ParseBuf<'de>,
+    ) -> Result<Self, FaultOf<'s>> {
+        let mut rest = buf.rest();
+        let head: Head<'de> = rest.parse(columns.len())?;
+        let told = head.told(buf.alloc(), columns.as_slice())?;
+        let values = read_values(told.as_slice(), &mut rest)?;
+        let request = made(head, buf.alloc(), values)?;
+        *buf = rest;
+        Ok(request)
+    }
+
+    ghost size_is = { λ _. refl };
 }
 
 impl MySerialize for ComStmtBulkExecuteRequest {

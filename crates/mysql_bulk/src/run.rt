@@ -70,7 +70,9 @@ impl<'b, 'a, I: Iterator<Item = Vec<Value>>> Iterator for BulkRequests<'b, 'a, I
 
     ghost remaining = { λ s. results_left I.remaining (state_of s) };
 
-    fn next(&mut self) -> Option<Result<ComStmtBulkExecuteRequest, BulkExecuteRequestBuilderError>> {
+    fn next(
+        &mut self,
+    ) -> Option<Result<ComStmtBulkExecuteRequest, BulkExecuteRequestBuilderError>> {
         if self.ended {
             return None;
         }
