@@ -66,7 +66,7 @@ plain_given [] = refl
 plain_given (v ∷ row) = ap (λ (l : List Content). v ∷ l) (plain_given row)
 
 pub plain_more : (values : List ParamValue) (row : List Content) → plain (values ++ map given row) ≡ plain values ++ row
-plain_more values row = map-append (λ v. v.value) values (map given row) ∙ ap (λ (l : List Content). plain values ++ l) (plain_given row)
+plain_more values row = map-append (λ v. v.content) values (map given row) ∙ ap (λ (l : List Content). plain values ++ l) (plain_given row)
 
 module _ {s : BuilderState} {count size : ℕ} {values : List ParamValue} {types : List StmtBulkExecuteParamType} (k : Keeps s count size values types) where
   pub keeps_rows : count ≢ 0 → s.waiting ≢ []
@@ -160,12 +160,12 @@ module _ {s : BuilderState} {count size : ℕ} {values : List ParamValue} {types
 
 -- ---- the bytes of a request
 
-length-types : (types : List StmtBulkExecuteParamType) → length (types_bytes types) ≡ 2 * length types
+pub length-types : (types : List StmtBulkExecuteParamType) → length (types_bytes types) ≡ 2 * length types
 unfolding le_bytes
 length-types [] = refl
 length-types (t ∷ types) = omega (arith, length-append (param_type_bytes t) (types_bytes types), length-types types)
 
-length-values : (values : List ParamValue) → length (values_bytes values) ≡ row_size (plain values)
+pub length-values : (values : List ParamValue) → length (values_bytes values) ≡ row_size (plain values)
 unfolding le_bytes
 length-values [] = refl
 length-values (v ∷ values) =
@@ -189,3 +189,5 @@ length-request r =
       length-append ((((0xfa ∷ []) ++ le_bytes 4 r.stmt_id) ++ le_bytes 2 r.bulk_flags) ++ types_bytes r.types) (values_bytes r.values),
       length-append (((0xfa ∷ []) ++ le_bytes 4 r.stmt_id) ++ le_bytes 2 r.bulk_flags) (types_bytes r.types),
     )
+
+pub ruleset request_lengths = (length-types, length-values)

@@ -1,16 +1,21 @@
 //! What stands before the values of a bulk request.
 
-ghost use Rattle.std.specs.Prelude.{true, ◌≡◌, ◌≤◌, length, List, ℕ, Option, Some, None, IfOk, OnErr, refl, map};
-ghost use Rattle.mysql_bulk.specs.Head.{told, column_of};
-ghost use Rattle.std.specs.Cow.{cow_slice_items};
+ghost use Rattle.std.specs.Prelude.{true, ◌≡◌, ◌≤◌, length, List, ℕ, IfOk, OnErr, [], map};
+ghost use Rattle.mysql_wire.specs.Reading.{Answers, IsTail};
+ghost use Rattle.mysql_wire.specs.Seq.{seq, items_of};
+ghost use Rattle.mysql_wire.specs.Form.{give, either};
+ghost use Rattle.mysql_bulk.specs.ParamType.{param_type};
+ghost use Rattle.mysql_bulk.specs.Head.{head, told, column_of, types_sent};
+ghost use Rattle.mysql_wire.specs.Flags.{has};
 
 use crate::param_type::StmtBulkExecuteParamType;
 use mysql_wire::{
-    AnyWidth, ColumnFlags, ColumnType, Const, ConstFault, ConstU8, FaultOf, Flags, LeU16, LeU32,
-    MyDeserialize, ParseBuf, RawInt, Seq, StmtBulkExecuteFlags, Unknown,
+    ColumnFlags, ColumnType, ConstFault, ConstU8, FaultOf, Flags, LeU16, LeU32, ParseBuf, RawInt,
+    Seq, StmtBulkExecuteFlags, Unknown,
 };
 use std::alloc::{AllocError, Global};
 use std::borrow::CowSlice;
+use std::marker::Model;
 use thiserror::Error;
 
 /// The header of a bulk request is not 0xfa.
@@ -25,82 +30,70 @@ impl ConstFault for InvalidComStmtBulkExecuteHeader {
 /// The first byte of a bulk request.
 pub type ComStmtBulkExecuteHeader = ConstU8<InvalidComStmtBulkExecuteHeader, 0xfa>;
 
-/// The header, the statement's number, the flags, and the types where they are sent.
+/// The statement's number, the flags, and the types where they are sent.
 #[derive(Drop)]
-pub(crate) struct Head<'a> {
-    header: ComStmtBulkExecuteHeader,
-    stmt_id: RawInt<LeU32>,
-    bulk_flags: Const<StmtBulkExecuteFlags, LeU16>,
-    types: Seq<'a, StmtBulkExecuteParamType, Unknown>,
+pub(crate) struct Head {
+    pub(crate) stmt_id: u32,
+    pub(crate) bulk_flags: u16,
+    pub(crate) types: Vec<StmtBulkExecuteParamType>,
 }
 
-impl<'de> MyDeserialize<'de> for Head<'de> {
-    const SIZE: Option<usize> = None;
+impl Model for Head {
+    ghost use Rattle.mysql_bulk.specs.Head.{BulkHead};
 
-    type Size = AnyWidth;
+    ghost Value = { BulkHead };
 
-    ghost takes_memory = { true };
-
-    type Ctx = usize;
-
-    ghost use Rattle.mysql_bulk.specs.Head.{head};
-
-    ghost form = { head };
-
-    #[tactic(auto, using(mysql_wire::proofs::Tails::tails))]
-    fn deserialize<'s>(count: usize, buf: &mut ParseBuf<'de>) -> Result<Self, FaultOf<'s>> {
-        let mut rest = buf.rest();
-        let header = rest.parse(())?;
-        let stmt_id = rest.parse(())?;
-        let bulk_flags: Const<StmtBulkExecuteFlags, LeU16> = rest.parse(())?;
-        let types = if bulk_flags
-            .0
-            .contains(StmtBulkExecuteFlags::SEND_TYPES_TO_SERVER)
-        {
-            rest.parse(count)?
-        } else {
-            Seq::default()
-        };
-        *buf = rest;
-        Ok(Head {
-            header,
-            stmt_id,
-            bulk_flags,
-            types,
-        })
-    }
-
-    ghost size_is = { λ _. refl };
+    ghost view = { λ a. record { stmt_id = a.stmt_id; bulk_flags = a.bulk_flags; types = a.types.items } };
 }
 
-impl Head<'_> {
-    /// The number of the statement.
-    pub(crate) fn stmt_id(&self) -> u32
-        ensures { result ≡ self.now.stmt_id.0 }
-    {
-        self.stmt_id.0
-    }
+/// Whether types are sent.
+fn sends_types(bulk_flags: u16) -> bool
+    ensures { result ≡ has bulk_flags 128 }
+{
+    StmtBulkExecuteFlags::from_bits_retain(bulk_flags).contains(
+        StmtBulkExecuteFlags::SEND_TYPES_TO_SERVER,
+    )
+}
 
-    /// The word of flags.
-    pub(crate) fn bulk_flags(&self) -> u16
-        ensures { result ≡ self.now.bulk_flags.0.0 }
-    {
-        self.bulk_flags.0.0
+/// Reads so many types, where they are sent.
+#[tactic(auto, using(mysql_wire::proofs::Tails::tails))]
+fn read_types<'s>(
+    sent: bool,
+    count: usize,
+    buf: &mut ParseBuf<'_>,
+) -> Result<Vec<StmtBulkExecuteParamType>, FaultOf<'s>>
+    ensures value { Answers true (items_of result) buf.new ((types_sent sent count).reads buf.old) }
+{
+    if !sent {
+        return Ok(Vec::new(buf.alloc()));
     }
-
-    /// The types, on memory of their own.
-    pub(crate) fn into_types(
-        self,
-        alloc: Global,
-    ) -> Result<Vec<StmtBulkExecuteParamType>, AllocError>
-        ensures { IfOk result (λ types. types.items ≡ self.entry.types) }
-    {
-        match self.types.into_inner() {
-            CowSlice::Owned(types) => Ok(types),
-            CowSlice::Borrowed(types) => Vec::from_slice(alloc, types),
-        }
+    let types: Seq<StmtBulkExecuteParamType, Unknown> = buf.parse(count)?;
+    match types.into_inner() {
+        CowSlice::Owned(types) => Ok(types),
+        CowSlice::Borrowed(types) => Ok(Vec::from_slice(buf.alloc(), types)?),
     }
+}
 
+/// Reads the head of a request of so many columns. After a refusal the buffer is as it was.
+#[tactic(auto, using(mysql_wire::proofs::Tails::tails))]
+pub(crate) fn read_head<'s>(count: usize, buf: &mut ParseBuf<'_>) -> Result<Head, FaultOf<'s>>
+    ensures value { Answers true result buf.new ((head count).reads buf.old) }
+    ensures err { OnErr result (buf.new ≡ buf.old) }
+{
+    let mut rest = buf.rest();
+    let _header: ComStmtBulkExecuteHeader = rest.parse(())?;
+    let stmt_id: RawInt<LeU32> = rest.parse(())?;
+    let bulk_flags: RawInt<LeU16> = rest.parse(())?;
+    let types = read_types(sends_types(bulk_flags.0), count, &mut rest)?;
+    *buf = rest;
+    Ok(Head {
+        stmt_id: stmt_id.0,
+        bulk_flags: bulk_flags.0,
+        types,
+    })
+}
+
+impl Head {
     /// The columns that the values have: those that the types tell of, where they are sent, else those handed in.
     pub(crate) fn told(
         &self,
@@ -109,11 +102,7 @@ impl Head<'_> {
     ) -> Result<Vec<(ColumnType, ColumnFlags)>, AllocError>
         ensures { IfOk result (λ all. all.items ≡ told columns.now self.now) }
     {
-        if self
-            .bulk_flags
-            .0
-            .contains(StmtBulkExecuteFlags::SEND_TYPES_TO_SERVER)
-        {
+        if sends_types(self.bulk_flags) {
             columns_of(alloc, self.types.as_slice())
         } else {
             Vec::from_slice(alloc, columns)

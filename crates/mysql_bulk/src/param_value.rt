@@ -57,7 +57,7 @@ impl StmtBulkExecuteParamValue {
 
     /// The value alone.
     pub(crate) fn into_value(self) -> Value
-        ensures { content_of result ≡ self.entry.content }
+        ensures { content_of result ≡ self.content }
     {
         self.value
     }

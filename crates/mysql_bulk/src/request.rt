@@ -1,13 +1,12 @@
 //! A bulk request.
 
 ghost use Rattle.std.specs.Prelude.{true, ◌≡◌, ◌≤◌, ◌+◌, ◌++◌, length, List, ℕ, None, refl};
-ghost use Rattle.std.specs.Prelude.{IfOk};
 ghost use Rattle.mysql_wire.specs.Writing.{saturated};
-ghost use Rattle.mysql_bulk.specs.ParamType.{types_bytes};
-ghost use Rattle.mysql_bulk.specs.ParamValue.{values_bytes};
+ghost use Rattle.std.specs.Prelude.{◌*◌};
+ghost use Rattle.mysql_bulk.specs.ParamValue.{row_size, plain};
 ghost use Rattle.mysql_bulk.specs.RequestForm.{with_head};
 
-use crate::head::{ComStmtBulkExecuteHeader, Head};
+use crate::head::{ComStmtBulkExecuteHeader, Head, read_head};
 use crate::param_type::StmtBulkExecuteParamType;
 use crate::param_value::StmtBulkExecuteParamValue;
 use crate::param_values::read_values;
@@ -19,30 +18,23 @@ use std::alloc::{AllocError, Global};
 use std::marker::Model;
 
 /// The request of a head and its values.
-fn made(
-    head: Head<'_>,
-    alloc: Global,
-    values: Vec<StmtBulkExecuteParamValue>,
-) -> Result<ComStmtBulkExecuteRequest, AllocError>
-    ensures { IfOk result (λ request. request ≡ with_head head values.items) }
+fn made(head: Head, values: Vec<StmtBulkExecuteParamValue>) -> ComStmtBulkExecuteRequest
+    ensures { result ≡ with_head head values.items }
 {
-    let stmt_id = head.stmt_id();
-    let bulk_flags = head.bulk_flags();
-    let types = head.into_types(alloc)?;
-    let size = written_len(types.as_slice(), values.as_slice());
-    Ok(ComStmtBulkExecuteRequest {
-        stmt_id,
-        bulk_flags,
-        types,
+    let size = written_len(head.types.as_slice(), values.as_slice());
+    ComStmtBulkExecuteRequest {
+        stmt_id: head.stmt_id,
+        bulk_flags: head.bulk_flags,
+        types: head.types,
         values,
         size,
-    })
+    }
 }
 
 /// How many bytes a request is written as, or `usize::MAX` where that is less.
-#[tactic(auto, unfolding(mysql_wire::specs::Writing::saturated))]
+#[tactic(auto, using(crate::proofs::Kept::request_lengths), unfolding(mysql_wire::specs::Writing::saturated))]
 fn written_len(types: &[StmtBulkExecuteParamType], values: &[StmtBulkExecuteParamValue]) -> usize
-    ensures { result ≡ saturated (7 + length (types_bytes types.now) + length (values_bytes values.now)) }
+    ensures { result ≡ saturated (7 + 2 * length types.now + row_size (plain values.now)) }
 {
     items_len(types)
         .saturating_add(items_len(values))
@@ -135,12 +127,11 @@ impl<'de> MyDeserialize<'de> for ComStmtBulkExecuteRequest {
         buf: &mut ParseBuf<'de>,
     ) -> Result<Self, FaultOf<'s>> {
         let mut rest = buf.rest();
-        let head: Head<'de> = rest.parse(columns.len())?;
+        let head = read_head(columns.len(), &mut rest)?;
         let told = head.told(buf.alloc(), columns.as_slice())?;
         let values = read_values(told.as_slice(), &mut rest)?;
-        let request = made(head, buf.alloc(), values)?;
         *buf = rest;
-        Ok(request)
+        Ok(made(head, values))
     }
 
     ghost size_is = { λ _. refl };

@@ -5,7 +5,7 @@ ghost use Rattle.mysql_wire.specs.Reading.{Answers, IsTail};
 ghost use Rattle.mysql_wire.specs.Many.{many};
 ghost use Rattle.mysql_bulk.specs.Rows.{row_of_columns, bulk_rows, row_in, rows_in};
 
-use crate::head::Head;
+use crate::head::read_head;
 use crate::param_value::StmtBulkExecuteParamValue;
 use mysql_values::Value;
 use mysql_wire::{ColumnFlags, ColumnType, FaultOf, ParseBuf};
@@ -65,7 +65,7 @@ pub fn read_bulk_rows<'s>(
     ensures err { OnErr result (buf.new ≡ buf.old) }
 {
     let mut rest = buf.rest();
-    let head: Head = rest.parse(columns.len())?;
+    let head = read_head(columns.len(), &mut rest)?;
     let told = head.told(buf.alloc(), columns)?;
     let rows = read_rows(told.as_slice(), &mut rest)?;
     *buf = rest;

@@ -1,4 +1,4 @@
-use Rattle.std.proofs.Common.{◌≡◌, ◌+◌, ◌++◌, ◌∷◌, ℕ, Bool, true, List, [], Option, Some, length, sym, ◌∙◌, ap, subst, arith, sum_by, ◌⊎◌, if◌then◌else◌, map}
+use Rattle.std.proofs.Common.{◌≡◌, ◌+◌, ◌++◌, ◌∷◌, ℕ, Bool, true, List, [], Option, Some, length, refl, sym, ◌∙◌, ap, subst, arith, sum_by, ◌⊎◌, if◌then◌else◌, map}
 use Rattle.std.proofs.lemmas.List.{length-map}
 use Rattle.mysql_values.specs.declared.value.Value.{Value}
 use Rattle.mysql_values.specs.Value.{Content, content_of, contents_of}
@@ -7,6 +7,7 @@ use Rattle.mysql_bulk.specs.ParamValue.{ParamValue}
 use Rattle.mysql_bulk.specs.ParamType.{joined_types}
 use Rattle.mysql_bulk.specs.ParamValue.{given, row_size}
 use Rattle.mysql_bulk.specs.Builder.{row_of, BuilderState, TakesArity, RowFits, accepted}
+use Rattle.mysql_bulk.proofs.Runs.{none_waits}
 use Rattle.mysql_bulk.proofs.Kept.{keeps_before, keeps_next, state_next}
 use Rattle.mysql_bulk.proofs.builder.ComStmtBulkExecuteRequestBuilder.add.Goals as goal
 
@@ -49,4 +50,15 @@ returns c =
       state_next c.self.invariant c.len-arity.result c.in-Some-checked_add.count (row_of c.args.row) c.append_row.new.values.items taken (c.len-arity.ensures ∙ c.args.row.ok.0 ∙ sym (length-map c.args.row.items content_of)) c.in-Some-checked_add.ensures.1
           (c.append_row.ensures ∙ ap (λ (l : List ParamValue). l ++ map given (row_of c.args.row)) c.find_room.ensures.values)
           ∙ ap (λ (s : BuilderState). accepted s (row_of c.args.row)) c.self.view_is,
+    )
+
+pub returns-else-has_rows : goal.returns-else-has_rows
+returns-else-has_rows c =
+    let A : ℕ → Type 0 = TakesArity c.args.self.now.arity in
+    let N : List Value → Type 0 = λ r. RowFits c.args.self.now (contents_of r) → ⊥ in (
+      subst A (c.len.ensures ∙ c.args.row.ok.0 ∙ sym (length-map c.args.row.items content_of)) (c.takes_arity.ensures.0 c.if-not-takes_arity.false),
+      subst N c.as_slice.ensures.value c.in_default.ensures,
+      none_waits c.args.self.now.waiting c.if-has_rows.ensures.1,
+      refl,
+      refl,
     )
