@@ -41,8 +41,10 @@ expect() {
 # fails_to_write WHAT COMMAND ..: its output takes nothing, so it ends with status 3
 fails_to_write() {
     "${@:2}" <input >/dev/full 2>errors
-    local status=$?
-    judge "$1" "$( ((status == 3)) || printf 'it ended with status %d, and not 3' "$status")"
+    local status=$? wrong=
+    ((status == 3)) || wrong="it ended with status $status, and not 3"
+    [[ -s errors ]] && wrong="it wrote to standard error: $(head -c 400 errors)"
+    judge "$1" "$wrong"
 }
 
 usage=$'usage: mypackets COMMAND ARGS\n'
@@ -51,6 +53,10 @@ statement=$'statement_id: 1\nnum_columns: 1\nnum_params: 2\nwarning_count: 0\nre
 
 "$top/mypackets" >build_output 2>build_errors
 judge 'the first call' "$( (($? == 2)) || cat build_errors)"
+if ((failed > 0)); then
+    printf '%d passed, %d failed\n' "$passed" "$failed"
+    exit 1
+fi
 
 expect 'a statement packet' 0 "$statement" "$top/mypackets" stmt 000100000001000200000000
 expect 'a statement packet, by a link' 0 "$statement" ./linked stmt 000100000001000200000000

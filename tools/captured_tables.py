@@ -26,14 +26,70 @@ def text(value):
     return UNREPORTED if value is None else "x" + value.encode().hex()
 
 
-def prepared(expected):
-    api = expected.get("api", {})
-    return [number(api.get(key)) for key in ("stmt_id", "field_count", "param_count", "warnings")]
+def api_of(packet):
+    return packet.get("expected", {}).get("api", {})
 
 
-# the file and its kind of packet; what the words behind the payload are; how they are made
+def numbers(api, *keys):
+    return [number(api.get(key)) for key in keys]
+
+
+def capabilities(packet):
+    """The flags of both sides. MariaDB's own flag for progress reports is that of older clients to a reader here."""
+    progress = 1 << 29 if int(packet["ext_caps"], 16) & 1 else 0
+    return number(int(packet["caps"], 16) | progress)
+
+
+def prepared(packet):
+    return numbers(api_of(packet), "stmt_id", "field_count", "param_count", "warnings")
+
+
+def column(packet):
+    api = api_of(packet)
+    names = [text(api.get(key)) for key in ("db", "table", "org_table", "name", "org_name")]
+    return names + numbers(api, "charsetnr", "length", "type", "flags", "flags_low15", "decimals")
+
+
+def changes(tracked):
+    """The tracked changes, each kind with its contents: APIs give them by kind, in the order of the kind's name."""
+    if tracked is None:
+        return UNREPORTED
+    kinds = sorted(tracked.items())
+    return ";".join(kind + ":" + ",".join("x" + it for it in contents) for kind, contents in kinds)
+
+
+def ok(packet):
+    api = api_of(packet)
+    info = "none" if "info" in api and api["info"] is None else text(api.get("info"))
+    counts = numbers(api, "affected_rows", "last_insert_id", "server_status", "warnings")
+    return [capabilities(packet), *counts, info, changes(api.get("session_track"))]
+
+
+def error(packet):
+    api = api_of(packet)
+    return [capabilities(packet), *numbers(api, "errno"), text(api.get("sqlstate")), text(api.get("message"))]
+
+
+def progress(packet):
+    api = api_of(packet)
+    thousandths = str(round(1000 * api["progress_percent"]))
+    return [capabilities(packet), *numbers(api, "stage", "max_stage"), thousandths, "x" + api["proc_info"]]
+
+
+OK_WORDS = "capabilities affected_rows last_insert_id status_flags warnings info changes"
+
+# what the words behind the payload are, for each kind of packet, and how they are made
 KINDS = {
     "stmt_prepare_ok": ("statement_id num_columns num_params warning_count", prepared),
+    "column": (
+        "schema table org_table name org_name character_set column_length column_type flags flags_low15 decimals",
+        column,
+    ),
+    "ok_common": (OK_WORDS, ok),
+    "ok_terminator": (OK_WORDS, ok),
+    "eof_old": (OK_WORDS, ok),
+    "err": ("capabilities error_code sql_state message", error),
+    "progress": ("capabilities stage max_stage progress stage_info", progress),
 }
 
 
@@ -47,7 +103,7 @@ def table(kind, packets):
     ]
     for it in packets:
         if it["kind"] == kind:
-            lines.append(" ".join([it["id"], "x" + it["payload"], *make(it.get("expected", {}))]) + "\\n\\")
+            lines.append(" ".join([it["id"], "x" + it["payload"], *make(it)]) + "\\n\\")
     return "\n".join([*lines, '";', ""])
 
 

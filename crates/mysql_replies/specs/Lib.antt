@@ -2,3 +2,12 @@ pub mod LocalInfile
 pub mod SqlState
 pub mod ServerError
 pub mod ProgressReport
+pub mod ErrPacket
+pub mod SessionStateInfo
+pub mod OkTail
+pub mod OkBody
+pub mod OkPacket
+pub mod OkDeserializer
+pub mod ColumnMeta
+pub mod ColumnFields
+pub mod Column

@@ -1,7 +1,8 @@
 //! The request for a file of the client's.
 
-ghost use Rattle.std.specs.Prelude.{false, ◌≡◌, None, refl, IfOk};
-ghost use Rattle.std.specs.Cow.{cow_slice_items};
+ghost use Rattle.std.specs.Prelude.{false, ◌≡◌, None, refl, IfOk, true, is_ok, IsUtf8};
+ghost use Rattle.std.specs.Cow.{cow_slice_items, cow_str_bytes, IsOwnedStr};
+ghost use Rattle.mysql_wire.specs.Text.{lossy_text};
 ghost use Rattle.mysql_replies.specs.LocalInfile as infile;
 
 use mysql_wire::{
@@ -9,7 +10,7 @@ use mysql_wire::{
     RawBytes, append_all, len_of,
 };
 use std::alloc::{AllocError, Global};
-use std::borrow::CowSlice;
+use std::borrow::{CowSlice, CowStr};
 use thiserror::Error;
 
 /// The first byte of a request for a local file is not `fb`.
@@ -52,6 +53,14 @@ impl<'a> LocalInfilePacket<'a> {
         ensures value { result.now ≡ infile.file_name self.now }
     {
         self.file_name.as_bytes()
+    }
+
+    /// The file's name as text, with U+FFFD for what is not UTF-8. UTF-8 is borrowed.
+    pub fn file_name_str(&self, alloc: Global) -> Result<CowStr<'_>, AllocError>
+        ensures text { IfOk result (λ text. cow_str_bytes text ≡ lossy_text (infile.file_name self.now)) }
+        ensures utf8 { IsUtf8 (infile.file_name self.now) → (is_ok result ≡ true) × IfOk result (λ text. IsOwnedStr text → ⊥) }
+    {
+        self.file_name.as_str(alloc)
     }
 
     /// The same request, on memory of its own.

@@ -1,7 +1,8 @@
 //! How far a server is with a long statement.
 
-ghost use Rattle.std.specs.Prelude.{false, ◌≡◌, None, Some, refl, IfOk};
-ghost use Rattle.std.specs.Cow.{cow_slice_items};
+ghost use Rattle.std.specs.Prelude.{false, ◌≡◌, None, Some, refl, IfOk, true, is_ok, IsUtf8};
+ghost use Rattle.std.specs.Cow.{cow_slice_items, cow_str_bytes, IsOwnedStr};
+ghost use Rattle.mysql_wire.specs.Text.{lossy_text};
 ghost use Rattle.mysql_replies.specs.ProgressReport as spec;
 
 use bstr::BStr;
@@ -10,7 +11,7 @@ use mysql_wire::{
     append_all, len_of,
 };
 use std::alloc::{AllocError, Global};
-use std::borrow::CowSlice;
+use std::borrow::{CowSlice, CowStr};
 use std::fmt;
 
 /// How far a MariaDB server is with a long statement, sent in an error packet.
@@ -70,6 +71,14 @@ impl<'a> ProgressReport<'a> {
         ensures value { result.now ≡ spec.stage_info self.now }
     {
         self.stage_info.as_bytes()
+    }
+
+    /// The stage's text as text, with U+FFFD for what is not UTF-8. UTF-8 is borrowed.
+    pub fn stage_info_str(&self, alloc: Global) -> Result<CowStr<'_>, AllocError>
+        ensures text { IfOk result (λ text. cow_str_bytes text ≡ lossy_text (spec.stage_info self.now)) }
+        ensures utf8 { IsUtf8 (spec.stage_info self.now) → (is_ok result ≡ true) × IfOk result (λ text. IsOwnedStr text → ⊥) }
+    {
+        self.stage_info.as_str(alloc)
     }
 
     /// The same report, on memory of its own.

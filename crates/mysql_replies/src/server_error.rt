@@ -1,7 +1,8 @@
 //! An error that a server reports.
 
-ghost use Rattle.std.specs.Prelude.{false, ◌≡◌, None, Some, refl, IfOk, option_map};
-ghost use Rattle.std.specs.Cow.{cow_slice_items};
+ghost use Rattle.std.specs.Prelude.{false, ◌≡◌, None, Some, refl, IfOk, option_map, true, is_ok, IsUtf8};
+ghost use Rattle.std.specs.Cow.{cow_slice_items, cow_str_bytes, IsOwnedStr};
+ghost use Rattle.mysql_wire.specs.Text.{lossy_text};
 ghost use Rattle.mysql_replies.specs.ServerError as spec;
 
 use crate::sql_state::SqlState;
@@ -10,7 +11,7 @@ use mysql_wire::{
     AnyWidth, EofBytes, FaultOf, MyDeserialize, MySerialize, ParseBuf, RawBytes, append_all, len_of,
 };
 use std::alloc::{AllocError, Global};
-use std::borrow::CowSlice;
+use std::borrow::{CowSlice, CowStr};
 use std::fmt;
 
 /// An error that a server reports: its code, its SQL state where one was sent, its message.
@@ -59,6 +60,14 @@ impl<'a> ServerError<'a> {
         ensures value { result.now ≡ spec.message self.now }
     {
         self.message.as_bytes()
+    }
+
+    /// The message as text, with U+FFFD for what is not UTF-8. UTF-8 is borrowed.
+    pub fn message_str(&self, alloc: Global) -> Result<CowStr<'_>, AllocError>
+        ensures text { IfOk result (λ text. cow_str_bytes text ≡ lossy_text (spec.message self.now)) }
+        ensures utf8 { IsUtf8 (spec.message self.now) → (is_ok result ≡ true) × IfOk result (λ text. IsOwnedStr text → ⊥) }
+    {
+        self.message.as_str(alloc)
     }
 
     /// The same error, on memory of its own.

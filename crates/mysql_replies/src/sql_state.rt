@@ -1,11 +1,16 @@
 //! The SQL state of an error.
 
-ghost use Rattle.std.specs.Prelude.{false, ◌≡◌, Some, refl, IfOk};
+ghost use Rattle.std.specs.Prelude.{false, ◌≡◌, Some, refl, IfOk, true, is_ok, IsUtf8};
+ghost use Rattle.std.specs.Cow.{cow_str_bytes, IsOwnedStr};
+ghost use Rattle.mysql_wire.specs.Text.{lossy_text};
 ghost use Rattle.mysql_replies.specs.SqlState as spec;
 
+use bstr::ByteSlice;
 use mysql_wire::{
     ConstFault, ConstU8, FaultOf, Fixed, MyDeserialize, MySerialize, ParseBuf, append_all,
 };
+use std::alloc::{AllocError, Global};
+use std::borrow::CowStr;
 use thiserror::Error;
 
 /// The byte in front of an SQL state is not `#`.
@@ -48,6 +53,14 @@ impl SqlState {
     {
         self.state
     }
+
+    /// The five bytes as text, with U+FFFD for what is not UTF-8. UTF-8 is borrowed.
+    pub fn as_str(&self, alloc: Global) -> Result<CowStr<'_>, AllocError>
+        ensures text { IfOk result (λ text. cow_str_bytes text ≡ lossy_text (spec.state_bytes self.now)) }
+        ensures utf8 { IsUtf8 (spec.state_bytes self.now) → (is_ok result ≡ true) × IfOk result (λ text. IsOwnedStr text → ⊥) }
+    {
+        self.state.as_slice().to_str_lossy(alloc)
+    }
 }
 
 impl<'de> MyDeserialize<'de> for SqlState {
@@ -61,14 +74,12 @@ impl<'de> MyDeserialize<'de> for SqlState {
 
     ghost form = { λ _. spec.sql_state };
 
-    #[tactic(auto, using(mysql_wire::proofs::Blocks::blocks), unfolding(mysql_wire::specs::Form::bytes, crate::specs::SqlState::sql_state))]
+    #[tactic(auto, using(mysql_wire::proofs::Blocks::blocks), unfolding(crate::specs::SqlState::sql_state))]
     fn deserialize<'s>(_ctx: (), buf: &mut ParseBuf<'de>) -> Result<Self, FaultOf<'s>> {
         let mut fields: ParseBuf<'de> = buf.parse(6)?;
-        let marker = fields.parse_unchecked(())?;
-        let state = fields.eat(5);
         Ok(SqlState {
-            marker,
-            state: [state[0], state[1], state[2], state[3], state[4]],
+            marker: fields.parse_unchecked(())?,
+            state: fields.parse_unchecked(())?,
         })
     }
 
@@ -85,7 +96,6 @@ impl MySerialize for SqlState {
 
     #[tactic(auto, unfolding(crate::specs::SqlState::sql_state_bytes))]
     fn append(&self, out: &mut Vec<u8>) {
-        append_all!(out; self.marker);
-        out.extend_from_slice(&self.state).unwrap();
+        append_all!(out; self.marker, self.state);
     }
 }

@@ -3,3 +3,6 @@
 
 #[cfg(test)]
 mod captured;
+
+#[cfg(test)]
+mod replies;

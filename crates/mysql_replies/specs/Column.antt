@@ -1,0 +1,106 @@
+-- A column of a result.
+use Rattle.std.specs.Prelude.{ℕ, List, [], ◌∷◌, codes}
+use Rattle.mysql_wire.specs.declared.codes.column_type.ColumnType.{ColumnType}
+use Rattle.mysql_wire.specs.ConstBytes.{const_bytes}
+use Rattle.mysql_wire.specs.Flags.{ColumnFlags}
+use Rattle.mysql_wire.specs.Form.{Form, ◌>>=◌, give}
+use Rattle.mysql_wire.specs.Writing.{joined}
+use Rattle.mysql_replies.specs.declared.column.Column.{Column}
+use Rattle.mysql_replies.specs.ColumnMeta.{column_meta, column_meta_bytes, meta_of, no_names, ColumnMetaFits}
+use Rattle.mysql_replies.specs.ColumnFields.{column_fields, column_fields_bytes, fields_of, fields_of_type, ColumnFieldsFit}
+
+-- `def`, length-encoded
+abbrev pub catalog_bytes : List ℕ
+catalog_bytes = 3 ∷ codes "def"
+
+-- the bytes of the names
+abbrev pub schema : Column → List ℕ
+schema c = c.meta.schema
+
+abbrev pub table : Column → List ℕ
+table c = c.meta.table
+
+abbrev pub org_table : Column → List ℕ
+org_table c = c.meta.org_table
+
+abbrev pub name : Column → List ℕ
+name c = c.meta.name
+
+abbrev pub org_name : Column → List ℕ
+org_name c = c.meta.org_name
+
+-- the type, the flags and the numbers
+abbrev pub column_type : Column → ColumnType
+column_type c = c.fields.column_type.0
+
+abbrev pub flags : Column → ColumnFlags
+flags c = c.fields.flags.0
+
+abbrev pub character_set : Column → ℕ
+character_set c = c.fields.character_set.0
+
+abbrev pub column_length : Column → ℕ
+column_length c = c.fields.column_length.0
+
+abbrev pub decimals : Column → ℕ
+decimals c = c.fields.decimals.0
+
+-- the column of these names and fields
+abbrev pub column_of : (schema table org_table name org_name : List ℕ) (character_set column_length : ℕ) (column_type : ColumnType) (flags : ColumnFlags) (decimals : ℕ) → Column
+column_of schema table org_table name org_name character_set column_length column_type flags decimals = record {
+  catalog = record { 0 = record {} };
+  meta = meta_of schema table org_table name org_name;
+  fields = fields_of character_set column_length column_type flags decimals;
+}
+
+-- a column of this type, all else empty or 0
+abbrev pub new_column : ColumnType → Column
+new_column column_type = column_of [] [] [] [] [] 0 0 column_type (record { 0 = 0; 1 = record {} }) 0
+
+-- the column with one name or field in place of its own
+abbrev pub with_schema : Column → List ℕ → Column
+with_schema c x = column_of x (table c) (org_table c) (name c) (org_name c) (character_set c) (column_length c) (column_type c) (flags c) (decimals c)
+
+abbrev pub with_table : Column → List ℕ → Column
+with_table c x = column_of (schema c) x (org_table c) (name c) (org_name c) (character_set c) (column_length c) (column_type c) (flags c) (decimals c)
+
+abbrev pub with_org_table : Column → List ℕ → Column
+with_org_table c x = column_of (schema c) (table c) x (name c) (org_name c) (character_set c) (column_length c) (column_type c) (flags c) (decimals c)
+
+abbrev pub with_name : Column → List ℕ → Column
+with_name c x = column_of (schema c) (table c) (org_table c) x (org_name c) (character_set c) (column_length c) (column_type c) (flags c) (decimals c)
+
+abbrev pub with_org_name : Column → List ℕ → Column
+with_org_name c x = column_of (schema c) (table c) (org_table c) (name c) x (character_set c) (column_length c) (column_type c) (flags c) (decimals c)
+
+abbrev pub with_character_set : Column → ℕ → Column
+with_character_set c x = column_of (schema c) (table c) (org_table c) (name c) (org_name c) x (column_length c) (column_type c) (flags c) (decimals c)
+
+abbrev pub with_column_length : Column → ℕ → Column
+with_column_length c x = column_of (schema c) (table c) (org_table c) (name c) (org_name c) (character_set c) x (column_type c) (flags c) (decimals c)
+
+abbrev pub with_flags : Column → ColumnFlags → Column
+with_flags c x = column_of (schema c) (table c) (org_table c) (name c) (org_name c) (character_set c) (column_length c) (column_type c) x (decimals c)
+
+abbrev pub with_decimals : Column → ℕ → Column
+with_decimals c x = column_of (schema c) (table c) (org_table c) (name c) (org_name c) (character_set c) (column_length c) (column_type c) (flags c) x
+
+-- the catalog, five names, thirteen bytes of fields
+abbrev pub column : Form Column
+column = do
+  catalog ← const_bytes 4 catalog_bytes
+  meta ← column_meta
+  fields ← column_fields
+  give (record { catalog = catalog; meta = meta; fields = fields })
+
+-- the same, each in its shortest spelling
+abbrev pub column_parts : Column → List (List ℕ)
+column_parts c = catalog_bytes ∷ column_meta_bytes c.meta ∷ column_fields_bytes c.fields ∷ []
+
+abbrev pub column_bytes : Column → List ℕ
+column_bytes c = joined (column_parts c)
+
+-- lengths and numbers that have their widths
+pub record ColumnFits (c : Column) : Type 0 where
+  pub meta : ColumnMetaFits c.meta
+  pub fields : ColumnFieldsFit c.fields

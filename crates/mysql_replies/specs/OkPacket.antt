@@ -1,0 +1,51 @@
+-- OK packets.
+use Rattle.std.specs.Prelude.{ℕ, zero, suc, List, [], ◌∷◌, Option, Some, None}
+use Rattle.mysql_wire.specs.Flags.{StatusFlags}
+use Rattle.mysql_replies.specs.declared.ok_body.OkPacketBody.{OkPacketBody}
+use Rattle.mysql_replies.specs.declared.ok_packet.OkPacket.{OkPacket}
+
+-- the rows, the insert id, the status, the count of warnings, the bytes of the info and of the state
+abbrev pub affected_rows : OkPacket → ℕ
+affected_rows p = p.affected_rows
+
+abbrev pub last_insert_id : OkPacket → Option ℕ
+last_insert_id p = p.last_insert_id
+
+abbrev pub status_flags : OkPacket → StatusFlags
+status_flags p = p.status_flags
+
+abbrev pub warnings : OkPacket → ℕ
+warnings p = p.warnings
+
+abbrev pub info : OkPacket → Option (List ℕ)
+info p = p.info
+
+abbrev pub session_state : OkPacket → Option (List ℕ)
+session_state p = p.session_state_info
+
+-- the state string, empty where there is none
+abbrev pub bytes_or_none : Option (List ℕ) → List ℕ
+bytes_or_none None = []
+bytes_or_none (Some bytes) = bytes
+
+abbrev pub state_bytes : OkPacket → List ℕ
+state_bytes p = bytes_or_none (session_state p)
+
+abbrev pub unless_zero : ℕ → Option ℕ
+unless_zero zero = None
+unless_zero (suc n) = Some (suc n)
+
+abbrev pub unless_empty : List ℕ → Option (List ℕ)
+unless_empty [] = None
+unless_empty (b ∷ bytes) = Some (b ∷ bytes)
+
+-- the packet with this body: an insert id of 0, an empty info and an empty state are absent
+abbrev pub packet_of : OkPacketBody → OkPacket
+packet_of b = record {
+  affected_rows = b.affected_rows;
+  last_insert_id = unless_zero b.last_insert_id;
+  status_flags = b.status_flags;
+  warnings = b.warnings;
+  info = unless_empty b.info;
+  session_state_info = unless_empty b.session_state_info;
+}

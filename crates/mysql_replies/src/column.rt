@@ -1,0 +1,360 @@
+//! A column of a result.
+
+ghost use Rattle.std.specs.Prelude.{◌≡◌, true, length, is_ok, IsUtf8, None, refl, IfOk, ◌∷◌};
+ghost use Rattle.std.specs.Cow.{cow_str_bytes, IsOwnedStr};
+ghost use Rattle.mysql_wire.specs.Text.{lossy_text};
+ghost use Rattle.mysql_replies.specs.Column as spec;
+
+use crate::column_fields::ColumnFields;
+use crate::column_meta::ColumnMeta;
+use mysql_wire::{
+    AnyWidth, ColumnFlags, ColumnType, Const, ConstBytes, ConstBytesValue, ConstFault, FaultOf,
+    LenEnc, MyDeserialize, MySerialize, ParseBuf, RawBytes, RawInt, append_all, len_of,
+};
+use std::alloc::{AllocError, Global};
+use std::borrow::{CowSlice, CowStr};
+use thiserror::Error;
+
+/// A column's definition does not begin with the catalog `def`.
+#[derive(Clone, Copy, Debug, Default, PartialEq, Eq, Hash, Error)]
+#[error("Invalid catalog value in the column definition")]
+pub struct InvalidCatalog;
+
+impl ConstFault for InvalidCatalog {
+    const MESSAGE: &'static str = "Invalid catalog value in the column definition";
+}
+
+/// The catalog of every column: `def`, length-encoded.
+#[derive(Clone, Copy, Debug, Default, PartialEq, Eq, Hash)]
+pub struct Catalog;
+
+impl ConstBytesValue<4> for Catalog {
+    ghost VALUE = { spec.catalog_bytes };
+
+    const VALUE: [u8; 4] = *b"\x03def";
+
+    type Error = InvalidCatalog;
+
+    ghost len_is = { refl };
+}
+
+/// The first bytes of a column's definition: `03 64 65 66`.
+pub type ColumnDefinitionCatalog = ConstBytes<Catalog, 4>;
+
+/// A column of a result (`Protocol::ColumnDefinition41`).
+///
+/// The catalog `def`; the schema, the table, the original table, the name and the original name,
+/// each a length-encoded string; then 13 bytes: `0c`, the character set (two bytes), the length
+/// (four), the type, the flags (two), the decimals, and two bytes that are skipped. Numbers have
+/// the low byte first.
+///
+/// A short definition is `UnexpectedEof`; another catalog, another byte for `0c`, or a byte that is
+/// no type is `InvalidData`. Reading copies the names, and answers `Memory` where that is refused.
+#[derive(Clone, Debug, PartialEq, Eq, Drop)]
+pub struct Column {
+    catalog: ColumnDefinitionCatalog,
+    meta: ColumnMeta,
+    fields: ColumnFields,
+}
+
+/// A copy of these bytes.
+fn copied(alloc: Global, content: &[u8]) -> Result<RawBytes<'static, LenEnc>, AllocError>
+    ensures value { IfOk result (λ copy. copy ≡ content.now) }
+{
+    Ok(RawBytes::new(CowSlice::Owned(Vec::from_slice(alloc, content)?)))
+}
+
+impl Column {
+    /// A column of this type: its names are empty, and its numbers and flags 0.
+    pub fn new(column_type: ColumnType) -> Self
+        ensures value { result ≡ spec.new_column column_type }
+    {
+        Column {
+            catalog: ConstBytes::new(),
+            meta: ColumnMeta::empty(),
+            fields: ColumnFields::of_type(column_type),
+        }
+    }
+
+    /// The column with this name of the schema. Where the copy is refused, the column is given up.
+    pub fn with_schema(self, alloc: Global, schema: &[u8]) -> Result<Column, AllocError>
+        ensures value { IfOk result (λ column. column ≡ spec.with_schema self schema.now) }
+    {
+        let schema = copied(alloc, schema)?;
+        let Column { catalog, meta, fields } = self;
+        Ok(Column {
+            catalog,
+            meta: ColumnMeta { schema, ..meta },
+            fields,
+        })
+    }
+
+    /// The column with this name of the table, or of its alias. Where the copy is refused, the column is given up.
+    pub fn with_table(self, alloc: Global, table: &[u8]) -> Result<Column, AllocError>
+        ensures value { IfOk result (λ column. column ≡ spec.with_table self table.now) }
+    {
+        let table = copied(alloc, table)?;
+        let Column { catalog, meta, fields } = self;
+        Ok(Column {
+            catalog,
+            meta: ColumnMeta { table, ..meta },
+            fields,
+        })
+    }
+
+    /// The column with this name of the table itself. Where the copy is refused, the column is given up.
+    pub fn with_org_table(self, alloc: Global, org_table: &[u8]) -> Result<Column, AllocError>
+        ensures value { IfOk result (λ column. column ≡ spec.with_org_table self org_table.now) }
+    {
+        let org_table = copied(alloc, org_table)?;
+        let Column { catalog, meta, fields } = self;
+        Ok(Column {
+            catalog,
+            meta: ColumnMeta { org_table, ..meta },
+            fields,
+        })
+    }
+
+    /// The column with this name of the column, or of its alias. Where the copy is refused, the column is given up.
+    pub fn with_name(self, alloc: Global, name: &[u8]) -> Result<Column, AllocError>
+        ensures value { IfOk result (λ column. column ≡ spec.with_name self name.now) }
+    {
+        let name = copied(alloc, name)?;
+        let Column { catalog, meta, fields } = self;
+        Ok(Column {
+            catalog,
+            meta: ColumnMeta { name, ..meta },
+            fields,
+        })
+    }
+
+    /// The column with this name of the column itself. Where the copy is refused, the column is given up.
+    pub fn with_org_name(self, alloc: Global, org_name: &[u8]) -> Result<Column, AllocError>
+        ensures value { IfOk result (λ column. column ≡ spec.with_org_name self org_name.now) }
+    {
+        let org_name = copied(alloc, org_name)?;
+        let Column { catalog, meta, fields } = self;
+        Ok(Column {
+            catalog,
+            meta: ColumnMeta { org_name, ..meta },
+            fields,
+        })
+    }
+
+    /// The column with these flags.
+    #[inline]
+    pub fn with_flags(self, flags: ColumnFlags) -> Column
+        ensures value { result ≡ spec.with_flags self flags }
+    {
+        let flags = Const::new(flags);
+        Column {
+            fields: ColumnFields {
+                flags,
+                ..self.fields
+            },
+            ..self
+        }
+    }
+
+    /// The column with this length.
+    #[inline]
+    pub fn with_column_length(self, column_length: u32) -> Column
+        ensures value { result ≡ spec.with_column_length self column_length }
+    {
+        let column_length = RawInt::new(column_length);
+        Column {
+            fields: ColumnFields {
+                column_length,
+                ..self.fields
+            },
+            ..self
+        }
+    }
+
+    /// The column with this character set.
+    #[inline]
+    pub fn with_character_set(self, character_set: u16) -> Column
+        ensures value { result ≡ spec.with_character_set self character_set }
+    {
+        let character_set = RawInt::new(character_set);
+        Column {
+            fields: ColumnFields {
+                character_set,
+                ..self.fields
+            },
+            ..self
+        }
+    }
+
+    /// The column with this many decimals.
+    #[inline]
+    pub fn with_decimals(self, decimals: u8) -> Column
+        ensures value { result ≡ spec.with_decimals self decimals }
+    {
+        let decimals = RawInt::new(decimals);
+        Column {
+            fields: ColumnFields {
+                decimals,
+                ..self.fields
+            },
+            ..self
+        }
+    }
+
+    /// The most characters of a value, for showing it.
+    #[inline]
+    pub fn column_length(&self) -> u32
+        ensures value { result ≡ spec.column_length self.now }
+    {
+        self.fields.column_length.0
+    }
+
+    /// The type of the values.
+    #[inline]
+    pub fn column_type(&self) -> ColumnType
+        ensures value { result ≡ spec.column_type self.now }
+    {
+        self.fields.column_type.0
+    }
+
+    /// The number of the character set (collation).
+    #[inline]
+    pub fn character_set(&self) -> u16
+        ensures value { result ≡ spec.character_set self.now }
+    {
+        self.fields.character_set.0
+    }
+
+    /// The flags.
+    #[inline]
+    pub fn flags(&self) -> ColumnFlags
+        ensures value { result ≡ spec.flags self.now }
+    {
+        self.fields.flags.0
+    }
+
+    /// The most decimals of a value: 0 for integers and strings of fixed length, 31 for other strings
+    /// and floats, else up to 81.
+    #[inline]
+    pub fn decimals(&self) -> u8
+        ensures value { result ≡ spec.decimals self.now }
+    {
+        self.fields.decimals.0
+    }
+
+    /// The bytes of the name of the schema.
+    #[inline]
+    pub fn schema_ref(&self) -> &[u8]
+        ensures value { result.now ≡ spec.schema self.now }
+    {
+        self.meta.schema.as_bytes()
+    }
+
+    /// The name of the schema as text, with U+FFFD for what is not UTF-8. UTF-8 is borrowed.
+    pub fn schema_str(&self, alloc: Global) -> Result<CowStr<'_>, AllocError>
+        ensures text { IfOk result (λ text. cow_str_bytes text ≡ lossy_text (spec.schema self.now)) }
+        ensures utf8 { IsUtf8 (spec.schema self.now) → (is_ok result ≡ true) × IfOk result (λ text. IsOwnedStr text → ⊥) }
+    {
+        self.meta.schema.as_str(alloc)
+    }
+
+    /// The bytes of the name of the table, or of its alias.
+    #[inline]
+    pub fn table_ref(&self) -> &[u8]
+        ensures value { result.now ≡ spec.table self.now }
+    {
+        self.meta.table.as_bytes()
+    }
+
+    /// The name of the table, or of its alias as text, with U+FFFD for what is not UTF-8. UTF-8 is borrowed.
+    pub fn table_str(&self, alloc: Global) -> Result<CowStr<'_>, AllocError>
+        ensures text { IfOk result (λ text. cow_str_bytes text ≡ lossy_text (spec.table self.now)) }
+        ensures utf8 { IsUtf8 (spec.table self.now) → (is_ok result ≡ true) × IfOk result (λ text. IsOwnedStr text → ⊥) }
+    {
+        self.meta.table.as_str(alloc)
+    }
+
+    /// The bytes of the name of the table itself.
+    #[inline]
+    pub fn org_table_ref(&self) -> &[u8]
+        ensures value { result.now ≡ spec.org_table self.now }
+    {
+        self.meta.org_table.as_bytes()
+    }
+
+    /// The name of the table itself as text, with U+FFFD for what is not UTF-8. UTF-8 is borrowed.
+    pub fn org_table_str(&self, alloc: Global) -> Result<CowStr<'_>, AllocError>
+        ensures text { IfOk result (λ text. cow_str_bytes text ≡ lossy_text (spec.org_table self.now)) }
+        ensures utf8 { IsUtf8 (spec.org_table self.now) → (is_ok result ≡ true) × IfOk result (λ text. IsOwnedStr text → ⊥) }
+    {
+        self.meta.org_table.as_str(alloc)
+    }
+
+    /// The bytes of the name of the column, or of its alias.
+    #[inline]
+    pub fn name_ref(&self) -> &[u8]
+        ensures value { result.now ≡ spec.name self.now }
+    {
+        self.meta.name.as_bytes()
+    }
+
+    /// The name of the column, or of its alias as text, with U+FFFD for what is not UTF-8. UTF-8 is borrowed.
+    pub fn name_str(&self, alloc: Global) -> Result<CowStr<'_>, AllocError>
+        ensures text { IfOk result (λ text. cow_str_bytes text ≡ lossy_text (spec.name self.now)) }
+        ensures utf8 { IsUtf8 (spec.name self.now) → (is_ok result ≡ true) × IfOk result (λ text. IsOwnedStr text → ⊥) }
+    {
+        self.meta.name.as_str(alloc)
+    }
+
+    /// The bytes of the name of the column itself.
+    #[inline]
+    pub fn org_name_ref(&self) -> &[u8]
+        ensures value { result.now ≡ spec.org_name self.now }
+    {
+        self.meta.org_name.as_bytes()
+    }
+
+    /// The name of the column itself as text, with U+FFFD for what is not UTF-8. UTF-8 is borrowed.
+    pub fn org_name_str(&self, alloc: Global) -> Result<CowStr<'_>, AllocError>
+        ensures text { IfOk result (λ text. cow_str_bytes text ≡ lossy_text (spec.org_name self.now)) }
+        ensures utf8 { IsUtf8 (spec.org_name self.now) → (is_ok result ≡ true) × IfOk result (λ text. IsOwnedStr text → ⊥) }
+    {
+        self.meta.org_name.as_str(alloc)
+    }
+}
+
+impl<'de> MyDeserialize<'de> for Column {
+    const SIZE: Option<usize> = None;
+
+    type Size = AnyWidth;
+
+    ghost takes_memory = { true };
+
+    type Ctx = ();
+
+    ghost form = { λ _. spec.column };
+
+    #[tactic(auto, using(mysql_wire::proofs::Tails::tails))]
+    fn deserialize<'s>(_ctx: (), buf: &mut ParseBuf<'de>) -> Result<Self, FaultOf<'s>> {
+        Ok(Column {
+            catalog: buf.parse(())?,
+            meta: buf.parse(())?,
+            fields: buf.parse(())?,
+        })
+    }
+
+    ghost size_is = { λ _. refl };
+}
+
+impl MySerialize for Column {
+    ghost bytes = { spec.column_bytes };
+
+    #[tactic(auto, using(mysql_wire::specs::Writing::lengths))]
+    fn defined_len(&self) -> usize {
+        len_of!(self.catalog, self.meta, self.fields)
+    }
+
+    fn append(&self, out: &mut Vec<u8>) {
+        append_all!(out; self.catalog, self.meta, self.fields);
+    }
+}

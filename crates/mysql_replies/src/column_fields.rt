@@ -1,0 +1,106 @@
+//! The fields of a column that have fixed lengths.
+
+ghost use Rattle.std.specs.Prelude.{◌≡◌, false, Some};
+ghost use Rattle.mysql_replies.specs.ColumnFields as spec;
+
+use mysql_wire::{
+    ColumnFlags, ColumnType, Const, ConstFault, ConstU8, FaultOf, Fixed, LeU16, LeU32,
+    MyDeserialize, MySerialize, ParseBuf, RawInt, Skip, append_all, len_of,
+};
+use thiserror::Error;
+
+/// The byte in front of a column's fixed fields is not `0c`, their length.
+#[derive(Clone, Copy, Debug, Default, PartialEq, Eq, Hash, Error)]
+#[error("Invalid fixed length field length in the column definition")]
+pub struct InvalidFixedLengthFieldsLen;
+
+impl ConstFault for InvalidFixedLengthFieldsLen {
+    const MESSAGE: &'static str = "Invalid fixed length field length in the column definition";
+}
+
+/// The length of a column's fixed fields: `0c`.
+pub type FixedLengthFieldsLen = ConstU8<InvalidFixedLengthFieldsLen, 0x0c>;
+
+/// The fields of a column that have fixed lengths, 13 bytes in all. Numbers of more than one byte
+/// have the low one first.
+#[derive(Clone, Debug, PartialEq, Eq, Drop)]
+pub(crate) struct ColumnFields {
+    pub(crate) fixed_length_fields_len: FixedLengthFieldsLen,
+    pub(crate) character_set: RawInt<LeU16>,
+    pub(crate) column_length: RawInt<LeU32>,
+    pub(crate) column_type: Const<ColumnType, u8>,
+    pub(crate) flags: Const<ColumnFlags, LeU16>,
+    pub(crate) decimals: RawInt<u8>,
+    pub(crate) filler: Skip<2>,
+}
+
+impl ColumnFields {
+    /// Fields of this type, all else 0.
+    pub(crate) fn of_type(column_type: ColumnType) -> Self
+        ensures value { result ≡ spec.fields_of_type column_type }
+    {
+        ColumnFields {
+            fixed_length_fields_len: ConstU8::new(),
+            character_set: RawInt::new(0),
+            column_length: RawInt::new(0),
+            column_type: Const::new(column_type),
+            flags: Const::new(ColumnFlags::default()),
+            decimals: RawInt::new(0),
+            filler: Skip,
+        }
+    }
+}
+
+impl<'de> MyDeserialize<'de> for ColumnFields {
+    const SIZE: Option<usize> = Some(13);
+
+    type Size = Fixed<13>;
+
+    ghost takes_memory = { false };
+
+    type Ctx = ();
+
+    ghost form = { λ _. spec.column_fields };
+
+    #[tactic(auto, using(mysql_wire::proofs::Blocks::blocks), unfolding(crate::specs::ColumnFields::column_fields))]
+    fn deserialize<'s>(_ctx: (), buf: &mut ParseBuf<'de>) -> Result<Self, FaultOf<'s>> {
+        let mut fields: ParseBuf<'de> = buf.parse(13)?;
+        Ok(ColumnFields {
+            fixed_length_fields_len: fields.parse_unchecked(())?,
+            character_set: fields.parse_unchecked(())?,
+            column_length: fields.parse_unchecked(())?,
+            column_type: fields.parse_unchecked(())?,
+            flags: fields.parse_unchecked(())?,
+            decimals: fields.parse_unchecked(())?,
+            filler: fields.parse_unchecked(())?,
+        })
+    }
+
+    ghost size_is = { λ _. spec.size-column_fields };
+}
+
+impl MySerialize for ColumnFields {
+    ghost bytes = { spec.column_fields_bytes };
+
+    #[tactic(auto, using(mysql_wire::specs::Writing::lengths), unfolding(mysql_wire::specs::Writing::le_bytes, crate::specs::ColumnFields::column_fields_bytes))]
+    fn defined_len(&self) -> usize {
+        len_of!(
+            self.fixed_length_fields_len,
+            self.character_set,
+            self.column_length,
+            self.column_type,
+            self.flags,
+            self.decimals,
+            self.filler
+        )
+    }
+
+    #[tactic(auto, unfolding(crate::specs::ColumnFields::column_fields_bytes))]
+    fn append(&self, out: &mut Vec<u8>) {
+        append_all!(
+            out;
+            self.fixed_length_fields_len, self.character_set, self.column_length,
+            self.column_type, self.flags, self.decimals, self.filler
+        );
+    }
+}

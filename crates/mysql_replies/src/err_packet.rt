@@ -1,0 +1,163 @@
+//! Errors and progress reports, in their packet.
+
+ghost use Rattle.std.specs.Prelude.{false, true, ◌≡◌, None, Some, refl};
+ghost use Rattle.mysql_replies.specs.ErrPacket as spec;
+ghost use Rattle.mysql_replies.specs.declared.err_packet.ErrPacket.TheVariants as err;
+
+use crate::progress_report::ProgressReport;
+use crate::server_error::ServerError;
+use bitflags::Flags;
+use mysql_wire::{
+    AnyWidth, CapabilityFlags, ConstFault, ConstU8, FaultOf, LeU16, MyDeserialize, MySerialize,
+    ParseBuf, RawInt, append_all, len_of,
+};
+use std::fmt;
+use thiserror::Error;
+
+/// The first byte of an error packet is not `ff`.
+#[derive(Clone, Copy, Debug, Default, PartialEq, Eq, Hash, Error)]
+#[error("Invalid error packet header")]
+pub struct InvalidErrPacketHeader;
+
+impl ConstFault for InvalidErrPacketHeader {
+    const MESSAGE: &'static str = "Invalid error packet header";
+}
+
+/// The first byte of an error packet: `ff`.
+pub type ErrPacketHeader = ConstU8<InvalidErrPacketHeader, 0xff>;
+
+/// The code of a packet that may be a progress report.
+const PROGRESS_CODE: u16 = 0xffff;
+
+/// An error or a progress report (`Protocol::ERR_Packet`): the byte `ff`, a code of two bytes (the
+/// low one first), then what it is the code of.
+///
+/// Where the code is `ffff` and the flags have `CLIENT_PROGRESS_OBSOLETE`, that is a progress
+/// report. Else it is an error, with an SQL state where the flags have `CLIENT_PROTOCOL_41`.
+#[derive(Clone, Debug, PartialEq, Drop)]
+pub enum ErrPacket<'a> {
+    /// An error.
+    Error(ServerError<'a>),
+    /// How far a long statement is.
+    Progress(ProgressReport<'a>),
+}
+
+impl<'a> ErrPacket<'a> {
+    /// Whether it is an error.
+    #[inline]
+    pub fn is_error(&self) -> bool
+        ensures value { result ≡ spec.is_error self.now }
+    {
+        matches!(self, ErrPacket::Error(_))
+    }
+
+    /// Whether it is a progress report.
+    #[inline]
+    pub fn is_progress_report(&self) -> bool
+        ensures value { result ≡ spec.is_progress_report self.now }
+    {
+        matches!(self, ErrPacket::Progress(_))
+    }
+
+    /// The progress report. The packet is one, as `is_progress_report` tells.
+    pub fn progress_report(&self) -> &ProgressReport<'a>
+        requires { spec.is_progress_report self.now ≡ true }
+        ensures value { self.now ≡ err.Progress result.now }
+    {
+        match self {
+            ErrPacket::Progress(report) => report,
+            ErrPacket::Error(_) => unreachable!(),
+        }
+    }
+
+    /// The error. The packet is one, as `is_error` tells.
+    pub fn server_error(&self) -> &ServerError<'a>
+        requires { spec.is_error self.now ≡ true }
+        ensures value { self.now ≡ err.Error result.now }
+    {
+        match self {
+            ErrPacket::Error(error) => error,
+            ErrPacket::Progress(_) => unreachable!(),
+        }
+    }
+}
+
+impl<'de> MyDeserialize<'de> for ErrPacket<'de> {
+    const SIZE: Option<usize> = None;
+
+    type Size = AnyWidth;
+
+    ghost takes_memory = { false };
+
+    /// What both sides can do.
+    type Ctx = CapabilityFlags;
+
+    ghost form = { λ capabilities. spec.err_packet capabilities };
+
+    #[tactic(auto, using(mysql_wire::proofs::Blocks::blocks), unfolding(crate::specs::ErrPacket::err_packet))]
+    fn deserialize<'s>(
+        capabilities: CapabilityFlags,
+        buf: &mut ParseBuf<'de>,
+    ) -> Result<Self, FaultOf<'s>> {
+        let mut rest = buf.rest();
+        let mut head: ParseBuf<'de> = rest.parse(3)?;
+        let _header: ErrPacketHeader = head.parse_unchecked(())?;
+        let code: RawInt<LeU16> = head.parse_unchecked(())?;
+        let takes_progress = capabilities.contains(CapabilityFlags::CLIENT_PROGRESS_OBSOLETE);
+        let packet = if code.0 == PROGRESS_CODE && takes_progress {
+            ErrPacket::Progress(rest.parse(())?)
+        } else {
+            let has_state = capabilities.contains(CapabilityFlags::CLIENT_PROTOCOL_41);
+            ErrPacket::Error(rest.parse((code.0, has_state))?)
+        };
+        *buf = rest;
+        Ok(packet)
+    }
+
+    ghost size_is = { λ capabilities. spec.size-err_packet capabilities };
+}
+
+impl MySerialize for ErrPacket<'_> {
+    ghost bytes = { spec.err_packet_bytes };
+
+    #[tactic(auto, using(mysql_wire::specs::Writing::lengths), unfolding(mysql_wire::specs::Writing::le_bytes, crate::specs::ErrPacket::err_packet_bytes))]
+    fn defined_len(&self) -> usize {
+        let header = ErrPacketHeader::new();
+        match self {
+            ErrPacket::Error(error) => {
+                let code: RawInt<LeU16> = RawInt::new(error.error_code());
+                len_of!(header, code, *error)
+            }
+            ErrPacket::Progress(report) => {
+                let code: RawInt<LeU16> = RawInt::new(PROGRESS_CODE);
+                len_of!(header, code, *report)
+            }
+        }
+    }
+
+    #[tactic(auto, unfolding(crate::specs::ErrPacket::err_packet_bytes))]
+    fn append(&self, out: &mut Vec<u8>) {
+        let header = ErrPacketHeader::new();
+        match self {
+            ErrPacket::Error(error) => {
+                let code: RawInt<LeU16> = RawInt::new(error.error_code());
+                append_all!(out; header, code, *error);
+            }
+            ErrPacket::Progress(report) => {
+                let code: RawInt<LeU16> = RawInt::new(PROGRESS_CODE);
+                append_all!(out; header, code, *report);
+            }
+        }
+    }
+}
+
+impl fmt::Display for ErrPacket<'_> {
+    ghost output = { λ p. Some (spec.err_text p) };
+
+    fn fmt<W: fmt::Write>(&self, f: &mut fmt::Formatter<W>) -> fmt::Result {
+        match self {
+            ErrPacket::Error(error) => write!(f, "{error}"),
+            ErrPacket::Progress(report) => write!(f, "{report}"),
+        }
+    }
+}

@@ -1,0 +1,176 @@
+//! An OK packet.
+
+ghost use Rattle.std.specs.Prelude.{true, ◌≡◌, ℕ, List, [], Option, Some, None, Ok, IfOk, option_map};
+ghost use Rattle.std.specs.Cow.{cow_str_bytes};
+ghost use Rattle.mysql_wire.specs.Reading.{Answers};
+ghost use Rattle.mysql_wire.specs.Seq.{items_of};
+ghost use Rattle.mysql_wire.specs.Text.{lossy_text};
+ghost use Rattle.mysql_replies.specs.OkPacket as spec;
+ghost use Rattle.mysql_replies.specs.SessionStateInfo.{state_string};
+
+use crate::ok_body::OkPacketBody;
+use crate::session_state_info::SessionStateInfo;
+use mysql_wire::{Fault, LenEnc, ParseBuf, RawBytes, StatusFlags, read_all};
+use std::alloc::{AllocError, Global};
+use std::borrow::CowStr;
+
+/// An OK packet of any kind. An insert id of 0, an empty info and an empty state are absent.
+#[derive(Clone, Debug, PartialEq, Eq, Drop)]
+pub struct OkPacket<'a> {
+    affected_rows: u64,
+    last_insert_id: Option<u64>,
+    status_flags: StatusFlags,
+    warnings: u16,
+    info: Option<RawBytes<'a, LenEnc>>,
+    session_state_info: Option<RawBytes<'a, LenEnc>>,
+}
+
+/// The content, where it is not empty.
+fn unless_empty<'a>(content: RawBytes<'a, LenEnc>) -> Option<RawBytes<'a, LenEnc>>
+    ensures value { result ≡ spec.unless_empty content.entry }
+{
+    if content.as_bytes().is_empty() {
+        None
+    } else {
+        Some(content)
+    }
+}
+
+/// The content, on memory of its own.
+fn owned<'a>(
+    content: Option<RawBytes<'a, LenEnc>>,
+    alloc: Global,
+) -> Result<Option<RawBytes<'static, LenEnc>>, AllocError>
+    ensures value { IfOk result (λ owned. owned ≡ content.entry) }
+{
+    match content {
+        Some(content) => Ok(Some(content.into_owned(alloc)?)),
+        None => Ok(None),
+    }
+}
+
+impl<'a> OkPacket<'a> {
+    /// The packet with this body.
+    pub(crate) fn from_body(body: OkPacketBody<'a>) -> Self
+        ensures value { result ≡ spec.packet_of body.entry }
+    {
+        OkPacket {
+            affected_rows: body.affected_rows,
+            last_insert_id: if body.last_insert_id == 0 {
+                None
+            } else {
+                Some(body.last_insert_id)
+            },
+            status_flags: body.status_flags,
+            warnings: body.warnings,
+            info: unless_empty(body.info),
+            session_state_info: unless_empty(body.session_state_info),
+        }
+    }
+
+    /// How many rows the statement changed.
+    #[inline]
+    pub fn affected_rows(&self) -> u64
+        ensures value { result ≡ spec.affected_rows self.now }
+    {
+        self.affected_rows
+    }
+
+    /// The number that the last inserted row got, where it got one.
+    #[inline]
+    pub fn last_insert_id(&self) -> Option<u64>
+        ensures value { result ≡ spec.last_insert_id self.now }
+    {
+        self.last_insert_id
+    }
+
+    /// The state of the server.
+    #[inline]
+    pub fn status_flags(&self) -> StatusFlags
+        ensures value { result ≡ spec.status_flags self.now }
+    {
+        self.status_flags
+    }
+
+    /// How many warnings there are.
+    #[inline]
+    pub fn warnings(&self) -> u16
+        ensures value { result ≡ spec.warnings self.now }
+    {
+        self.warnings
+    }
+
+    /// The bytes of the info, where there is one.
+    pub fn info_ref(&self) -> Option<&[u8]>
+        ensures value { option_map (λ bytes. bytes.now) result ≡ spec.info self.now }
+    {
+        match &self.info {
+            Some(info) => Some(info.as_bytes()),
+            None => None,
+        }
+    }
+
+    /// The info as text, with U+FFFD for what is not UTF-8. UTF-8 is borrowed.
+    pub fn info_str(&self, alloc: Global) -> Result<Option<CowStr<'_>>, AllocError>
+        ensures text { IfOk result (λ text. option_map cow_str_bytes text ≡ option_map lossy_text (spec.info self.now)) }
+    {
+        match &self.info {
+            Some(info) => Ok(Some(info.as_str(alloc)?)),
+            None => Ok(None),
+        }
+    }
+
+    /// The bytes of the state string, where there is one.
+    pub fn session_state_info_ref(&self) -> Option<&[u8]>
+        ensures value { option_map (λ bytes. bytes.now) result ≡ spec.session_state self.now }
+    {
+        match &self.session_state_info {
+            Some(state) => Some(state.as_bytes()),
+            None => None,
+        }
+    }
+
+    /// The entries that the whole state string spells, none where there is no state.
+    ///
+    /// The fault is the first one of an entry.
+    pub fn session_state_info(
+        &self,
+        alloc: Global,
+    ) -> Result<Vec<SessionStateInfo<'_>>, Fault>
+        ensures value { Answers true (items_of result) [] (state_string.reads (spec.state_bytes self.now)) }
+        ensures spelled { IfOk result (λ infos. state_string.Spells infos.items (spec.state_bytes self.now) []) }
+    {
+        match &self.session_state_info {
+            Some(state) => {
+                let mut entries = ParseBuf::new(alloc, state.as_bytes());
+                read_all(&mut entries)
+            }
+            None => Ok(Vec::new(alloc)),
+        }
+    }
+
+    /// The same packet, on memory of its own.
+    pub fn into_owned(self, alloc: Global) -> Result<OkPacket<'static>, AllocError>
+        ensures value { IfOk result (λ owned. owned ≡ self.entry) }
+    {
+        Ok(OkPacket {
+            affected_rows: self.affected_rows,
+            last_insert_id: self.last_insert_id,
+            status_flags: self.status_flags,
+            warnings: self.warnings,
+            info: owned(self.info, alloc)?,
+            session_state_info: owned(self.session_state_info, alloc)?,
+        })
+    }
+}
+
+impl<'a> TryFrom<OkPacketBody<'a>> for OkPacket<'a> {
+    type Error = Fault;
+
+    ghost try_from_gives = { λ body r. r ≡ Ok (spec.packet_of body) };
+
+    /// The packet with this body. It is never refused.
+    fn try_from(body: OkPacketBody<'a>) -> Result<OkPacket<'a>, Fault> {
+        Ok(OkPacket::from_body(body))
+    }
+}

@@ -1,0 +1,98 @@
+//! An entry of the state string of an OK packet.
+
+ghost use Rattle.std.specs.Prelude.{true, false, ◌≡◌, [], List, ℕ, None, refl, IfOk};
+ghost use Rattle.mysql_wire.specs.Reading.{Answers};
+ghost use Rattle.mysql_session.specs.SessionStateChange.{session_state_change};
+ghost use Rattle.mysql_replies.specs.SessionStateInfo as spec;
+
+use mysql_session::SessionStateChange;
+use mysql_wire::{
+    AnyWidth, Const, Fault, FaultOf, LenEnc, MyDeserialize, MySerialize, ParseBuf, RawBytes,
+    SessionStateType, append_all, len_of,
+};
+use std::alloc::{AllocError, Global};
+
+/// One change of a session's state, as an OK packet carries it: its type in one byte, and its data,
+/// length-encoded.
+///
+/// A byte that is no [`SessionStateType`] is `InvalidData`.
+#[derive(Clone, Debug, PartialEq, Eq, Drop)]
+pub struct SessionStateInfo<'a> {
+    data_type: Const<SessionStateType, u8>,
+    content: RawBytes<'a, LenEnc>,
+}
+
+impl<'a> SessionStateInfo<'a> {
+    /// What has changed.
+    #[inline]
+    pub fn data_type(&self) -> SessionStateType
+        ensures value { result ≡ spec.data_type self.now }
+    {
+        self.data_type.0
+    }
+
+    /// The bytes of the data.
+    #[inline]
+    pub fn data_ref(&self) -> &[u8]
+        ensures value { result.now ≡ spec.data_bytes self.now }
+    {
+        self.content.as_bytes()
+    }
+
+    /// The change that the data begins with; bytes behind it are dropped.
+    ///
+    /// The fault is that of reading the data as a change of this type.
+    pub fn decode(&self, alloc: Global) -> Result<SessionStateChange<'_>, Fault>
+        ensures value { Answers true result [] (spec.decoded self.now) }
+        ensures spelled { IfOk result (λ change. (rest : List ℕ) × (session_state_change (spec.data_type self.now)).Spells change (spec.data_bytes self.now) rest) }
+    {
+        let mut data = ParseBuf::new(alloc, self.content.as_bytes());
+        data.parse(self.data_type.0)
+    }
+
+    /// The same, on memory of its own.
+    pub fn into_owned(self, alloc: Global) -> Result<SessionStateInfo<'static>, AllocError>
+        ensures value { IfOk result (λ owned. owned ≡ self.entry) }
+    {
+        Ok(SessionStateInfo {
+            data_type: self.data_type,
+            content: self.content.into_owned(alloc)?,
+        })
+    }
+}
+
+impl<'de> MyDeserialize<'de> for SessionStateInfo<'de> {
+    const SIZE: Option<usize> = None;
+
+    type Size = AnyWidth;
+
+    ghost takes_memory = { false };
+
+    type Ctx = ();
+
+    ghost form = { λ _. spec.session_state_info };
+
+    #[tactic(auto, using(mysql_wire::proofs::Tails::tails), unfolding(crate::specs::SessionStateInfo::session_state_info))]
+    fn deserialize<'s>(_ctx: (), buf: &mut ParseBuf<'de>) -> Result<Self, FaultOf<'s>> {
+        Ok(SessionStateInfo {
+            data_type: buf.parse(())?,
+            content: buf.parse(())?,
+        })
+    }
+
+    ghost size_is = { λ _. spec.size-session_state_info };
+}
+
+impl MySerialize for SessionStateInfo<'_> {
+    ghost bytes = { spec.session_state_info_bytes };
+
+    #[tactic(auto, using(mysql_wire::specs::Writing::lengths), unfolding(mysql_wire::specs::Writing::le_bytes, crate::specs::SessionStateInfo::session_state_info_bytes))]
+    fn defined_len(&self) -> usize {
+        len_of!(self.data_type, self.content)
+    }
+
+    #[tactic(auto, unfolding(crate::specs::SessionStateInfo::session_state_info_bytes))]
+    fn append(&self, out: &mut Vec<u8>) {
+        append_all!(out; self.data_type, self.content);
+    }
+}
