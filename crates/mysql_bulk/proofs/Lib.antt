@@ -6,3 +6,4 @@ pub mod Running
 pub mod Whole
 pub mod Chains
 pub mod EachValue
+pub mod Params

@@ -9,7 +9,9 @@ use Rattle.mysql_bulk.specs.declared.param_type.StmtBulkExecuteParamType.{StmtBu
 use Rattle.mysql_bulk.specs.declared.error.BulkExecuteRequestError.{BulkExecuteRequestError}
 use Rattle.mysql_bulk.specs.declared.error.BulkExecuteRequestError.TheVariants.{MixedArity, RowTooLarge, MemoryRow, NoParams, Memory}
 use Rattle.mysql_bulk.specs.declared.error.BulkExecuteRequestBuilderError.{BulkExecuteRequestBuilderError}
-use Rattle.mysql_bulk.specs.declared.error.BulkExecuteRequestBuilderError.TheVariants.{Request, Params}
+use Rattle.mysql_bulk.specs.declared.error.BulkExecuteRequestBuilderError.TheVariants as refused
+use Rattle.mysql_values.specs.declared.params.Params.{Params}
+use Rattle.mysql_values.specs.Params as given_by
 use Rattle.mysql_bulk.specs.ParamType.{declared_types, joined_types}
 use Rattle.mysql_bulk.specs.ParamValue.{ParamValue, given, plain, row_size}
 use Rattle.mysql_bulk.specs.Request.{BulkRequest, request_flags}
@@ -80,8 +82,14 @@ Adds s row (Err Memory) t = ⊥
 -- the same, where a refusal is one of parameters or of rows
 abbrev pub AddsRow : BuilderState → Vec Value → Result (Option (Vec Value)) BulkExecuteRequestBuilderError → BuilderState → Type 0
 AddsRow s row (Ok back) t = Adds s row (Ok back) t
-AddsRow s row (Err (Request e)) t = Adds s row (Err e) t
-AddsRow s row (Err (Params e)) t = ⊥
+AddsRow s row (Err (refused.Request e)) t = Adds s row (Err e) t
+AddsRow s row (Err (refused.Params e)) t = ⊥
+
+-- parameters are offered: their values are a row, or they are refused
+abbrev pub AddsParams : BuilderState → Params → Result (Option (Vec Value)) BulkExecuteRequestBuilderError → BuilderState → Type 0
+AddsParams s params (Ok back) t = (row : Vec Value) × (given_by.values_of params s.names ≡ Ok (row_of row)) × Adds s row (Ok back) t
+AddsParams s params (Err (refused.Request e)) t = (row : Vec Value) × (given_by.values_of params s.names ≡ Ok (row_of row)) × Adds s row (Err e) t
+AddsParams s params (Err (refused.Params e)) t = given_by.Refuses params s.names e × (t ≡ s)
 
 -- ---- a request is asked for
 

@@ -1,11 +1,12 @@
 //! A builder of bulk requests.
 
 ghost use Rattle.std.specs.Prelude.{◌≡◌, ◌≢◌, ◌+◌, ◌≤◌, ◌-◌, ◌↔◌, ◌++◌, ◌∷◌, [], length, IsTrue, IfOk, OnOk, OnErr, MatchOption, Some, None, true, false, sum_by, map, vec_len, vec_capacity, List, ℕ};
+ghost use Rattle.std.specs.Option.{option_copied};
 ghost use Rattle.mysql_cuts.specs.Cut.{PartFits};
 ghost use Rattle.mysql_values.specs.Value.{Content, contents_of};
 ghost use Rattle.mysql_bulk.specs.ParamValue.{given, row_size};
 ghost use Rattle.mysql_bulk.specs.Request.{written_size, request_flags};
-ghost use Rattle.mysql_bulk.specs.Builder.{TakesArity, RowFits, Adds, AddsRow, Builds, WaitingFits, waiting_size, rows_packing};
+ghost use Rattle.mysql_bulk.specs.Builder.{TakesArity, RowFits, Adds, AddsRow, AddsParams, Builds, WaitingFits, waiting_size, rows_packing};
 
 use crate::error::{BulkExecuteRequestBuilderError, BulkExecuteRequestError};
 use crate::param_type::StmtBulkExecuteParamType;
@@ -14,7 +15,7 @@ use crate::request::ComStmtBulkExecuteRequest;
 use crate::row_type::join_row;
 use crate::size::{request_len, row_len};
 use mysql_cuts::BulkRule;
-use mysql_values::Value;
+use mysql_values::{Params, Value};
 use std::alloc::{AllocError, Global};
 use std::marker::Model;
 use std::mem;
@@ -43,7 +44,7 @@ pub struct ComStmtBulkExecuteRequestBuilder<'a> {
 }
 
 impl<'a> Model for ComStmtBulkExecuteRequestBuilder<'a> {
-    ghost use Rattle.std.specs.Prelude.{option_map};
+    ghost use Rattle.std.specs.Option.{option_copied};
     ghost use Rattle.mysql_bulk.specs.Builder.{BuilderState, Keeps};
     ghost use Rattle.mysql_bulk.specs.Flat.{waiting_rows};
     ghost use Rattle.mysql_bulk.specs.ParamValue.{plain};
@@ -55,7 +56,7 @@ impl<'a> Model for ComStmtBulkExecuteRequestBuilder<'a> {
       limit = a.limit;
       results = a.results;
       rule = a.rule;
-      names = option_map (λ names. names.now) a.names;
+      names = option_copied a.names;
       arity = a.arity;
       types_due = a.types_due;
       waiting = waiting_rows a.arity a.count (plain a.values.items);
@@ -66,7 +67,7 @@ impl<'a> Model for ComStmtBulkExecuteRequestBuilder<'a> {
       limit = a.limit;
       results = a.results;
       rule = a.rule;
-      names = option_map (λ names. names.now) a.names;
+      names = option_copied a.names;
       arity = a.arity;
       types_due = a.types_due;
       waiting = waiting_rows a.arity a.count (plain a.values.items);
@@ -155,6 +156,15 @@ impl<'a> ComStmtBulkExecuteRequestBuilder<'a> {
             values: Vec::new(alloc),
             types: Vec::new(alloc),
         }
+    }
+
+    /// Gives the names of the parameters, in the order of the statement, for `add_params`.
+    pub fn with_named_params(self, names: Option<&'a [Vec<u8>]>) -> Self
+        ensures { result ≡ record self.entry { names = option_copied names.entry } }
+    {
+        let mut builder = self;
+        builder.names = names;
+        builder
     }
 
     /// Asks the server for the results of each row.
@@ -286,6 +296,21 @@ impl<'a> ComStmtBulkExecuteRequestBuilder<'a> {
         match self.add(row) {
             Ok(back) => Ok(back),
             Err(e) => Err(BulkExecuteRequestBuilderError::Request(e)),
+        }
+    }
+
+    /// Offers parameters, whose values are a row: see `add_row`. With names they are named, else positional.
+    ///
+    /// Parameters that give no row are refused as `Params`, and the builder stays as it was.
+    pub fn add_params(
+        &mut self,
+        params: Params,
+    ) -> Result<Option<Vec<Value>>, BulkExecuteRequestBuilderError>
+        ensures { AddsParams self.old params result self.new }
+    {
+        match params.into_values(self.alloc, self.names) {
+            Ok(row) => self.add_row(row),
+            Err(e) => Err(BulkExecuteRequestBuilderError::Params(e)),
         }
     }
 
