@@ -36,7 +36,7 @@ size_joined : (rows : List (List Content)) → row_size (joined rows) ≡ sum_by
 size_joined [] = refl
 size_joined (row ∷ rows) = omega (arith, sum_by-append param_size row (joined rows), size_joined rows, sum_by-append row_size (row ∷ []) rows)
 
-if_same : {X : Type 0} (b : Bool) (x y z : X) → x ≡ y → (if b then x else z) ≡ (if b then y else z)
+pub if_same : {X : Type 0} (b : Bool) (x y z : X) → x ≡ y → (if b then x else z) ≡ (if b then y else z)
 if_same true x y z e = e
 if_same false x y z e = refl
 

@@ -7,3 +7,4 @@ pub mod Whole
 pub mod Chains
 pub mod EachValue
 pub mod Params
+pub mod NewRequest

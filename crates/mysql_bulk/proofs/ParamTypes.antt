@@ -101,7 +101,7 @@ length-joined [] (v ∷ row) e = absurd (omega arith)
 length-joined (t ∷ types) [] e = absurd (omega arith)
 length-joined (t ∷ types) (v ∷ row) e = ap suc (length-joined types row (omega arith))
 
-length-first : (row : List Content) → length (joined_types [] row) ≡ length row
+pub length-first : (row : List Content) → length (joined_types [] row) ≡ length row
 length-first [] = refl
 length-first (v ∷ row) = ap suc (length-first row)
 

@@ -10,3 +10,4 @@ pub mod ParamValues
 pub mod Head
 pub mod Rows
 pub mod RequestForm
+pub mod NewRequest

@@ -99,7 +99,7 @@ fn size_with(
 }
 
 /// Finds room for a row, and for the types of its columns where they are to be kept.
-fn find_room(
+pub(crate) fn find_room(
     values: &mut Vec<StmtBulkExecuteParamValue>,
     types: &mut Vec<StmtBulkExecuteParamType>,
     types_due: bool,

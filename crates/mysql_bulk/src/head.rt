@@ -47,7 +47,7 @@ impl Model for Head {
 }
 
 /// Whether types are sent.
-fn sends_types(bulk_flags: u16) -> bool
+pub(crate) fn sends_types(bulk_flags: u16) -> bool
     ensures { result ≡ has bulk_flags 128 }
 {
     StmtBulkExecuteFlags::from_bits_retain(bulk_flags).contains(

@@ -5,11 +5,22 @@ ghost use Rattle.mysql_wire.specs.Writing.{saturated};
 ghost use Rattle.std.specs.Prelude.{◌*◌};
 ghost use Rattle.mysql_bulk.specs.ParamValue.{row_size, plain};
 ghost use Rattle.mysql_bulk.specs.RequestForm.{with_head};
+ghost use Rattle.std.specs.Prelude.{IfOk, IsTrue, ◌↔◌, if◌then◌else◌, fold, map, []};
+ghost use Rattle.mysql_cuts.specs.Cut.{joined};
+ghost use Rattle.mysql_bulk.specs.Flat.{EqualLengths};
+ghost use Rattle.mysql_bulk.specs.ParamType.{joined_types};
+ghost use Rattle.mysql_bulk.specs.ParamValue.{given};
+ghost use Rattle.mysql_bulk.specs.Builder.{values_of};
+ghost use Rattle.mysql_bulk.specs.NewRequest.{MakesRequest};
 
-use crate::head::{ComStmtBulkExecuteHeader, Head, read_head};
+use crate::builder::{append_row, find_room};
+use crate::error::BulkExecuteRequestError;
+use crate::head::{ComStmtBulkExecuteHeader, Head, read_head, sends_types};
 use crate::param_type::StmtBulkExecuteParamType;
 use crate::param_value::StmtBulkExecuteParamValue;
 use crate::param_values::read_values;
+use crate::row_type::join_row;
+use mysql_values::Value;
 use mysql_wire::{
     AnyWidth, ColumnFlags, ColumnType, FaultOf, Flags, LeU16, LeU32, MyDeserialize, MySerialize,
     ParseBuf, RawInt, StmtBulkExecuteFlags, append_all, append_items, items_len,
@@ -39,6 +50,46 @@ fn written_len(types: &[StmtBulkExecuteParamType], values: &[StmtBulkExecutePara
     items_len(types)
         .saturating_add(items_len(values))
         .saturating_add(7)
+}
+
+/// Whether each row has so many values.
+fn equally_long(rows: &[Vec<Value>], arity: usize) -> bool
+    ensures { IsTrue result ↔ EqualLengths arity (values_of rows.now) }
+{
+    for row in rows {
+        if row.len() != arity {
+            return false;
+        }
+    }
+    true
+}
+
+/// The types of the columns of some rows, and their values one after another.
+#[derive(Drop)]
+struct Parts {
+    types: Vec<StmtBulkExecuteParamType>,
+    values: Vec<StmtBulkExecuteParamValue>,
+}
+
+/// Takes the values out of rows of one length, and the types of the columns where they are sent.
+fn gather(
+    alloc: Global,
+    sent: bool,
+    arity: usize,
+    rows: Vec<Vec<Value>>,
+) -> Result<Parts, AllocError>
+    requires { EqualLengths arity (values_of rows.items) }
+    ensures types { IfOk result (λ parts. parts.types.items ≡ (if sent then fold joined_types [] (values_of rows.items) else [])) }
+    ensures values { IfOk result (λ parts. parts.values.items ≡ map given (joined (values_of rows.items))) }
+{
+    let mut types = Vec::new(alloc);
+    let mut values = Vec::new(alloc);
+    for row in rows {
+        find_room(&mut values, &mut types, sent, arity)?;
+        join_row(&mut types, sent, row.as_slice());
+        append_row(&mut values, row);
+    }
+    Ok(Parts { types, values })
 }
 
 /// `COM_STMT_BULK_EXECUTE`: the values of some rows, with which a prepared statement is executed for each row.
@@ -75,6 +126,38 @@ impl Model for ComStmtBulkExecuteRequest {
 }
 
 impl ComStmtBulkExecuteRequest {
+    /// The request of some rows, with the types of their columns where the flags say that types are sent.
+    ///
+    /// `NoParams` where there is no row, else `MixedArity` where two rows differ in length; else `Memory` where a growth
+    /// was refused. The rows are given up in each case.
+    pub fn new(
+        alloc: Global,
+        stmt_id: u32,
+        bulk_flags: StmtBulkExecuteFlags,
+        rows: Vec<Vec<Value>>,
+    ) -> Result<Self, BulkExecuteRequestError>
+        ensures { MakesRequest stmt_id bulk_flags.0 (values_of rows.items) result }
+    {
+        if rows.is_empty() {
+            return Err(BulkExecuteRequestError::NoParams);
+        }
+        let arity = rows[0].len();
+        if !equally_long(rows.as_slice(), arity) {
+            return Err(BulkExecuteRequestError::MixedArity);
+        }
+        match gather(alloc, sends_types(bulk_flags.0), arity, rows) {
+            Ok(parts) => Ok(made(
+                Head {
+                    stmt_id,
+                    bulk_flags: bulk_flags.0,
+                    types: parts.types,
+                },
+                parts.values,
+            )),
+            Err(_) => Err(BulkExecuteRequestError::Memory),
+        }
+    }
+
     /// The number of the statement.
     pub fn stmt_id(&self) -> u32
         ensures value { result ≡ self.now.stmt_id }
