@@ -1,18 +1,16 @@
 -- A whole run by calls for the next request, over any input.
-use Rattle.std.proofs.Common.{◌≡◌, ◌≢◌, ℕ, ◌+◌, Bool, true, false, List, [], ◌∷◌, ◌++◌, length, Option, Some, None, Result, Ok, Err, refl, sym, ◌∙◌, ap, subst, ◌⊎◌, inl, inr, append_assoc}
+use Rattle.std.proofs.Common.{◌≡◌, ℕ, Bool, true, false, List, [], ◌∷◌, ◌++◌, length, Option, Some, None, Ok, refl, sym, ◌∙◌, ap, subst, inl, inr, append_assoc}
 use Rattle.std.proofs.lemmas.List.{append-nil, map-append}
 use Rattle.std.specs.Prelude.{IfSome, is_none}
 use Rattle.std.specs.Global.{Vec}
 use Rattle.std.specs.Iterator.{Yields, YieldsThen}
 use Rattle.mysql_values.specs.declared.value.Value.{Value}
-use Rattle.mysql_values.specs.Value.{Content, contents_of}
+use Rattle.mysql_values.specs.Value.{Content}
 use Rattle.mysql_bulk.specs.Request.{BulkRequest}
 use Rattle.mysql_bulk.specs.Builder.{row_of, BuilderState, values_of}
 use Rattle.mysql_bulk.specs.Builder.{TakesArity, RowFits, Builds}
-use Rattle.mysql_bulk.specs.Run.{Accepts, Comes, RunState, Filled, EndsEmpty, NextRequest, RunsTo}
-use Rattle.mysql_bulk.specs.Refusal.{measure}
+use Rattle.mysql_bulk.specs.Run.{Comes, RunState, Filled, NextRequest, RunsTo}
 use Rattle.mysql_bulk.specs.WholeRun.{IsNew, GivesFewest}
-use Rattle.mysql_cuts.proofs.Packed.{NextDoesNotFit, types_after}
 use Rattle.mysql_bulk.proofs.Running.{Running, running_none, done_fewest, running_accepts, running_sends, fits_from, as_long}
 use Rattle.mysql_cuts.specs.Cut.{joined}
 

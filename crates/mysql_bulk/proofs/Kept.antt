@@ -1,5 +1,5 @@
 -- What a builder keeps, and the request that it makes of it.
-use Rattle.std.proofs.Common.{◌≡◌, ◌≢◌, ℕ, zero, suc, ◌+◌, ◌*◌, ◌<◌, ◌≤◌, ◌^◌, Bool, true, false, if◌then◌else◌, List, [], ◌∷◌, ◌++◌, length, take, drop, map, Option, Some, None, unwrap_or, refl, sym, ◌∙◌, ap, subst, ◌⊎◌, inl, inr, arith, length-append, sum_by}
+use Rattle.std.proofs.Common.{◌≡◌, ◌≢◌, ℕ, zero, suc, ◌+◌, ◌*◌, ◌<◌, ◌≤◌, ◌^◌, Bool, true, false, if◌then◌else◌, List, [], ◌∷◌, ◌++◌, length, drop, map, Option, Some, None, unwrap_or, refl, sym, ◌∙◌, ap, subst, ◌⊎◌, inl, inr, arith, length-append, sum_by}
 use Rattle.std.specs.Prelude.{fold}
 use Rattle.std.proofs.Math.Nat.{suc-mul}
 use Rattle.std.proofs.lemmas.List.{length-drop, length-take-le, map-append, nil_from_length}
@@ -7,18 +7,17 @@ use Rattle.std.proofs.lemmas.List.Sums.{sum_by-append, fold-append}
 use Rattle.std.proofs.lemmas.List.FromFn.{length-map-range_with_len}
 use Rattle.mysql_wire.specs.Writing.{saturated, le_bytes}
 use Rattle.mysql_wire.specs.MariadbBulkIndicator.{mariadb_bulk_indicator_code}
-use Rattle.mysql_values.specs.Value.{bin, bin_size}
+use Rattle.mysql_values.specs.Value.{bin}
 use Rattle.mysql_values.proofs.Sizes.{length-bin}
 use Rattle.mysql_bulk.specs.Request.{BulkRequest, request_bytes, written_size}
 use Rattle.mysql_cuts.specs.Cut.{joined}
-use Rattle.mysql_values.specs.declared.value.Value.{Value}
-use Rattle.mysql_values.specs.Value.{Content, contents_of}
+use Rattle.mysql_values.specs.Value.{Content}
 use Rattle.mysql_bulk.specs.declared.param_type.StmtBulkExecuteParamType.{StmtBulkExecuteParamType}
 use Rattle.mysql_bulk.specs.ParamValue.{ParamValue}
 use Rattle.mysql_bulk.specs.ParamType.{declared_type, column_of, first_length, declared_types, joined_types, param_type_bytes, types_bytes}
 use Rattle.mysql_bulk.specs.ParamValue.{given, plain, param_size, row_size, param_value_bytes, values_bytes}
 use Rattle.mysql_bulk.specs.Flat.{rows_of, waiting_rows, EqualLengths, IsFlat}
-use Rattle.mysql_bulk.specs.Builder.{BuilderState, Keeps, WaitingFits, waiting_size, TakesArity, RowFits, accepted}
+use Rattle.mysql_bulk.specs.Builder.{BuilderState, Keeps, waiting_size, TakesArity, RowFits, accepted}
 use Rattle.mysql_bulk.proofs.FlatRows.{flat_values, flat_none, flat_rows, flat_more}
 use Rattle.mysql_bulk.proofs.ParamTypes.{types_all, types_before}
 

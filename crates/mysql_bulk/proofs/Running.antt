@@ -1,27 +1,27 @@
 -- A run over a list of rows: what was sent, what waits and what is still to come.
-use Rattle.std.proofs.Common.{◌≡◌, ◌≢◌, ℕ, zero, suc, ◌+◌, ◌-◌, ◌*◌, ◌<◌, ◌≤◌, Bool, true, false, cond, eqb, if◌then◌else◌, map, List, [], ◌∷◌, ◌++◌, length, take, drop, Option, Some, None, Result, Ok, Err, refl, sym, ◌∙◌, ap, subst, ◌⊎◌, inl, inr, arith, length-append, append_assoc}
-use Rattle.std.proofs.lemmas.List.{append-nil, take_all, nil_from_length, take-append-le, take-append-drop, take_at}
+use Rattle.std.proofs.Common.{◌≡◌, ◌≢◌, ℕ, ◌+◌, Bool, true, false, cond, if◌then◌else◌, map, List, [], ◌∷◌, ◌++◌, length, take, drop, Option, Some, None, Ok, Err, refl, sym, ◌∙◌, ap, subst, arith, length-append, append_assoc}
+use Rattle.std.proofs.lemmas.List.{append-nil, take-append-le, take-append-drop, take_at}
 use Rattle.std.proofs.lemmas.List.Sums.{take_while-cons}
 use Rattle.std.proofs.lemmas.Bool.{eqb-true, eq-eqb}
-use Rattle.std.specs.Prelude.{take_while, nat_eq, slice_get, IfSome}
+use Rattle.std.specs.Prelude.{take_while, nat_eq, slice_get}
 use Rattle.std.specs.List.{prefix_len}
 use Rattle.std.specs.Global.{Vec}
 use Rattle.mysql_values.specs.declared.value.Value.{Value}
-use Rattle.mysql_values.specs.Value.{Content, contents_of}
+use Rattle.mysql_values.specs.Value.{Content}
 use Rattle.mysql_bulk.specs.declared.error.BulkExecuteRequestError.{BulkExecuteRequestError}
 use Rattle.mysql_bulk.specs.declared.error.BulkExecuteRequestError.TheVariants.{MixedArity, RowTooLarge, MemoryRow, NoParams, Memory}
 use Rattle.mysql_bulk.specs.Request.{BulkRequest, request_flags}
 use Rattle.mysql_bulk.specs.ParamValue.{given}
 use Rattle.mysql_bulk.specs.Flat.{EqualLengths}
 use Rattle.mysql_cuts.specs.declared.rule.BulkRule.{BulkRule}
-use Rattle.mysql_cuts.specs.Cut.{Packing, PartFits, joined, NoneEmpty, HasFittingCut, IsFewest, IsFullFromFront, ends_after}
-use Rattle.mysql_bulk.specs.Builder.{row_of, BuilderState, packing, rows_packing, values_of}
-use Rattle.mysql_bulk.specs.Builder.{TakesArity, RowFits, accepted, Adds, Builds, IsRequest, sent}
+use Rattle.mysql_cuts.specs.Cut.{Packing, PartFits, joined, HasFittingCut, IsFullFromFront, ends_after}
+use Rattle.mysql_bulk.specs.Builder.{row_of, BuilderState, packing, rows_packing}
+use Rattle.mysql_bulk.specs.Builder.{TakesArity, RowFits, accepted, Adds, Builds, sent}
 use Rattle.mysql_bulk.specs.Run.{Accepts}
 use Rattle.mysql_bulk.specs.ParamType.{first_length, declared_types}
 use Rattle.mysql_bulk.specs.Refusal.{equal_front, measure, IsRefusal}
 use Rattle.mysql_bulk.specs.WholeRun.{IsNew, HadMemory, AreRequests, GivesCut, SameSettings, GivesFront, GivesFewest, GivesFull}
-use Rattle.mysql_cuts.proofs.Packed.{IsPacked, packed_none, packed_more, packed_close, packed_front, packed_fewest, packed_full, packed_fits, packed_stuck, fits_front, types_after, types_after_push, NextDoesNotFit, NoneEmpty-push, joined_push}
+use Rattle.mysql_cuts.proofs.Packed.{IsPacked, packed_none, packed_more, packed_close, packed_front, packed_fewest, packed_full, packed_fits, packed_stuck, fits_front, types_after, NextDoesNotFit, NoneEmpty-push, joined_push}
 
 EqualLengths-push : (a : ℕ) (rows : List (List Content)) (row : List Content) → EqualLengths a rows → length row ≡ a → EqualLengths a (rows ++ row ∷ [])
 EqualLengths-push a [] row e h = (h, tt)

@@ -1,23 +1,23 @@
 -- A run over the rows of a vector.
-use Rattle.std.proofs.Common.{◌≡◌, ◌≢◌, ℕ, zero, suc, ◌+◌, ◌-◌, ◌<◌, ◌≤◌, Bool, true, false, List, [], ◌∷◌, ◌++◌, length, Option, Some, None, Result, Ok, Err, refl, sym, ◌∙◌, ap, subst, arith, length-append, append_assoc, option_to_list}
-use Rattle.std.proofs.lemmas.List.{append-nil, nil_from_length, map-append}
+use Rattle.std.proofs.Common.{◌≡◌, ℕ, ◌+◌, true, List, [], ◌∷◌, ◌++◌, length, Option, Some, None, Ok, Err, refl, sym, ◌∙◌, ap, subst, length-append, option_to_list}
+use Rattle.std.proofs.lemmas.List.{nil_from_length, map-append}
 use Rattle.std.specs.Prelude.{IfSome}
 use Rattle.std.specs.Global.{Vec, Global}
 use Rattle.std.specs.Vec.Iter.{into_iter_items, into_iter_len, into_iter_steps}
 use Rattle.std.specs.declared.vec.IntoIter.{IntoIter}
 use Rattle.std.specs.Iterator.{Yields, YieldsThen}
 use Rattle.mysql_values.specs.declared.value.Value.{Value}
-use Rattle.mysql_values.specs.Value.{Content, contents_of}
+use Rattle.mysql_values.specs.Value.{Content}
 use Rattle.mysql_bulk.specs.declared.error.BulkExecuteRequestError.{BulkExecuteRequestError}
 use Rattle.mysql_bulk.specs.Request.{BulkRequest}
-use Rattle.mysql_cuts.specs.Cut.{joined, PartFits}
+use Rattle.mysql_cuts.specs.Cut.{joined}
 use Rattle.mysql_bulk.specs.Builder.{row_of, BuilderState, values_of}
-use Rattle.mysql_bulk.specs.Builder.{TakesArity, RowFits, Adds, Builds, SendsRequest}
-use Rattle.mysql_bulk.specs.Run.{Accepts, ComesAfter, Comes, Fills}
+use Rattle.mysql_bulk.specs.Builder.{Adds, SendsRequest}
+use Rattle.mysql_bulk.specs.Run.{ComesAfter, Comes, Fills}
 use Rattle.mysql_bulk.specs.declared.error.BulkExecuteRequestError.TheVariants.{Memory}
 use Rattle.mysql_bulk.specs.Refusal.{measure, IsRefusal}
 use Rattle.mysql_bulk.specs.WholeRun.{IsNew, HadMemory, GivesFront, GivesFewest, GivesFull}
-use Rattle.mysql_cuts.proofs.Packed.{NextDoesNotFit, types_after, joined_push}
+use Rattle.mysql_cuts.proofs.Packed.{NextDoesNotFit, types_after}
 use Rattle.mysql_bulk.proofs.Running.{Running, running_none, running_accepts, running_sends, running_gives, running_full, done_gives, done_refusal, done_fewest, refused_row, fits_from, as_long}
 
 abbrev pub Input : Type 0

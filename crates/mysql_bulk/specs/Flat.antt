@@ -1,7 +1,6 @@
 -- Rows of one length, kept as one list of values.
 use Rattle.std.specs.Prelude.{◌≡◌, ℕ, zero, suc, ◌*◌, List, [], ◌∷◌, length, take, drop, Option, None, unwrap_or, sum_by}
-use Rattle.mysql_values.specs.declared.value.Value.{Value}
-use Rattle.mysql_values.specs.Value.{Content, contents_of}
+use Rattle.mysql_values.specs.Value.{Content}
 use Rattle.mysql_bulk.specs.ParamValue.{row_size}
 
 -- so many rows of so many values

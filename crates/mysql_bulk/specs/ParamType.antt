@@ -1,8 +1,7 @@
 -- The types that a bulk request declares for its columns.
 use Rattle.std.specs.Prelude.{ℕ, Bool, true, false, if◌then◌else◌, List, [], ◌∷◌, ◌++◌, map, length, get_or}
 use Rattle.std.specs.List.{range_with_len, list_any, flat_map}
-use Rattle.mysql_values.specs.declared.value.Value.{Value}
-use Rattle.mysql_values.specs.Value.{Content, contents_of}
+use Rattle.mysql_values.specs.Value.{Content}
 use Rattle.mysql_values.specs.Value.{NULL, Bytes, Int, UInt, Float, Double, Date, Time}
 use Rattle.mysql_wire.specs.declared.codes.column_type.ColumnType.{ColumnType}
 use Rattle.mysql_wire.specs.declared.codes.column_type.ColumnType.TheVariants as column

@@ -1,5 +1,5 @@
 -- The values of a row in a bulk request.
-use Rattle.std.specs.Prelude.{◌≡◌, ℕ, List, [], ◌∷◌, None, refl}
+use Rattle.std.specs.Prelude.{◌≡◌, List, [], ◌∷◌, None, refl}
 use Rattle.mysql_wire.specs.declared.codes.column_type.ColumnType.{ColumnType}
 use Rattle.mysql_wire.specs.Flags.{ColumnFlags, has}
 use Rattle.mysql_wire.specs.Form.{Form, ◌>>=◌, give}

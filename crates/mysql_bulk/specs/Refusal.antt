@@ -1,8 +1,7 @@
 -- Which lists of rows are refused.
 use Rattle.std.specs.Prelude.{◌≡◌, ◌≢◌, ℕ, ◌+◌, ◌≤◌, List, take, take_while, length, nat_eq, slice_get, Option, Some, None}
 use Rattle.mysql_cuts.specs.Cut.{Packing, HasFittingCut}
-use Rattle.mysql_values.specs.declared.value.Value.{Value}
-use Rattle.mysql_values.specs.Value.{Content, contents_of}
+use Rattle.mysql_values.specs.Value.{Content}
 use Rattle.mysql_bulk.specs.declared.error.BulkExecuteRequestError.{BulkExecuteRequestError}
 use Rattle.mysql_bulk.specs.declared.error.BulkExecuteRequestError.TheVariants.{MixedArity, RowTooLarge, MemoryRow, NoParams, Memory}
 use Rattle.mysql_bulk.specs.ParamType.{first_length}

@@ -1,6 +1,5 @@
 -- Bulk requests.
 use Rattle.std.specs.Prelude.{ℕ, ◌+◌, ◌*◌, Bool, if◌then◌else◌, List, [], ◌∷◌, length}
-use Rattle.std.specs.List.{flat_map}
 use Rattle.mysql_wire.specs.Writing.{le_bytes, joined}
 use Rattle.mysql_bulk.specs.declared.param_type.StmtBulkExecuteParamType.{StmtBulkExecuteParamType}
 use Rattle.mysql_bulk.specs.ParamType.{types_bytes}

@@ -1,5 +1,5 @@
 -- Rows read from a bulk request.
-use Rattle.std.specs.Prelude.{ℕ, List, length, map, Result, Ok, Err}
+use Rattle.std.specs.Prelude.{List, length, map, Result, Ok, Err}
 use Rattle.std.specs.Global.{Vec}
 use Rattle.mysql_wire.specs.declared.fault.FaultOf.{FaultOf}
 use Rattle.mysql_wire.specs.Form.{Form, ◌>>=◌}

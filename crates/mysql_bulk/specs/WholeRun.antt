@@ -4,9 +4,9 @@ use Rattle.std.specs.Global.{Vec}
 use Rattle.std.specs.Iterator.{YieldsThen}
 use Rattle.mysql_cuts.specs.Cut.{joined, NoneEmpty, IsFewest, IsFullFromFront, ends_after}
 use Rattle.mysql_values.specs.declared.value.Value.{Value}
-use Rattle.mysql_values.specs.Value.{Content, contents_of}
+use Rattle.mysql_values.specs.Value.{Content}
 use Rattle.mysql_bulk.specs.declared.error.BulkExecuteRequestError.{BulkExecuteRequestError}
-use Rattle.mysql_bulk.specs.declared.error.BulkExecuteRequestError.TheVariants.{MixedArity, RowTooLarge, MemoryRow, NoParams, Memory}
+use Rattle.mysql_bulk.specs.declared.error.BulkExecuteRequestError.TheVariants.{MemoryRow, Memory}
 use Rattle.mysql_bulk.specs.declared.error.BulkExecuteRequestBuilderError.{BulkExecuteRequestBuilderError}
 use Rattle.mysql_bulk.specs.declared.error.BulkExecuteRequestBuilderError.TheVariants.{Request, Params}
 use Rattle.mysql_bulk.specs.Request.{BulkRequest}

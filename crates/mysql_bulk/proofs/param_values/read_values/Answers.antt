@@ -1,4 +1,4 @@
-use Rattle.std.proofs.Common.{◌++◌, ◌∷◌, [], true}
+use Rattle.std.proofs.Common.{true}
 use Rattle.std.proofs.lemmas.Result.{err_from_is_err_and}
 use Rattle.mysql_bulk.specs.ParamValues.{value_of_column}
 use Rattle.mysql_bulk.proofs.EachValue.{next-one, one-fails, none-left}

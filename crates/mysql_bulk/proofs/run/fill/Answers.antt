@@ -1,8 +1,7 @@
-use Rattle.std.proofs.Common.{◌≡◌, length, Option, None, Some, Ok, subst, sym}
+use Rattle.std.proofs.Common.{Option, None, Some, Ok, subst, sym}
 use Rattle.std.proofs.lemmas.Result.{err_from_is_err_and}
 use Rattle.std.specs.Global.{Vec}
 use Rattle.mysql_values.specs.declared.value.Value.{Value}
-use Rattle.mysql_values.specs.Value.{Content, contents_of}
 use Rattle.mysql_bulk.specs.Builder.{BuilderState}
 use Rattle.mysql_bulk.specs.Builder.{Adds}
 use Rattle.mysql_bulk.specs.Run.{Fills}

@@ -1,10 +1,9 @@
-use Rattle.std.proofs.Common.{◌≡◌, ◌+◌, ◌≤◌, ◌++◌, ◌∷◌, [], length, Option, None, Some, Ok, subst, ap, arith, length-append}
+use Rattle.std.proofs.Common.{◌≡◌, ◌++◌, ◌∷◌, [], length, Option, Ok, subst, ap, arith, length-append}
 use Rattle.std.proofs.lemmas.Result.{err_from_is_err_and}
 use Rattle.std.specs.Global.{Vec}
 use Rattle.mysql_values.specs.declared.value.Value.{Value}
-use Rattle.mysql_values.specs.Value.{Content, contents_of}
 use Rattle.mysql_bulk.specs.Builder.{row_of, BuilderState}
-use Rattle.mysql_bulk.specs.Builder.{Adds, accepted}
+use Rattle.mysql_bulk.specs.Builder.{Adds}
 use Rattle.mysql_bulk.proofs.Runs.{taken_more, taken_full, taken_refused, taken_end}
 use Rattle.mysql_bulk.proofs.run.take_rows.Goals as goal
 

@@ -1,7 +1,7 @@
-use Rattle.std.proofs.Common.{◌≡◌, ◌+◌, ◌++◌, ◌∷◌, ℕ, Bool, true, List, [], Option, Some, length, refl, sym, ◌∙◌, ap, subst, arith, sum_by, ◌⊎◌, if◌then◌else◌, map}
+use Rattle.std.proofs.Common.{◌≡◌, ◌++◌, ◌∷◌, ℕ, List, [], length, refl, sym, ◌∙◌, ap, subst, sum_by, if◌then◌else◌, map}
 use Rattle.std.proofs.lemmas.List.{length-map}
 use Rattle.mysql_values.specs.declared.value.Value.{Value}
-use Rattle.mysql_values.specs.Value.{Content, content_of, contents_of}
+use Rattle.mysql_values.specs.Value.{content_of, contents_of}
 use Rattle.mysql_bulk.specs.declared.param_type.StmtBulkExecuteParamType.{StmtBulkExecuteParamType}
 use Rattle.mysql_bulk.specs.ParamValue.{ParamValue}
 use Rattle.mysql_bulk.specs.ParamType.{joined_types}

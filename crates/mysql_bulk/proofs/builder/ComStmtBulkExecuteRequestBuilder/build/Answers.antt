@@ -1,8 +1,5 @@
-use Rattle.std.proofs.Common.{◌≡◌, ◌≢◌, ◌+◌, ◌*◌, ◌<◌, ◌^◌, ℕ, Bool, List, [], length, if◌then◌else◌, refl, sym, ◌∙◌, ap, subst, arith}
-use Rattle.mysql_bulk.specs.declared.param_type.StmtBulkExecuteParamType.{StmtBulkExecuteParamType}
-use Rattle.mysql_bulk.specs.ParamValue.{ParamValue}
+use Rattle.std.proofs.Common.{◌≡◌, ◌+◌, ◌*◌, length, refl, sym, ◌∙◌, ap, arith}
 use Rattle.mysql_bulk.specs.ParamValue.{plain, row_size}
-use Rattle.mysql_bulk.specs.Builder.{BuilderState, waiting_size}
 use Rattle.mysql_bulk.proofs.Kept.{saturated_small, keeps_rows, keeps_types, keeps_values, keeps_size, keeps_bytes, keeps_fits}
 use Rattle.mysql_bulk.proofs.builder.ComStmtBulkExecuteRequestBuilder.build.Goals as goal
 

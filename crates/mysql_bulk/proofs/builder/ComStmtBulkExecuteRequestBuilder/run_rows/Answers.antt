@@ -1,7 +1,4 @@
-use Rattle.std.proofs.Common.{◌≡◌, [], Option, None, Some, ap}
-use Rattle.std.specs.Global.{Vec}
-use Rattle.mysql_values.specs.declared.value.Value.{Value}
-use Rattle.mysql_values.specs.Value.{Content, contents_of}
+use Rattle.std.proofs.Common.{ap}
 use Rattle.mysql_bulk.specs.Builder.{BuilderState, values_of}
 use Rattle.mysql_bulk.proofs.Runs.{none_waits, none_from}
 use Rattle.mysql_bulk.proofs.Whole.{stands_fill, fill_empty, fill_end, stands_same, stands_send, ends_memory, ends_done, ends_refused}

@@ -1,4 +1,4 @@
-use Rattle.std.proofs.Common.{◌≡◌, ◌≢◌, [], List, rules, if◌then◌else◌, ◌∙◌, ap, subst}
+use Rattle.std.proofs.Common.{◌≢◌, [], List, rules, if◌then◌else◌, ◌∙◌, ap, subst}
 use Rattle.std.specs.Global.{Vec}
 use Rattle.mysql_values.specs.declared.value.Value.{Value}
 use Rattle.mysql_bulk.specs.declared.param_type.StmtBulkExecuteParamType.{StmtBulkExecuteParamType}

@@ -1,9 +1,6 @@
-use Rattle.std.proofs.Common.{◌≡◌, ◌≢◌, [], Option, Bool, None, Some, Ok, Err, true, refl, subst, sym}
-use Rattle.std.specs.Prelude.{is_none}
+use Rattle.std.proofs.Common.{Option, Bool, None, Some, Ok, Err, true, refl, subst, sym}
 use Rattle.std.specs.Global.{Vec}
 use Rattle.mysql_values.specs.declared.value.Value.{Value}
-use Rattle.mysql_values.specs.Value.{Content, contents_of}
-use Rattle.mysql_bulk.specs.declared.error.BulkExecuteRequestError.{BulkExecuteRequestError}
 use Rattle.mysql_bulk.specs.declared.error.BulkExecuteRequestBuilderError.TheVariants.{Request}
 use Rattle.mysql_bulk.specs.Run.{Fills, NextRequest}
 use Rattle.mysql_bulk.proofs.Runs.{state, none_waits, is_none_from, steps_refused, steps_empty, steps_request, steps_memory}
