@@ -1,2 +1,4 @@
 pub mod Judged
+pub mod Words
 pub mod Refused
+pub mod OkRefused

@@ -1,6 +1,13 @@
 pub mod Digits
+pub mod Capabilities
 pub mod Lines
 pub mod Answer
 pub mod Stmt
+pub mod Infile
+pub mod Column
+pub mod Change
+pub mod OkKind
+pub mod Ok
+pub mod Err
 pub mod Command
 pub mod Program

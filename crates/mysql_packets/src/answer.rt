@@ -36,7 +36,7 @@ impl Answer {
     ///
     /// A growth that was refused gives no answer of its own, but the error.
     pub fn refused(alloc: Global, mut text: String, fault: Fault) -> Result<Answer, AllocError>
-        ensures value { IfOk result (λ answer. IsRefusal (string_bytes text) fault answer) }
+        ensures value { IfOk result (λ answer. IsRefusal (string_bytes text) fault.entry answer) }
     {
         let name = match fault {
             Fault::UnexpectedEof => "UnexpectedEof",

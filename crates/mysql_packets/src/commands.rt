@@ -1,3 +1,8 @@
 //! The program's commands, one a file.
 
+mod change;
+pub mod column;
+pub mod err;
+pub mod infile;
+pub mod ok;
 pub mod stmt;

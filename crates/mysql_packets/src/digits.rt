@@ -54,7 +54,8 @@ fn are_pairs(digits: &[u8]) -> bool
     digits.len().is_multiple_of(2) && are_digits(digits)
 }
 
-fn are_digits(digits: &[u8]) -> bool
+/// Whether each of these is a digit.
+pub fn are_digits(digits: &[u8]) -> bool
     ensures value { result ≡ list_all is_ascii_hexdigit digits.now }
 {
     digits.iter().all(|digit| digit.is_ascii_hexdigit())

@@ -2,6 +2,7 @@
 #![tactic(auto)]
 
 mod answer;
+mod capabilities;
 mod command;
 mod commands;
 mod digits;

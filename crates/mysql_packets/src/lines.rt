@@ -80,7 +80,7 @@ impl<'a> Line<'a> {
     }
 
     pub fn optional_bytes(name: &'a str, bytes: Option<&'a [u8]>) -> Line<'a>
-        ensures value { result ≡ line name.now (or_none prefixed (option_map (λ b. b.now) bytes)) }
+        ensures value { result ≡ line name.now (or_none prefixed (option_map (λ b. b.now) bytes.entry)) }
     {
         match bytes {
             Some(bytes) => Line::bytes(name, bytes),

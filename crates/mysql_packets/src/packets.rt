@@ -1,3 +1,13 @@
 //! Packets, from the handshake to the replication commands.
 
-pub use mysql_stmt::{InvalidStmtPacketStatus, StmtPacket};
+pub mod session_state_change;
+
+pub use mysql_replies::{
+    Catalog, Column, ColumnDefinitionCatalog, CommonOkPacket, ErrPacket, ErrPacketHeader,
+    FixedLengthFieldsLen, InvalidCatalog, InvalidErrPacketHeader, InvalidFixedLengthFieldsLen,
+    InvalidLocalInfileHeader, InvalidOkPacketHeader, InvalidSqlStateMarker, LocalInfileHeader,
+    LocalInfilePacket, NetworkStreamTerminator, OkPacket, OkPacketBody, OkPacketDeserializer,
+    OkPacketKind, OldEofPacket, ProgressReport, ResultSetTerminator, ServerError, SessionStateInfo,
+    SqlState, SqlStateMarker,
+};
+pub use mysql_stmt::{InvalidStmtPacketStatus, NullBitmap, StmtPacket};

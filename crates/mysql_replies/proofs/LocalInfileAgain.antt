@@ -1,4 +1,4 @@
-use Rattle.std.proofs.Common.{[], ◌++◌, refl}
+use Rattle.std.proofs.Common.{[], refl}
 use Rattle.mysql_wire.specs.Spelling.{const_byte-again}
 use Rattle.mysql_replies.specs.declared.local_infile.LocalInfilePacket.{LocalInfilePacket}
 use Rattle.mysql_replies.specs.LocalInfile.{local_infile, local_infile_bytes}

@@ -1,5 +1,5 @@
-use Rattle.std.proofs.Common.{ℕ, List, [], ◌∷◌, ◌++◌, Option, Some, None, Bool, true, false, refl}
-use Rattle.mysql_wire.specs.Form.{when, all_left}
+use Rattle.std.proofs.Common.{ℕ, List, [], ◌∷◌, Option, Some, None, Bool, true, false, refl}
+use Rattle.mysql_wire.specs.Form.{when}
 use Rattle.mysql_wire.specs.Writing.{joined}
 use Rattle.mysql_replies.specs.declared.sql_state.SqlState.{SqlState}
 use Rattle.mysql_replies.specs.declared.server_error.ServerError.{ServerError}

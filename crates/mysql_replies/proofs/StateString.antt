@@ -1,5 +1,5 @@
 -- A state string is read to its end.
-use Rattle.std.proofs.Common.{◌≡◌, ℕ, List, [], ◌∷◌, Result, Ok, Err, true, refl, sym, ◌∙◌, IfOk}
+use Rattle.std.proofs.Common.{◌≡◌, ℕ, List, [], ◌∷◌, Result, Ok, Err, true, refl, ◌∙◌, IfOk}
 use Rattle.std.specs.Global.{Vec}
 use Rattle.mysql_wire.specs.declared.fault.FaultOf.{FaultOf}
 use Rattle.mysql_wire.specs.Form.{Form}

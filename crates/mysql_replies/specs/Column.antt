@@ -6,8 +6,8 @@ use Rattle.mysql_wire.specs.Flags.{ColumnFlags}
 use Rattle.mysql_wire.specs.Form.{Form, ◌>>=◌, give}
 use Rattle.mysql_wire.specs.Writing.{joined}
 use Rattle.mysql_replies.specs.declared.column.Column.{Column}
-use Rattle.mysql_replies.specs.ColumnMeta.{column_meta, column_meta_bytes, meta_of, no_names, ColumnMetaFits}
-use Rattle.mysql_replies.specs.ColumnFields.{column_fields, column_fields_bytes, fields_of, fields_of_type, ColumnFieldsFit}
+use Rattle.mysql_replies.specs.ColumnMeta.{column_meta, column_meta_bytes, meta_of, ColumnMetaFits}
+use Rattle.mysql_replies.specs.ColumnFields.{column_fields, column_fields_bytes, fields_of, ColumnFieldsFit}
 
 -- `def`, length-encoded
 abbrev pub catalog_bytes : List ℕ

@@ -1,5 +1,5 @@
 -- Errors and progress reports, in their packet.
-use Rattle.std.specs.Prelude.{◌≡◌, ℕ, ◌<◌, ◌^◌, List, [], ◌∷◌, None, Bool, true, false, not, ◌&&◌, ◌==◌, refl}
+use Rattle.std.specs.Prelude.{◌≡◌, ℕ, ◌<◌, ◌^◌, List, [], ◌∷◌, None, Bool, true, false, ◌&&◌, ◌==◌, refl}
 use Rattle.mysql_wire.specs.Flags.{CapabilityFlags, has}
 use Rattle.mysql_wire.specs.Form.{Form, ◌>>=◌, give, block, either, map}
 use Rattle.mysql_wire.specs.Constant.{const_byte}
@@ -39,8 +39,8 @@ unfoldable pub err_packet : CapabilityFlags → Form ErrPacket
 err_packet capabilities = do
   code ← block 3 err_head
   either (code == 0xffff && takes_progress capabilities)
-    (map err.Progress progress_report)
-    (map err.Error (server_error code (sends_state capabilities)))
+      (map err.Progress progress_report)
+      (map err.Error (server_error code (sends_state capabilities)))
 
 pub size-err_packet : (capabilities : CapabilityFlags) → (err_packet capabilities).size ≡ None
 unfolding err_packet

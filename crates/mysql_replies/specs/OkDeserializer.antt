@@ -19,10 +19,10 @@ unfoldable pub ok_packet : {T : Type 0} → ℕ → Form OkPacketBody → Form (
 ok_packet header body = do
   first ← byte
   either (first.0 == header)
-    (do
-      b ← body
-      give (deserialized b))
-    refuse
+      (do
+        b ← body
+        give (deserialized b))
+      refuse
 
 pub size-ok_packet : (T : Type 0) (header : ℕ) (body : Form OkPacketBody) → (ok_packet {T = T} header body).size ≡ None
 unfolding ok_packet

@@ -81,7 +81,11 @@ impl Column {
         ensures value { IfOk result (λ column. column ≡ spec.with_schema self schema.now) }
     {
         let schema = copied(alloc, schema)?;
-        let Column { catalog, meta, fields } = self;
+        let Column {
+            catalog,
+            meta,
+            fields,
+        } = self;
         Ok(Column {
             catalog,
             meta: ColumnMeta { schema, ..meta },
@@ -94,7 +98,11 @@ impl Column {
         ensures value { IfOk result (λ column. column ≡ spec.with_table self table.now) }
     {
         let table = copied(alloc, table)?;
-        let Column { catalog, meta, fields } = self;
+        let Column {
+            catalog,
+            meta,
+            fields,
+        } = self;
         Ok(Column {
             catalog,
             meta: ColumnMeta { table, ..meta },
@@ -107,7 +115,11 @@ impl Column {
         ensures value { IfOk result (λ column. column ≡ spec.with_org_table self org_table.now) }
     {
         let org_table = copied(alloc, org_table)?;
-        let Column { catalog, meta, fields } = self;
+        let Column {
+            catalog,
+            meta,
+            fields,
+        } = self;
         Ok(Column {
             catalog,
             meta: ColumnMeta { org_table, ..meta },
@@ -120,7 +132,11 @@ impl Column {
         ensures value { IfOk result (λ column. column ≡ spec.with_name self name.now) }
     {
         let name = copied(alloc, name)?;
-        let Column { catalog, meta, fields } = self;
+        let Column {
+            catalog,
+            meta,
+            fields,
+        } = self;
         Ok(Column {
             catalog,
             meta: ColumnMeta { name, ..meta },
@@ -133,7 +149,11 @@ impl Column {
         ensures value { IfOk result (λ column. column ≡ spec.with_org_name self org_name.now) }
     {
         let org_name = copied(alloc, org_name)?;
-        let Column { catalog, meta, fields } = self;
+        let Column {
+            catalog,
+            meta,
+            fields,
+        } = self;
         Ok(Column {
             catalog,
             meta: ColumnMeta { org_name, ..meta },

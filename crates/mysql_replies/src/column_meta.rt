@@ -75,7 +75,13 @@ impl MySerialize for ColumnMeta {
 
     #[tactic(auto, using(mysql_wire::specs::Writing::lengths), unfolding(crate::specs::ColumnMeta::column_meta_bytes))]
     fn defined_len(&self) -> usize {
-        len_of!(self.schema, self.table, self.org_table, self.name, self.org_name)
+        len_of!(
+            self.schema,
+            self.table,
+            self.org_table,
+            self.name,
+            self.org_name
+        )
     }
 
     #[tactic(auto, unfolding(crate::specs::ColumnMeta::column_meta_bytes))]

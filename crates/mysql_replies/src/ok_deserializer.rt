@@ -6,9 +6,7 @@ ghost use Rattle.mysql_replies.specs.OkDeserializer as spec;
 
 use crate::ok_kind::OkPacketKind;
 use crate::ok_packet::OkPacket;
-use mysql_wire::{
-    AnyWidth, CapabilityFlags, ConstFault, FaultOf, MyDeserialize, ParseBuf, RawInt,
-};
+use mysql_wire::{AnyWidth, CapabilityFlags, ConstFault, FaultOf, MyDeserialize, ParseBuf, RawInt};
 use std::marker::PhantomData;
 use thiserror::Error;
 
@@ -38,7 +36,7 @@ impl<'de, T> OkPacketDeserializer<'de, T> {
     }
 }
 
-impl<'de, T: Drop> From<OkPacketDeserializer<'de, T>> for OkPacket<'de> {
+impl<'de, T> From<OkPacketDeserializer<'de, T>> for OkPacket<'de> {
     ghost from_gives = { λ d p. p ≡ spec.packet d };
 
     fn from(deserializer: OkPacketDeserializer<'de, T>) -> OkPacket<'de> {

@@ -6,7 +6,6 @@ ghost use Rattle.mysql_wire.specs.Form.{Form};
 ghost use Rattle.mysql_wire.specs.Reading.{Answers, IsTail};
 ghost use Rattle.mysql_replies.specs.OkBody.{common_ok_body, terminator_body, old_eof_body, ok_end};
 
-
 use crate::ok_body::OkPacketBody;
 use crate::ok_tail::OkTail;
 use mysql_wire::{

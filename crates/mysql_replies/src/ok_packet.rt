@@ -133,10 +133,7 @@ impl<'a> OkPacket<'a> {
     /// The entries that the whole state string spells, none where there is no state.
     ///
     /// The fault is the first one of an entry.
-    pub fn session_state_info(
-        &self,
-        alloc: Global,
-    ) -> Result<Vec<SessionStateInfo<'_>>, Fault>
+    pub fn session_state_info(&self, alloc: Global) -> Result<Vec<SessionStateInfo<'_>>, Fault>
         ensures value { Answers true (items_of result) [] (state_string.reads (spec.state_bytes self.now)) }
         ensures spelled { IfOk result (λ infos. state_string.Spells infos.items (spec.state_bytes self.now) []) }
     {

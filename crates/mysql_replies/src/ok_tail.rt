@@ -33,14 +33,14 @@ impl<'de> MyDeserialize<'de> for OkTail<'de> {
     ) -> Result<Self, FaultOf<'s>> {
         let (capabilities, status_flags) = ctx;
         let tracks = capabilities.contains(CapabilityFlags::CLIENT_SESSION_TRACK);
+        let state_changed = status_flags.contains(StatusFlags::SERVER_SESSION_STATE_CHANGED);
         if tracks && !buf.is_empty() {
             let info = buf.parse(())?;
-            let session_state_info =
-                if status_flags.contains(StatusFlags::SERVER_SESSION_STATE_CHANGED) {
-                    buf.parse(())?
-                } else {
-                    RawBytes::default()
-                };
+            let session_state_info = if state_changed {
+                buf.parse(())?
+            } else {
+                RawBytes::default()
+            };
             Ok(OkTail {
                 info,
                 session_state_info,

@@ -132,7 +132,13 @@ impl MySerialize for ProgressReport<'_> {
     #[tactic(auto, using(mysql_wire::specs::Writing::lengths), unfolding(mysql_wire::specs::Writing::le_bytes, crate::specs::ProgressReport::progress_report_bytes))]
     fn defined_len(&self) -> usize {
         let count: RawInt<u8> = RawInt::new(1);
-        len_of!(count, self.stage, self.max_stage, self.progress, self.stage_info)
+        len_of!(
+            count,
+            self.stage,
+            self.max_stage,
+            self.progress,
+            self.stage_info
+        )
     }
 
     #[tactic(auto, unfolding(crate::specs::ProgressReport::progress_report_bytes))]

@@ -1,5 +1,5 @@
 -- A length-encoded string has at least one byte.
-use Rattle.std.proofs.Common.{◌<◌, ℕ, List, [], ◌∷◌, ◌++◌, length, nat_lt, true, false, Bool, ◌^◌, if◌then◌else◌, arith, inl, inr}
+use Rattle.std.proofs.Common.{◌<◌, ℕ, List, length, ◌^◌, arith, inl, inr}
 use Rattle.std.proofs.lemmas.List.{length-append}
 use Rattle.std.proofs.lemmas.Bool.{cases_lt, lt-ltb, le-ltb}
 use Rattle.mysql_wire.specs.LenEnc.{lenenc_bytes, lenenc_string_bytes}

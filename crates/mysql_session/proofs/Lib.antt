@@ -1,4 +1,4 @@
 pub mod Lengths
-pub mod PartsAgain
+pub mod SessionTextAgain
 pub mod SystemVariableAgain
 pub mod SessionStateChangeAgain

@@ -1,7 +1,6 @@
-use Rattle.std.proofs.Common.{◌<◌, ◌≤◌, ◌+◌, ℕ, List, [], ◌∷◌, ◌++◌, length, refl, arith}
+use Rattle.std.proofs.Common.{◌<◌, List, [], ◌∷◌, length, refl, arith}
 use Rattle.std.proofs.lemmas.List.{length-append}
-use Rattle.std.specs.List.{flat_map}
-use Rattle.mysql_wire.specs.LenEnc.{lenenc_string_bytes, lenenc_bytes}
+use Rattle.mysql_wire.specs.LenEnc.{lenenc_string_bytes}
 use Rattle.mysql_wire.specs.Spelling.{IsSpelling, joined-rest}
 use Rattle.mysql_wire.specs.Again.{lenenc_string-again}
 use Rattle.mysql_wire.specs.ListAgain.{many-again}
@@ -12,10 +11,17 @@ use Rattle.mysql_session.proofs.Lengths.{some_byte}
 
 pub system_variable-again : (v : SystemVariable) → SystemVariableFits v → IsSpelling system_variable v (system_variable_bytes v)
 unfolding system_variable system_variable_bytes
-system_variable-again v fits rest = rw (joined-rest (lenenc_string_bytes (variable_name v) ∷ lenenc_string_bytes (variable_value v) ∷ []) rest)
-    (variable_name v, _, lenenc_string-again (variable_name v) fits.name _,
-    (variable_value v, _, lenenc_string-again (variable_value v) fits.value _,
-    (refl, refl)))
+system_variable-again v fits rest = rw (joined-rest (lenenc_string_bytes (variable_name v) ∷ lenenc_string_bytes (variable_value v) ∷ []) rest) (
+  variable_name v,
+  _,
+  lenenc_string-again (variable_name v) fits.name _,
+  (
+    variable_value v,
+    _,
+    lenenc_string-again (variable_value v) fits.value _,
+    (refl, refl),
+  ),
+)
 
 some-variable_byte : (v : SystemVariable) → 0 < length (system_variable_bytes v)
 unfolding system_variable_bytes

@@ -1,8 +1,4 @@
-pub mod Schema
-pub mod Gtids
-pub mod TransactionCharacteristics
-pub mod TransactionState
-pub mod Unsupported
+pub mod SessionText
 pub mod SystemVariable
 pub mod SystemVariables
 pub mod SessionStateChange

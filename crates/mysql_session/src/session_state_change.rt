@@ -3,12 +3,10 @@
 ghost use Rattle.std.specs.Prelude.{true, ◌≡◌, None, refl, IfOk};
 ghost use Rattle.mysql_session.specs.SessionStateChange as spec;
 
-use crate::gtids::Gtids;
-use crate::schema::Schema;
+use crate::session_text::{
+    Gtids, Schema, TransactionCharacteristics, TransactionState, Unsupported,
+};
 use crate::system_variables::SystemVariables;
-use crate::transaction_characteristics::TransactionCharacteristics;
-use crate::transaction_state::TransactionState;
-use crate::unsupported::Unsupported;
 use mysql_wire::{
     AnyWidth, FaultOf, LenEnc, MyDeserialize, MySerialize, ParseBuf, RawBytes, SessionStateType,
 };

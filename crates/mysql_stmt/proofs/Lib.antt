@@ -1,1 +1,2 @@
 pub mod StmtAgain
+pub mod Cells

@@ -1,1 +1,3 @@
 pub mod Stmt
+pub mod Bitmap
+pub mod NullBitmap

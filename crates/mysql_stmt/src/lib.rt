@@ -2,8 +2,10 @@
 #![tactic(auto)]
 
 pub mod laws;
+mod null_bitmap;
 mod stmt;
 
+pub use null_bitmap::NullBitmap;
 pub use stmt::{InvalidStmtPacketStatus, StmtPacket};
 
 #[cfg(test)]

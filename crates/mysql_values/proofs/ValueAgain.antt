@@ -1,17 +1,14 @@
 -- What is written of a value is read again under its column's type.
-use Rattle.std.proofs.Common.{◌≡◌, ◌≢◌, ℕ, ◌<◌, ◌^◌, ◌==◌, List, [], ◌∷◌, ◌++◌, Bool, true, false, ◌⊎◌, length, IsTrue, refl, sym, ap, ◌∙◌, arith, inl, inr, append_assoc, subst, eq-eqb, ◌&&◌}
+use Rattle.std.proofs.Common.{◌≡◌, ℕ, ◌<◌, ◌^◌, ◌==◌, List, [], ◌∷◌, ◌++◌, Bool, true, false, ◌⊎◌, refl, sym, ap, arith, inl, inr, append_assoc, eq-eqb, ◌&&◌}
 use Rattle.std.proofs.lemmas.Bool.Decides.{eqb_tells}
-use Rattle.std.proofs.lemmas.List.{append-nil}
-use Rattle.std.specs.Int.{w64, cast_signed, cast_unsigned}
-use Rattle.std.specs.Int.RustNames.{FitsSigned}
+use Rattle.std.specs.Int.{w64, cast_unsigned}
 use Rattle.std.proofs.lemmas.Int.{to_z-of_z}
 use Rattle.std.proofs.Math.Facts.{Fits-of_z, Fits-lt-pow}
-use Rattle.mysql_wire.specs.Form.{Form, number, bytes, block, le_value}
-use Rattle.mysql_wire.specs.Int.{raw, raw_int, byte, le_u16, le_u32}
+use Rattle.mysql_wire.specs.Form.{number, bytes}
+use Rattle.mysql_wire.specs.Int.{raw, raw_int, byte}
 use Rattle.mysql_wire.specs.Writing.{le_bytes}
 use Rattle.mysql_wire.specs.Spelling.{IsSpelling, block-again, number-again, le_u16-again, le_u32-again}
 use Rattle.mysql_wire.specs.Again.{lenenc_string-again}
-use Rattle.mysql_wire.specs.LenEnc.{lenenc_string_bytes}
 use Rattle.mysql_wire.specs.declared.codes.column_type.ColumnType.{ColumnType}
 use Rattle.mysql_wire.specs.declared.codes.column_type.ColumnType.TheVariants as column_type
 use Rattle.mysql_values.specs.declared.temporal.Day.{Day}
@@ -21,7 +18,7 @@ use Rattle.mysql_values.specs.declared.temporal.TimeSpan.{TimeSpan}
 use Rattle.mysql_values.specs.Temporal.{day, day_fields, day_bytes, clock, clock_fields, clock_bytes, date_time, date_time_bytes, time_span, time_span_bytes, is_midnight, is_zero_day, zero_day, midnight, sign_byte}
 use Rattle.mysql_values.specs.Value.{Content, NULL, Bytes, Int, UInt, Float, Double, Date, Time, bin}
 use Rattle.mysql_values.specs.ValueDeserializer.{bin_value, string_value, date_value}
-use Rattle.mysql_values.specs.ReadingBack.{is_string, is_date, DateFits, TimeFits, ReadsBack}
+use Rattle.mysql_values.specs.ReadingBack.{is_string, is_date, DateFits, TimeFits, ReadsBack, Agrees}
 
 -- ---- leaves
 
@@ -156,3 +153,13 @@ value-again type u (Float bits) rest h = rw h.0 (bits, refl, number-again 4 bits
 value-again type u (Double bits) rest h = rw h.0 (bits, refl, number-again 8 bits h.1 rest)
 value-again type u (Date date) rest h = rw (date-type type u h.0) (date, refl, date_time-again date h.1 rest)
 value-again type u (Time time) rest h = rw h.0 (time, refl, time_span-again time h.1 rest)
+
+pub agrees-by_type : (type : ColumnType) (u : Bool) (content : Content) → ReadsBack type u content → Agrees type u content
+agrees-by_type type u NULL h = tt
+agrees-by_type type u (Bytes bytes) h = λ rest. value-again type u (Bytes bytes) rest h
+agrees-by_type type u (Int x) h = λ rest. value-again type u (Int x) rest h
+agrees-by_type type u (UInt n) h = λ rest. value-again type u (UInt n) rest h
+agrees-by_type type u (Float bits) h = λ rest. value-again type u (Float bits) rest h
+agrees-by_type type u (Double bits) h = λ rest. value-again type u (Double bits) rest h
+agrees-by_type type u (Date date) h = λ rest. value-again type u (Date date) rest h
+agrees-by_type type u (Time time) h = λ rest. value-again type u (Time time) rest h

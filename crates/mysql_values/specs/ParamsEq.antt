@@ -1,5 +1,5 @@
 -- Equality of parameters is symmetric and transitive.
-use Rattle.std.specs.Prelude.{◌≡◌, ℕ, Bool, true, false, List, ◌&&◌, nat_eq, refl}
+use Rattle.std.specs.Prelude.{◌≡◌, ℕ, Bool, true, nat_eq, refl}
 use Rattle.std.specs.Cmp.{IsPartialEquivalence, and_per, on_per, partial_equiv_from_equiv, nat_eq_equiv}
 use Rattle.std.specs.Cmp.Lexicographic.{pointwise, lists_per}
 use Rattle.std.specs.Global.{Vec}

@@ -1,12 +1,14 @@
 -- Which values are read again from their binary form.
-use Rattle.std.specs.Prelude.{◌≡◌, ℕ, ◌<◌, ◌^◌, Bool, true, false, length}
+use Rattle.std.specs.Prelude.{◌≡◌, ◌<◌, ◌^◌, Bool, true, false, length}
 use Rattle.std.specs.Int.{w64}
 use Rattle.std.specs.Int.RustNames.{FitsSigned}
 use Rattle.mysql_wire.specs.declared.codes.column_type.ColumnType.{ColumnType}
 use Rattle.mysql_wire.specs.declared.codes.column_type.ColumnType.TheVariants as column_type
 use Rattle.mysql_values.specs.declared.temporal.DateTime.{DateTime}
 use Rattle.mysql_values.specs.declared.temporal.TimeSpan.{TimeSpan}
-use Rattle.mysql_values.specs.Value.{Content, NULL, Bytes, Int, UInt, Float, Double, Date, Time}
+use Rattle.mysql_wire.specs.Spelling.{IsSpelling}
+use Rattle.mysql_values.specs.Value.{Content, NULL, Bytes, Int, UInt, Float, Double, Date, Time, bin}
+use Rattle.mysql_values.specs.ValueDeserializer.{bin_value}
 use Rattle.mysql_values.specs.Temporal.{is_midnight}
 
 -- values of the type are strings of bytes
@@ -45,7 +47,7 @@ pub record TimeFits (t : TimeSpan) : Type 0 where
   pub micros : t.micros < 2 ^ 32
   pub sign : t.days ≡ 0 → is_midnight t.clock ≡ true → t.micros ≡ 0 → t.is_negative ≡ false
 
--- the binary form of the content, read under the type, is the content
+-- the type is the one that the content's binary form is read under, and its numbers have their widths
 abbrev pub ReadsBack : ColumnType → Bool → Content → Type 0
 ReadsBack type is_unsigned NULL = type ≡ column_type.MYSQL_TYPE_NULL
 ReadsBack type is_unsigned (Bytes bytes) = (is_string type ≡ true) × (length bytes < 2 ^ 64)
@@ -56,7 +58,7 @@ ReadsBack type is_unsigned (Double bits) = (type ≡ column_type.MYSQL_TYPE_DOUB
 ReadsBack type is_unsigned (Date date) = (is_date type ≡ true) × DateFits date
 ReadsBack type is_unsigned (Time time) = (type ≡ column_type.MYSQL_TYPE_TIME) × TimeFits time
 
--- a content that a column of the type may hold: none, or one that is read back
+-- a content agrees with a column's type: it is none, or its binary form is read as that content, whatever follows
 abbrev pub Agrees : ColumnType → Bool → Content → Type 0
 Agrees type is_unsigned NULL = Unit {0}
-Agrees type is_unsigned content = ReadsBack type is_unsigned content
+Agrees type is_unsigned content = IsSpelling (bin_value type is_unsigned) content (bin content)

@@ -1,8 +1,8 @@
 -- Dates and times, as the binary protocol writes them.
 use Rattle.std.specs.Prelude.{◌≡◌, ℕ, Bool, true, false, List, [], ◌∷◌, ◌++◌, ◌==◌, ◌&&◌, Some, None, if◌then◌else◌, refl}
 use Rattle.mysql_wire.specs.Writing.{le_bytes}
-use Rattle.mysql_wire.specs.Form.{Form, ◌>>=◌, give, refuse, either, block, bytes, size-bytes}
-use Rattle.mysql_wire.specs.Int.{byte, le_u16, le_u32, raw}
+use Rattle.mysql_wire.specs.Form.{Form, ◌>>=◌, give, refuse, either, block, bytes}
+use Rattle.mysql_wire.specs.Int.{byte, le_u16, le_u32}
 use Rattle.mysql_values.specs.declared.temporal.Day.{Day}
 use Rattle.mysql_values.specs.declared.temporal.Clock.{Clock}
 use Rattle.mysql_values.specs.declared.temporal.DateTime.{DateTime}

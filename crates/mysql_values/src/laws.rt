@@ -4,7 +4,7 @@ ghost use Rattle.std.specs.Prelude.{◌≡◌, ◌++◌, ℕ, List, Bool, Ok, le
 ghost use Rattle.mysql_wire.specs.declared.codes.column_type.ColumnType.{ColumnType};
 ghost use Rattle.mysql_values.specs.Value.{Content, bin, bin_size};
 ghost use Rattle.mysql_values.specs.ValueDeserializer.{bin_value};
-ghost use Rattle.mysql_values.specs.ReadingBack.{ReadsBack};
+ghost use Rattle.mysql_values.specs.ReadingBack.{Agrees, ReadsBack};
 
 /// The binary form of a value has the length that `Value::bin_len` answers.
 #[tactic(auto, using(crate::proofs::Sizes::sizes))]
@@ -12,9 +12,11 @@ pub fn bin_has_its_size()
     ensures { (content : Content) → length (bin content) ≡ bin_size content }
 {}
 
-/// What is written of a value is read again, whatever follows, under a column's type that it
-/// agrees with.
+/// What is written of a value is read again, whatever follows, under the type that it has in a
+/// request, and under each other type with that form: it agrees with the type.
 pub fn value_again()
+    ensures agrees { (column_type : ColumnType) (is_unsigned : Bool) (content : Content) →
+        ReadsBack column_type is_unsigned content → Agrees column_type is_unsigned content }
     ensures spelled { (column_type : ColumnType) (is_unsigned : Bool) (content : Content) (rest : List ℕ) →
         ReadsBack column_type is_unsigned content →
         (bin_value column_type is_unsigned).Spells content (bin content ++ rest) rest }

@@ -61,7 +61,7 @@ fn bytes_have_the_shortest_length(rt: HostRuntime) -> Result<(), Fail> {
     }
     let mut out = Vec::new(alloc);
     Value::Bytes(vec![in alloc; 7u8; 251]?).serialize(&mut out)?;
-    assert_eq!(rt; &out[..4], [0xfc, 251, 0, 7].as_slice());
+    assert!(rt; out.as_slice().starts_with(&[0xfc, 251, 0, 7]));
     Ok(())
 }
 

@@ -23,6 +23,7 @@ pub struct BinValue;
 
 /// A value that is read in the form `T`.
 #[derive(Drop)]
+#[derive_where(Debug)]
 pub struct ValueDeserializer<T>(pub Value, PhantomData<T>);
 
 impl<T> Model for ValueDeserializer<T> {

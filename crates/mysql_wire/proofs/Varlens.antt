@@ -14,6 +14,7 @@ use Rattle.mysql_wire.specs.Reading.{Reading, then_read, Faults, done-value, don
 use Rattle.mysql_wire.specs.Form.{Form, number, le_value, bytes}
 use Rattle.mysql_wire.specs.Writing.{le_bytes}
 use Rattle.mysql_wire.specs.LittleEndian.{length-le_bytes, sum-value}
+use Rattle.mysql_wire.specs.VarlenAgain.{size_fits}
 use Rattle.mysql_wire.specs.Varlen.{varlen, varlen_bytes, varlen_size, fewest_from, low_ones, above_ones}
 
 -- ---- sizes
@@ -31,19 +32,6 @@ size_is_length n =
     ]
 
 pub ruleset sizes = (size_is_length)
-
-fewest-fits : (left k n : ℕ) → k + left ≤ 8 → (fewest_from left k n ≡ 9) ⊎ ((0 < fewest_from left k n) × (fewest_from left k n ≤ 8) × (n < 2 ^ (7 * fewest_from left k n)))
-fewest-fits zero k n le = inl refl
-fewest-fits (suc left) k n le =
-    elim (cases_lt n (2 ^ (7 * suc k))) [
-      | inl lt ↦ rw (lt-ltb _ _ lt) (inr (omega arith, omega (arith, le), lt))
-      | inr more ↦ rw (le-ltb _ _ more) (fewest-fits left (suc k) n (omega (arith, le)))
-    ]
-
--- the bytes hold the number, where they are not nine
-pub size_fits : (n : ℕ) → varlen_size n ≢ 9 → (0 < varlen_size n) × (varlen_size n ≤ 8) × (n < 2 ^ (7 * varlen_size n))
-unfolding varlen_size
-size_fits n ne = elim (fewest-fits 8 0 n (omega arith)) [ inl nine ↦ absurd (ne nine) | inr fits ↦ fits ]
 
 -- ---- reading
 

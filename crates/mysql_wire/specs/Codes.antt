@@ -4,7 +4,7 @@ use Rattle.std.proofs.Common.{subst, ltb-true, eqb-true, ◌⊎◌, inl, inr}
 use Rattle.std.proofs.lemmas.Bool.{and_parts}
 use Rattle.mysql_wire.specs.declared.constant_value.Const.{Const}
 use Rattle.mysql_wire.specs.ConstantValue.{coded, coded-again}
-use Rattle.mysql_wire.specs.Form.{Form, number}
+use Rattle.mysql_wire.specs.Form.{number}
 use Rattle.mysql_wire.specs.Spelling.{IsSpelling, number-again}
 use Rattle.mysql_wire.specs.Writing.{le_bytes}
 

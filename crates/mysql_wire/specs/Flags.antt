@@ -1,5 +1,5 @@
 -- Flag words.
-use Rattle.std.specs.Prelude.{◌≡◌, ℕ, ◌^◌, ◌<◌, Bool, Option, Some, ◌==◌, bit_and, bit_or, if◌then◌else◌, refl}
+use Rattle.std.specs.Prelude.{ℕ, ◌^◌, ◌<◌, Bool, Option, Some, ◌==◌, bit_and, bit_or, if◌then◌else◌, refl}
 use Rattle.bitflags.specs.Sets.{without}
 use Rattle.mysql_wire.specs.declared.constant_value.Const.{Const}
 use Rattle.mysql_wire.specs.declared.flags.FlagWord.{FlagWord}

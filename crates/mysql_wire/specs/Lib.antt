@@ -26,4 +26,5 @@ pub mod Text
 pub mod BytesAgain
 pub mod ConstBytes
 pub mod ListAgain
+pub mod VarlenAgain
 pub mod Once

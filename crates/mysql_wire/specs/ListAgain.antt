@@ -32,3 +32,5 @@ module _ {A : Type 0} (Fits : A → Type 0) (f : Form A) (spelling : A → List 
 -- a count in eight bytes
 pub count_u64-again : (n : ℕ) → n < 2 ^ 64 → IsSpelling (number_of le_u64) n (le_bytes 8 n)
 count_u64-again n lt rest = (raw_int n, refl, le_u64-again n lt rest)
+
+pub ruleset lists_again = (count_u64-again)

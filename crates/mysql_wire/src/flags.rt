@@ -144,6 +144,7 @@ impl<N: FlagNames<B>, B: Bits> Not for FlagWord<N, B> {
     }
 }
 
+/// Sets the bits of the other.
 impl<N: FlagNames<B>, B: Bits> BitOrAssign for FlagWord<N, B> {
     ghost bitor_assign_gives = { λ a b r. B.pattern r.0 ≡ bit_or (B.pattern a.0) (B.pattern b.0) };
 
@@ -153,6 +154,7 @@ impl<N: FlagNames<B>, B: Bits> BitOrAssign for FlagWord<N, B> {
     }
 }
 
+/// Clears the bits that the other does not have.
 impl<N: FlagNames<B>, B: Bits> BitAndAssign for FlagWord<N, B> {
     ghost bitand_assign_gives = { λ a b r. B.pattern r.0 ≡ bit_and (B.pattern a.0) (B.pattern b.0) };
 
@@ -162,6 +164,7 @@ impl<N: FlagNames<B>, B: Bits> BitAndAssign for FlagWord<N, B> {
     }
 }
 
+/// Flips the bits of the other.
 impl<N: FlagNames<B>, B: Bits> BitXorAssign for FlagWord<N, B> {
     ghost bitxor_assign_gives = { λ a b r. B.pattern r.0 ≡ bit_xor (B.pattern a.0) (B.pattern b.0) };
 
@@ -171,6 +174,7 @@ impl<N: FlagNames<B>, B: Bits> BitXorAssign for FlagWord<N, B> {
     }
 }
 
+/// Clears the bits of the other.
 impl<N: FlagNames<B>, B: Bits> SubAssign for FlagWord<N, B> {
     ghost sub_assign_gives = { λ a b r. B.pattern r.0 ≡ without B.size (B.pattern a.0) (B.pattern b.0) };
 
@@ -180,6 +184,7 @@ impl<N: FlagNames<B>, B: Bits> SubAssign for FlagWord<N, B> {
     }
 }
 
+/// Every integer stands for a flag word, whose bits are all kept.
 impl<N: FlagNames<B>, B: Bits> ConstValue<B> for FlagWord<N, B> {
     ghost use Rattle.mysql_wire.specs.Flags.{flags_of};
 

@@ -12,6 +12,8 @@ ghost use Rattle.mysql_wire.specs.Writing.{le_bytes};
 ghost use Rattle.mysql_wire.specs.Spelling.{IsSpelling};
 
 mod byte_strings;
+mod constant_values;
+mod lists;
 
 use crate::bytes::RawBytes;
 use crate::proto::MyDeserialize;
@@ -19,6 +21,8 @@ pub use byte_strings::{
     array_again, bare_string_again, const_bytes_again, null_string_again, rest_again,
     u8_string_again, u32_string_again,
 };
+pub use constant_values::{coded_byte_again, flag_word_again, switching_changes_one_flag};
+pub use lists::{count_again, list_again, values_to_the_end_again, varlen_again};
 use std::hash::Hash;
 
 /// Bytes are spellings of at most one value of a type, with one rest.

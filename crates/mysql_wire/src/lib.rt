@@ -57,8 +57,7 @@ pub use null::NullBytes;
 pub use proto::{AnyWidth, Fixed, MyDeserialize, MySerialize, Width, total_len};
 pub use seq::{Seq, SeqRepr, Unknown};
 pub use skip::Skip;
+pub use varlen::{VarLen, read_varlen_uint, varlen_uint_size, write_varlen_uint};
 
 #[cfg(test)]
 mod tests;
-
-pub use varlen::{VarLen, read_varlen_uint, varlen_uint_size, write_varlen_uint};

@@ -1,1 +1,4 @@
 mod byte_strings;
+mod lenenc;
+mod lists;
+mod varlen;

@@ -7,7 +7,7 @@ ghost use Rattle.mysql_wire.specs.ColumnType.{column_type_code, column_type_of, 
 use crate::constant_value::ConstValue;
 use thiserror::Error;
 
-/// `enum_field_types`: the type of a column or a value.
+/// `enum_field_types`: the type of a column or a value, in a byte.
 #[derive(Clone, Copy, Debug, PartialEq, Eq, Hash)]
 pub enum ColumnType {
     /// A decimal number, as text.
@@ -80,7 +80,7 @@ pub enum ColumnType {
     MYSQL_TYPE_GEOMETRY = 255,
 }
 
-/// A code that no `ColumnType` has.
+/// A code that no [`ColumnType`] has.
 #[derive(Clone, Copy, Debug, PartialEq, Eq, Hash, Error)]
 #[error("Unknown column type")]
 pub struct UnknownColumnType(pub u8);
@@ -143,6 +143,7 @@ impl ConstValue<u8> for ColumnType {
     ghost read_back = { column_type-back };
 }
 
+/// The type with that code; a code without one is the error.
 impl TryFrom<u8> for ColumnType {
     type Error = UnknownColumnType;
 
@@ -154,6 +155,7 @@ impl TryFrom<u8> for ColumnType {
     }
 }
 
+/// The code.
 impl From<ColumnType> for u8 {
     ghost from_gives = { λ value code. code ≡ column_type_code value };
 

@@ -7,7 +7,7 @@ ghost use Rattle.mysql_wire.specs.MariadbBulkIndicator.{mariadb_bulk_indicator_c
 use crate::constant_value::ConstValue;
 use thiserror::Error;
 
-/// How a value of a bulk request is given.
+/// The indicator of `COM_STMT_BULK_EXECUTE`: how a value is given, in a byte.
 #[derive(Clone, Copy, Debug, PartialEq, Eq, Hash)]
 pub enum MariadbBulkIndicator {
     /// A value follows.
@@ -20,7 +20,7 @@ pub enum MariadbBulkIndicator {
     BULK_INDICATOR_IGNORE = 3,
 }
 
-/// A code that no `MariadbBulkIndicator` has.
+/// A code that no [`MariadbBulkIndicator`] has.
 #[derive(Clone, Copy, Debug, PartialEq, Eq, Hash, Error)]
 #[error("Unknown bulk indicator")]
 pub struct UnknownMariadbBulkIndicator(pub u8);
@@ -53,6 +53,7 @@ impl ConstValue<u8> for MariadbBulkIndicator {
     ghost read_back = { mariadb_bulk_indicator-back };
 }
 
+/// The indicator with that code; a code without one is the error.
 impl TryFrom<u8> for MariadbBulkIndicator {
     type Error = UnknownMariadbBulkIndicator;
 
@@ -64,6 +65,7 @@ impl TryFrom<u8> for MariadbBulkIndicator {
     }
 }
 
+/// The code.
 impl From<MariadbBulkIndicator> for u8 {
     ghost from_gives = { λ value code. code ≡ mariadb_bulk_indicator_code value };
 

@@ -1,4 +1,4 @@
-use Rattle.mysql_session.proofs.PartsAgain.{gtids-again}
+use Rattle.mysql_session.proofs.SessionTextAgain.{gtids-again}
 use Rattle.mysql_session.proofs.SystemVariableAgain.{system_variables-again}
 use Rattle.mysql_session.proofs.laws.session_ends_again.Goals as goal
 

@@ -1,8 +1,11 @@
 use Rattle.mysql_values.specs.Value.{bin}
 use Rattle.mysql_values.specs.ValueDeserializer.{bin_value}
 use Rattle.std.proofs.Common.{◌++◌}
-use Rattle.mysql_values.proofs.ValueAgain.{value-again}
+use Rattle.mysql_values.proofs.ValueAgain.{value-again, agrees-by_type}
 use Rattle.mysql_values.proofs.laws.value_again.Goals as goal
+
+pub returns-clause-agrees : goal.returns-clause-agrees
+returns-clause-agrees c = agrees-by_type
 
 pub returns-clause-spelled : goal.returns-clause-spelled
 returns-clause-spelled c = value-again

@@ -1,0 +1,13 @@
+pub mod ParamType
+pub mod ParamValue
+pub mod Request
+pub mod Flat
+pub mod Builder
+pub mod Run
+pub mod Refusal
+pub mod WholeRun
+pub mod ParamValues
+pub mod Head
+pub mod Rows
+pub mod RequestForm
+pub mod NewRequest

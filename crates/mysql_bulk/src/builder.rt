@@ -1,0 +1,343 @@
+//! A builder of bulk requests.
+
+ghost use Rattle.std.specs.Prelude.{◌≡◌, ◌≢◌, ◌+◌, ◌≤◌, ◌-◌, ◌↔◌, ◌++◌, ◌∷◌, [], length, IsTrue, IfOk, OnOk, OnErr, MatchOption, Some, None, true, false, sum_by, map, vec_len, vec_capacity, List, ℕ};
+ghost use Rattle.std.specs.Option.{option_copied};
+ghost use Rattle.mysql_cuts.specs.Cut.{PartFits};
+ghost use Rattle.mysql_values.specs.Value.{Content, contents_of};
+ghost use Rattle.mysql_bulk.specs.ParamValue.{given, row_size};
+ghost use Rattle.mysql_bulk.specs.Request.{written_size, request_flags};
+ghost use Rattle.mysql_bulk.specs.Builder.{TakesArity, RowFits, Adds, AddsRow, AddsParams, Builds, WaitingFits, waiting_size, rows_packing};
+
+use crate::error::{BulkExecuteRequestBuilderError, BulkExecuteRequestError};
+use crate::param_type::StmtBulkExecuteParamType;
+use crate::param_value::StmtBulkExecuteParamValue;
+use crate::request::ComStmtBulkExecuteRequest;
+use crate::row_type::join_row;
+use crate::size::{request_len, row_len};
+use mysql_cuts::BulkRule;
+use mysql_values::{Params, Value};
+use std::alloc::{AllocError, Global};
+use std::marker::Model;
+use std::mem;
+
+/// Collects rows for requests of a bulk execution, none of which is past the limit.
+///
+/// Rows are added until one does not fit; then a request is built of those that wait, and so on. The first request
+/// alone sends types, if `with_types_always` does not say otherwise.
+#[derive(Drop)]
+pub struct ComStmtBulkExecuteRequestBuilder<'a> {
+    names: Option<&'a [Vec<u8>]>,
+    alloc: Global,
+    stmt_id: u32,
+    limit: u64,
+    results: bool,
+    rule: BulkRule,
+    arity: Option<usize>,
+    types_due: bool,
+    /// The number of waiting rows, and their bytes in a request.
+    count: usize,
+    size: u64,
+    /// The values of the waiting rows, row after row.
+    values: Vec<StmtBulkExecuteParamValue>,
+    /// The types of the columns so far, while types are to be sent.
+    types: Vec<StmtBulkExecuteParamType>,
+}
+
+impl<'a> Model for ComStmtBulkExecuteRequestBuilder<'a> {
+    ghost use Rattle.std.specs.Option.{option_copied};
+    ghost use Rattle.mysql_bulk.specs.Builder.{BuilderState, Keeps};
+    ghost use Rattle.mysql_bulk.specs.Flat.{waiting_rows};
+    ghost use Rattle.mysql_bulk.specs.ParamValue.{plain};
+
+    ghost Value = { BuilderState };
+
+    ghost view = { λ a. record {
+      stmt_id = a.stmt_id;
+      limit = a.limit;
+      results = a.results;
+      rule = a.rule;
+      names = option_copied a.names;
+      arity = a.arity;
+      types_due = a.types_due;
+      waiting = waiting_rows a.arity a.count (plain a.values.items);
+    } };
+
+    ghost invariant = { λ a. Keeps (record {
+      stmt_id = a.stmt_id;
+      limit = a.limit;
+      results = a.results;
+      rule = a.rule;
+      names = option_copied a.names;
+      arity = a.arity;
+      types_due = a.types_due;
+      waiting = waiting_rows a.arity a.count (plain a.values.items);
+    }) a.count a.size a.values.items a.types.items };
+}
+
+/// The bytes of so many waiting rows with one more, if these may be one request.
+fn size_with(
+    rule: BulkRule,
+    limit: u64,
+    types: bool,
+    count: usize,
+    size: u64,
+    row: &[Value],
+) -> Option<u64>
+    ensures { (rows : List (List Content)) → length rows ≡ count → size ≡ sum_by row_size rows →
+        MatchOption result (PartFits (rows_packing rule limit (length row.now)) types (rows ++ contents_of row.now ∷ []) → ⊥)
+        (λ n. PartFits (rows_packing rule limit (length row.now)) types (rows ++ contents_of row.now ∷ []) × (n ≡ sum_by row_size (rows ++ contents_of row.now ∷ []))) }
+{
+    if rule.max_rows.is_some_and(|most| most <= count) {
+        return None;
+    }
+    let rows = size.checked_add(row_len(row)?)?;
+    if request_len(row.len(), types, rows)? <= limit {
+        Some(rows)
+    } else {
+        None
+    }
+}
+
+/// Finds room for a row, and for the types of its columns where they are to be kept.
+pub(crate) fn find_room(
+    values: &mut Vec<StmtBulkExecuteParamValue>,
+    types: &mut Vec<StmtBulkExecuteParamType>,
+    types_due: bool,
+    arity: usize,
+) -> Result<(), AllocError>
+    ensures values { values.new.items ≡ values.old.items }
+    ensures types { types.new.items ≡ types.old.items }
+    ensures values_room { OnOk result (vec_len values.new + arity ≤ vec_capacity values.new) }
+    ensures types_room { OnOk result (types_due ≡ true → arity ≤ vec_capacity types.new) }
+{
+    values.reserve(arity)?;
+    if types_due {
+        types.reserve(arity.saturating_sub(types.len()))?;
+    }
+    Ok(())
+}
+
+/// Moves the values of a row to the end, where there is room.
+pub(crate) fn append_row(values: &mut Vec<StmtBulkExecuteParamValue>, row: Vec<Value>)
+    requires { vec_len values.old + length row.items ≤ vec_capacity values.old }
+    ensures { values.new.items ≡ values.old.items ++ map given (contents_of row.items) }
+{
+    for value in row {
+        values.push_reserved(StmtBulkExecuteParamValue::new(value));
+    }
+}
+
+/// The word of flags.
+fn flags_of(types: bool, results: bool) -> u16
+    ensures { result ≡ request_flags types results }
+{
+    let types = if types { 128 } else { 0 };
+    let results = if results { 64 } else { 0 };
+    types + results
+}
+
+impl<'a> ComStmtBulkExecuteRequestBuilder<'a> {
+    /// A builder without rows. A request has at most as many bytes as a packet may, less four. It takes no memory.
+    pub fn new(alloc: Global, stmt_id: u32, max_allowed_packet: usize) -> Self
+        requires { 4 ≤ max_allowed_packet }
+        ensures { result ≡ record { stmt_id = stmt_id; limit = max_allowed_packet - 4; results = false; rule = BulkRule.PLAIN; names = None; arity = None; types_due = true; waiting = [] } }
+    {
+        ComStmtBulkExecuteRequestBuilder {
+            names: None,
+            alloc,
+            stmt_id,
+            limit: (max_allowed_packet - 4) as u64,
+            results: false,
+            rule: BulkRule::PLAIN,
+            arity: None,
+            types_due: true,
+            count: 0,
+            size: 0,
+            values: Vec::new(alloc),
+            types: Vec::new(alloc),
+        }
+    }
+
+    /// Gives the names of the parameters, in the order of the statement, for `add_params`.
+    pub fn with_named_params(self, names: Option<&'a [Vec<u8>]>) -> Self
+        ensures { result ≡ record self.entry { names = option_copied names.entry } }
+    {
+        let mut builder = self;
+        builder.names = names;
+        builder
+    }
+
+    /// Asks the server for the results of each row.
+    pub fn with_results(self) -> Self
+        ensures { result ≡ record self.entry { results = true } }
+    {
+        let mut builder = self;
+        builder.results = true;
+        builder
+    }
+
+    /// Sends types in every request from now on, also where one was built before.
+    pub fn with_types_always(self) -> Self
+        requires { self.waiting ≡ [] }
+        ensures { result ≡ record self.entry { types_due = true; rule = record self.entry.rule { types_always = true } } }
+    {
+        let mut builder = self;
+        builder.types_due = true;
+        builder.rule = BulkRule {
+            types_always: true,
+            max_rows: builder.rule.max_rows,
+        };
+        builder
+    }
+
+    /// Sends at most so many rows in a request.
+    pub fn with_max_rows(self, k: usize) -> Self
+        requires none_waits { self.waiting ≡ [] }
+        requires some { 1 ≤ k }
+        ensures { result ≡ record self.entry { rule = record self.entry.rule { max_rows = Some k } } }
+    {
+        let mut builder = self;
+        builder.rule = BulkRule {
+            types_always: builder.rule.types_always,
+            max_rows: Some(k),
+        };
+        builder
+    }
+
+    /// The rule that was set.
+    pub fn rule(&self) -> BulkRule
+        ensures { result ≡ self.now.rule }
+    {
+        self.rule
+    }
+
+    /// Whether rows wait for a request.
+    pub fn has_rows(&self) -> bool
+        ensures { IsTrue result ↔ (self.now.waiting ≢ []) }
+    {
+        self.count != 0
+    }
+
+    /// How many rows wait.
+    pub(crate) fn rows_waiting(&self) -> usize
+        ensures { result ≡ length self.now.waiting }
+    {
+        self.count
+    }
+
+    /// Whether a row of so many values may come after those that were accepted.
+    fn takes_arity(&self, arity: usize) -> bool
+        ensures { IsTrue result ↔ TakesArity self.now.arity arity }
+    {
+        match self.arity {
+            Some(known) => arity == known,
+            None => true,
+        }
+    }
+
+    /// The bytes of the waiting rows with one more, if these may be one request.
+    fn size_after(&self, row: &[Value]) -> Option<u64>
+        ensures { MatchOption result (RowFits self.now (contents_of row.now) → ⊥)
+            (λ n. RowFits self.now (contents_of row.now) × (n ≡ sum_by row_size (self.now.waiting ++ contents_of row.now ∷ []))) }
+    {
+        size_with(
+            self.rule,
+            self.limit,
+            self.types_due,
+            self.count,
+            self.size,
+            row,
+        )
+    }
+
+    /// Offers a row, and answers one that does not fit with those that wait.
+    pub(crate) fn add(
+        &mut self,
+        row: Vec<Value>,
+    ) -> Result<Option<Vec<Value>>, BulkExecuteRequestError>
+        ensures { Adds self.old row result self.new }
+    {
+        if !self.takes_arity(row.len()) {
+            return Err(BulkExecuteRequestError::MixedArity);
+        }
+        let Some(size) = self.size_after(row.as_slice()) else {
+            return if self.has_rows() {
+                Ok(Some(row))
+            } else {
+                Err(BulkExecuteRequestError::RowTooLarge(row))
+            };
+        };
+        let arity = row.len();
+        let Some(count) = self.count.checked_add(1) else {
+            return Err(BulkExecuteRequestError::MemoryRow(row));
+        };
+        let Ok(()) = find_room(&mut self.values, &mut self.types, self.types_due, arity) else {
+            return Err(BulkExecuteRequestError::MemoryRow(row));
+        };
+        join_row(&mut self.types, self.types_due, row.as_slice());
+        append_row(&mut self.values, row);
+        self.size = size;
+        self.count = count;
+        self.arity = Some(arity);
+        Ok(None)
+    }
+
+    /// Offers a row. Where it fits with the rows that wait, it waits too, and the answer is `Ok(None)`.
+    ///
+    /// A row that does not fit with those that wait is given back as `Ok(Some(row))`; a request is built then. Of the
+    /// refusals, `MixedArity` drops the row; `RowTooLarge` (it does not fit where nothing waits) and `MemoryRow` hand
+    /// it back. Where the row does not wait, the builder stays as it was.
+    pub fn add_row(
+        &mut self,
+        row: Vec<Value>,
+    ) -> Result<Option<Vec<Value>>, BulkExecuteRequestBuilderError>
+        ensures { AddsRow self.old row result self.new }
+    {
+        match self.add(row) {
+            Ok(back) => Ok(back),
+            Err(e) => Err(BulkExecuteRequestBuilderError::Request(e)),
+        }
+    }
+
+    /// Offers parameters, whose values are a row: see `add_row`. With names they are named, else positional.
+    ///
+    /// Parameters that give no row are refused as `Params`, and the builder stays as it was.
+    pub fn add_params(
+        &mut self,
+        params: Params,
+    ) -> Result<Option<Vec<Value>>, BulkExecuteRequestBuilderError>
+        ensures { AddsParams self.old params result self.new }
+    {
+        match params.into_values(self.alloc, self.names) {
+            Ok(row) => self.add_row(row),
+            Err(e) => Err(BulkExecuteRequestBuilderError::Params(e)),
+        }
+    }
+
+    /// The request of the waiting rows, which wait no longer. `NoParams` where none waits; the builder stays then.
+    pub fn build(&mut self) -> Result<ComStmtBulkExecuteRequest, BulkExecuteRequestError>
+        ensures builds { Builds self.old result self.new }
+
+        // the request has the bytes that its rows have, and is not past the limit
+        ensures size { IfOk result (λ request. written_size request ≡ waiting_size self.old) }
+        ensures fits { OnOk result (WaitingFits self.old) }
+    {
+        if self.count == 0 {
+            return Err(BulkExecuteRequestError::NoParams);
+        }
+        let values = mem::replace(&mut self.values, Vec::new(self.alloc));
+        let types = mem::replace(&mut self.types, Vec::new(self.alloc));
+        let size = 7 + 2 * types.len() as u64 + self.size;
+        let bulk_flags = flags_of(self.types_due, self.results);
+        self.count = 0;
+        self.size = 0;
+        self.types_due = self.rule.types_always;
+        Ok(ComStmtBulkExecuteRequest {
+            stmt_id: self.stmt_id,
+            bulk_flags,
+            types,
+            values,
+            size: size as usize,
+        })
+    }
+}

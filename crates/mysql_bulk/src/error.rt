@@ -1,0 +1,57 @@
+//! Why rows are refused.
+
+use mysql_values::{ParamsError, Value};
+use thiserror::Error;
+
+/// Why a row or a request was refused.
+#[derive(Debug, Drop, Error)]
+pub enum BulkExecuteRequestError {
+    /// The row has not as many values as the rows before it.
+    #[error("Rows of different lengths")]
+    MixedArity,
+    /// The row alone is past the limit of a request. The row is handed back.
+    #[error("Row larger than a request may be")]
+    RowTooLarge(Vec<Value>),
+    /// Memory for the row was refused. The row is handed back.
+    #[error("No memory for a row")]
+    MemoryRow(Vec<Value>),
+    /// There is no row for a request.
+    #[error("No rows for a bulk request")]
+    NoParams,
+    /// Memory for a request was refused.
+    #[error("No memory for a bulk request")]
+    Memory,
+}
+
+/// Why the builder refused parameters.
+#[derive(Debug, Drop, Error)]
+pub enum BulkExecuteRequestBuilderError {
+    /// The row or the request was refused.
+    #[error(transparent)]
+    Request(BulkExecuteRequestError),
+    /// The parameters give no row.
+    #[error(transparent)]
+    Params(ParamsError),
+}
+
+impl From<BulkExecuteRequestError> for BulkExecuteRequestBuilderError {
+    ghost use Rattle.std.specs.Prelude.{◌≡◌};
+    ghost use Rattle.mysql_bulk.specs.declared.error.BulkExecuteRequestBuilderError.TheVariants.{Request};
+
+    ghost from_gives = { λ e r. r ≡ Request e };
+
+    fn from(error: BulkExecuteRequestError) -> BulkExecuteRequestBuilderError {
+        BulkExecuteRequestBuilderError::Request(error)
+    }
+}
+
+impl From<ParamsError> for BulkExecuteRequestBuilderError {
+    ghost use Rattle.std.specs.Prelude.{◌≡◌};
+    ghost use Rattle.mysql_bulk.specs.declared.error.BulkExecuteRequestBuilderError.TheVariants.{Params};
+
+    ghost from_gives = { λ e r. r ≡ Params e };
+
+    fn from(error: ParamsError) -> BulkExecuteRequestBuilderError {
+        BulkExecuteRequestBuilderError::Params(error)
+    }
+}

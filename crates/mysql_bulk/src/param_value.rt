@@ -1,0 +1,125 @@
+//! A value in a bulk request, with its indicator.
+
+ghost use Rattle.std.specs.Prelude.{true, ◌≡◌, ◌≤◌, ◌+◌, ◌++◌, length, List, ℕ, Option, Some, None, refl};
+
+use mysql_values::{BinValue, Value, ValueDeserializer};
+use mysql_wire::{
+    AnyWidth, ColumnFlags, ColumnType, Const, FaultOf, Flags, MariadbBulkIndicator, MyDeserialize,
+    MySerialize, ParseBuf, append_all, len_of,
+};
+use std::marker::Model;
+
+/// A value in a bulk request: the indicator in a byte, and after `BULK_INDICATOR_NONE` the value's binary form.
+#[derive(Debug, Drop)]
+pub struct StmtBulkExecuteParamValue {
+    indicator: MariadbBulkIndicator,
+    value: Value,
+}
+
+impl Model for StmtBulkExecuteParamValue {
+    ghost use Rattle.mysql_bulk.specs.ParamValue.{ParamValue};
+    ghost use Rattle.mysql_values.specs.Value.{content_of};
+
+    ghost Value = { ParamValue };
+
+    ghost view = { λ v. record { indicator = v.indicator; content = content_of v.value } };
+}
+
+impl StmtBulkExecuteParamValue {
+    ghost use Rattle.mysql_bulk.specs.ParamValue.{given};
+    ghost use Rattle.mysql_values.specs.Value.{content_of};
+
+    /// The value with its indicator: `BULK_INDICATOR_NULL` for `NULL`, else `BULK_INDICATOR_NONE`.
+    #[inline]
+    pub fn new(value: Value) -> Self
+        ensures { result ≡ given (content_of value) }
+    {
+        let indicator = match &value {
+            Value::NULL => MariadbBulkIndicator::BULK_INDICATOR_NULL,
+            _ => MariadbBulkIndicator::BULK_INDICATOR_NONE,
+        };
+        StmtBulkExecuteParamValue { indicator, value }
+    }
+
+    /// How the value is given.
+    pub fn indicator(&self) -> MariadbBulkIndicator
+        ensures value { result ≡ self.now.indicator }
+    {
+        self.indicator
+    }
+
+    /// The value: `NULL` where none follows the indicator.
+    pub fn value(&self) -> &Value
+        ensures value { content_of result.now ≡ self.now.content }
+    {
+        &self.value
+    }
+
+    /// The value alone.
+    pub(crate) fn into_value(self) -> Value
+        ensures { content_of result ≡ self.content }
+    {
+        self.value
+    }
+}
+
+/// The indicator in a byte; after `BULK_INDICATOR_NONE` a value of the column's type, else none.
+impl<'de> MyDeserialize<'de> for StmtBulkExecuteParamValue {
+    const SIZE: Option<usize> = None;
+
+    type Size = AnyWidth;
+
+    ghost takes_memory = { true };
+
+    type Ctx = (ColumnType, ColumnFlags);
+
+    ghost use Rattle.mysql_wire.specs.Flags.{has};
+    ghost use Rattle.mysql_bulk.specs.ParamValue.{param_value};
+
+    ghost form = { λ column. param_value column.0 (has column.1.0 32) };
+
+    #[tactic(auto, using(mysql_wire::proofs::Tails::tails))]
+    fn deserialize<'s>(
+        column: (ColumnType, ColumnFlags),
+        buf: &mut ParseBuf<'de>,
+    ) -> Result<Self, FaultOf<'s>> {
+        let mut rest = buf.rest();
+        let indicator: Const<MariadbBulkIndicator, u8> = rest.parse(())?;
+        let value = match indicator.0 {
+            MariadbBulkIndicator::BULK_INDICATOR_NONE => {
+                let value: ValueDeserializer<BinValue> = rest.parse(column)?;
+                value.0
+            }
+            _ => Value::NULL,
+        };
+        *buf = rest;
+        Ok(StmtBulkExecuteParamValue {
+            indicator: indicator.0,
+            value,
+        })
+    }
+
+    ghost size_is = { λ _. refl };
+}
+
+impl MySerialize for StmtBulkExecuteParamValue {
+    ghost use Rattle.mysql_bulk.specs.ParamValue.{param_value_bytes};
+
+    ghost bytes = { param_value_bytes };
+
+    #[tactic(auto, using(mysql_wire::specs::Writing::lengths), unfolding(mysql_wire::specs::Writing::le_bytes))]
+    fn defined_len(&self) -> usize {
+        len_of!(
+            Const::<MariadbBulkIndicator, u8>::new(self.indicator),
+            self.value,
+        )
+    }
+
+    #[tactic(auto, using(mysql_wire::specs::Writing::lengths))]
+    fn append(&self, out: &mut Vec<u8>) {
+        append_all!(out;
+            Const::<MariadbBulkIndicator, u8>::new(self.indicator),
+            self.value,
+        );
+    }
+}

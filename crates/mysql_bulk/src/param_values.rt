@@ -1,0 +1,112 @@
+//! The values of a row in a bulk request.
+
+ghost use Rattle.std.specs.Prelude.{true, ◌≡◌, ◌≤◌, ◌+◌, ◌++◌, length, map, List, ℕ, None, IfOk, OnErr};
+ghost use Rattle.mysql_wire.specs.Reading.{Answers, IsTail};
+ghost use Rattle.mysql_wire.specs.Seq.{items_of};
+ghost use Rattle.mysql_values.specs.Value.{contents_of};
+ghost use Rattle.mysql_bulk.specs.ParamValue.{given};
+ghost use Rattle.mysql_bulk.specs.ParamValues.{values_of_columns};
+
+use crate::builder::append_row;
+use crate::param_value::StmtBulkExecuteParamValue;
+use mysql_values::Value;
+use mysql_wire::{
+    AnyWidth, ColumnFlags, ColumnType, FaultOf, MyDeserialize, MySerialize, ParseBuf, append_items,
+    items_len,
+};
+use std::alloc::{AllocError, Global};
+use std::convert::AsSlice;
+use std::marker::Model;
+
+/// Reads a value of each column. After a refusal the buffer is as it was.
+pub(crate) fn read_values<'s>(
+    columns: &[(ColumnType, ColumnFlags)],
+    buf: &mut ParseBuf<'_>,
+) -> Result<Vec<StmtBulkExecuteParamValue>, FaultOf<'s>>
+    ensures value { Answers true (items_of result) buf.new ((values_of_columns columns.now).reads buf.old) }
+    ensures err { OnErr result (buf.new ≡ buf.old) }
+{
+    let mut rest = buf.rest();
+    let mut values = Vec::new(buf.alloc());
+    for column in columns {
+        let value: StmtBulkExecuteParamValue = rest.parse(*column)?;
+        values.push(value)?;
+    }
+    *buf = rest;
+    Ok(values)
+}
+
+/// The values of a row in a bulk request, each with its indicator.
+#[derive(Debug, Drop)]
+pub struct StmtBulkExecuteParamValues {
+    values: Vec<StmtBulkExecuteParamValue>,
+}
+
+impl Model for StmtBulkExecuteParamValues {
+    ghost use Rattle.std.specs.Prelude.{List};
+    ghost use Rattle.mysql_bulk.specs.ParamValue.{ParamValue};
+
+    ghost Value = { List ParamValue };
+
+    ghost view = { λ row. row.values.items };
+}
+
+impl StmtBulkExecuteParamValues {
+    /// The values, each with its indicator.
+    pub fn new(alloc: Global, values: Vec<Value>) -> Result<Self, AllocError>
+        ensures value { IfOk result (λ row. row ≡ map given (contents_of values.items)) }
+    {
+        let mut row = Vec::with_capacity(alloc, values.len())?;
+        append_row(&mut row, values);
+        Ok(StmtBulkExecuteParamValues { values: row })
+    }
+}
+
+impl AsSlice<StmtBulkExecuteParamValue> for StmtBulkExecuteParamValues {
+    ghost items = { λ row. row };
+
+    fn as_slice(&self) -> &[StmtBulkExecuteParamValue] {
+        self.values.as_slice()
+    }
+}
+
+/// A value of each column, whose types and flags are handed in.
+impl<'de> MyDeserialize<'de> for StmtBulkExecuteParamValues {
+    const SIZE: Option<usize> = None;
+
+    type Size = AnyWidth;
+
+    ghost takes_memory = { true };
+
+    type Ctx = Vec<(ColumnType, ColumnFlags)>;
+
+    ghost use Rattle.mysql_bulk.specs.ParamValues.{size-each, value_of_column};
+
+    ghost form = { λ columns. values_of_columns columns.items };
+
+    #[tactic(auto, using(mysql_wire::proofs::Tails::tails))]
+    fn deserialize<'s>(
+        columns: Vec<(ColumnType, ColumnFlags)>,
+        buf: &mut ParseBuf<'de>,
+    ) -> Result<Self, FaultOf<'s>> {
+        Ok(StmtBulkExecuteParamValues {
+            values: read_values(columns.as_slice(), buf)?,
+        })
+    }
+
+    ghost size_is = { λ columns. size-each value_of_column columns.items };
+}
+
+impl MySerialize for StmtBulkExecuteParamValues {
+    ghost use Rattle.mysql_bulk.specs.ParamValue.{values_bytes};
+
+    ghost bytes = { values_bytes };
+
+    fn defined_len(&self) -> usize {
+        items_len(self.values.as_slice())
+    }
+
+    fn append(&self, out: &mut Vec<u8>) {
+        append_items(self.values.as_slice(), out);
+    }
+}

@@ -1,0 +1,242 @@
+//! A bulk request.
+
+ghost use Rattle.std.specs.Prelude.{true, ◌≡◌, ◌≤◌, ◌+◌, ◌++◌, length, List, ℕ, None, refl};
+ghost use Rattle.mysql_wire.specs.Writing.{saturated};
+ghost use Rattle.std.specs.Prelude.{◌*◌};
+ghost use Rattle.mysql_bulk.specs.ParamValue.{row_size, plain};
+ghost use Rattle.mysql_bulk.specs.RequestForm.{with_head};
+ghost use Rattle.std.specs.Prelude.{IfOk, IsTrue, ◌↔◌, if◌then◌else◌, fold, map, []};
+ghost use Rattle.mysql_cuts.specs.Cut.{joined};
+ghost use Rattle.mysql_bulk.specs.Flat.{EqualLengths};
+ghost use Rattle.mysql_bulk.specs.ParamType.{joined_types};
+ghost use Rattle.mysql_bulk.specs.ParamValue.{given};
+ghost use Rattle.mysql_bulk.specs.Builder.{values_of};
+ghost use Rattle.mysql_bulk.specs.NewRequest.{MakesRequest};
+
+use crate::builder::{append_row, find_room};
+use crate::error::BulkExecuteRequestError;
+use crate::head::{ComStmtBulkExecuteHeader, Head, read_head, sends_types};
+use crate::param_type::StmtBulkExecuteParamType;
+use crate::param_value::StmtBulkExecuteParamValue;
+use crate::param_values::read_values;
+use crate::row_type::join_row;
+use mysql_values::Value;
+use mysql_wire::{
+    AnyWidth, ColumnFlags, ColumnType, FaultOf, Flags, LeU16, LeU32, MyDeserialize, MySerialize,
+    ParseBuf, RawInt, StmtBulkExecuteFlags, append_all, append_items, items_len,
+};
+use std::alloc::{AllocError, Global};
+use std::marker::Model;
+
+/// The request of a head and its values.
+fn made(head: Head, values: Vec<StmtBulkExecuteParamValue>) -> ComStmtBulkExecuteRequest
+    ensures { result ≡ with_head head values.items }
+{
+    let size = written_len(head.types.as_slice(), values.as_slice());
+    ComStmtBulkExecuteRequest {
+        stmt_id: head.stmt_id,
+        bulk_flags: head.bulk_flags,
+        types: head.types,
+        values,
+        size,
+    }
+}
+
+/// How many bytes a request is written as, or `usize::MAX` where that is less.
+#[tactic(auto, using(crate::proofs::Kept::request_lengths), unfolding(mysql_wire::specs::Writing::saturated))]
+fn written_len(types: &[StmtBulkExecuteParamType], values: &[StmtBulkExecuteParamValue]) -> usize
+    ensures { result ≡ saturated (7 + 2 * length types.now + row_size (plain values.now)) }
+{
+    items_len(types)
+        .saturating_add(items_len(values))
+        .saturating_add(7)
+}
+
+/// Whether each row has so many values.
+fn equally_long(rows: &[Vec<Value>], arity: usize) -> bool
+    ensures { IsTrue result ↔ EqualLengths arity (values_of rows.now) }
+{
+    for row in rows {
+        if row.len() != arity {
+            return false;
+        }
+    }
+    true
+}
+
+/// The types of the columns of some rows, and their values one after another.
+#[derive(Drop)]
+struct Parts {
+    types: Vec<StmtBulkExecuteParamType>,
+    values: Vec<StmtBulkExecuteParamValue>,
+}
+
+/// Takes the values out of rows of one length, and the types of the columns where they are sent.
+fn gather(
+    alloc: Global,
+    sent: bool,
+    arity: usize,
+    rows: Vec<Vec<Value>>,
+) -> Result<Parts, AllocError>
+    requires { EqualLengths arity (values_of rows.items) }
+    ensures types { IfOk result (λ parts. parts.types.items ≡ (if sent then fold joined_types [] (values_of rows.items) else [])) }
+    ensures values { IfOk result (λ parts. parts.values.items ≡ map given (joined (values_of rows.items))) }
+{
+    let mut types = Vec::new(alloc);
+    let mut values = Vec::new(alloc);
+    for row in rows {
+        find_room(&mut values, &mut types, sent, arity)?;
+        join_row(&mut types, sent, row.as_slice());
+        append_row(&mut values, row);
+    }
+    Ok(Parts { types, values })
+}
+
+/// `COM_STMT_BULK_EXECUTE`: the values of some rows, with which a prepared statement is executed for each row.
+#[derive(Debug, Drop)]
+pub struct ComStmtBulkExecuteRequest {
+    pub(crate) stmt_id: u32,
+    pub(crate) bulk_flags: u16,
+    pub(crate) types: Vec<StmtBulkExecuteParamType>,
+    pub(crate) values: Vec<StmtBulkExecuteParamValue>,
+    /// How many bytes the request is written as, or `usize::MAX` where that is less.
+    pub(crate) size: usize,
+}
+
+impl Model for ComStmtBulkExecuteRequest {
+    ghost use Rattle.std.specs.Prelude.{◌≡◌};
+    ghost use Rattle.mysql_wire.specs.Writing.{saturated};
+    ghost use Rattle.mysql_bulk.specs.Request.{BulkRequest, written_size};
+
+    ghost Value = { BulkRequest };
+
+    ghost view = { λ a. record {
+      stmt_id = a.stmt_id;
+      bulk_flags = a.bulk_flags;
+      types = a.types.items;
+      values = a.values.items;
+    } };
+
+    ghost invariant = { λ a. a.size ≡ saturated (written_size (record {
+      stmt_id = a.stmt_id;
+      bulk_flags = a.bulk_flags;
+      types = a.types.items;
+      values = a.values.items;
+    })) };
+}
+
+impl ComStmtBulkExecuteRequest {
+    /// The request of some rows, with the types of their columns where the flags say that types are sent.
+    ///
+    /// `NoParams` where there is no row, else `MixedArity` where two rows differ in length; else `Memory` where a growth
+    /// was refused. The rows are given up in each case.
+    pub fn new(
+        alloc: Global,
+        stmt_id: u32,
+        bulk_flags: StmtBulkExecuteFlags,
+        rows: Vec<Vec<Value>>,
+    ) -> Result<Self, BulkExecuteRequestError>
+        ensures { MakesRequest stmt_id bulk_flags.0 (values_of rows.items) result }
+    {
+        if rows.is_empty() {
+            return Err(BulkExecuteRequestError::NoParams);
+        }
+        let arity = rows[0].len();
+        if !equally_long(rows.as_slice(), arity) {
+            return Err(BulkExecuteRequestError::MixedArity);
+        }
+        match gather(alloc, sends_types(bulk_flags.0), arity, rows) {
+            Ok(parts) => Ok(made(
+                Head {
+                    stmt_id,
+                    bulk_flags: bulk_flags.0,
+                    types: parts.types,
+                },
+                parts.values,
+            )),
+            Err(_) => Err(BulkExecuteRequestError::Memory),
+        }
+    }
+
+    /// The number of the statement.
+    pub fn stmt_id(&self) -> u32
+        ensures value { result ≡ self.now.stmt_id }
+    {
+        self.stmt_id
+    }
+
+    /// Whether types are sent, and whether the results of each row are asked for.
+    pub fn bulk_flags(&self) -> StmtBulkExecuteFlags
+        ensures value { result.0 ≡ self.now.bulk_flags }
+    {
+        StmtBulkExecuteFlags::from_bits_retain(self.bulk_flags)
+    }
+
+    /// The types of the columns, or none where they are not sent.
+    pub fn types(&self) -> &[StmtBulkExecuteParamType]
+        ensures value { result.now ≡ self.now.types }
+    {
+        self.types.as_slice()
+    }
+
+    /// The values, row after row.
+    pub fn values(&self) -> &[StmtBulkExecuteParamValue]
+        ensures value { result.now ≡ self.now.values }
+    {
+        self.values.as_slice()
+    }
+}
+
+/// The header, the statement's number, the flags, the types where they are sent, and one row of values.
+///
+/// The types and flags of the columns are handed in; where the request sends types, those stand in their place.
+/// Further rows stay unread: see `read_bulk_rows`.
+impl<'de> MyDeserialize<'de> for ComStmtBulkExecuteRequest {
+    const SIZE: Option<usize> = None;
+
+    type Size = AnyWidth;
+
+    ghost takes_memory = { true };
+
+    type Ctx = Vec<(ColumnType, ColumnFlags)>;
+
+    ghost use Rattle.mysql_bulk.specs.RequestForm.{bulk_request};
+
+    ghost form = { λ columns. bulk_request columns.items };
+
+    #[tactic(auto, using(mysql_wire::proofs::Tails::tails))]
+    fn deserialize<'s>(
+        columns: Vec<(ColumnType, ColumnFlags)>,
+        buf: &mut ParseBuf<'de>,
+    ) -> Result<Self, FaultOf<'s>> {
+        let mut rest = buf.rest();
+        let head = read_head(columns.len(), &mut rest)?;
+        let told = head.told(buf.alloc(), columns.as_slice())?;
+        let values = read_values(told.as_slice(), &mut rest)?;
+        *buf = rest;
+        Ok(made(head, values))
+    }
+
+    ghost size_is = { λ _. refl };
+}
+
+impl MySerialize for ComStmtBulkExecuteRequest {
+    ghost use Rattle.mysql_bulk.specs.Request.{request_bytes};
+
+    ghost bytes = { request_bytes };
+
+    fn defined_len(&self) -> usize {
+        self.size
+    }
+
+    #[tactic(auto, using(mysql_wire::specs::Writing::lengths))]
+    fn append(&self, out: &mut Vec<u8>) {
+        append_all!(out;
+            ComStmtBulkExecuteHeader::new(),
+            RawInt::<LeU32>::new(self.stmt_id),
+            RawInt::<LeU16>::new(self.bulk_flags),
+        );
+        append_items(&self.types, out);
+        append_items(&self.values, out);
+    }
+}

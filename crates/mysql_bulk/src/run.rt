@@ -1,0 +1,133 @@
+//! A run of a builder over rows that an iterator gives.
+
+ghost use Rattle.std.specs.Prelude.{◌≡◌, ◌+◌, ◌≤◌, length, IfOk, IfSome, None, false, option_to_list};
+ghost use Rattle.std.specs.Iterator.{IsFinite, size};
+ghost use Rattle.std.specs.Bool.{OnFalse};
+ghost use Rattle.mysql_bulk.specs.Run.{Fills, NextRequest, results_left, carried_of, builder_of, state_of, SameBuilder};
+
+use crate::builder::ComStmtBulkExecuteRequestBuilder;
+use crate::error::{BulkExecuteRequestBuilderError, BulkExecuteRequestError};
+use crate::request::ComStmtBulkExecuteRequest;
+use mysql_values::Value;
+
+/// Adds rows until one does not fit with those that wait, which is given back, or the input ends.
+fn take_rows<I: Iterator<Item = Vec<Value>>>(
+    builder: &mut ComStmtBulkExecuteRequestBuilder<'_>,
+    rows: &mut I,
+) -> Result<Option<Vec<Value>>, BulkExecuteRequestError>
+    requires can { I.can_next rows.old }
+    requires ends { IsFinite (I.remaining rows.old) }
+    ensures fills { Fills I.next_gives builder.old None rows.old result builder.new rows.new }
+    ensures goes { IfOk result (λ last. IfSome last (λ _. I.can_next rows.new × IsFinite (I.remaining rows.new)
+        × (length builder.new.waiting + 1 + size (I.remaining rows.new) ≤ length builder.old.waiting + size (I.remaining rows.old)))) }
+{
+    while let Some(row) = rows.next() {
+        if let Some(row) = builder.add(row)? {
+            return Ok(Some(row));
+        }
+    }
+    Ok(None)
+}
+
+/// The same, where a row that was given back comes first.
+pub(crate) fn fill<I: Iterator<Item = Vec<Value>>>(
+    builder: &mut ComStmtBulkExecuteRequestBuilder<'_>,
+    carried: Option<Vec<Value>>,
+    rows: &mut I,
+) -> Result<Option<Vec<Value>>, BulkExecuteRequestError>
+    requires can { I.can_next rows.old }
+    requires ends { IsFinite (I.remaining rows.old) }
+    ensures fills { Fills I.next_gives builder.old carried rows.old result builder.new rows.new }
+    ensures goes { IfOk result (λ last. IfSome last (λ _. I.can_next rows.new × IsFinite (I.remaining rows.new)
+        × (length builder.new.waiting + 1 + size (I.remaining rows.new) ≤ length builder.old.waiting + length (option_to_list carried) + size (I.remaining rows.old)))) }
+{
+    if let Some(row) = carried {
+        if let Some(row) = builder.add(row)? {
+            return Ok(Some(row));
+        }
+    }
+    take_rows(builder, rows)
+}
+
+/// The requests of a run: each `next` takes rows until one does not fit, which it carries over to the next request.
+///
+/// When the input ends, the waiting rows are built, and then the answer is `None`; the input is asked no more. After an
+/// `Err` the answer is `None` too. The rows that were accepted since the last request stay in the builder.
+#[derive(Drop)]
+pub struct BulkRequests<'b, 'a, I, R = Vec<Value>> {
+    builder: &'b mut ComStmtBulkExecuteRequestBuilder<'a>,
+    rows: I,
+    carried: Option<R>,
+    ended: bool,
+}
+
+impl<'b, 'a, I: Iterator<Item = Vec<Value>>> Iterator for BulkRequests<'b, 'a, I> {
+    type Item = Result<ComStmtBulkExecuteRequest, BulkExecuteRequestBuilderError>;
+
+    ghost can_next = { λ s. OnFalse (state_of s).ended (I.can_next (state_of s).rows × IsFinite (I.remaining (state_of s).rows)) };
+
+    ghost next_gives = { λ s r t. SameBuilder s t × NextRequest I.next_gives (state_of s) r (state_of t) };
+
+    ghost remaining = { λ s. results_left I.remaining (state_of s) };
+
+    fn next(
+        &mut self,
+    ) -> Option<Result<ComStmtBulkExecuteRequest, BulkExecuteRequestBuilderError>> {
+        if self.ended {
+            return None;
+        }
+        match fill(self.builder, self.carried.take(), &mut self.rows) {
+            Ok(last) => {
+                self.ended = last.is_none();
+                self.carried = last;
+            }
+            Err(e) => {
+                self.ended = true;
+                return Some(Err(BulkExecuteRequestBuilderError::Request(e)));
+            }
+        }
+        if !self.builder.has_rows() {
+            return None;
+        }
+        match self.builder.build() {
+            Ok(request) => Some(Ok(request)),
+            Err(e) => {
+                self.ended = true;
+                Some(Err(BulkExecuteRequestBuilderError::Request(e)))
+            }
+        }
+    }
+}
+
+impl<'b, 'a, I, R> BulkRequests<'b, 'a, I, R> {
+    /// The row that did not fit into the last request, which the next one would have begun with. It takes no memory.
+    pub fn into_carried(self) -> Option<R>
+    where
+        I: Drop,
+        R: Drop,
+        ensures row { result ≡ carried_of self.entry }
+        ensures builder { self.exit.0.now ≡ builder_of self.entry }
+    {
+        self.carried
+    }
+}
+
+impl<'a> ComStmtBulkExecuteRequestBuilder<'a> {
+    /// The requests of the rows that wait and of those that the input gives. The input must end.
+    pub fn build_iter<'b, I: Iterator<Item = Vec<Value>>>(
+        &'b mut self,
+        rows: I,
+    ) -> BulkRequests<'b, 'a, I>
+        requires can { I.can_next rows }
+        requires ends { IsFinite (I.remaining rows) }
+        ensures builder { result.builder.ghost_name ≡ self.entry.ghost_name }
+        ensures begins { state_of result ≡ record { builder = self.old; carried = None; rows = rows; ended = false } }
+    {
+        BulkRequests {
+            builder: self,
+            rows,
+            carried: None,
+            ended: false,
+        }
+    }
+}

@@ -1,0 +1,68 @@
+-- The command `ok`.
+use Rattle.std.specs.Prelude.{ℕ, List, ◌∷◌, [], ◌++◌, length, Result, Ok, Err, codes, decimal}
+use Rattle.std.specs.List.{concat}
+use Rattle.mysql_wire.specs.Flags.{CapabilityFlags}
+use Rattle.mysql_wire.specs.Form.{Form}
+use Rattle.mysql_wire.specs.Reading.{Reading, then_read}
+use Rattle.mysql_session.specs.declared.session_state_change.SessionStateChange.{SessionStateChange}
+use Rattle.mysql_replies.specs.declared.ok_body.OkPacketBody.{OkPacketBody}
+use Rattle.mysql_replies.specs.declared.ok_kind.CommonOkPacket.{CommonOkPacket}
+use Rattle.mysql_replies.specs.declared.ok_kind.ResultSetTerminator.{ResultSetTerminator}
+use Rattle.mysql_replies.specs.declared.ok_kind.OldEofPacket.{OldEofPacket}
+use Rattle.mysql_replies.specs.declared.ok_kind.NetworkStreamTerminator.{NetworkStreamTerminator}
+use Rattle.mysql_replies.specs.declared.ok_packet.OkPacket.{OkPacket}
+use Rattle.mysql_replies.specs.declared.session_state_info.SessionStateInfo.{SessionStateInfo}
+use Rattle.mysql_replies.specs.OkBody.{common_ok_body, terminator_body, old_eof_body}
+use Rattle.mysql_replies.specs.OkDeserializer.{ok_packet, packet}
+use Rattle.mysql_replies.specs.OkPacket.{affected_rows, last_insert_id, status_flags, warnings, info, session_state, state_bytes}
+use Rattle.mysql_replies.specs.SessionStateInfo.{state_string, decoded}
+use Rattle.mysql_packets.specs.declared.commands.ok.OkKind.{OkKind}
+use Rattle.mysql_packets.specs.declared.commands.ok.OkKind.TheVariants as named
+use Rattle.mysql_packets.specs.Lines.{line, prefixed, or_none}
+use Rattle.mysql_packets.specs.Change.{change_line}
+use Rattle.mysql_packets.specs.Answer.{Answer, done, refused}
+
+-- the packet of a kind with this header and this body
+abbrev pub packet_reading : (T : Type 0) → ℕ → Form OkPacketBody → List ℕ → Reading OkPacket
+packet_reading T header body bytes = then_read ((ok_packet {T = T} header body).reads bytes) (λ d rest. Ok (packet d, rest))
+
+abbrev pub ok_reading : OkKind → CapabilityFlags → List ℕ → Reading OkPacket
+ok_reading named.Common capabilities = packet_reading CommonOkPacket 0 (common_ok_body capabilities)
+ok_reading named.Terminator capabilities = packet_reading ResultSetTerminator 0xfe (terminator_body capabilities)
+ok_reading named.Eof capabilities = packet_reading OldEofPacket 0xfe (old_eof_body capabilities)
+ok_reading named.Stream capabilities = packet_reading NetworkStreamTerminator 0xfe (old_eof_body capabilities)
+
+-- the lines of the packet's own fields
+abbrev pub field_lines : OkPacket → List ℕ
+field_lines p =
+    concat (
+    line (codes "affected_rows") (decimal (affected_rows p))
+    ∷ line (codes "last_insert_id") (or_none decimal (last_insert_id p))
+    ∷ line (codes "status_flags") (decimal (status_flags p).0)
+    ∷ line (codes "warnings") (decimal (warnings p))
+    ∷ line (codes "info") (or_none prefixed (info p))
+    ∷ line (codes "session_state_info") (or_none prefixed (session_state p))
+    ∷ []
+    )
+
+-- a line for a change, and what comes behind it; or that the change was refused
+abbrev pub with_change : List ℕ → Reading SessionStateChange → (List ℕ → Answer) → Answer
+with_change lines (Ok x) next = next (lines ++ change_line x.0)
+with_change lines (Err k) next = refused lines k
+
+-- a line for each change, up to the first that is refused
+abbrev pub with_changes : List ℕ → ℕ → List SessionStateInfo → Answer
+with_changes lines rest [] = done (lines ++ line (codes "rest") (decimal rest))
+with_changes lines rest (i ∷ infos) = with_change lines (decoded i) (λ more. with_changes more rest infos)
+
+-- the list of changes is read whole before the first of their lines
+abbrev pub with_state : List ℕ → ℕ → Reading (List SessionStateInfo) → Answer
+with_state lines rest (Ok x) = with_changes lines rest x.0
+with_state lines rest (Err k) = refused lines k
+
+abbrev pub packet_answer : Reading OkPacket → Answer
+packet_answer (Ok x) = with_state (field_lines x.0) (length x.1) (state_string.reads (state_bytes x.0))
+packet_answer (Err k) = refused [] k
+
+abbrev pub ok_answer : OkKind → CapabilityFlags → List ℕ → Answer
+ok_answer kind capabilities bytes = packet_answer (ok_reading kind capabilities bytes)

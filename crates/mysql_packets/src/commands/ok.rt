@@ -1,0 +1,144 @@
+//! `ok KIND CAPS HEX`: an OK packet, with the session's changes that it carries.
+
+ghost use Rattle.std.specs.Prelude.{false, ◌≡◌, IfOk, string_bytes};
+ghost use Rattle.mysql_wire.specs.Reading.{Answers};
+ghost use Rattle.mysql_replies.specs.OkPacket.{state_bytes};
+ghost use Rattle.mysql_replies.specs.SessionStateInfo.{state_string};
+ghost use Rattle.mysql_packets.specs.Ok as spec;
+ghost use Rattle.mysql_packets.specs.OkKind.{kind_of};
+
+use crate::answer::Answer;
+use crate::commands::change::change_value;
+use crate::lines::{Line, append_lines, text_of};
+use mysql_replies::{
+    CommonOkPacket, NetworkStreamTerminator, OkPacket, OkPacketDeserializer, OldEofPacket,
+    ResultSetTerminator, SessionStateInfo,
+};
+use mysql_wire::{CapabilityFlags, FaultOf, ParseBuf};
+use std::alloc::{AllocError, Global};
+
+/// The kinds of OK packets, by the names that the program has for them.
+#[derive(Clone, Copy, PartialEq, Eq)]
+pub enum OkKind {
+    /// `common`
+    Common,
+    /// `terminator`
+    Terminator,
+    /// `eof`
+    Eof,
+    /// `stream`
+    Stream,
+}
+
+impl OkKind {
+    /// The kind of that name.
+    pub fn of(name: &str) -> Option<OkKind>
+        ensures value { result ≡ kind_of name.now }
+    {
+        match name {
+            "common" => Some(OkKind::Common),
+            "terminator" => Some(OkKind::Terminator),
+            "eof" => Some(OkKind::Eof),
+            "stream" => Some(OkKind::Stream),
+            _ => None,
+        }
+    }
+}
+
+/// The lines of the OK packet of that kind at the front of the bytes.
+#[tactic(auto, using(crate::proofs::OkRefused::ok_refusals))]
+pub fn answer(
+    alloc: Global,
+    kind: OkKind,
+    capabilities: CapabilityFlags,
+    bytes: &[u8],
+) -> Result<Answer, AllocError>
+    ensures value { IfOk result (λ answer. answer ≡ spec.ok_answer kind capabilities bytes.now) }
+{
+    let mut buf = ParseBuf::new(alloc, bytes);
+    match read(kind, capabilities, &mut buf) {
+        Ok(packet) => show(alloc, &packet, buf.len()),
+        Err(fault) => Answer::refused(alloc, String::new(alloc), fault),
+    }
+}
+
+/// Reads a packet of that kind.
+fn read<'a, 's>(
+    kind: OkKind,
+    capabilities: CapabilityFlags,
+    buf: &mut ParseBuf<'a>,
+) -> Result<OkPacket<'a>, FaultOf<'s>>
+    ensures value { Answers false result buf.new (spec.ok_reading kind capabilities buf.old) }
+{
+    match kind {
+        OkKind::Common => {
+            let packet: OkPacketDeserializer<'a, CommonOkPacket> = buf.parse(capabilities)?;
+            Ok(packet.into_inner())
+        }
+        OkKind::Terminator => {
+            let packet: OkPacketDeserializer<'a, ResultSetTerminator> = buf.parse(capabilities)?;
+            Ok(packet.into_inner())
+        }
+        OkKind::Eof => {
+            let packet: OkPacketDeserializer<'a, OldEofPacket> = buf.parse(capabilities)?;
+            Ok(packet.into_inner())
+        }
+        OkKind::Stream => {
+            let packet: OkPacketDeserializer<'a, NetworkStreamTerminator> = buf.parse(
+                capabilities,
+            )?;
+            Ok(packet.into_inner())
+        }
+    }
+}
+
+#[tactic(auto, using(crate::proofs::OkRefused::ok_refusals))]
+fn show(alloc: Global, packet: &OkPacket<'_>, rest: usize) -> Result<Answer, AllocError>
+    ensures value { IfOk result (λ answer. answer ≡ spec.with_state (spec.field_lines packet.now) rest (state_string.reads (state_bytes packet.now))) }
+{
+    let text = fields_text(alloc, packet)?;
+    match packet.session_state_info(alloc) {
+        Ok(infos) => with_changes(alloc, text, infos.as_slice(), rest),
+        Err(fault) => Answer::refused(alloc, text, fault),
+    }
+}
+
+fn fields_text(alloc: Global, packet: &OkPacket<'_>) -> Result<String, AllocError>
+    ensures value { IfOk result (λ text. string_bytes text ≡ spec.field_lines packet.now) }
+{
+    let text = text_of(
+        alloc,
+        &[
+            Line::number("affected_rows", packet.affected_rows()),
+            Line::optional_number("last_insert_id", packet.last_insert_id()),
+            Line::number("status_flags", u64::from(packet.status_flags().0)),
+            Line::number("warnings", u64::from(packet.warnings())),
+            Line::optional_bytes("info", packet.info_ref()),
+            Line::optional_bytes("session_state_info", packet.session_state_info_ref()),
+        ],
+    )?;
+    Ok(text)
+}
+
+/// The lines so far, a line for each change, and the last line.
+#[tactic(auto, using(crate::proofs::OkRefused::ok_refusals))]
+fn with_changes(
+    alloc: Global,
+    mut text: String,
+    infos: &[SessionStateInfo<'_>],
+    rest: usize,
+) -> Result<Answer, AllocError>
+    ensures value { IfOk result (λ answer. answer ≡ spec.with_changes (string_bytes text) rest infos.now) }
+{
+    for info in infos {
+        match info.decode(alloc) {
+            Ok(change) => {
+                let value = change_value(alloc, &change)?;
+                append_lines(alloc, &mut text, &[Line::text("change", value.as_str())])?;
+            }
+            Err(fault) => return Answer::refused(alloc, text, fault),
+        }
+    }
+    append_lines(alloc, &mut text, &[Line::number("rest", rest as u64)])?;
+    Ok(Answer::done(text))
+}

@@ -1,0 +1,123 @@
+//! The parts of session changes that are one byte string each.
+
+ghost use Rattle.std.specs.Prelude.{false, true, is_ok, IsUtf8, ◌≡◌, None, IfOk};
+ghost use Rattle.std.specs.Cow.{cow_slice_items, cow_str_bytes, IsOwnedStr};
+ghost use Rattle.mysql_wire.specs.Text.{lossy_text};
+ghost use Rattle.mysql_session.specs.SessionText.{session_text, size-session_text, text_bytes, text_of};
+
+use mysql_wire::{
+    AnyWidth, BytesRepr, EofBytes, FaultOf, LenEnc, MyDeserialize, MySerialize, ParseBuf, RawBytes,
+};
+use std::alloc::{AllocError, Global};
+use std::borrow::{CowSlice, CowStr};
+use std::marker::PhantomData;
+
+/// A byte string of a session change: `N` names what it tells, and `R` is its form.
+///
+/// It is written once for all of them: [`Schema`], [`Gtids`], [`TransactionCharacteristics`],
+/// [`TransactionState`] and [`Unsupported`].
+#[derive(Drop)]
+#[derive_where(Clone, PartialEq, Eq, Hash, Debug)]
+pub struct SessionText<'a, N, R>(RawBytes<'a, R>, PhantomData<N>);
+
+/// Names [`Schema`].
+pub struct SchemaName;
+
+/// The name of the default schema that was set (`SESSION_TRACK_SCHEMA`): a length-encoded string.
+pub type Schema<'a> = SessionText<'a, SchemaName, LenEnc>;
+
+/// Names [`Gtids`].
+pub struct GtidSet;
+
+/// The set of GTIDs that the transaction got (`SESSION_TRACK_GTIDS`), in the server's text form:
+/// all that is left of the data.
+pub type Gtids<'a> = SessionText<'a, GtidSet, EofBytes>;
+
+/// Names [`TransactionCharacteristics`].
+pub struct Characteristics;
+
+/// The statements that would start the transaction again
+/// (`SESSION_TRACK_TRANSACTION_CHARACTERISTICS`): a length-encoded string.
+pub type TransactionCharacteristics<'a> = SessionText<'a, Characteristics, LenEnc>;
+
+/// Names [`TransactionState`].
+pub struct StateCharacters;
+
+/// The state of the transaction (`SESSION_TRACK_TRANSACTION_STATE`), a character for each thing
+/// that it tells: a length-encoded string.
+pub type TransactionState<'a> = SessionText<'a, StateCharacters, LenEnc>;
+
+/// Names [`Unsupported`].
+pub struct OtherChange;
+
+/// A change of a kind that has no type of its own: a length-encoded string.
+///
+/// No reader of [`SessionStateChange`](crate::SessionStateChange) makes it.
+pub type Unsupported<'a> = SessionText<'a, OtherChange, LenEnc>;
+
+impl<'a, N, R> SessionText<'a, N, R> {
+    /// The text of these bytes.
+    #[inline]
+    pub fn new(bytes: CowSlice<'a, u8>) -> Self
+        ensures value { result ≡ text_of (cow_slice_items bytes.entry) }
+    {
+        SessionText(RawBytes::new(bytes), PhantomData)
+    }
+
+    /// The bytes.
+    #[inline]
+    pub fn as_bytes(&self) -> &[u8]
+        ensures value { result.now ≡ text_bytes self.now }
+    {
+        self.0.as_bytes()
+    }
+
+    /// The text, with U+FFFD for what is not UTF-8. UTF-8 is borrowed, and takes no memory.
+    pub fn as_str(&self, alloc: Global) -> Result<CowStr<'_>, AllocError>
+        ensures text { IfOk result (λ text. cow_str_bytes text ≡ lossy_text (text_bytes self.now)) }
+        ensures utf8 { IsUtf8 (text_bytes self.now) → (is_ok result ≡ true) × IfOk result (λ text. IsOwnedStr text → ⊥) }
+    {
+        self.0.as_str(alloc)
+    }
+
+    /// The same, on memory of its own.
+    pub fn into_owned(self, alloc: Global) -> Result<SessionText<'static, N, R>, AllocError>
+        ensures value { IfOk result (λ owned. owned ≡ self.entry) }
+    {
+        Ok(SessionText(self.0.into_owned(alloc)?, PhantomData))
+    }
+}
+
+impl<'de, N, R: BytesRepr<Ctx = ()>> MyDeserialize<'de> for SessionText<'de, N, R> {
+    const SIZE: Option<usize> = None;
+
+    type Size = AnyWidth;
+
+    ghost takes_memory = { false };
+
+    type Ctx = ();
+
+    ghost form = { λ _. session_text (R.form tt) };
+
+    #[tactic(auto, unfolding(crate::specs::SessionText::session_text))]
+    fn deserialize<'s>(_ctx: (), buf: &mut ParseBuf<'de>) -> Result<Self, FaultOf<'s>> {
+        let mut bytes = R::deserialize((), buf)?;
+        Ok(SessionText::new(CowSlice::Borrowed(bytes.eat_all())))
+    }
+
+    ghost size_is = { λ _. size-session_text _ _ (R.form tt) (R.size_is tt) };
+}
+
+impl<N, R: BytesRepr> MySerialize for SessionText<'_, N, R> {
+    ghost bytes = { λ text. R.written (text_bytes text) };
+
+    #[inline]
+    fn defined_len(&self) -> usize {
+        self.0.defined_len()
+    }
+
+    #[inline]
+    fn append(&self, out: &mut Vec<u8>) {
+        self.0.append(out);
+    }
+}
