@@ -69,10 +69,15 @@ fn agrees_as_text(alloc: Global, line: &str) -> Result<bool, Fail> {
     Ok(line.split(' ').count().saturating_sub(2) == values.len())
 }
 
+/// The bits of a byte, from the lowest.
+const BITS: [u8; 8] = [1, 2, 4, 8, 16, 32, 64, 128];
+
 /// Whether the bitmap of a row has a NULL at that place: the first two bits stand for nothing.
 fn is_null(bitmap: &[u8], place: usize) -> bool {
-    let bit = place.saturating_add(2);
-    bitmap.get(bit / 8).copied().unwrap_or(0) >> (bit % 8) & 1 == 1
+    let at = place.saturating_add(2);
+    let byte = bitmap.get(at / 8).copied().unwrap_or(0);
+    let bit = BITS.get(at % 8).copied().unwrap_or(0);
+    byte & bit != 0
 }
 
 /// Whether a binary row is read whole, as it was reported.
