@@ -7,15 +7,15 @@ use mysql_replies::{
     OldEofPacket, ResultSetTerminator,
 };
 use mysql_session::SessionStateChange;
-use mysql_wire::{CapabilityFlags, Fault, FaultKind, ParseBuf, StatusFlags};
+use mysql_wire::{CapabilityFlags, Fault, FaultKind, FaultOf, ParseBuf, StatusFlags};
 use std::alloc::Global;
 use std::test::Fail;
 
-fn read_ok<'a, T: OkPacketKind>(
+fn read_ok<'s, 'a, T: OkPacketKind>(
     alloc: Global,
     capabilities: CapabilityFlags,
     bytes: &'a [u8],
-) -> Result<OkPacket<'a>, Fault> {
+) -> Result<OkPacket<'a>, FaultOf<'s>> {
     let mut buf = ParseBuf::new(alloc, bytes);
     let packet: OkPacketDeserializer<'a, T> = buf.parse(capabilities)?;
     Ok(packet.into_inner())
