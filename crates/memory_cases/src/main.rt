@@ -4,18 +4,11 @@
 #![tactic(auto)]
 
 mod bench;
-mod columns;
 mod counted;
-mod ok_packets;
-mod program;
 mod raw_bytes;
-mod replies;
 mod seq;
-mod session;
 mod shown;
 mod stmt;
-mod values;
-mod varlen;
 
 use bench::{Asked, Bench};
 use std::process::ExitCode;
@@ -35,14 +28,7 @@ fn run(rt: &(impl Env + Print + AllocGlobal)) -> io::Result<ExitCode> {
     let mut bench = Bench::new(rt.alloc(), asked);
     raw_bytes::cases(&mut bench)?;
     seq::cases(&mut bench)?;
-    varlen::cases(&mut bench)?;
-    values::cases(&mut bench)?;
-    session::cases(&mut bench)?;
-    columns::cases(&mut bench)?;
-    ok_packets::cases(&mut bench)?;
-    replies::cases(&mut bench)?;
     stmt::cases(&mut bench)?;
-    program::cases(&mut bench)?;
     rt.print(bench.lines())?;
     Ok(ExitCode::SUCCESS)
 }

@@ -2,7 +2,7 @@
 
 use crate::bench::Bench;
 use crate::counted;
-use crate::shown::serialized;
+use crate::shown::written;
 use mysql_wire::{
     Fault, LeU64, LenEnc, MySerialize, ParseBuf, RawBytes, RawInt, Seq, Unknown, read_all,
 };
@@ -157,7 +157,9 @@ fn push_to_owned(alloc: Global) -> Result<String, AllocError> {
 }
 
 fn serialize(alloc: Global) -> Result<String, AllocError> {
+    let mut out = Vec::from_slice(alloc, &[0xaa])?;
     let numbers = [Number::new(5), Number::new(6)];
     let list: Numbers<'_> = Seq::borrowed(&numbers);
-    serialized(alloc, &list)
+    let answer = counted!(alloc; list.serialize(&mut out));
+    written(alloc, answer, out.as_slice())
 }

@@ -1,9 +1,10 @@
 //! Statement packets.
 
 use crate::bench::Bench;
-use crate::{counted, shown};
+use crate::counted;
+use crate::shown::written;
 use mysql_stmt::StmtPacket;
-use mysql_wire::{Fault, ParseBuf};
+use mysql_wire::{Fault, MySerialize, ParseBuf};
 use std::alloc::{AllocError, Global};
 
 const STATEMENT: [u8; 12] = [0, 1, 0, 0, 0, 1, 0, 2, 0, 0, 0, 0];
@@ -16,14 +17,22 @@ pub fn cases(bench: &mut Bench) -> Result<(), AllocError> {
 fn read(alloc: Global) -> Result<String, AllocError> {
     let mut buf = ParseBuf::new(alloc, &STATEMENT);
     let answer: Result<StmtPacket, Fault> = counted!(alloc; buf.parse(()));
-    shown::read(alloc, answer, buf.len())
+    match answer {
+        Ok(packet) => {
+            let id = packet.statement_id();
+            format!(in alloc; "statement {id}")
+        }
+        Err(fault) => format!(in alloc; "{fault}"),
+    }
 }
 
 fn serialize(alloc: Global) -> Result<String, AllocError> {
     let mut buf = ParseBuf::new(alloc, &STATEMENT);
     let read: Result<StmtPacket, Fault> = buf.parse(());
-    match read {
-        Ok(packet) => shown::serialized(alloc, &packet),
-        Err(fault) => format!(in alloc; "{fault}"),
-    }
+    let Ok(packet) = read else {
+        return format!(in alloc; "no statement packet");
+    };
+    let mut out = Vec::from_slice(alloc, &[0xaa])?;
+    let answer = counted!(alloc; packet.serialize(&mut out));
+    written(alloc, answer, out.as_slice())
 }
