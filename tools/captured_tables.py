@@ -5,12 +5,10 @@ captured_tables.py          writes them from tests/captured/packets.jsonl
 captured_tables.py --check  changes nothing, and fails where one is not what would be written
 
 A table is a text with a line for each packet, and words parted by one space. A number is decimal, bytes are
-hexadecimal behind an x, none is 'none', and what the client's API did not report is '-'. A value is NULL, bytes, i or u
-with a number, f or d with a float's bits, or D or T with the parts of a date or of a span of time.
+hexadecimal behind an x, none is 'none', and what the client's API did not report is '-'.
 """
 import json
 import os
-import struct
 import sys
 
 TOP = os.path.dirname(os.path.dirname(os.path.realpath(__file__)))
@@ -28,144 +26,14 @@ def text(value):
     return UNREPORTED if value is None else "x" + value.encode().hex()
 
 
-def api_of(packet):
-    return packet.get("expected", {}).get("api", {})
+def prepared(expected):
+    api = expected.get("api", {})
+    return [number(api.get(key)) for key in ("stmt_id", "field_count", "param_count", "warnings")]
 
 
-def numbers(api, *keys):
-    return [number(api.get(key)) for key in keys]
-
-
-def capabilities(packet):
-    """The flags of both sides. MariaDB's own flag for progress reports is that of older clients to a reader here."""
-    progress = 1 << 29 if int(packet["ext_caps"], 16) & 1 else 0
-    return number(int(packet["caps"], 16) | progress)
-
-
-def prepared(packet):
-    return numbers(api_of(packet), "stmt_id", "field_count", "param_count", "warnings")
-
-
-def column(packet):
-    api = api_of(packet)
-    names = [text(api.get(key)) for key in ("db", "table", "org_table", "name", "org_name")]
-    return names + numbers(api, "charsetnr", "length", "type", "flags", "flags_low15", "decimals")
-
-
-def changes(tracked):
-    """The tracked changes, each kind with its contents: APIs give them by kind, in the order of the kind's name."""
-    if tracked is None:
-        return UNREPORTED
-    kinds = sorted(tracked.items())
-    return ";".join(kind + ":" + ",".join("x" + it for it in contents) for kind, contents in kinds)
-
-
-def ok(packet):
-    api = api_of(packet)
-    info = "none" if "info" in api and api["info"] is None else text(api.get("info"))
-    counts = numbers(api, "affected_rows", "last_insert_id", "server_status", "warnings")
-    return [capabilities(packet), *counts, info, changes(api.get("session_track"))]
-
-
-def error(packet):
-    api = api_of(packet)
-    return [capabilities(packet), *numbers(api, "errno"), text(api.get("sqlstate")), text(api.get("message"))]
-
-
-def progress(packet):
-    api = api_of(packet)
-    thousandths = str(round(1000 * api["progress_percent"]))
-    return [capabilities(packet), *numbers(api, "stage", "max_stage"), thousandths, "x" + api["proc_info"]]
-
-
-FLOAT, DOUBLE, LONGLONG, TIME, YEAR, BIT = 4, 5, 8, 11, 13, 16
-INTEGERS = (1, 2, 3, LONGLONG, 9, YEAR)
-DATES = (7, 10, 12)
-UNSIGNED = 32
-
-
-def micros(fraction):
-    return int(fraction.ljust(6, "0"))
-
-
-def date(written):
-    """A date as SQL writes it, with its time or without: 2020-01-10 01:02:03.5."""
-    day, _, time = written.partition(" ")
-    clock, _, fraction = time.partition(".")
-    numbers = [int(it) for it in [*day.split("-"), *(clock or "0:0:0").split(":")]]
-    return "D" + ",".join(str(it) for it in [*numbers, micros(fraction)])
-
-
-def span(written):
-    """A span of time as SQL writes it: -838:59:59.5."""
-    clock, _, fraction = written.lstrip("-").partition(".")
-    hours, minute, second = (int(it) for it in clock.split(":"))
-    numbers = [int(written.startswith("-")), *divmod(hours, 24), minute, second, micros(fraction)]
-    return "T" + ",".join(str(it) for it in numbers)
-
-
-def floating(value, type_code):
-    """The bits of a float of 4 or of 8 bytes."""
-    if type_code == FLOAT:
-        return "f" + str(struct.unpack("<I", struct.pack("<f", value))[0])
-    return "d" + str(struct.unpack("<Q", struct.pack("<d", value))[0])
-
-
-def text_cell(value, encoding):
-    if value is None:
-        return "NULL"
-    return "x" + (value if encoding == "hex of the text value" else value.encode().hex())
-
-
-def binary_cell(value, column, encoding):
-    """The API of Java gives dates and times as a calendar of its own, and PHP's a BIT as a number."""
-    type_code, flags = column
-    of_java = encoding == "JDBC getString"
-    if type_code == BIT or of_java and type_code in (*DATES, TIME, YEAR):
-        return UNREPORTED
-    if value is None:
-        return "NULL"
-    content = bytes.fromhex(value) if isinstance(value, str) and not of_java else str(value).encode()
-    if type_code in INTEGERS:
-        return ("u" if type_code == LONGLONG and flags & UNSIGNED else "i") + str(int(content))
-    if type_code in (FLOAT, DOUBLE):
-        return floating(float(content), type_code)
-    if type_code in DATES:
-        return date(content.decode())
-    return span(content.decode()) if type_code == TIME else "x" + content.hex()
-
-
-def text_row(packet):
-    """Each value, whatever its column: what stands with a row doesn't always have all columns of the row."""
-    api = api_of(packet)
-    return [text_cell(value, api["encoding"]) for value in api["values"]] if api else [UNREPORTED]
-
-
-def binary_row(packet):
-    """The type and the flags of each column, and then each value."""
-    columns, api = packet["columns"], api_of(packet)
-    words = [f"{type_code},{flags}" for type_code, flags in columns]
-    if not api:
-        return words + [UNREPORTED] * len(columns)
-    return words + [binary_cell(value, column, api["encoding"]) for value, column in zip(api["values"], columns)]
-
-
-OK_WORDS = "capabilities affected_rows last_insert_id status_flags warnings info changes"
-
-# what the words behind the payload are, for each kind of packet, and how they are made
+# the file and its kind of packet; what the words behind the payload are; how they are made
 KINDS = {
     "stmt_prepare_ok": ("statement_id num_columns num_params warning_count", prepared),
-    "column": (
-        "schema table org_table name org_name character_set column_length column_type flags flags_low15 decimals",
-        column,
-    ),
-    "ok_common": (OK_WORDS, ok),
-    "ok_terminator": (OK_WORDS, ok),
-    "eof_old": (OK_WORDS, ok),
-    "err": ("capabilities error_code sql_state message", error),
-    "text_row": ("value..", text_row),
-    "binary_row": ("column.. value..", binary_row),
-    "progress": ("capabilities stage max_stage progress stage_info", progress),
 }
 
 
@@ -179,7 +47,7 @@ def table(kind, packets):
     ]
     for it in packets:
         if it["kind"] == kind:
-            lines.append(" ".join([it["id"], "x" + it["payload"], *make(it)]) + "\\n\\")
+            lines.append(" ".join([it["id"], "x" + it["payload"], *make(it.get("expected", {}))]) + "\\n\\")
     return "\n".join([*lines, '";', ""])
 
 

@@ -2,18 +2,6 @@
 //!
 //! Each table has a line for each packet: its name, its bytes and what was reported.
 
-mod binary_row;
-mod column;
-mod columns;
-mod eof_old;
-mod err;
-mod err_packets;
-mod ok_common;
-mod ok_packets;
-mod ok_terminator;
 mod prepared;
-mod progress;
 mod reported;
-mod rows;
 mod stmt_prepare_ok;
-mod text_row;

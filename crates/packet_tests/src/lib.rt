@@ -3,7 +3,3 @@
 
 #[cfg(test)]
 mod captured;
-#[cfg(test)]
-mod ok_kind;
-#[cfg(test)]
-mod replies;

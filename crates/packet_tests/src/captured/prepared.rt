@@ -1,6 +1,6 @@
 //! Answers to prepared statements.
 
-use crate::captured::reported::{is_reported, payload, word};
+use crate::captured::reported::{bytes_at, is_reported, word};
 use crate::captured::stmt_prepare_ok::PACKETS;
 use mysql_stmt::StmtPacket;
 use mysql_wire::{Fault, MySerialize, ParseBuf};
@@ -10,7 +10,7 @@ use std::test::Fail;
 fn prepared_statements_are_read_as_reported(rt: HostRuntime) -> Result<(), Fail> {
     for line in PACKETS.lines() {
         let id = word(line, 0);
-        let bytes = payload(rt.alloc(), line)?;
+        let bytes = bytes_at(rt.alloc(), line, 1)?;
         let mut buf = ParseBuf::new(rt.alloc(), bytes.as_slice());
         let read: Result<StmtPacket, Fault> = buf.parse(());
         assert!(rt; buf.is_empty(), "{id}");
