@@ -11,6 +11,3 @@ mod rule;
 
 pub use fewest::cut_is_fewest;
 pub use rule::BulkRule;
-
-#[cfg(test)]
-mod tests;

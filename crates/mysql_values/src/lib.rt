@@ -6,8 +6,6 @@ pub mod laws;
 mod params;
 mod side;
 mod temporal;
-#[cfg(test)]
-mod tests;
 mod value;
 mod value_deserializer;
 

@@ -58,6 +58,3 @@ pub use proto::{AnyWidth, Fixed, MyDeserialize, MySerialize, Width, total_len};
 pub use seq::{Seq, SeqRepr, Unknown};
 pub use skip::Skip;
 pub use varlen::{VarLen, read_varlen_uint, varlen_uint_size, write_varlen_uint};
-
-#[cfg(test)]
-mod tests;

@@ -1,6 +1,6 @@
 //! Lists, and counts that the bytes do not hold.
 
-use crate::{
+use mysql_wire::{
     Either, Fault, LeU16, LeU64, LenEnc, MySerialize, ParseBuf, RawBytes, RawInt, Seq, Skip,
     Unknown, read_all,
 };

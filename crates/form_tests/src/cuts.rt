@@ -1,4 +1,4 @@
-use crate::{BulkRule, cut_is_fewest};
+use mysql_cuts::{BulkRule, cut_is_fewest};
 
 #[test]
 fn judges_named_cuts(rt: HostRuntime) {

@@ -1,6 +1,6 @@
 //! Byte strings at the limits of their forms.
 
-use crate::{
+use mysql_wire::{
     BareBytes, BytesRepr, ConstBytes, ConstBytesValue, ConstFault, EofBytes, Fault, LenEnc,
     MyDeserialize, MySerialize, NullBytes, ParseBuf, RawBytes, U8Bytes, U32Bytes,
 };

@@ -1,5 +1,7 @@
-use super::*;
 use indexmap::IndexMap;
+use mysql_values::{
+    BinValue, FromValue, FromValueError, Params, ParamsError, TextValue, Value, ValueDeserializer,
+};
 use mysql_wire::{ColumnFlags, ColumnType, Fault, MySerialize, ParseBuf};
 use std::alloc::{AllocError, Global};
 use std::test::Fail;

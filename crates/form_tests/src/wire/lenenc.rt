@@ -1,6 +1,6 @@
 //! Length-encoded numbers at both ends of each width, and blocks.
 
-use crate::{Fault, LenEnc, MySerialize, ParseBuf, RawBytes, RawInt};
+use mysql_wire::{Fault, LenEnc, MySerialize, ParseBuf, RawBytes, RawInt};
 use std::test::Fail;
 
 const NUMBERS: [(u64, &[u8]); 9] = [

@@ -1,6 +1,6 @@
 //! Numbers of varying length, at the limits of their spellings.
 
-use crate::{Fault, ParseBuf, read_varlen_uint, varlen_uint_size, write_varlen_uint};
+use mysql_wire::{Fault, ParseBuf, read_varlen_uint, varlen_uint_size, write_varlen_uint};
 use std::test::Fail;
 
 #[test]
