@@ -1,10 +1,16 @@
 //! Prepared statements: what a server answers to one that it prepared.
 #![tactic(auto)]
 
+mod close;
 pub mod laws;
+mod long_data;
 mod null_bitmap;
 mod stmt;
 
+pub use close::ComStmtClose;
+pub use long_data::{
+    ComStmtSendLongData, ComStmtSendLongDataHeader, InvalidComStmtSendLongDataHeader,
+};
 pub use null_bitmap::NullBitmap;
 pub use stmt::{InvalidStmtPacketStatus, StmtPacket};
 
