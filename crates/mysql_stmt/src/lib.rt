@@ -2,12 +2,19 @@
 #![tactic(auto)]
 
 mod close;
+mod execute;
+mod execute_params;
 pub mod laws;
 mod long_data;
 mod null_bitmap;
+mod param_type;
 mod stmt;
 
 pub use close::ComStmtClose;
+pub use execute::{
+    ComStmtExecuteHeader, ComStmtExecuteRequest, ComStmtExecuteRequestBuilder,
+    InvalidComStmtExecuteHeader, InvalidIterationCount, IterationCount,
+};
 pub use long_data::{
     ComStmtSendLongData, ComStmtSendLongDataHeader, InvalidComStmtSendLongDataHeader,
 };
