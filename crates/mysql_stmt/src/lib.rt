@@ -1,4 +1,5 @@
-//! Prepared statements: what a server answers to one that it prepared.
+//! Prepared statements: what a server answers to one that it prepared, what an execution, long data and a close are
+//! written as, and the bitmaps of NULLs.
 #![tactic(auto)]
 
 mod close;
