@@ -1,2 +1,4 @@
 pub mod StmtAgain
 pub mod Cells
+pub mod Nulls
+pub mod ParamLengths

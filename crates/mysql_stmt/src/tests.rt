@@ -3,6 +3,9 @@ use mysql_wire::{Fault, FaultKind, MyDeserialize, MySerialize, ParseBuf};
 use std::alloc::Global;
 use std::test::Fail;
 
+mod execute;
+mod null_bitmap;
+
 const STATEMENT: [u8; 12] = [0, 1, 0, 0, 0, 1, 0, 2, 0, 0, 0, 0];
 
 fn statement(alloc: Global, bytes: &[u8]) -> Result<StmtPacket, Fault> {

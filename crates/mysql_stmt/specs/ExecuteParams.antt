@@ -1,0 +1,67 @@
+-- The parameters of an execution.
+use Rattle.std.specs.Prelude.{◌≡◌, ℕ, ◌+◌, ◌*◌, ◌-◌, ◌^◌, Bool, if◌then◌else◌, List, [], ◌∷◌, length, take, sum_by, slice_get}
+use Rattle.std.specs.List.{flat_map}
+use Rattle.std.specs.Option.{option_map_or}
+use Rattle.mysql_wire.specs.Writing.{le_bytes, joined}
+use Rattle.mysql_values.specs.declared.value.Value.{Value}
+use Rattle.mysql_values.specs.Value.{Content, NULL, Bytes, content_of, bin, size_of}
+use Rattle.mysql_stmt.specs.Bitmap.{bytes_for, cell}
+use Rattle.mysql_stmt.specs.ParamType.{types_bytes}
+use Rattle.mysql_stmt.specs.declared.execute_params.ExecuteParams.{ExecuteParams}
+
+-- ---- the bitmap
+
+abbrev pub null_bit : Content → ℕ
+null_bit NULL = 1
+null_bit _ = 0
+
+-- 1 where the value at that place is NULL; 0 where it is not, and where there is none
+abbrev pub null_at : List Value → ℕ → ℕ
+null_at params i = option_map_or (λ v. null_bit (content_of v)) (slice_get params i) 0
+
+-- the bitmap of these values: the bytes that hold a bit for each, of which those of the NULLs alone are set
+pub record MarksNulls (params : List Value) (bitmap : List ℕ) : Type 0 where
+  pub len : length bitmap ≡ bytes_for 0 (length params)
+  pub cells : (i : ℕ) → cell bitmap i ≡ null_at params i
+
+-- ---- which values are sent
+
+-- the bytes of a value, but for a byte string
+abbrev pub short : Content → List ℕ
+short (Bytes bytes) = []
+short value = bin value
+
+-- what is sent of a value: where byte strings are long data, nothing of these
+abbrev pub sent : Bool → Content → List ℕ
+sent as_long_data value = if as_long_data then short value else bin value
+
+abbrev pub data_bytes : Bool → List Value → List ℕ
+data_bytes as_long_data values = flat_map (λ v. sent as_long_data (content_of v)) values
+
+-- the size of a request that sends all its values, of which there are some: the bytes before the bitmap and the byte
+-- behind it are 11
+abbrev pub whole_size : List Value → ℕ
+whole_size params = 11 + bytes_for 0 (length params) + 2 * length params + sum_by size_of params
+
+-- the most bytes of a packet
+abbrev pub max_payload : ℕ
+max_payload = 2 ^ 24 - 1
+
+-- ---- the bytes
+
+-- the bitmap, the flags, the types and the values
+abbrev pub params_parts : ExecuteParams → List (List ℕ)
+params_parts p =
+    take 8192 p.bitmap.bytes
+    ∷ le_bytes 1 p.flags.0.0
+    ∷ types_bytes p.values.now
+    ∷ data_bytes p.as_long_data p.values.now
+    ∷ []
+
+-- the parts, where there are values
+abbrev pub where_some : List Value → List ℕ → List ℕ
+where_some [] bytes = []
+where_some (v ∷ values) bytes = bytes
+
+abbrev pub params_bytes : ExecuteParams → List ℕ
+params_bytes p = where_some p.values.now (joined (params_parts p))

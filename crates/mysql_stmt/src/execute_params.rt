@@ -1,0 +1,182 @@
+//! The parameters of an execution.
+
+ghost use Rattle.std.specs.Prelude.{◌≡◌, ◌+◌, ◌≤◌, ◌<◌, ◌↔◌, IsTrue, IfOk, length};
+ghost use Rattle.mysql_wire.specs.Writing.{saturated};
+ghost use Rattle.mysql_stmt.specs.ExecuteParams.{MarksNulls, whole_size, max_payload, params_bytes};
+
+use crate::null_bitmap::NullBitmap;
+use crate::param_type::ParamTypes;
+use mysql_values::{ClientSide, Value};
+use mysql_wire::{
+    BareBytes, BytesRepr, Const, MySerialize, StmtExecuteParamsFlags, append_all, items_len,
+    total_len,
+};
+use std::alloc::{AllocError, Global};
+
+/// How a bitmap is written: 8,192 bytes hold the bits of as many parameters as a statement can have.
+type WrittenBitmap = BareBytes<8192>;
+
+/// The most bytes that one packet carries.
+const MAX_PAYLOAD_LEN: usize = 0xff_ffff;
+
+/// A value as an execution sends it: without a byte string where those are sent ahead, as long data.
+#[derive(Drop)]
+struct SentValue<'a> {
+    value: &'a Value,
+    as_long_data: bool,
+}
+
+impl MySerialize for SentValue<'_> {
+    ghost use Rattle.mysql_values.specs.Value.{content_of};
+    ghost use Rattle.mysql_stmt.specs.ExecuteParams.{sent};
+
+    ghost bytes = { λ v. sent v.as_long_data (content_of v.value.now) };
+
+    #[tactic(auto, unfolding(mysql_wire::specs::Writing::saturated))]
+    fn defined_len(&self) -> usize {
+        match self.value {
+            Value::Bytes(_) if self.as_long_data => 0,
+            value => value.defined_len(),
+        }
+    }
+
+    fn append(&self, out: &mut Vec<u8>) {
+        match self.value {
+            Value::Bytes(_) if self.as_long_data => {}
+            value => value.append(out),
+        }
+    }
+}
+
+/// Values as an execution sends them, one after another.
+#[derive(Drop)]
+struct SentValues<'a> {
+    values: &'a [Value],
+    as_long_data: bool,
+}
+
+impl MySerialize for SentValues<'_> {
+    ghost use Rattle.mysql_stmt.specs.ExecuteParams.{data_bytes};
+
+    ghost bytes = { λ v. data_bytes v.as_long_data v.values.now };
+
+    #[tactic(auto, unfolding(mysql_wire::specs::Writing::saturated))]
+    fn defined_len(&self) -> usize {
+        let as_long_data = self.as_long_data;
+        let mut total: usize = 0;
+        for value in self.values {
+            let sent = SentValue {
+                value,
+                as_long_data,
+            };
+            total = total.saturating_add(sent.defined_len());
+        }
+        total
+    }
+
+    fn append(&self, out: &mut Vec<u8>) {
+        let as_long_data = self.as_long_data;
+        for value in self.values {
+            let sent = SentValue {
+                value,
+                as_long_data,
+            };
+            sent.append(out);
+        }
+    }
+}
+
+/// The bitmap in which the bit of each value that is NULL is set.
+fn bitmap_of(
+    alloc: Global,
+    params: &[Value],
+) -> Result<NullBitmap<'static, ClientSide>, AllocError>
+    ensures { IfOk result (λ bitmap. MarksNulls params.now bitmap.bytes) }
+{
+    let mut bitmap = NullBitmap::<ClientSide>::new(alloc, params.len())?;
+    for (i, value) in params.iter().enumerate() {
+        if let Value::NULL = value {
+            bitmap.set(alloc, i, true)?;
+        }
+    }
+    Ok(bitmap)
+}
+
+/// How many bytes a request has that sends all its values, of which there are some.
+fn whole_len(params: &[Value]) -> usize
+    ensures { result ≡ saturated (whole_size params.now) }
+{
+    let head = 11 + NullBitmap::<ClientSide>::bitmap_len(params.len()) + 2 * params.len();
+    items_len(params).saturating_add(head)
+}
+
+/// The parameters of an execution: nothing where there are none, else
+///
+/// | Bytes | Field |
+/// |---|---|
+/// | 1 for 8 parameters | the bitmap of NULLs, its first 8,192 bytes |
+/// | 1 | flags: types follow |
+/// | 2 for each | types |
+/// | to the end | values, but for byte strings where these are sent ahead, as long data |
+#[derive(Clone, Debug, PartialEq, Drop)]
+pub(crate) struct ExecuteParams<'a> {
+    pub(crate) bitmap: NullBitmap<'a, ClientSide>,
+    pub(crate) flags: Const<StmtExecuteParamsFlags, u8>,
+    pub(crate) values: &'a [Value],
+    pub(crate) as_long_data: bool,
+}
+
+impl<'a> ExecuteParams<'a> {
+    /// The parameters that have these values.
+    pub(crate) fn new(alloc: Global, values: &'a [Value]) -> Result<Self, AllocError>
+        ensures values { IfOk result (λ p. p.values.now ≡ values.now) }
+        ensures bitmap { IfOk result (λ p. MarksNulls values.now p.bitmap.bytes) }
+        ensures flags { IfOk result (λ p. p.flags.0.0 ≡ 1) }
+        ensures as_long_data { IfOk result (λ p. IsTrue p.as_long_data ↔ (max_payload < whole_size values.now)) }
+        ensures fits { IfOk result (λ p. length values.now ≤ 65535 → 10 + length (params_bytes p) ≤ max_payload) }
+    {
+        Ok(ExecuteParams {
+            bitmap: bitmap_of(alloc, values)?,
+            flags: Const::new(StmtExecuteParamsFlags::NEW_PARAMS_BOUND),
+            values,
+            as_long_data: whole_len(values) > MAX_PAYLOAD_LEN,
+        })
+    }
+
+    /// The values as they are sent.
+    fn sent_values(&self) -> SentValues<'a>
+        ensures values { result.values.now ≡ self.now.values.now }
+        ensures as_long_data { result.as_long_data ≡ self.now.as_long_data }
+    {
+        SentValues {
+            values: self.values,
+            as_long_data: self.as_long_data,
+        }
+    }
+}
+
+impl MySerialize for ExecuteParams<'_> {
+    ghost bytes = { params_bytes };
+
+    #[tactic(auto, using(mysql_wire::specs::Writing::lengths, crate::proofs::ParamLengths::where_known), unfolding(mysql_wire::specs::Writing::le_bytes))]
+    fn defined_len(&self) -> usize {
+        if self.values.is_empty() {
+            return 0;
+        }
+        total_len(&[
+            WrittenBitmap::written_len(self.bitmap.as_bytes()),
+            self.flags.defined_len(),
+            ParamTypes(self.values).defined_len(),
+            self.sent_values().defined_len(),
+        ])
+    }
+
+    #[tactic(auto, using(mysql_wire::specs::Writing::lengths, crate::proofs::ParamLengths::where_known))]
+    fn append(&self, out: &mut Vec<u8>) {
+        if self.values.is_empty() {
+            return;
+        }
+        WrittenBitmap::append(self.bitmap.as_bytes(), out);
+        append_all!(out; self.flags, ParamTypes(self.values), self.sent_values());
+    }
+}

@@ -1,0 +1,86 @@
+//! The data of one parameter, sent ahead of an execution.
+
+ghost use Rattle.std.specs.Prelude.{◌≡◌, IfOk};
+ghost use Rattle.std.specs.Cow.{cow_slice_items};
+ghost use Rattle.mysql_stmt.specs.LongData.{long_data};
+
+use mysql_wire::{
+    ConstFault, ConstU8, EofBytes, LeU16, LeU32, MySerialize, RawBytes, RawInt, append_all, len_of,
+};
+use std::alloc::{AllocError, Global};
+use std::borrow::CowSlice;
+use thiserror::Error;
+
+/// The first byte of the data of one parameter is not `18`.
+#[derive(Clone, Copy, Debug, Default, PartialEq, Eq, Hash, Error)]
+#[error("Invalid header for COM_STMT_SEND_LONG_DATA")]
+pub struct InvalidComStmtSendLongDataHeader;
+
+impl ConstFault for InvalidComStmtSendLongDataHeader {
+    const MESSAGE: &'static str = "Invalid header for COM_STMT_SEND_LONG_DATA";
+}
+
+/// The first byte of the data of one parameter: `18`.
+pub type ComStmtSendLongDataHeader = ConstU8<InvalidComStmtSendLongDataHeader, 0x18>;
+
+/// `COM_STMT_SEND_LONG_DATA`: some bytes of one parameter, sent ahead of the execution that they
+/// are for. The server joins what it got for a parameter, and answers nothing.
+///
+/// It is written alone, numbers with their low byte first:
+///
+/// | Bytes | Field |
+/// |---|---|
+/// | 1 | the byte `18` |
+/// | 4 | the statement's number |
+/// | 2 | which parameter, the first being 0 |
+/// | to the end | the data |
+#[derive(Clone, Debug, PartialEq, Eq, Drop)]
+pub struct ComStmtSendLongData<'a> {
+    header: ComStmtSendLongDataHeader,
+    stmt_id: RawInt<LeU32>,
+    param_index: RawInt<LeU16>,
+    content: RawBytes<'a, EofBytes>,
+}
+
+impl<'a> ComStmtSendLongData<'a> {
+    /// These bytes, for that parameter of that statement.
+    pub fn new(stmt_id: u32, param_index: u16, content: CowSlice<'a, u8>) -> Self
+        ensures value { result ≡ long_data stmt_id param_index (cow_slice_items content.entry) }
+    {
+        ComStmtSendLongData {
+            header: ConstU8::new(),
+            stmt_id: RawInt::new(stmt_id),
+            param_index: RawInt::new(param_index),
+            content: RawBytes::new(content),
+        }
+    }
+
+    /// The same packet, on memory of its own.
+    ///
+    /// Where that is refused, the packet is given up, and the bytes that it borrowed stay.
+    pub fn into_owned(self, alloc: Global) -> Result<ComStmtSendLongData<'static>, AllocError>
+        ensures value { IfOk result (λ owned. owned ≡ self.entry) }
+    {
+        Ok(ComStmtSendLongData {
+            header: self.header,
+            stmt_id: self.stmt_id,
+            param_index: self.param_index,
+            content: self.content.into_owned(alloc)?,
+        })
+    }
+}
+
+impl MySerialize for ComStmtSendLongData<'_> {
+    ghost use Rattle.mysql_stmt.specs.LongData.{long_data_bytes};
+
+    ghost bytes = { long_data_bytes };
+
+    #[tactic(auto, using(mysql_wire::specs::Writing::lengths), unfolding(mysql_wire::specs::Writing::le_bytes))]
+    fn defined_len(&self) -> usize {
+        len_of!(self.header, self.stmt_id, self.param_index, self.content)
+    }
+
+    fn append(&self, out: &mut Vec<u8>) {
+        append_all!(out; self.header, self.stmt_id, self.param_index, self.content);
+    }
+}

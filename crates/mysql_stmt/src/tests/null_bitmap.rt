@@ -1,0 +1,31 @@
+use crate::NullBitmap;
+use mysql_values::{ClientSide, ServerSide};
+use std::borrow::CowSlice;
+use std::test::Fail;
+
+#[test]
+fn bits_lie_behind_the_offset_of_their_side(rt: HostRuntime) -> Result<(), Fail> {
+    let mut client = NullBitmap::<ClientSide>::new(rt.alloc(), 9)?;
+    client.set(rt.alloc(), 8, true)?;
+    assert_eq!(rt; client.as_bytes(), [0, 1].as_slice());
+    let mut server = NullBitmap::<ServerSide>::new(rt.alloc(), 7)?;
+    server.set(rt.alloc(), 6, true)?;
+    assert_eq!(rt; server.as_bytes(), [0, 1].as_slice());
+    assert!(rt; server.is_null(6) && !server.is_null(5));
+    let mut first = NullBitmap::<ServerSide>::new(rt.alloc(), 6)?;
+    first.set(rt.alloc(), 0, true)?;
+    assert_eq!(rt; first.as_bytes(), [4].as_slice());
+    assert_eq!(rt; NullBitmap::<ServerSide>::bitmap_len(6), 1);
+    assert_eq!(rt; NullBitmap::<ServerSide>::bitmap_len(7), 2);
+    Ok(())
+}
+
+#[test]
+fn borrowed_bytes_are_copied_before_a_bit_is_set(rt: HostRuntime) -> Result<(), Fail> {
+    let bytes = [0xff, 1];
+    let mut bitmap = NullBitmap::<ClientSide>::from_bytes(CowSlice::Borrowed(&bytes));
+    bitmap.set(rt.alloc(), 1, false)?;
+    assert_eq!(rt; bitmap.as_bytes(), [0xfd, 1].as_slice());
+    assert_eq!(rt; bytes.as_slice(), [0xff, 1].as_slice());
+    Ok(())
+}
