@@ -8,3 +8,5 @@ pub mod Chains
 pub mod EachValue
 pub mod Params
 pub mod NewRequest
+pub mod ParamsRuns
+pub mod RowsAgain

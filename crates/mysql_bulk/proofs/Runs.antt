@@ -10,9 +10,10 @@ use Rattle.mysql_bulk.specs.declared.error.BulkExecuteRequestError.{BulkExecuteR
 use Rattle.mysql_bulk.specs.declared.error.BulkExecuteRequestError.TheVariants.{MixedArity, RowTooLarge, MemoryRow, NoParams, Memory}
 use Rattle.mysql_bulk.specs.Builder.{row_of, BuilderState, values_of}
 use Rattle.mysql_bulk.specs.Builder.{TakesArity, RowFits, accepted, Adds, Builds}
-use Rattle.mysql_bulk.specs.declared.error.BulkExecuteRequestBuilderError.TheVariants.{Request}
+use Rattle.mysql_bulk.specs.declared.error.BulkExecuteRequestBuilderError.{BulkExecuteRequestBuilderError}
+use Rattle.mysql_bulk.specs.declared.error.BulkExecuteRequestBuilderError.TheVariants.{Request, Params}
 use Rattle.mysql_bulk.specs.Request.{BulkRequest}
-use Rattle.mysql_bulk.specs.Run.{Accepts, Comes, Fills, RunState, Filled, NextRequest}
+use Rattle.mysql_bulk.specs.Run.{Accepts, Comes, Fills, RunState, Filled, AsksWaiting, NextRequest}
 use Rattle.std.specs.Prelude.{IfSome, is_none, is_some, not}
 
 -- one more row is accepted
@@ -182,3 +183,17 @@ module _ {S : Type 0} (steps : S → Option (Vec Value) → S → Type 0) where
   steps_memory s m t carried last rows left e Memory g a w b =
       let P : BuilderState → Type 0 = λ u. NextRequest steps (state s carried rows e) (Some (Err (Request Memory))) (state u last left true) in
       subst P (sym b.1) (inr (fills_filled s m m carried last rows left e true g a, w, refl), refl)
+
+  -- rows were added, and then those that wait were asked for
+  pub steps_asked : (s m t : BuilderState) (carried last : Option (Vec Value)) (rows left : S) (e ended done : Bool) (r : Option (Result BulkRequest BulkExecuteRequestBuilderError)) → e ≡ false
+      → Fills steps s carried rows (Ok last) m left → is_none last ≡ ended → AsksWaiting m ended r t done → NextRequest steps (state s carried rows e) r (state t last left done)
+  steps_asked s m t carried last rows left e ended done None g a l w =
+      let N : BuilderState → Bool → Type 0 = λ u b. NextRequest steps (state s carried rows e) None (state u last left b) in
+      subst (λ u. N u done) (sym w.1) (subst (N m) (l ∙ sym w.2) (steps_empty s m carried last rows left e g a w.0))
+  steps_asked s m t carried last rows left e ended done (Some (Ok request)) g a l w =
+      let N : Bool → Type 0 = λ b. NextRequest steps (state s carried rows e) (Some (Ok request)) (state t last left b) in
+      subst N (l ∙ sym w.1) (steps_request s m t carried last rows left e request g a w.0)
+  steps_asked s m t carried last rows left e ended done (Some (Err (Request err))) g a l w =
+      let N : Bool → Type 0 = λ b. NextRequest steps (state s carried rows e) (Some (Err (Request err))) (state t last left b) in
+      subst N (sym w.2) (steps_memory s m t carried last rows left e err g a w.0 w.1)
+  steps_asked s m t carried last rows left e ended done (Some (Err (Params err))) g a l w = absurd w

@@ -11,3 +11,5 @@ pub mod Head
 pub mod Rows
 pub mod RequestForm
 pub mod NewRequest
+pub mod ParamsRun
+pub mod ReadingBack

@@ -85,11 +85,14 @@ joined_types (so_far ∷ types) (value ∷ row) = joined_type so_far value ∷ j
 -- ---- in the bytes
 
 -- a byte for the type, and a byte of flags
-abbrev pub param_type : Form StmtBulkExecuteParamType
-param_type = block 2 (do
+abbrev pub param_type_fields : Form StmtBulkExecuteParamType
+param_type_fields = do
   t ← column_type
   flags ← byte
-  give (record { column_type = t.0; flags = flags.0 }))
+  give (record { column_type = t.0; flags = flags.0 })
+
+abbrev pub param_type : Form StmtBulkExecuteParamType
+param_type = block 2 param_type_fields
 
 abbrev pub param_type_bytes : StmtBulkExecuteParamType → List ℕ
 param_type_bytes t = le_bytes 1 (column_type_code t.column_type) ++ le_bytes 1 t.flags

@@ -90,6 +90,13 @@ module _ {S : Type 0} (steps : S → Option (Vec Value) → S → Type 0) where
   NextRequest s (Some (Err (Params e))) t = ⊥
   NextRequest s (Some (Err (Request e))) t = (RefusesRow s e t ⊎ (Filled s t.builder t × (t.builder.waiting ≢ []) × (e ≡ Memory))) × (t.ended ≡ true)
 
+-- the waiting rows are asked for as a request, in a run that has ended or not
+abbrev pub AsksWaiting : BuilderState → Bool → Option (Result BulkRequest BulkExecuteRequestBuilderError) → BuilderState → Bool → Type 0
+AsksWaiting s ended None t done = (s.waiting ≡ []) × (t ≡ s) × (done ≡ ended)
+AsksWaiting s ended (Some (Ok request)) t done = Builds s (Ok request) t × (done ≡ ended)
+AsksWaiting s ended (Some (Err (Request e))) t done = (s.waiting ≢ []) × Builds s (Err e) t × (done ≡ true)
+AsksWaiting s ended (Some (Err (Params e))) t done = ⊥
+
 -- how many results are left at most, of an input that has `left` rows at most
 abbrev pub results_left : {S : Type 0} → (S → Count) → RunState S → Count
 results_left left s = count_unless s.ended (count_map (λ n. length s.builder.waiting + length (option_to_list s.carried) + n + 1) (left s.rows))

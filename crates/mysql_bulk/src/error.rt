@@ -4,27 +4,27 @@ use mysql_values::{ParamsError, Value};
 use thiserror::Error;
 
 /// Why a row or a request was refused.
-#[derive(Debug, Drop, Error)]
+#[derive(Clone, Debug, PartialEq, Drop, Error)]
 pub enum BulkExecuteRequestError {
     /// The row has not as many values as the rows before it.
-    #[error("Rows of different lengths")]
+    #[error("Mixed statement arity")]
     MixedArity,
     /// The row alone is past the limit of a request. The row is handed back.
-    #[error("Row larger than a request may be")]
+    #[error("Got row bigger than max payload length")]
     RowTooLarge(Vec<Value>),
     /// Memory for the row was refused. The row is handed back.
-    #[error("No memory for a row")]
+    #[error("MemoryRow")]
     MemoryRow(Vec<Value>),
     /// There is no row for a request.
-    #[error("No rows for a bulk request")]
+    #[error("No parameters values given for the bulk operation")]
     NoParams,
     /// Memory for a request was refused.
-    #[error("No memory for a bulk request")]
+    #[error("Memory")]
     Memory,
 }
 
 /// Why the builder refused parameters.
-#[derive(Debug, Drop, Error)]
+#[derive(Clone, Debug, PartialEq, Drop, Error)]
 pub enum BulkExecuteRequestBuilderError {
     /// The row or the request was refused.
     #[error(transparent)]

@@ -3,7 +3,7 @@
 ghost use Rattle.std.specs.Prelude.{◌≡◌, ◌+◌, ◌≤◌, length, IfOk, IfSome, None, false, option_to_list};
 ghost use Rattle.std.specs.Iterator.{IsFinite, size};
 ghost use Rattle.std.specs.Bool.{OnFalse};
-ghost use Rattle.mysql_bulk.specs.Run.{Fills, NextRequest, results_left, carried_of, builder_of, state_of, SameBuilder};
+ghost use Rattle.mysql_bulk.specs.Run.{Fills, AsksWaiting, NextRequest, results_left, carried_of, builder_of, state_of, SameBuilder};
 
 use crate::builder::ComStmtBulkExecuteRequestBuilder;
 use crate::error::{BulkExecuteRequestBuilderError, BulkExecuteRequestError};
@@ -49,6 +49,25 @@ pub(crate) fn fill<I: Iterator<Item = Vec<Value>>>(
     take_rows(builder, rows)
 }
 
+/// The request of the rows that wait, if any wait. A run in which it is refused has ended.
+pub(crate) fn build_waiting(
+    builder: &mut ComStmtBulkExecuteRequestBuilder<'_>,
+    ended: &mut bool,
+) -> Option<Result<ComStmtBulkExecuteRequest, BulkExecuteRequestBuilderError>>
+    ensures asks { AsksWaiting builder.old ended.old result builder.new ended.new }
+{
+    if !builder.has_rows() {
+        return None;
+    }
+    match builder.build() {
+        Ok(request) => Some(Ok(request)),
+        Err(e) => {
+            *ended = true;
+            Some(Err(BulkExecuteRequestBuilderError::Request(e)))
+        }
+    }
+}
+
 /// The requests of a run: each `next` takes rows until one does not fit, which it carries over to the next request.
 ///
 /// When the input ends, the waiting rows are built, and then the answer is `None`; the input is asked no more. After an
@@ -80,17 +99,8 @@ impl<'b, 'a, I: Iterator<Item = Vec<Value>>> Iterator for BulkRequests<'b, 'a, I
             Ok(last) => {
                 self.ended = last.is_none();
                 self.carried = last;
+                build_waiting(self.builder, &mut self.ended)
             }
-            Err(e) => {
-                self.ended = true;
-                return Some(Err(BulkExecuteRequestBuilderError::Request(e)));
-            }
-        }
-        if !self.builder.has_rows() {
-            return None;
-        }
-        match self.builder.build() {
-            Ok(request) => Some(Ok(request)),
             Err(e) => {
                 self.ended = true;
                 Some(Err(BulkExecuteRequestBuilderError::Request(e)))
