@@ -5,7 +5,8 @@ captured_tables.py          writes them from tests/captured/packets.jsonl
 captured_tables.py --check  changes nothing, and fails where one is not what would be written
 
 A table is a text with a line for each packet, and words parted by one space. A number is decimal, bytes are
-hexadecimal behind an x, none is 'none', and what the client's API did not report is '-'.
+hexadecimal behind an x, byte strings of one kind are parted by commas, none is 'none', and what the client's API did
+not report is '-'.
 """
 import json
 import os
@@ -17,6 +18,16 @@ TABLES = f"{TOP}/crates/packet_tests/src/captured"
 
 UNREPORTED = "-"
 
+# what may change in a session, by the names that an API gives
+CHANGES = (
+    "gtids",
+    "schema",
+    "state_change",
+    "system_variables",
+    "transaction_characteristics",
+    "transaction_state",
+)
+
 
 def number(value):
     return UNREPORTED if value is None else str(int(value))
@@ -26,14 +37,72 @@ def text(value):
     return UNREPORTED if value is None else "x" + value.encode().hex()
 
 
-def prepared(expected):
-    api = expected.get("api", {})
-    return [number(api.get(key)) for key in ("stmt_id", "field_count", "param_count", "warnings")]
+def api_of(packet):
+    return packet.get("expected", {}).get("api", {})
 
+
+def numbers(api, *keys):
+    return [number(api.get(key)) for key in keys]
+
+
+def texts(api, *keys):
+    return [text(api.get(key)) for key in keys]
+
+
+def capabilities(packet):
+    """The flags of both sides. MariaDB's own flag for progress reports is that of older clients to a reader here."""
+    progress = 1 << 29 if int(packet["ext_caps"], 16) & 1 else 0
+    return number(int(packet["caps"], 16) | progress)
+
+
+def prepared(packet):
+    return numbers(api_of(packet), "stmt_id", "field_count", "param_count", "warnings")
+
+
+def column(packet):
+    api = api_of(packet)
+    names = texts(api, "db", "table", "org_table", "name", "org_name")
+    return names + numbers(api, "charsetnr", "length", "type", "flags", "flags_low15", "decimals")
+
+
+def changed(tracked, kind):
+    if tracked is None:
+        return UNREPORTED
+    return ",".join("x" + it for it in tracked.get(kind, [])) or "none"
+
+
+def ok(packet):
+    api = api_of(packet)
+    counts = numbers(api, "affected_rows", "last_insert_id", "server_status", "warnings")
+    info = "none" if "info" in api and api["info"] is None else text(api.get("info"))
+    return [capabilities(packet), *counts, info, *(changed(api.get("session_track"), kind) for kind in CHANGES)]
+
+
+def error(packet):
+    api = api_of(packet)
+    return [capabilities(packet), *numbers(api, "errno"), *texts(api, "sqlstate", "message")]
+
+
+def progress(packet):
+    api = api_of(packet)
+    thousandths = number(round(1000 * api["progress_percent"]))
+    return [capabilities(packet), *numbers(api, "stage", "max_stage"), thousandths, "x" + api["proc_info"]]
+
+
+OK_WORDS = " ".join(["capabilities affected_rows last_insert_id status_flags warnings info", *CHANGES])
 
 # the file and its kind of packet; what the words behind the payload are; how they are made
 KINDS = {
     "stmt_prepare_ok": ("statement_id num_columns num_params warning_count", prepared),
+    "column": (
+        "schema table org_table name org_name character_set column_length column_type flags flags_low15 decimals",
+        column,
+    ),
+    "ok_common": (OK_WORDS, ok),
+    "ok_terminator": (OK_WORDS, ok),
+    "eof_old": (OK_WORDS, ok),
+    "err": ("capabilities error_code sql_state message", error),
+    "progress": ("capabilities stage max_stage progress stage_info", progress),
 }
 
 
@@ -47,7 +116,7 @@ def table(kind, packets):
     ]
     for it in packets:
         if it["kind"] == kind:
-            lines.append(" ".join([it["id"], "x" + it["payload"], *make(it.get("expected", {}))]) + "\\n\\")
+            lines.append(" ".join([it["id"], "x" + it["payload"], *make(it)]) + "\\n\\")
     return "\n".join([*lines, '";', ""])
 
 

@@ -2,6 +2,15 @@
 //!
 //! Each table has a line for each packet: its name, its bytes and what was reported.
 
+mod column;
+mod columns;
+mod eof_old;
+mod err;
+mod errors;
+mod ok_common;
+mod ok_packets;
+mod ok_terminator;
 mod prepared;
+mod progress;
 mod reported;
 mod stmt_prepare_ok;

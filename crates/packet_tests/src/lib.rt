@@ -3,3 +3,7 @@
 
 #[cfg(test)]
 mod captured;
+#[cfg(test)]
+mod ok_kind;
+#[cfg(test)]
+mod replies;

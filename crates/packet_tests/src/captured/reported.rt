@@ -1,5 +1,6 @@
 //! The words of a table's line.
 
+use mysql_wire::{CapabilityFlags, Flags};
 use std::alloc::Global;
 use std::test::Fail;
 
@@ -19,8 +20,25 @@ pub fn bytes_at(alloc: Global, line: &str, place: usize) -> Result<Vec<u8>, Fail
         .map_err(Fail::from)
 }
 
+/// The capability flags, which stand behind the packet where a table has them.
+pub fn capabilities(line: &str) -> CapabilityFlags {
+    CapabilityFlags::from_bits_retain(word(line, 2).parse::<u32>().unwrap_or(0))
+}
+
 /// Whether the number is the one that was reported at that place, where one was.
 pub fn is_reported(line: &str, place: usize, number: u64) -> bool {
     let word = word(line, place);
     word == "-" || word.parse::<u64>().ok() == Some(number)
+}
+
+/// Whether the words from that place on are these, where they were reported.
+pub fn are_reported(line: &str, place: usize, shown: &str) -> bool {
+    let mut shown = shown.split(' ');
+    for reported in line.split(' ').skip(place) {
+        match shown.next() {
+            Some(word) if reported == "-" || reported == word => {}
+            _ => return false,
+        }
+    }
+    shown.next().is_none()
 }

@@ -1,0 +1,113 @@
+//! OK packets of three kinds, down to what they say of the session.
+
+use crate::captured::reported::{are_reported, bytes_at, capabilities};
+use crate::captured::{eof_old, ok_common, ok_terminator};
+use crate::ok_kind::{OkKind, read_ok};
+use mysql_replies::{OkPacket, SessionStateInfo};
+use mysql_session::SessionStateChange;
+use mysql_wire::{Flags, ParseBuf, SessionStateType};
+use std::alloc::{AllocError, Global};
+use std::test::Fail;
+
+/// What may change, in the order of a table's words.
+const CHANGES: [SessionStateType; 6] = [
+    SessionStateType::SESSION_TRACK_GTIDS,
+    SessionStateType::SESSION_TRACK_SCHEMA,
+    SessionStateType::SESSION_TRACK_STATE_CHANGE,
+    SessionStateType::SESSION_TRACK_SYSTEM_VARIABLES,
+    SessionStateType::SESSION_TRACK_TRANSACTION_CHARACTERISTICS,
+    SessionStateType::SESSION_TRACK_TRANSACTION_STATE,
+];
+
+/// Adds a byte string to a word.
+fn add(alloc: Global, word: &mut String, bytes: &[u8]) -> Result<(), AllocError> {
+    let digits = hex::encode(alloc, bytes)?;
+    let comma = if word.is_empty() { "" } else { "," };
+    write!(word, "{comma}x{digits}")
+}
+
+/// Adds the byte strings of an entry to a word.
+///
+/// The data of a state change is `1` alone here, without the length that a decoded one has in front.
+fn add_change(alloc: Global, word: &mut String, info: &SessionStateInfo<'_>) -> Result<(), Fail> {
+    if info.data_type() == SessionStateType::SESSION_TRACK_STATE_CHANGE {
+        add(alloc, word, info.data_ref())?;
+        return Ok(());
+    }
+    let decoded = info.decode(alloc);
+    match &decoded.ok().ok_or("a captured change is refused")? {
+        SessionStateChange::SystemVariables(variables) => {
+            for variable in variables.as_slice() {
+                add(alloc, word, variable.name_bytes())?;
+                add(alloc, word, variable.value_bytes())?;
+            }
+        }
+        SessionStateChange::Schema(it) => add(alloc, word, it.as_bytes())?,
+        SessionStateChange::Gtids(it) => add(alloc, word, it.as_bytes())?,
+        SessionStateChange::TransactionCharacteristics(it) => add(alloc, word, it.as_bytes())?,
+        SessionStateChange::TransactionState(it) => add(alloc, word, it.as_bytes())?,
+        SessionStateChange::IsTracked(_) | SessionStateChange::Unsupported(_) => {}
+    }
+    Ok(())
+}
+
+/// The packet's words.
+fn shown(alloc: Global, packet: &OkPacket<'_>) -> Result<String, Fail> {
+    let rows = packet.affected_rows();
+    let insert_id = packet.last_insert_id().unwrap_or(0);
+    let status = packet.status_flags().bits();
+    let warnings = packet.warnings();
+    let mut info = String::new(alloc);
+    if let Some(bytes) = packet.info_ref() {
+        add(alloc, &mut info, bytes)?;
+    }
+    let info = or_none(&info);
+    let mut words = format!(in alloc; "{rows} {insert_id} {status} {warnings} {info}")?;
+    let infos = packet.session_state_info(alloc);
+    let infos = infos.ok().ok_or("a captured state is refused")?;
+    for kind in CHANGES {
+        let mut word = String::new(alloc);
+        for info in infos.as_slice() {
+            if info.data_type() == kind {
+                add_change(alloc, &mut word, info)?;
+            }
+        }
+        let word = or_none(&word);
+        write!(words, " {word}")?;
+    }
+    Ok(words)
+}
+
+fn or_none(word: &String) -> &str {
+    if word.is_empty() {
+        "none"
+    } else {
+        word.as_str()
+    }
+}
+
+/// Whether the packet of the line is read whole, as it was reported.
+fn agrees(alloc: Global, line: &str, kind: OkKind) -> Result<bool, Fail> {
+    let bytes = bytes_at(alloc, line, 1)?;
+    let mut buf = ParseBuf::new(alloc, bytes.as_slice());
+    let read = read_ok(&mut buf, kind, capabilities(line));
+    let packet = read.ok().ok_or("a captured OK packet is refused")?;
+    let shown = shown(alloc, &packet)?;
+    Ok(buf.is_empty() && are_reported(line, 3, shown.as_str()))
+}
+
+#[test]
+fn ok_packets_are_read_as_reported(rt: HostRuntime) -> Result<(), Fail> {
+    let tables = [
+        (ok_common::PACKETS, OkKind::Common, 59),
+        (ok_terminator::PACKETS, OkKind::Terminator, 10),
+        (eof_old::PACKETS, OkKind::OldEof, 41),
+    ];
+    for (packets, kind, count) in tables {
+        for line in packets.lines() {
+            assert!(rt; agrees(rt.alloc(), line, kind)?, "{line}");
+        }
+        assert_eq!(rt; packets.lines().count(), count);
+    }
+    Ok(())
+}
