@@ -5,6 +5,7 @@
 
 mod bench;
 mod counted;
+mod program;
 mod raw_bytes;
 mod seq;
 mod shown;
@@ -29,6 +30,7 @@ fn run(rt: &(impl Env + Print + AllocGlobal)) -> io::Result<ExitCode> {
     raw_bytes::cases(&mut bench)?;
     seq::cases(&mut bench)?;
     stmt::cases(&mut bench)?;
+    program::cases(&mut bench)?;
     rt.print(bench.lines())?;
     Ok(ExitCode::SUCCESS)
 }

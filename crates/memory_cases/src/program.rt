@@ -1,0 +1,36 @@
+//! The program's commands.
+
+use crate::bench::Bench;
+use crate::counted;
+use mysql_packets::run;
+use std::alloc::{AllocError, Global};
+use std::io;
+
+const COLUMN: &str =
+    "0364656606736368656d61057461626c65096f72675f7461626c65046e616d65086f72675f6e616d650c21000f000000000100080000";
+
+const CHANGE: &str = "00000002400000001100\
+    0f0a6175746f636f6d6d6974034f4646";
+
+pub fn cases(bench: &mut Bench) -> Result<(), AllocError> {
+    bench.case("run_bad_call", |alloc| shown(alloc, &["stmt", "0"]))?;
+    bench.case("run_stmt", |alloc| shown(alloc, &["stmt", "000100000001000200000000"]))?;
+    bench.case("run_infile", |alloc| shown(alloc, &["infile", "fb66696c655f6e616d65"]))?;
+    bench.case("run_column", |alloc| shown(alloc, &["column", COLUMN]))?;
+    bench.case("run_ok", |alloc| shown(alloc, &["ok", "common", "800000", CHANGE]))?;
+    bench.case("run_err", |alloc| shown(alloc, &["err", "200", "ff48042348593030304e6f"]))
+}
+
+/// What the program answers to the words, and the bytes of its lines.
+fn shown(alloc: Global, call: &[&str]) -> Result<String, AllocError> {
+    let mut words = Vec::with_capacity(alloc, call.len())?;
+    for word in call {
+        words.push(String::from_str(alloc, word)?)?;
+    }
+    let mut written = Vec::with_capacity(alloc, 1024)?;
+    counted::start(alloc);
+    let status = run(alloc, words.as_slice(), &mut io::empty(), &mut written);
+    counted::stop(alloc);
+    let bytes = hex::encode(alloc, written.as_slice())?;
+    format!(in alloc; "status {status}, {bytes}")
+}
