@@ -14,14 +14,26 @@ const CHANGE: &str = "00000002400000001100\
 
 pub fn cases(bench: &mut Bench) -> Result<(), AllocError> {
     bench.case("run_bad_call", |alloc| shown(alloc, &["stmt", "0"]))?;
-    bench.case("run_stmt", |alloc| shown(alloc, &["stmt", "000100000001000200000000"]))?;
-    bench.case("run_infile", |alloc| shown(alloc, &["infile", "fb66696c655f6e616d65"]))?;
+    bench.case(
+        "run_stmt",
+        |alloc| shown(alloc, &["stmt", "000100000001000200000000"]),
+    )?;
+    bench.case(
+        "run_infile",
+        |alloc| shown(alloc, &["infile", "fb66696c655f6e616d65"]),
+    )?;
     bench.case("run_column", |alloc| shown(alloc, &["column", COLUMN]))?;
-    bench.case("run_ok", |alloc| shown(alloc, &["ok", "common", "800000", CHANGE]))?;
-    bench.case("run_err", |alloc| shown(alloc, &["err", "200", "ff48042348593030304e6f"]))
+    bench.case(
+        "run_ok",
+        |alloc| shown(alloc, &["ok", "common", "800000", CHANGE]),
+    )?;
+    bench.case(
+        "run_err",
+        |alloc| shown(alloc, &["err", "200", "ff48042348593030304e6f"]),
+    )
 }
 
-/// What the program answers to the words, and the bytes of its lines.
+/// The status that the program answers to the words, and its lines.
 fn shown(alloc: Global, call: &[&str]) -> Result<String, AllocError> {
     let mut words = Vec::with_capacity(alloc, call.len())?;
     for word in call {
@@ -31,6 +43,10 @@ fn shown(alloc: Global, call: &[&str]) -> Result<String, AllocError> {
     counted::start(alloc);
     let status = run(alloc, words.as_slice(), &mut io::empty(), &mut written);
     counted::stop(alloc);
-    let bytes = hex::encode(alloc, written.as_slice())?;
-    format!(in alloc; "status {status}, {bytes}")
+    let mut shown = format!(in alloc; "status {status}")?;
+    for line in str::from_utf8(written.as_slice()).unwrap_or("?").lines() {
+        shown.push_str("; ")?;
+        shown.push_str(line)?;
+    }
+    Ok(shown)
 }
