@@ -4,10 +4,14 @@
 #![tactic(auto)]
 
 mod bench;
+mod column;
 mod counted;
+mod err;
+mod ok;
 mod program;
 mod raw_bytes;
 mod seq;
+mod session;
 mod shown;
 mod stmt;
 
@@ -29,6 +33,10 @@ fn run(rt: &(impl Env + Print + AllocGlobal)) -> io::Result<ExitCode> {
     let mut bench = Bench::new(rt.alloc(), asked);
     raw_bytes::cases(&mut bench)?;
     seq::cases(&mut bench)?;
+    session::cases(&mut bench)?;
+    column::cases(&mut bench)?;
+    ok::cases(&mut bench)?;
+    err::cases(&mut bench)?;
     stmt::cases(&mut bench)?;
     program::cases(&mut bench)?;
     rt.print(bench.lines())?;
