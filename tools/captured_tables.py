@@ -26,14 +26,29 @@ def text(value):
     return UNREPORTED if value is None else "x" + value.encode().hex()
 
 
+def data(digits):
+    return UNREPORTED if digits is None else "x" + digits
+
+
 def prepared(expected):
     api = expected.get("api", {})
     return [number(api.get(key)) for key in ("stmt_id", "field_count", "param_count", "warnings")]
 
 
+def closed(expected):
+    return [number(expected.get("input", {}).get("stmt_id"))]
+
+
+def sent_ahead(expected):
+    given = expected.get("input", {})
+    return [number(given.get("stmt_id")), number(given.get("param")), data(given.get("data"))]
+
+
 # the file and its kind of packet; what the words behind the payload are; how they are made
 KINDS = {
     "stmt_prepare_ok": ("statement_id num_columns num_params warning_count", prepared),
+    "stmt_close": ("stmt_id", closed),
+    "stmt_send_long_data": ("stmt_id param_index data", sent_ahead),
 }
 
 

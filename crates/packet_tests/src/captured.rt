@@ -4,4 +4,7 @@
 
 mod prepared;
 mod reported;
+mod statements;
+mod stmt_close;
 mod stmt_prepare_ok;
+mod stmt_send_long_data;
