@@ -37,8 +37,16 @@ def text(value):
     return UNREPORTED if value is None else "x" + value.encode().hex()
 
 
+def data(digits):
+    return UNREPORTED if digits is None else "x" + digits
+
+
 def api_of(packet):
     return packet.get("expected", {}).get("api", {})
+
+
+def input_of(packet):
+    return packet.get("expected", {}).get("input", {})
 
 
 def numbers(api, *keys):
@@ -89,6 +97,15 @@ def progress(packet):
     return [capabilities(packet), *numbers(api, "stage", "max_stage"), thousandths, "x" + api["proc_info"]]
 
 
+def closed(packet):
+    return numbers(input_of(packet), "stmt_id")
+
+
+def sent_ahead(packet):
+    given = input_of(packet)
+    return [*numbers(given, "stmt_id", "param"), data(given.get("data"))]
+
+
 OK_WORDS = " ".join(["capabilities affected_rows last_insert_id status_flags warnings info", *CHANGES])
 
 # the file and its kind of packet; what the words behind the payload are; how they are made
@@ -103,6 +120,8 @@ KINDS = {
     "eof_old": (OK_WORDS, ok),
     "err": ("capabilities error_code sql_state message", error),
     "progress": ("capabilities stage max_stage progress stage_info", progress),
+    "stmt_close": ("stmt_id", closed),
+    "stmt_send_long_data": ("stmt_id param_index data", sent_ahead),
 }
 
 

@@ -13,4 +13,7 @@ mod ok_terminator;
 mod prepared;
 mod progress;
 mod reported;
+mod statements;
+mod stmt_close;
 mod stmt_prepare_ok;
+mod stmt_send_long_data;
