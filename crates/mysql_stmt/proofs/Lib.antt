@@ -1,2 +1,5 @@
 pub mod StmtAgain
 pub mod Cells
+pub mod Each
+pub mod Copies
+pub mod NullBits

@@ -1,3 +1,6 @@
 pub mod Stmt
 pub mod Bitmap
 pub mod NullBitmap
+pub mod Row
+pub mod RowEq
+pub mod RowForm
