@@ -6,3 +6,6 @@ pub mod LongData
 pub mod ParamType
 pub mod ExecuteParams
 pub mod Execute
+pub mod Row
+pub mod RowEq
+pub mod RowForm

@@ -1,17 +1,22 @@
 //! Prepared statements: what a server answers to one that it prepared, what an execution, long data and a close are
-//! written as, and the bitmaps of NULLs.
+//! written as, the bitmaps of NULLs, and the rows of results.
 #![tactic(auto)]
 
 mod close;
+mod column_index;
 mod execute;
 mod execute_params;
 pub mod laws;
 mod long_data;
 mod null_bitmap;
 mod param_type;
+mod row;
+mod row_deserializer;
+mod row_protocol;
 mod stmt;
 
 pub use close::ComStmtClose;
+pub use column_index::ColumnIndex;
 pub use execute::{
     ComStmtExecuteHeader, ComStmtExecuteRequest, ComStmtExecuteRequestBuilder,
     InvalidComStmtExecuteHeader, InvalidIterationCount, IterationCount,
@@ -20,6 +25,9 @@ pub use long_data::{
     ComStmtSendLongData, ComStmtSendLongDataHeader, InvalidComStmtSendLongDataHeader,
 };
 pub use null_bitmap::NullBitmap;
+pub use row::{Row, new_row, new_row_raw};
+pub use row_deserializer::RowDeserializer;
+pub use row_protocol::RowProtocol;
 pub use stmt::{InvalidStmtPacketStatus, StmtPacket};
 
 #[cfg(test)]

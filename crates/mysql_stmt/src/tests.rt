@@ -1,3 +1,5 @@
+mod rows;
+
 use super::*;
 use mysql_wire::{Fault, FaultKind, MyDeserialize, MySerialize, ParseBuf};
 use std::alloc::Global;

@@ -1,0 +1,68 @@
+-- Rows: values beside their columns, and the place that a name has.
+use Rattle.std.specs.Prelude.{◌≡◌, ℕ, List, [], ◌∷◌, map, Option, Some, None, Result, Ok, Err, nat_eq, slice_index_or, slice_set, option_map}
+use Rattle.std.specs.List.{position}
+use Rattle.std.specs.Cmp.Lexicographic.{pointwise}
+use Rattle.mysql_replies.specs.declared.column.Column.{Column}
+use Rattle.mysql_replies.specs.Column as column
+use Rattle.mysql_values.specs.declared.from_value.FromValueError.{FromValueError}
+use Rattle.mysql_values.specs.declared.value.Value.{Value}
+use Rattle.mysql_values.specs.Value.{Content, content_of}
+
+-- a row: a value for each column, if it is there
+pub record Cells : Type 0 where
+  pub cells : List (Option Value)
+  pub columns : List Column
+
+-- the least place whose column's name has these bytes
+abbrev pub place_of_name : List ℕ → List Column → Option ℕ
+place_of_name name columns = position (λ c. pointwise nat_eq (column.name c) name) columns
+
+-- the value at a place; there is none past the row
+abbrev pub value_at : List (Option Value) → Option ℕ → Option Value
+value_at cells None = None
+value_at cells (Some i) = slice_index_or cells i None
+
+-- the cells without the value at a place; a place past the row changes nothing
+abbrev pub without : List (Option Value) → Option ℕ → List (Option Value)
+without cells None = cells
+without cells (Some i) = slice_set cells i None
+
+-- each value is there
+abbrev pub AllThere : List (Option Value) → Type 0
+AllThere [] = Unit {0}
+AllThere (None ∷ cells) = ⊥
+AllThere (Some value ∷ cells) = AllThere cells
+
+-- what the values hold, whoever keeps their bytes
+abbrev pub held : List (Option Value) → List (Option Content)
+held cells = map (option_map content_of) cells
+
+-- ---- conversions
+
+-- an answer where there is a value, and none where there is none
+abbrev pub Answered : {X Y : Type 0} → (X → Y → Type 0) → Option X → Option Y → Type 0
+Answered R None None = Unit {0}
+Answered R None (Some y) = ⊥
+Answered R (Some x) None = ⊥
+Answered R (Some x) (Some y) = R x y
+
+module _ {X : Type 0} (Converts : Value → X → Type 0) where
+  -- what the value is as another type, or the value itself where it is none of that type
+  abbrev pub ConvertsTo : Value → Result X FromValueError → Type 0
+  ConvertsTo value (Ok x) = Converts value x
+  ConvertsTo value (Err refusal) = (refusal.0 ≡ value) × ((x : X) → Converts value x → ⊥)
+
+  -- the same of a copy
+  abbrev pub CopyConvertsTo : Value → Result X FromValueError → Type 0
+  CopyConvertsTo value answer = (copy : Value) × (content_of copy ≡ content_of value) × ConvertsTo copy answer
+
+  abbrev pub IsCopyAs : Value → X → Type 0
+  IsCopyAs value x = (copy : Value) × (content_of copy ≡ content_of value) × Converts copy x
+
+  -- the value converts
+  abbrev pub IsConvertible : Value → Type 0
+  IsConvertible value = (x : X) × Converts value x
+
+  -- each copy of the value converts
+  abbrev pub IsConvertibleCopied : Value → Type 0
+  IsConvertibleCopied value = (copy : Value) → content_of copy ≡ content_of value → (x : X) × Converts copy x
