@@ -5,6 +5,8 @@
 
 mod bench;
 mod counted;
+mod execute;
+mod null_bitmap;
 mod raw_bytes;
 mod seq;
 mod shown;
@@ -29,6 +31,8 @@ fn run(rt: &(impl Env + Print + AllocGlobal)) -> io::Result<ExitCode> {
     raw_bytes::cases(&mut bench)?;
     seq::cases(&mut bench)?;
     stmt::cases(&mut bench)?;
+    null_bitmap::cases(&mut bench)?;
+    execute::cases(&mut bench)?;
     rt.print(bench.lines())?;
     Ok(ExitCode::SUCCESS)
 }
