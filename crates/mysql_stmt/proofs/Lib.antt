@@ -2,3 +2,4 @@ pub mod StmtAgain
 pub mod Cells
 pub mod Nulls
 pub mod ParamLengths
+pub mod BitmapAgain
