@@ -7,6 +7,8 @@ mod bench;
 mod column;
 mod counted;
 mod err;
+mod execute;
+mod null_bitmap;
 mod ok;
 mod program;
 mod raw_bytes;
@@ -38,6 +40,8 @@ fn run(rt: &(impl Env + Print + AllocGlobal)) -> io::Result<ExitCode> {
     ok::cases(&mut bench)?;
     err::cases(&mut bench)?;
     stmt::cases(&mut bench)?;
+    null_bitmap::cases(&mut bench)?;
+    execute::cases(&mut bench)?;
     program::cases(&mut bench)?;
     rt.print(bench.lines())?;
     Ok(ExitCode::SUCCESS)

@@ -5,3 +5,4 @@ pub mod ParamLengths
 pub mod Each
 pub mod Copies
 pub mod NullBits
+pub mod BitmapAgain

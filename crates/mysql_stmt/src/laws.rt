@@ -2,7 +2,9 @@
 //!
 //! Each law is a function with nothing in it, whose contract holds for all values.
 
-ghost use Rattle.std.specs.Prelude.{◌≡◌, ◌++◌, ℕ, List, Ok};
+ghost use Rattle.std.specs.Prelude.{◌≡◌, ◌+◌, ◌<◌, ◌^◌, ◌++◌, ℕ, List, Ok, length};
+ghost use Rattle.mysql_stmt.specs.Bitmap.{bytes_for};
+ghost use Rattle.mysql_stmt.specs.NullBitmap.{null_bitmap, borrowed};
 ghost use Rattle.mysql_stmt.specs.declared.stmt.StmtPacket.{StmtPacket};
 ghost use Rattle.mysql_stmt.specs.Stmt.{stmt, stmt_bytes, StmtFits};
 
@@ -16,4 +18,12 @@ pub fn stmt_packet_again()
 pub fn stmt_packet_once()
     ensures value { (p q : StmtPacket) (bytes rest left : List ℕ) → stmt.Spells p bytes rest → stmt.Spells q bytes left → p ≡ q }
     ensures rest { (p q : StmtPacket) (bytes rest left : List ℕ) → stmt.Spells p bytes rest → stmt.Spells q bytes left → rest ≡ left }
+{}
+
+/// What is written of a bitmap of NULLs is read again for the count of its values, whatever follows.
+pub fn null_bitmap_again()
+    ensures spelled { (offset count : ℕ) (bytes rest : List ℕ) → count + 7 + offset < 2 ^ 64 → length bytes ≡ bytes_for offset count →
+        (null_bitmap offset count).Spells (borrowed bytes) (bytes ++ rest) rest }
+    ensures read { (offset count : ℕ) (bytes rest : List ℕ) → count + 7 + offset < 2 ^ 64 → length bytes ≡ bytes_for offset count →
+        (null_bitmap offset count).reads (bytes ++ rest) ≡ Ok (borrowed bytes, rest) }
 {}
