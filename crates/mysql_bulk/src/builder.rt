@@ -74,6 +74,27 @@ impl<'a> Model for ComStmtBulkExecuteRequestBuilder<'a> {
     }) a.count a.size a.values.items a.types.items };
 }
 
+impl<'a> Clone for ComStmtBulkExecuteRequestBuilder<'a> {
+    ghost is_clone = { λ builder copy. copy ≡ builder };
+
+    fn clone(&self) -> Result<Self, AllocError> {
+        Ok(ComStmtBulkExecuteRequestBuilder {
+            names: self.names,
+            alloc: self.alloc,
+            stmt_id: self.stmt_id,
+            limit: self.limit,
+            results: self.results,
+            rule: self.rule,
+            arity: self.arity,
+            types_due: self.types_due,
+            count: self.count,
+            size: self.size,
+            values: self.values.clone()?,
+            types: self.types.clone()?,
+        })
+    }
+}
+
 /// The bytes of so many waiting rows with one more, if these may be one request.
 fn size_with(
     rule: BulkRule,

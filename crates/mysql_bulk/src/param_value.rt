@@ -7,6 +7,7 @@ use mysql_wire::{
     AnyWidth, ColumnFlags, ColumnType, Const, FaultOf, Flags, MariadbBulkIndicator, MyDeserialize,
     MySerialize, ParseBuf, append_all, len_of,
 };
+use std::alloc::AllocError;
 use std::marker::Model;
 
 /// A value in a bulk request: the indicator in a byte, and after `BULK_INDICATOR_NONE` the value's binary form.
@@ -60,6 +61,17 @@ impl StmtBulkExecuteParamValue {
         ensures { content_of result ≡ self.content }
     {
         self.value
+    }
+}
+
+impl Clone for StmtBulkExecuteParamValue {
+    ghost is_clone = { λ value copy. copy ≡ value };
+
+    fn clone(&self) -> Result<Self, AllocError> {
+        Ok(StmtBulkExecuteParamValue {
+            indicator: self.indicator,
+            value: self.value.clone()?,
+        })
     }
 }
 

@@ -62,6 +62,16 @@ impl StmtBulkExecuteParamValues {
     }
 }
 
+impl Clone for StmtBulkExecuteParamValues {
+    ghost is_clone = { λ row copy. copy ≡ row };
+
+    fn clone(&self) -> Result<Self, AllocError> {
+        Ok(StmtBulkExecuteParamValues {
+            values: self.values.clone()?,
+        })
+    }
+}
+
 impl AsSlice<StmtBulkExecuteParamValue> for StmtBulkExecuteParamValues {
     ghost items = { λ row. row };
 

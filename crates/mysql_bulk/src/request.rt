@@ -187,6 +187,20 @@ impl ComStmtBulkExecuteRequest {
     }
 }
 
+impl Clone for ComStmtBulkExecuteRequest {
+    ghost is_clone = { λ request copy. copy ≡ request };
+
+    fn clone(&self) -> Result<Self, AllocError> {
+        Ok(ComStmtBulkExecuteRequest {
+            stmt_id: self.stmt_id,
+            bulk_flags: self.bulk_flags,
+            types: self.types.clone()?,
+            values: self.values.clone()?,
+            size: self.size,
+        })
+    }
+}
+
 /// The header, the statement's number, the flags, the types where they are sent, and one row of values.
 ///
 /// The types and flags of the columns are handed in; where the request sends types, those stand in their place.
