@@ -9,6 +9,7 @@ pub mod laws;
 mod long_data;
 mod null_bitmap;
 mod param_type;
+mod sent_values;
 mod stmt;
 
 pub use close::ComStmtClose;
