@@ -13,6 +13,7 @@ mod param_type;
 mod row;
 mod row_deserializer;
 mod row_protocol;
+mod sent_values;
 mod stmt;
 
 pub use close::ComStmtClose;

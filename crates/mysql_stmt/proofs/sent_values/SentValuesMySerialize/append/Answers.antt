@@ -2,7 +2,7 @@ use Rattle.std.proofs.Common.{arith, ◌+◌, ◌≤◌, length}
 use Rattle.mysql_values.specs.Value.{content_of}
 use Rattle.mysql_stmt.specs.ExecuteParams.{sent, data_bytes}
 use Rattle.mysql_stmt.proofs.ParamLengths.{next_fits}
-use Rattle.mysql_stmt.proofs.execute_params.SentValuesMySerialize.append.Goals as goal
+use Rattle.mysql_stmt.proofs.sent_values.SentValuesMySerialize.append.Goals as goal
 
 pub append-requires : goal.append-requires
 append-requires c =
