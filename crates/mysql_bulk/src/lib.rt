@@ -28,6 +28,3 @@ pub use request::ComStmtBulkExecuteRequest;
 pub use rows::read_bulk_rows;
 pub use run::BulkRequests;
 pub use whole_run::BulkRun;
-
-#[cfg(test)]
-mod tests;

@@ -30,6 +30,3 @@ pub use row::{Row, new_row, new_row_raw};
 pub use row_deserializer::RowDeserializer;
 pub use row_protocol::RowProtocol;
 pub use stmt::{InvalidStmtPacketStatus, StmtPacket};
-
-#[cfg(test)]
-mod tests;

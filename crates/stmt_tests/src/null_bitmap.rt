@@ -1,4 +1,4 @@
-use crate::NullBitmap;
+use mysql_stmt::NullBitmap;
 use mysql_values::{ClientSide, ServerSide};
 use std::borrow::CowSlice;
 use std::test::Fail;

@@ -1,12 +1,7 @@
-mod rows;
-
-use super::*;
+use mysql_stmt::{InvalidStmtPacketStatus, StmtPacket};
 use mysql_wire::{Fault, FaultKind, MyDeserialize, MySerialize, ParseBuf};
 use std::alloc::Global;
 use std::test::Fail;
-
-mod execute;
-mod null_bitmap;
 
 const STATEMENT: [u8; 12] = [0, 1, 0, 0, 0, 1, 0, 2, 0, 0, 0, 0];
 

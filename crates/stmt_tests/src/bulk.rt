@@ -1,7 +1,11 @@
 ghost use Rattle.std.specs.Prelude.{◌≡◌, []};
 
-use super::*;
 use indexmap::IndexMap;
+use mysql_bulk::{
+    BulkExecuteRequestBuilderError, BulkExecuteRequestError, ComStmtBulkExecuteRequest,
+    ComStmtBulkExecuteRequestBuilder, StmtBulkExecuteParamType, StmtBulkExecuteParamValue,
+    StmtBulkExecuteParamValues, read_bulk_rows,
+};
 use mysql_cuts::{BulkRule, cut_is_fewest};
 use mysql_values::{Params, ParamsError, Value};
 use mysql_wire::{
@@ -12,8 +16,10 @@ use std::alloc::{AllocError, Global};
 use std::process::Abort;
 use std::test::Fail;
 
-const LONGLONG: (ColumnType, ColumnFlags) =
-    (ColumnType::MYSQL_TYPE_LONGLONG, ColumnFlags::NOT_NULL_FLAG);
+const LONGLONG: (ColumnType, ColumnFlags) = (
+    ColumnType::MYSQL_TYPE_LONGLONG,
+    ColumnFlags::NOT_NULL_FLAG,
+);
 
 const FIRST: &[u8] = b"\xfa\x01\0\0\0\x80\0\x08\0\0\x01\0\0\0\0\0\0\0";
 
@@ -143,7 +149,14 @@ fn requests_have_their_bytes(rt: HostRuntime) -> Result<(), Fail> {
     assert!(rt; refusal.is_none());
     let null_first: [&[u8]; 2] = [ONE_NULL, b"\xfa\x01\0\0\0\0\0\0\x05\0\0\0\0\0\0\0"];
     let rows = column(alloc, vec![in alloc; Value::NULL, Value::Int(5)]?)?;
-    let refusal = run_gives(&rt, alloc, &mut builder(alloc, 17), rows, &null_first, &[1, 2])?;
+    let refusal = run_gives(
+        &rt,
+        alloc,
+        &mut builder(alloc, 17),
+        rows,
+        &null_first,
+        &[1, 2],
+    )?;
     assert!(rt; refusal.is_none());
     Ok(())
 }
@@ -158,9 +171,23 @@ fn rows_without_values_make_requests(rt: HostRuntime) -> Result<(), Fail> {
     let mut pairs = builder(alloc, 7).with_max_rows(2);
     let refusal = run_gives(&rt, alloc, &mut pairs, empty(alloc, 3)?, &two, &[2, 3])?;
     assert!(rt; refusal.is_none());
-    let refusal = run_gives(&rt, alloc, &mut builder(alloc, 6), empty(alloc, 2)?, &[], &[])?;
+    let refusal = run_gives(
+        &rt,
+        alloc,
+        &mut builder(alloc, 6),
+        empty(alloc, 2)?,
+        &[],
+        &[],
+    )?;
     assert!(rt; refusal == Some(too_large(Vec::new(alloc))));
-    let refusal = run_gives(&rt, alloc, &mut builder(alloc, 6), empty(alloc, 0)?, &[], &[])?;
+    let refusal = run_gives(
+        &rt,
+        alloc,
+        &mut builder(alloc, 6),
+        empty(alloc, 0)?,
+        &[],
+        &[],
+    )?;
     assert!(rt; refusal.is_none());
     Ok(())
 }
@@ -169,8 +196,9 @@ fn too_large(row: Vec<Value>) -> BulkExecuteRequestBuilderError {
     BulkExecuteRequestBuilderError::Request(BulkExecuteRequestError::RowTooLarge(row))
 }
 
-const MIXED: BulkExecuteRequestBuilderError =
-    BulkExecuteRequestBuilderError::Request(BulkExecuteRequestError::MixedArity);
+const MIXED: BulkExecuteRequestBuilderError = BulkExecuteRequestBuilderError::Request(
+    BulkExecuteRequestError::MixedArity,
+);
 
 #[test]
 fn rows_are_refused(rt: HostRuntime) -> Result<(), Fail> {
@@ -274,7 +302,10 @@ fn named(alloc: Global, a: i64, b: Option<i64>) -> Result<Params, AllocError> {
 #[test]
 fn parameters_are_rows_by_their_names(rt: HostRuntime) -> Result<(), Fail> {
     let alloc = rt.alloc();
-    let names = vec![in alloc; Vec::from_slice(alloc, b"b")?, Vec::from_slice(alloc, b"a")?]?;
+    let names = vec![in alloc;
+        Vec::from_slice(alloc, b"b")?,
+        Vec::from_slice(alloc, b"a")?,
+    ]?;
     let mut builder = builder(alloc, 96).with_named_params(Some(names.as_slice()));
     let positional = Params::Positional(vec![in alloc; Value::Int(3)]?);
     let params = vec![in alloc; named(alloc, 1, Some(2))?, positional]?;
@@ -283,9 +314,7 @@ fn parameters_are_rows_by_their_names(rt: HostRuntime) -> Result<(), Fail> {
     assert!(rt;
         matches!(
             refused,
-            Some(Err(BulkExecuteRequestBuilderError::Params(
-                ParamsError::PositionalForNamed
-            )))
+            Some(Err(BulkExecuteRequestBuilderError::Params(ParamsError::PositionalForNamed)))
         )
     );
     assert!(rt; run.next().is_none());
@@ -296,12 +325,7 @@ fn parameters_are_rows_by_their_names(rt: HostRuntime) -> Result<(), Fail> {
     assert!(rt; request.as_slice().ends_with(two_one));
     let missing = builder.add_params(named(alloc, 1, None)?);
     let name = Vec::from_slice(alloc, b"b")?;
-    assert!(rt;
-        missing
-            == Err(BulkExecuteRequestBuilderError::Params(
-                ParamsError::Missing(name)
-            ))
-    );
+    assert!(rt; missing == Err(BulkExecuteRequestBuilderError::Params(ParamsError::Missing(name))));
     Ok(())
 }
 
@@ -395,7 +419,10 @@ fn values_are_read_by_their_indicators(rt: HostRuntime) -> Result<(), Fail> {
 #[test]
 fn rows_are_read_from_requests(rt: HostRuntime) -> Result<(), Fail> {
     let alloc = rt.alloc();
-    let rows = column(alloc, vec![in alloc; Value::UInt(5), Value::NULL, Value::UInt(6)]?)?;
+    let rows = column(
+        alloc,
+        vec![in alloc; Value::UInt(5), Value::NULL, Value::UInt(6)]?,
+    )?;
     let flags = StmtBulkExecuteFlags::SEND_TYPES_TO_SERVER;
     let request = ComStmtBulkExecuteRequest::new(alloc, 7, flags, rows.clone()?);
     let bytes = bytes_of(alloc, request)?;
@@ -428,13 +455,19 @@ fn errors_have_their_texts(rt: HostRuntime) -> Result<(), Fail> {
     let request = ComStmtBulkExecuteRequest::new(alloc, 1, none, Vec::new(alloc));
     let no_params = request.err().ok_or("no row makes no request")?;
     let texts = [
-        (no_params, "No parameters values given for the bulk operation"),
+        (
+            no_params,
+            "No parameters values given for the bulk operation",
+        ),
         (BulkExecuteRequestError::MixedArity, "Mixed statement arity"),
         (
             BulkExecuteRequestError::RowTooLarge(Vec::new(alloc)),
             "Got row bigger than max payload length",
         ),
-        (BulkExecuteRequestError::MemoryRow(Vec::new(alloc)), "MemoryRow"),
+        (
+            BulkExecuteRequestError::MemoryRow(Vec::new(alloc)),
+            "MemoryRow",
+        ),
         (BulkExecuteRequestError::Memory, "Memory"),
     ];
     for (error, text) in texts {
@@ -442,7 +475,10 @@ fn errors_have_their_texts(rt: HostRuntime) -> Result<(), Fail> {
         assert_eq!(rt; format!(in alloc; "{outer}")?.as_str(), text);
     }
     let params = BulkExecuteRequestBuilderError::from(ParamsError::PositionalForNamed);
-    assert_eq!(rt; format!(in alloc; "{params}")?.as_str(), "PositionalForNamed");
+    assert_eq!(rt;
+        format!(in alloc; "{params}")?.as_str(),
+        "PositionalForNamed"
+    );
     Ok(())
 }
 

@@ -1,4 +1,4 @@
-use crate::{ComStmtClose, ComStmtExecuteRequestBuilder, ComStmtSendLongData};
+use mysql_stmt::{ComStmtClose, ComStmtExecuteRequestBuilder, ComStmtSendLongData};
 use mysql_values::Value;
 use mysql_wire::{Flags, MySerialize};
 use std::alloc::{AllocError, Global};

@@ -1,5 +1,5 @@
-use crate::{ColumnIndex, Row, RowDeserializer, new_row, new_row_raw};
 use mysql_replies::Column;
+use mysql_stmt::{ColumnIndex, Row, RowDeserializer, new_row, new_row_raw};
 use mysql_values::{Binary, ClientSide, FromValue, FromValueError, ServerSide, Text, Value};
 use mysql_wire::{ColumnFlags, ColumnType, Fault, ParseBuf};
 use std::alloc::{AllocError, Global};
