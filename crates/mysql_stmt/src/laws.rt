@@ -5,6 +5,10 @@
 ghost use Rattle.std.specs.Prelude.{◌≡◌, ◌++◌, ℕ, List, Ok};
 ghost use Rattle.mysql_stmt.specs.declared.stmt.StmtPacket.{StmtPacket};
 ghost use Rattle.mysql_stmt.specs.Stmt.{stmt, stmt_bytes, StmtFits};
+ghost use Rattle.std.specs.Prelude.{Option};
+ghost use Rattle.mysql_replies.specs.declared.column.Column.{Column};
+ghost use Rattle.mysql_values.specs.Value.{Content};
+ghost use Rattle.mysql_stmt.specs.RowForm.{text_row, bin_row};
 
 /// What is written of a statement packet is read again, whatever follows.
 pub fn stmt_packet_again()
@@ -16,4 +20,10 @@ pub fn stmt_packet_again()
 pub fn stmt_packet_once()
     ensures value { (p q : StmtPacket) (bytes rest left : List ℕ) → stmt.Spells p bytes rest → stmt.Spells q bytes left → p ≡ q }
     ensures rest { (p q : StmtPacket) (bytes rest left : List ℕ) → stmt.Spells p bytes rest → stmt.Spells q bytes left → rest ≡ left }
+{}
+
+/// Bytes spell at most one row of these columns, with one rest behind it, in either protocol.
+pub fn row_once()
+    ensures text { (columns : List Column) (v w : List (Option Content)) (bytes rest left : List ℕ) → (text_row columns).Spells v bytes rest → (text_row columns).Spells w bytes left → (v ≡ w) × (rest ≡ left) }
+    ensures binary { (offset : ℕ) (columns : List Column) (v w : List (Option Content)) (bytes rest left : List ℕ) → (bin_row offset columns).Spells v bytes rest → (bin_row offset columns).Spells w bytes left → (v ≡ w) × (rest ≡ left) }
 {}
