@@ -2,11 +2,14 @@
 //!
 //! Each law is a function with nothing in it, whose contract holds for all values.
 
-ghost use Rattle.std.specs.Prelude.{◌≡◌, ◌+◌, ◌<◌, ◌^◌, ◌++◌, ℕ, List, Ok, length};
+ghost use Rattle.std.specs.Prelude.{◌≡◌, ◌+◌, ◌<◌, ◌^◌, ◌++◌, ℕ, List, Ok, Option, length};
 ghost use Rattle.mysql_stmt.specs.Bitmap.{bytes_for};
 ghost use Rattle.mysql_stmt.specs.NullBitmap.{null_bitmap, borrowed};
 ghost use Rattle.mysql_stmt.specs.declared.stmt.StmtPacket.{StmtPacket};
 ghost use Rattle.mysql_stmt.specs.Stmt.{stmt, stmt_bytes, StmtFits};
+ghost use Rattle.mysql_replies.specs.declared.column.Column.{Column};
+ghost use Rattle.mysql_values.specs.Value.{Content};
+ghost use Rattle.mysql_stmt.specs.RowForm.{text_row, bin_row};
 
 /// What is written of a statement packet is read again, whatever follows.
 pub fn stmt_packet_again()
@@ -26,4 +29,10 @@ pub fn null_bitmap_again()
         (null_bitmap offset count).Spells (borrowed bytes) (bytes ++ rest) rest }
     ensures read { (offset count : ℕ) (bytes rest : List ℕ) → count + 7 + offset < 2 ^ 64 → length bytes ≡ bytes_for offset count →
         (null_bitmap offset count).reads (bytes ++ rest) ≡ Ok (borrowed bytes, rest) }
+{}
+
+/// Bytes spell at most one row of these columns, with one rest behind it, in either protocol.
+pub fn row_once()
+    ensures text { (columns : List Column) (v w : List (Option Content)) (bytes rest left : List ℕ) → (text_row columns).Spells v bytes rest → (text_row columns).Spells w bytes left → (v ≡ w) × (rest ≡ left) }
+    ensures binary { (offset : ℕ) (columns : List Column) (v w : List (Option Content)) (bytes rest left : List ℕ) → (bin_row offset columns).Spells v bytes rest → (bin_row offset columns).Spells w bytes left → (v ≡ w) × (rest ≡ left) }
 {}
