@@ -21,10 +21,7 @@ type WrittenBitmap = BareBytes<8192>;
 const MAX_PAYLOAD_LEN: usize = 0xff_ffff;
 
 /// The bitmap in which the bit of each value that is NULL is set.
-fn bitmap_of(
-    alloc: Global,
-    params: &[Value],
-) -> Result<NullBitmap<'static, ClientSide>, AllocError>
+fn bitmap_of(alloc: Global, params: &[Value]) -> Result<NullBitmap<'static, ClientSide>, AllocError>
     ensures { IfOk result (λ bitmap. MarksNulls params.now bitmap.bytes) }
 {
     let mut bitmap = NullBitmap::<ClientSide>::new(alloc, params.len())?;

@@ -21,17 +21,17 @@ loop-i-preserved c =
     let old = c.loop-i.bitmap.bytes in
     elim c.match-value.branch [
       | in-NULL+in_ok-set w ↦
-        let new = w.set.new.self.bytes in
-        let place : i + 0 ≡ i = omega arith in
-        let this = ap (cell new) (sym place) ∙ w.in_ok-set.ensures.this ∙ sym (ap (λ (v : Value). null_bit (content_of v)) w.in-NULL.is) in
-        let others = λ (k : ℕ) (other : k ≢ i). w.in_ok-set.ensures.others k (λ e. other (e ∙ place)) in
-        rw (w.bitmap-is) (record {
-          len = w.in_ok-set.ensures.len ∙ c.loop-i.invariant.len;
-          cells = marked params i value old new c.loop-i-test.true c.index-params-i.is c.loop-i.invariant.cells this others;
-        })
+          let new = w.set.new.self.bytes in
+          let place : i + 0 ≡ i = omega arith in
+          let this = ap (cell new) (sym place) ∙ w.in_ok-set.ensures.this ∙ sym (ap (λ (v : Value). null_bit (content_of v)) w.in-NULL.is) in
+          let others = λ (k : ℕ) (other : k ≢ i). w.in_ok-set.ensures.others k (λ e. other (e ∙ place)) in
+          rw (w.bitmap-is) (record {
+            len = w.in_ok-set.ensures.len ∙ c.loop-i.invariant.len;
+            cells = marked params i value old new c.loop-i-test.true c.index-params-i.is c.loop-i.invariant.cells this others;
+          })
       | in_default w ↦
-        rw (w.bitmap-is) (record {
-          len = c.loop-i.invariant.len;
-          cells = unmarked params i value old c.loop-i-test.true c.index-params-i.is (not_null value w.in_default.not-NULL) c.loop-i.invariant.cells;
-        })
+          rw (w.bitmap-is) (record {
+            len = c.loop-i.invariant.len;
+            cells = unmarked params i value old c.loop-i-test.true c.index-params-i.is (not_null value w.in_default.not-NULL) c.loop-i.invariant.cells;
+          })
     ]

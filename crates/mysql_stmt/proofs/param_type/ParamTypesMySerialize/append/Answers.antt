@@ -9,5 +9,9 @@ append-requires c =
     let value = c.value-item.result in
     let out = c.args.out.now in
     let fits : length out.items + length (types_bytes c.args.self.now.0.now) ≤ out.cap = omega (arith, out.ok, c.requires) in
-    rw (c.of.ensures) (omega (arith, c.loop-value.out.ok, c.loop-value.invariant.room,
-      next_fits (λ v. type_bytes (type_of (content_of v))) c.args.self.now.0.now c.loop-value.value-index value out.items c.loop-value.out.items out.cap c.loop-value-test.true c.value-item.is c.loop-value.invariant.items fits))
+    rw (c.of.ensures) (omega (
+      arith,
+      c.loop-value.out.ok,
+      c.loop-value.invariant.room,
+      next_fits (λ v. type_bytes (type_of (content_of v))) c.args.self.now.0.now c.loop-value.value-index value out.items c.loop-value.out.items out.cap c.loop-value-test.true c.value-item.is c.loop-value.invariant.items fits,
+    ))

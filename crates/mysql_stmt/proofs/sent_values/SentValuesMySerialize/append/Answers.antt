@@ -11,5 +11,9 @@ append-requires c =
     let long = c.args.self.now.as_long_data in
     let values = c.args.self.now.values.now in
     let fits : length out.items + length (data_bytes long values) ≤ out.cap = omega (arith, out.ok, c.requires) in
-    omega (arith, c.loop-value.out.ok, c.loop-value.invariant.room,
-      next_fits (λ v. sent long (content_of v)) values c.loop-value.value-index value out.items c.loop-value.out.items out.cap c.loop-value-test.true c.value-item.is c.loop-value.invariant.items fits)
+    omega (
+      arith,
+      c.loop-value.out.ok,
+      c.loop-value.invariant.room,
+      next_fits (λ v. sent long (content_of v)) values c.loop-value.value-index value out.items c.loop-value.out.items out.cap c.loop-value-test.true c.value-item.is c.loop-value.invariant.items fits,
+    )
