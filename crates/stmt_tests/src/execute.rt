@@ -1,4 +1,7 @@
-use mysql_stmt::{ComStmtClose, ComStmtExecuteRequestBuilder, ComStmtSendLongData};
+use mysql_stmt::{
+    ComStmtClose, ComStmtExecuteRequestBuilder, ComStmtSendLongData, InvalidComStmtExecuteHeader,
+    InvalidComStmtSendLongDataHeader, InvalidIterationCount,
+};
 use mysql_values::Value;
 use mysql_wire::{Flags, MySerialize};
 use std::alloc::{AllocError, Global};
@@ -92,5 +95,22 @@ fn long_data_and_closes_are_written(rt: HostRuntime) -> Result<(), Fail> {
     ComStmtClose::new(1).serialize(&mut out)?;
     let expected = [0x18, 1, 0, 0, 0, 2, 0, b'a', b'b', 0x19, 1, 0, 0, 0];
     assert_eq!(rt; out.as_slice(), expected.as_slice());
+    Ok(())
+}
+
+#[test]
+fn markers_have_their_texts(rt: HostRuntime) -> Result<(), Fail> {
+    assert_eq!(rt;
+        format!(in rt.alloc(); "{}", InvalidComStmtExecuteHeader)?.as_str(),
+        "Invalid header for COM_STMT_EXECUTE"
+    );
+    assert_eq!(rt;
+        format!(in rt.alloc(); "{}", InvalidIterationCount)?.as_str(),
+        "Invalid iteration count for COM_STMT_EXECUTE"
+    );
+    assert_eq!(rt;
+        format!(in rt.alloc(); "{}", InvalidComStmtSendLongDataHeader)?.as_str(),
+        "Invalid header for COM_STMT_SEND_LONG_DATA"
+    );
     Ok(())
 }
