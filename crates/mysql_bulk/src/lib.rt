@@ -30,4 +30,6 @@ pub use run::BulkRequests;
 pub use whole_run::BulkRun;
 
 #[cfg(test)]
+mod request_tests;
+#[cfg(test)]
 mod tests;
