@@ -6,6 +6,8 @@
 #[cfg(test)]
 mod bulk;
 #[cfg(test)]
+mod bulk_requests;
+#[cfg(test)]
 mod execute;
 #[cfg(test)]
 mod null_bitmap;
