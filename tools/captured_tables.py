@@ -6,11 +6,13 @@ captured_tables.py --check  changes nothing, and fails where one is not what wou
 
 A table is a text with a line for each packet, and words parted by one space. A number is decimal, bytes are
 hexadecimal behind an x, byte strings of one kind are parted by commas, none is 'none', and what the client's API did
-not report is '-'.
+not report is '-'. The words for rows are those of captured_rows.py.
 """
 import json
 import os
 import sys
+
+from captured_rows import binary_row, text_row
 
 TOP = os.path.dirname(os.path.dirname(os.path.realpath(__file__)))
 PACKETS = f"{TOP}/tests/captured/packets.jsonl"
@@ -122,6 +124,8 @@ KINDS = {
     "progress": ("capabilities stage max_stage progress stage_info", progress),
     "stmt_close": ("stmt_id", closed),
     "stmt_send_long_data": ("stmt_id param_index data", sent_ahead),
+    "text_row": ("columns values", text_row),
+    "binary_row": ("columns values", binary_row),
 }
 
 
@@ -135,7 +139,7 @@ def table(kind, packets):
     ]
     for it in packets:
         if it["kind"] == kind:
-            lines.append(" ".join([it["id"], "x" + it["payload"], *make(it)]) + "\\n\\")
+            lines.append(" ".join([it["id"], "x" + it["payload"], *(make(it, packets) if make is text_row else make(it))]) + "\\n\\")
     return "\n".join([*lines, '";', ""])
 
 

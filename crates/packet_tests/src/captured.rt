@@ -2,6 +2,7 @@
 //!
 //! Each table has a line for each packet: its name, its bytes and what was reported.
 
+mod binary_row;
 mod column;
 mod columns;
 mod eof_old;
@@ -13,7 +14,9 @@ mod ok_terminator;
 mod prepared;
 mod progress;
 mod reported;
+mod rows;
 mod statements;
 mod stmt_close;
 mod stmt_prepare_ok;
 mod stmt_send_long_data;
+mod text_row;
