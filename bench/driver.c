@@ -1,6 +1,7 @@
 /* Runs one operation over a batch of packets, for valgrind to count its instructions.
  *
- * driver NAME COUNT   prints the sum that the operation answers, which depends on all of its work
+ * driver NAME COUNT   prints the sum that the operation answers, which depends on all of its work; status 1 where it is
+ *                     0, since nothing was read or written then
  * driver              prints the operations, one a line: NAME COUNT TEXT, with the COUNT to be used
  *
  * Only what runs below `measured` is to be counted; the packets, each other than the one before it,
@@ -13,7 +14,8 @@
 
 typedef uint64_t call(const uint8_t *bytes, size_t len);
 
-call bench_statements_read, bench_statements_written;
+call bench_statements_read, bench_statements_written, bench_columns_read, bench_columns_written,
+    bench_ok_packets_read, bench_errors_read, bench_errors_written, bench_bulk_rows_made, bench_bulk_rows_written;
 
 struct batch {
     uint8_t *bytes;
@@ -61,6 +63,112 @@ static void put_statement(struct batch *batch)
     put_number(batch, varied() % 4, 2);
 }
 
+/* bytes of a length from 1 to most, behind that length (a length-encoded string, most being below 251) */
+static void put_string(struct batch *batch, size_t most)
+{
+    uint8_t bytes[256];
+    size_t len = 1 + varied() % most;
+    bytes[0] = (uint8_t)len;
+    for (size_t i = 0; i < len; i++)
+        bytes[1 + i] = (uint8_t)('a' + varied() % 26);
+    put(batch, bytes, 1 + len);
+}
+
+/* what `fill` puts, behind its length in two bytes */
+static void put_framed(struct batch *batch, void (*fill)(struct batch *))
+{
+    size_t start = batch->len, len;
+    put_number(batch, 0, 2);
+    fill(batch);
+    len = batch->len - start - 2;
+    batch->bytes[start] = (uint8_t)len;
+    batch->bytes[start + 1] = (uint8_t)(len >> 8);
+}
+
+static void fill_column(struct batch *batch)
+{
+    put(batch, "\003def", 4);
+    for (int i = 0; i < 5; i++)
+        put_string(batch, 20);
+    put_number(batch, 0x0c, 1);
+    put_number(batch, varied(), 2);
+    put_number(batch, varied(), 4);
+    put_number(batch, varied() % 2 ? 8 : 253, 1);
+    put_number(batch, varied() % 0x1000, 2);
+    put_number(batch, varied() % 32, 1);
+    put_number(batch, 0, 2);
+}
+
+static void put_column(struct batch *batch)
+{
+    put_framed(batch, fill_column);
+}
+
+/* a variable of the session and its value, and for each second packet the schema too, as entries of a state string */
+static void fill_state(struct batch *batch)
+{
+    struct batch data = { 0 };
+    put_string(&data, 20);
+    put_string(&data, 20);
+    put_number(batch, 0, 1);
+    put_number(batch, data.len, 1);
+    put(batch, data.bytes, data.len);
+    if (varied() % 2) {
+        data.len = 0;
+        put_string(&data, 20);
+        put_number(batch, 1, 1);
+        put_number(batch, data.len, 1);
+        put(batch, data.bytes, data.len);
+    }
+    free(data.bytes);
+}
+
+static void fill_ok_packet(struct batch *batch)
+{
+    struct batch state_string = { 0 };
+    put_number(batch, 0, 1);
+    put_number(batch, varied() % 251, 1);
+    put_number(batch, 0xfc, 1);
+    put_number(batch, varied(), 2);
+    put_number(batch, 0x4002, 2);
+    put_number(batch, varied() % 4, 2);
+    put_string(batch, 20);
+    fill_state(&state_string);
+    put_number(batch, state_string.len, 1);
+    put(batch, state_string.bytes, state_string.len);
+    free(state_string.bytes);
+}
+
+static void put_ok_packet(struct batch *batch)
+{
+    put_framed(batch, fill_ok_packet);
+}
+
+static void fill_error(struct batch *batch)
+{
+    uint8_t message[60];
+    size_t len = 1 + varied() % sizeof message;
+    for (size_t i = 0; i < len; i++)
+        message[i] = (uint8_t)('a' + varied() % 26);
+    put_number(batch, 0xff, 1);
+    put_number(batch, 1000 + varied() % 1000, 2);
+    put(batch, varied() % 2 ? "#HY000" : "#42000", 6);
+    put(batch, message, len);
+}
+
+static void put_error(struct batch *batch)
+{
+    put_framed(batch, fill_error);
+}
+
+/* a number of 8 bytes, and 20 bytes of text */
+static void put_bulk_row(struct batch *batch)
+{
+    put_number(batch, varied(), 8);
+    for (int i = 0; i < 20; i++)
+        put_number(batch, 'a' + varied() % 26, 1);
+}
+
 static const struct operation {
     const char *name;
     size_t count;
@@ -70,6 +178,13 @@ static const struct operation {
 } operations[] = {
     { "statements_read", 10000, "statement packet, read", put_statement, bench_statements_read },
     { "statements_written", 10000, "statement packet, read and written", put_statement, bench_statements_written },
+    { "columns_read", 10000, "column, read", put_column, bench_columns_read },
+    { "columns_written", 10000, "column, read and written", put_column, bench_columns_written },
+    { "ok_packets_read", 10000, "OK packet, read with its session changes", put_ok_packet, bench_ok_packets_read },
+    { "errors_read", 10000, "error, read", put_error, bench_errors_read },
+    { "errors_written", 10000, "error, read and written", put_error, bench_errors_written },
+    { "bulk_rows_made", 1000000, "bulk row, made and dropped", put_bulk_row, bench_bulk_rows_made },
+    { "bulk_rows_written", 1000000, "bulk row, made, built into requests and written", put_bulk_row, bench_bulk_rows_written },
 };
 
 __attribute__((noinline)) uint64_t measured(call *run, const struct batch *batch)
@@ -79,6 +194,7 @@ __attribute__((noinline)) uint64_t measured(call *run, const struct batch *batch
 
 int main(int argc, char **argv)
 {
+    uint64_t sum = 1;
     for (size_t i = 0; i < sizeof operations / sizeof *operations; i++) {
         const struct operation *it = &operations[i];
         if (argc != 3) {
@@ -87,8 +203,9 @@ int main(int argc, char **argv)
             struct batch batch = { 0 };
             for (size_t n = strtoul(argv[2], NULL, 10); n; n--)
                 it->put(&batch);
-            printf("%" PRIu64 "\n", measured(it->run, &batch));
+            sum = measured(it->run, &batch);
+            printf("%" PRIu64 "\n", sum);
         }
     }
-    return 0;
+    return sum == 0;
 }

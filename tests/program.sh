@@ -72,5 +72,51 @@ expect 'half a byte' 2 "$usage" "$top/mypackets" stmt 000
 fails_to_write 'a statement packet on a full device' "$top/mypackets" stmt 000100000001000200000000
 fails_to_write 'a bad call on a full device' "$top/mypackets"
 
+# bulk_on INPUT WHAT STATUS OUTPUT WORD ..: `bulk` with these words, on this input
+bulk_on() {
+    printf '%s' "$1" >input
+    expect "$2" "$3" "$4" "$top/mypackets" bulk "${@:5}"
+    : >input
+}
+
+bulk_on $'i1\ni2\ni3\ni4\ni5\n' 'five rows' 0 'request: fa0100000080000800000100000000000000000200000000000000
+request: fa010000000000000300000000000000000400000000000000
+request: fa010000000000000500000000000000
+requests: 3
+rows: 5
+fewest: yes
+' 1 31
+bulk_on $'i1\ni2\ni3\ni4\ni5' 'five rows, the last without a line feed, one a request' 0 'request: fa0100000080000800000100000000000000
+request: fa010000000000000200000000000000
+request: fa010000000000000300000000000000
+request: fa010000000000000400000000000000
+request: fa010000000000000500000000000000
+requests: 5
+rows: 5
+fewest: yes
+' 1 31 rows=1
+bulk_on $'i1\ni2\ni3\ni4\ni5\n' 'five rows with types always' 0 'request: fa0100000080000800000100000000000000000200000000000000
+request: fa0100000080000800000300000000000000000400000000000000
+request: fa0100000080000800000500000000000000
+requests: 3
+rows: 5
+fewest: yes
+' 1 31 types
+bulk_on $'\n\n\n' 'empty rows with types always, two a request' 0 $'request: fa010000008000\nrequest: fa010000008000\nrequests: 2\nrows: 3\nfewest: yes\n' 1 11 types rows=2
+bulk_on '' 'no rows' 0 $'requests: 0\nrows: 0\nfewest: yes\n' 1 31
+bulk_on $'\n' 'an empty row' 0 $'request: fa010000008000\nrequests: 1\nrows: 1\nfewest: yes\n' 1 11
+bulk_on $'i1\ni1 i2\n' 'rows of two lengths' 1 $'refused: MixedArity\n' 1 31
+bulk_on "i1
+b$(printf '%0200d' 0)
+" 'a row too large behind another' 1 $'request: fa0100000080000800000100000000000000\nrefused: RowTooLarge\n' 1 31
+bulk_on $'N\ni5\n' 'a row too large with types' 1 $'request: fa010000008000060001\nrefused: RowTooLarge\n' 1 21 types
+bulk_on $'i1\nx\n' 'a line that is no row' 2 "$usage" 1 31
+bulk_on $'i1\n' 'a limit below 4' 2 "$usage" 1 3
+bulk_on $'i1\n' 'no row a request' 2 "$usage" 1 31 rows=0
+bulk_on $'i1\n' 'options in the other order' 2 "$usage" 1 31 rows=1 types
+fails_to_write 'bulk requests on a full device' "$top/mypackets" bulk 1 31
+"$top/mypackets" bulk 1 31 <. >output 2>errors
+judge 'an input that cannot be read' "$( (($? == 3)) && [[ ! -s output && ! -s errors ]] || printf 'it did not end with status 3 alone')"
+
 printf '%d passed, %d failed\n' "$passed" "$failed"
 ((failed == 0))

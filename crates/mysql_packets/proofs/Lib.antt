@@ -2,3 +2,8 @@ pub mod Judged
 pub mod Words
 pub mod Refused
 pub mod OkRefused
+pub mod Decimals
+pub mod Inputs
+pub mod Rows
+pub mod BulkAnswers
+pub mod Calls

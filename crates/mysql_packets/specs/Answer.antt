@@ -23,9 +23,12 @@ name_of kind.InvalidData = codes "InvalidData"
 name_of kind.InvalidInput = codes "InvalidInput"
 name_of kind.Memory = codes "Memory"
 
--- the lines so far, and then a refusal
+-- the lines so far, and then a refusal of that name
+abbrev pub refused_by : List ℕ → List ℕ → Answer
+refused_by lines name = record { text = lines ++ line (codes "refused") name; status = 1 }
+
 abbrev pub refused : List ℕ → FaultKind → Answer
-refused lines k = record { text = lines ++ line (codes "refused") (name_of k); status = 1 }
+refused lines k = refused_by lines (name_of k)
 
 -- the refusal for a fault; a growth that was refused is none
 abbrev pub IsRefusal : List ℕ → FaultOf → Answer → Type 0

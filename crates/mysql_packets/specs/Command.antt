@@ -1,6 +1,5 @@
 -- What the program is asked for.
-use Rattle.std.specs.Prelude.{ℕ, List, [], ◌∷◌, Bool, Option, Some, None, option_map, codes, nat_eq, if◌then◌else◌}
-use Rattle.std.specs.Cmp.Lexicographic.{pointwise}
+use Rattle.std.specs.Prelude.{ℕ, List, [], ◌∷◌, Bool, true, false, Option, Some, None, option_map, codes, if◌then◌else◌}
 use Rattle.mysql_wire.specs.Flags.{CapabilityFlags}
 use Rattle.mysql_packets.specs.declared.command.Command.{Command}
 use Rattle.mysql_packets.specs.declared.command.Command.TheVariants as command
@@ -8,9 +7,8 @@ use Rattle.mysql_packets.specs.declared.commands.ok.OkKind.{OkKind}
 use Rattle.mysql_packets.specs.Capabilities.{capabilities_of}
 use Rattle.mysql_packets.specs.Digits.{bytes_of}
 use Rattle.mysql_packets.specs.OkKind.{kind_of}
-
-abbrev pub is_named : List ℕ → List ℕ → Bool
-is_named word name = pointwise nat_eq word name
+use Rattle.mysql_packets.specs.Named.{is_named}
+use Rattle.mysql_packets.specs.BulkCall.{bulk_call, plain_rule, rule_of_one, rule_of_two}
 
 -- stmt HEX, infile HEX, column HEX
 abbrev pub with_one : List ℕ → List ℕ → Option Command
@@ -25,10 +23,11 @@ err_command (Some capabilities) (Some bytes) = Some (command.Err capabilities by
 err_command (Some capabilities) None = None
 err_command None bytes = None
 
--- err CAPS HEX
-abbrev pub with_two : List ℕ → List ℕ → List ℕ → Option Command
+-- err CAPS HEX, bulk STMT MAX
+unfoldable pub with_two : List ℕ → List ℕ → List ℕ → Option Command
 with_two name first second =
     if is_named name (codes "err") then err_command (capabilities_of first) (bytes_of second)
+    else if is_named name (codes "bulk") then option_map command.Bulk (bulk_call first second (Some plain_rule))
     else None
 
 abbrev pub ok_command : Option OkKind → Option CapabilityFlags → Option (List ℕ) → Option Command
@@ -37,15 +36,40 @@ ok_command (Some kind) (Some capabilities) None = None
 ok_command (Some kind) None bytes = None
 ok_command None capabilities bytes = None
 
--- ok KIND CAPS HEX
-abbrev pub with_three : List ℕ → List ℕ → List ℕ → List ℕ → Option Command
+-- ok KIND CAPS HEX, bulk STMT MAX types, bulk STMT MAX rows=K
+unfoldable pub with_three : List ℕ → List ℕ → List ℕ → List ℕ → Option Command
 with_three name first second third =
     if is_named name (codes "ok") then ok_command (kind_of first) (capabilities_of second) (bytes_of third)
+    else if is_named name (codes "bulk") then option_map command.Bulk (bulk_call first second (rule_of_one third))
     else None
+
+-- bulk STMT MAX types rows=K
+abbrev pub with_four : List ℕ → List ℕ → List ℕ → List ℕ → List ℕ → Option Command
+with_four name first second third fourth =
+    if is_named name (codes "bulk") then option_map command.Bulk (bulk_call first second (rule_of_two third fourth))
+    else None
+
+-- a call of two to four words
+abbrev pub shorter_call : List (List ℕ) → Option Command
+shorter_call (name ∷ word ∷ []) = with_one name word
+shorter_call (name ∷ first ∷ second ∷ []) = with_two name first second
+shorter_call (name ∷ first ∷ second ∷ third ∷ []) = with_three name first second third
+shorter_call _ = None
+
+-- a call of five words
+unfoldable pub longer_call : List (List ℕ) → Option Command
+longer_call (name ∷ first ∷ second ∷ third ∷ fourth ∷ []) = with_four name first second third fourth
+longer_call _ = None
+
+abbrev pub or_else : Option Command → Option Command → Option Command
+or_else (Some c) other = Some c
+or_else None other = other
 
 -- the command, unless it is a bad call
 abbrev pub command_of : List (List ℕ) → Option Command
-command_of (name ∷ word ∷ []) = with_one name word
-command_of (name ∷ first ∷ second ∷ []) = with_two name first second
-command_of (name ∷ first ∷ second ∷ third ∷ []) = with_three name first second third
-command_of _ = None
+command_of words = or_else (longer_call words) (shorter_call words)
+
+-- the input is read for `bulk` alone
+abbrev pub reads_input : Option Command → Bool
+reads_input (Some (command.Bulk call)) = true
+reads_input _ = false

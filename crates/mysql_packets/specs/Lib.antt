@@ -1,5 +1,11 @@
 pub mod Digits
+pub mod Decimal
+pub mod Parts
+pub mod RowText
+pub mod Input
 pub mod Capabilities
+pub mod Named
+pub mod BulkCall
 pub mod Lines
 pub mod Answer
 pub mod Stmt
@@ -9,5 +15,6 @@ pub mod Change
 pub mod OkKind
 pub mod Ok
 pub mod Err
+pub mod Bulk
 pub mod Command
 pub mod Program

@@ -1,25 +1,39 @@
 -- What the program answers to the words behind its name.
-use Rattle.std.specs.Prelude.{ℕ, List, Option, Some, None}
+use Rattle.std.specs.Prelude.{◌≡◌, ◌⊎◌, ℕ, List, true, Option, Some, None}
 use Rattle.mysql_packets.specs.declared.command.Command.{Command}
 use Rattle.mysql_packets.specs.declared.command.Command.TheVariants as command
-use Rattle.mysql_packets.specs.Answer.{Answer, usage}
-use Rattle.mysql_packets.specs.Command.{command_of}
+use Rattle.mysql_packets.specs.Answer.{Answer, IsGiven, usage, out_of_memory}
+use Rattle.mysql_packets.specs.Command.{reads_input}
+use Rattle.mysql_packets.specs.Input.{GaveAll}
 use Rattle.mysql_packets.specs.Stmt.{stmt_answer}
 use Rattle.mysql_packets.specs.Infile.{infile_answer}
 use Rattle.mysql_packets.specs.Column.{column_answer}
 use Rattle.mysql_packets.specs.Ok.{ok_answer}
 use Rattle.mysql_packets.specs.Err.{err_answer}
+use Rattle.mysql_packets.specs.Bulk.{IsBulkAnswer}
 
-abbrev pub answer_to_command : Command → Answer
-answer_to_command (command.Stmt bytes) = stmt_answer bytes
-answer_to_command (command.Infile bytes) = infile_answer bytes
-answer_to_command (command.Column bytes) = column_answer bytes
-answer_to_command (command.Ok kind capabilities bytes) = ok_answer kind capabilities bytes
-answer_to_command (command.Err capabilities bytes) = err_answer capabilities bytes
+-- the answer to a command on an input, which `bulk` alone looks at
+abbrev pub AnswersCommand : Command → List ℕ → Answer → Type 0
+AnswersCommand (command.Stmt bytes) input answer = answer ≡ stmt_answer bytes
+AnswersCommand (command.Infile bytes) input answer = answer ≡ infile_answer bytes
+AnswersCommand (command.Column bytes) input answer = answer ≡ column_answer bytes
+AnswersCommand (command.Ok kind capabilities bytes) input answer = answer ≡ ok_answer kind capabilities bytes
+AnswersCommand (command.Err capabilities bytes) input answer = answer ≡ err_answer capabilities bytes
+AnswersCommand (command.Bulk call) input answer = IsBulkAnswer call input answer
 
-abbrev pub answer_to_call : Option Command → Answer
-answer_to_call None = usage
-answer_to_call (Some c) = answer_to_command c
+-- the answer to a call on an input
+abbrev pub AnswersCall : Option Command → List ℕ → Answer → Type 0
+AnswersCall None input answer = answer ≡ usage
+AnswersCall (Some c) input answer = AnswersCommand c input answer
 
-abbrev pub reply_to : List (List ℕ) → Answer
-reply_to words = answer_to_call (command_of words)
+-- a call was answered: its answer was given, on all that the reader had where the call reads
+pub record IsAnswered (call : Option Command) (before after old new : Option (List ℕ)) (status : ℕ) : Type 0 where
+  pub input : List ℕ
+  pub read : reads_input call ≡ true → GaveAll before after input
+  pub answer : Answer
+  pub answers : AnswersCall call input answer
+  pub given : IsGiven answer old new status
+
+-- a call was answered; or a growth was refused, which is told; or a read or write failed, with status 3
+abbrev pub Runs : Option Command → Option (List ℕ) → Option (List ℕ) → Option (List ℕ) → Option (List ℕ) → ℕ → Type 0
+Runs call before after old new status = IsAnswered call before after old new status ⊎ (IsGiven out_of_memory old new status ⊎ (status ≡ 3))

@@ -1,12 +1,15 @@
 //! What the program answers.
 
 ghost use Rattle.std.specs.Prelude.{◌≡◌, IfOk, string_bytes};
-ghost use Rattle.mysql_packets.specs.Answer.{done, IsRefusal};
+ghost use Rattle.mysql_packets.specs.Answer.{done, refused_by, usage, IsRefusal};
 
 use crate::lines::{Line, append_lines};
 use mysql_wire::Fault;
 use std::alloc::{AllocError, Global};
 use std::marker::Model;
+
+/// The line of a bad call.
+pub const USAGE: &str = "usage: mypackets COMMAND ARGS\n";
 
 /// The lines that are written, and the status.
 #[derive(Drop)]
@@ -32,10 +35,26 @@ impl Answer {
         Answer { text, status: 0 }
     }
 
-    /// The lines so far, and then that the rest was refused: status 1.
+    /// A bad call: the one line, and status 2.
+    pub fn usage(alloc: Global) -> Result<Answer, AllocError>
+        ensures value { IfOk result (λ answer. answer ≡ usage) }
+    {
+        let text = String::from_str(alloc, USAGE)?;
+        Ok(Answer { text, status: 2 })
+    }
+
+    /// The lines so far, and then that the rest was refused, by the name of the refusal: status 1.
+    pub fn refused_by(alloc: Global, mut text: String, name: &str) -> Result<Answer, AllocError>
+        ensures value { IfOk result (λ answer. answer ≡ refused_by (string_bytes text) name.now) }
+    {
+        append_lines(alloc, &mut text, &[Line::text("refused", name)])?;
+        Ok(Answer { text, status: 1 })
+    }
+
+    /// The same for a fault.
     ///
     /// A growth that was refused gives no answer of its own, but the error.
-    pub fn refused(alloc: Global, mut text: String, fault: Fault) -> Result<Answer, AllocError>
+    pub fn refused(alloc: Global, text: String, fault: Fault) -> Result<Answer, AllocError>
         ensures value { IfOk result (λ answer. IsRefusal (string_bytes text) fault.entry answer) }
     {
         let name = match fault {
@@ -44,8 +63,7 @@ impl Answer {
             Fault::InvalidInput(_) => "InvalidInput",
             Fault::Memory => return Err(AllocError),
         };
-        append_lines(alloc, &mut text, &[Line::text("refused", name)])?;
-        Ok(Answer { text, status: 1 })
+        Answer::refused_by(alloc, text, name)
     }
 
     pub fn text(&self) -> &str

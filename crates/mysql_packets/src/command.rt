@@ -1,13 +1,14 @@
 //! What the program is asked for.
 
-ghost use Rattle.std.specs.Prelude.{◌≡◌, IfOk, map, string_bytes};
+ghost use Rattle.std.specs.Prelude.{◌≡◌, IfOk, Some, map, string_bytes};
 ghost use Rattle.mysql_packets.specs.Command as spec;
-ghost use Rattle.mysql_packets.specs.Program.{answer_to_command};
+ghost use Rattle.mysql_packets.specs.Program.{AnswersCommand};
 
 use crate::answer::Answer;
+use crate::bulk_call::BulkCall;
 use crate::capabilities::capabilities_of;
 use crate::commands::ok::OkKind;
-use crate::commands::{column, err, infile, ok, stmt};
+use crate::commands::{bulk, column, err, infile, ok, stmt};
 use crate::digits::HexDigits;
 use mysql_wire::CapabilityFlags;
 use std::alloc::{AllocError, Global};
@@ -25,6 +26,8 @@ pub enum Command<'a> {
     Ok(OkKind, CapabilityFlags, HexDigits<'a>),
     /// `err CAPS HEX`: an error packet.
     Err(CapabilityFlags, HexDigits<'a>),
+    /// `bulk STMT MAX [types] [rows=K]`: bulk requests for the rows of the input.
+    Bulk(BulkCall),
 }
 
 impl<'a> Command<'a> {
@@ -33,6 +36,16 @@ impl<'a> Command<'a> {
     /// It takes no memory.
     pub fn of(words: &'a [String]) -> Option<Command<'a>>
         ensures value { result ≡ spec.command_of (map string_bytes words.now) }
+    {
+        match Command::longer_call(words) {
+            Some(command) => Some(command),
+            None => Command::shorter_call(words),
+        }
+    }
+
+    /// A call of two to four words.
+    fn shorter_call(words: &'a [String]) -> Option<Command<'a>>
+        ensures value { result ≡ spec.shorter_call (map string_bytes words.now) }
     {
         match words {
             [name, word] => Command::with_one(name.as_str(), word.as_str()),
@@ -47,26 +60,46 @@ impl<'a> Command<'a> {
         }
     }
 
+    /// A call of five words.
+    #[tactic(auto, unfolding(crate::specs::Command::longer_call))]
+    fn longer_call(words: &'a [String]) -> Option<Command<'a>>
+        ensures value { result ≡ spec.longer_call (map string_bytes words.now) }
+    {
+        match words {
+            [name, first, second, third, fourth] => {
+                let (name, first, second) = (name.as_str(), first.as_str(), second.as_str());
+                Command::with_four(name, first, second, third.as_str(), fourth.as_str())
+            }
+            _ => None,
+        }
+    }
+
     fn with_one(name: &str, word: &'a str) -> Option<Command<'a>>
         ensures value { result ≡ spec.with_one name.now word.now }
     {
         match name {
-            "stmt" => Some(Command::Stmt(HexDigits::new(word)?)),
-            "infile" => Some(Command::Infile(HexDigits::new(word)?)),
-            "column" => Some(Command::Column(HexDigits::new(word)?)),
+            "stmt" => Some(Command::Stmt(HexDigits::new(word.as_bytes())?)),
+            "infile" => Some(Command::Infile(HexDigits::new(word.as_bytes())?)),
+            "column" => Some(Command::Column(HexDigits::new(word.as_bytes())?)),
             _ => None,
         }
     }
 
+    #[tactic(auto, unfolding(crate::specs::Command::with_two))]
     fn with_two(name: &str, first: &str, second: &'a str) -> Option<Command<'a>>
         ensures value { result ≡ spec.with_two name.now first.now second.now }
     {
         match name {
-            "err" => Some(Command::Err(capabilities_of(first)?, HexDigits::new(second)?)),
+            "err" => {
+                let capabilities = capabilities_of(first)?;
+                Some(Command::Err(capabilities, HexDigits::new(second.as_bytes())?))
+            }
+            "bulk" => Some(Command::Bulk(BulkCall::plain(first, second)?)),
             _ => None,
         }
     }
 
+    #[tactic(auto, unfolding(crate::specs::Command::with_three))]
     fn with_three(name: &str, first: &str, second: &str, third: &'a str) -> Option<Command<'a>>
         ensures value { result ≡ spec.with_three name.now first.now second.now third.now }
     {
@@ -74,15 +107,38 @@ impl<'a> Command<'a> {
             "ok" => {
                 let kind = OkKind::of(first)?;
                 let capabilities = capabilities_of(second)?;
-                Some(Command::Ok(kind, capabilities, HexDigits::new(third)?))
+                Some(Command::Ok(kind, capabilities, HexDigits::new(third.as_bytes())?))
             }
+            "bulk" => Some(Command::Bulk(BulkCall::with_one(first, second, third)?)),
             _ => None,
         }
     }
 
-    /// What the program answers. A growth that was refused is the only error.
-    pub fn answer(self, alloc: Global) -> Result<Answer, AllocError>
-        ensures value { IfOk result (λ answer. answer ≡ answer_to_command self.entry) }
+    fn with_four(
+        name: &str,
+        first: &str,
+        second: &str,
+        third: &str,
+        fourth: &str,
+    ) -> Option<Command<'a>>
+        ensures value { result ≡ spec.with_four name.now first.now second.now third.now fourth.now }
+    {
+        match name {
+            "bulk" => Some(Command::Bulk(BulkCall::with_two(first, second, third, fourth)?)),
+            _ => None,
+        }
+    }
+
+    /// Whether the answer takes the input, which is read for `bulk` alone.
+    pub fn reads_input(&self) -> bool
+        ensures value { result ≡ spec.reads_input (Some self.now) }
+    {
+        matches!(self, Command::Bulk(_))
+    }
+
+    /// What the program answers, on this input. A growth that was refused is the only error.
+    pub fn answer(self, alloc: Global, input: &[u8]) -> Result<Answer, AllocError>
+        ensures value { IfOk result (λ answer. AnswersCommand self.entry input.now answer) }
     {
         match self {
             Command::Stmt(digits) => stmt::answer(alloc, digits.decode(alloc)?.as_slice()),
@@ -94,6 +150,7 @@ impl<'a> Command<'a> {
             Command::Err(capabilities, digits) => {
                 err::answer(alloc, capabilities, digits.decode(alloc)?.as_slice())
             }
+            Command::Bulk(call) => bulk::answer(alloc, &call, input),
         }
     }
 }

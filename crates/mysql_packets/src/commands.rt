@@ -1,5 +1,6 @@
 //! The program's commands, one a file.
 
+pub mod bulk;
 mod change;
 pub mod column;
 pub mod err;

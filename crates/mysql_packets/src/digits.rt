@@ -11,7 +11,7 @@ use std::marker::Model;
 /// Hexadecimal digits, two for each byte, in either case.
 #[derive(Drop)]
 pub struct HexDigits<'a> {
-    digits: &'a str,
+    digits: &'a [u8],
 }
 
 impl<'a> Model for HexDigits<'a> {
@@ -28,10 +28,10 @@ impl<'a> Model for HexDigits<'a> {
 impl<'a> HexDigits<'a> {
     /// The digits, unless a character is none or one is left over. It takes no memory.
     #[tactic(auto, using(crate::proofs::Judged::judged_digits))]
-    pub fn new(digits: &'a str) -> Option<HexDigits<'a>>
+    pub fn new(digits: &'a [u8]) -> Option<HexDigits<'a>>
         ensures value { result ≡ bytes_of digits.now }
     {
-        if are_pairs(digits.as_bytes()) {
+        if are_pairs(digits) {
             Some(HexDigits { digits })
         } else {
             None

@@ -2,13 +2,18 @@
 #![tactic(auto)]
 
 mod answer;
+mod bulk_call;
 mod capabilities;
 mod command;
 mod commands;
+mod decimal;
 mod digits;
+mod input;
 mod lines;
 pub mod packets;
+mod parts;
 mod program;
+mod row_text;
 
 pub use program::{refuse_memory, run};
 

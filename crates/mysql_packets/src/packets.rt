@@ -2,6 +2,13 @@
 
 pub mod session_state_change;
 
+pub use mysql_bulk::{
+    BulkExecuteRequestBuilderError, BulkExecuteRequestError, BulkRequests, BulkRun,
+    ComStmtBulkExecuteHeader, ComStmtBulkExecuteRequest, ComStmtBulkExecuteRequestBuilder,
+    InvalidComStmtBulkExecuteHeader, StmtBulkExecuteParamType, StmtBulkExecuteParamValue,
+    StmtBulkExecuteParamValues, read_bulk_rows,
+};
+pub use mysql_cuts::{BulkRule, cut_is_fewest};
 pub use mysql_replies::{
     Catalog, Column, ColumnDefinitionCatalog, CommonOkPacket, ErrPacket, ErrPacketHeader,
     FixedLengthFieldsLen, InvalidCatalog, InvalidErrPacketHeader, InvalidFixedLengthFieldsLen,

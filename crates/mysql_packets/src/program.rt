@@ -1,11 +1,14 @@
 //! The program: what it writes for the words behind its name, and its status.
 
-ghost use Rattle.std.specs.Prelude.{◌≡◌, ◌⊎◌, None, map, string_bytes};
+ghost use Rattle.std.specs.Prelude.{◌≡◌, IfOk, Some, None, true, false, map, string_bytes};
 ghost use Rattle.mysql_packets.specs.Answer.{IsGiven, out_of_memory, usage};
-ghost use Rattle.mysql_packets.specs.Command.{command_of};
-ghost use Rattle.mysql_packets.specs.Program.{reply_to};
+ghost use Rattle.mysql_packets.specs.Command.{command_of, reads_input};
+ghost use Rattle.mysql_packets.specs.Input.{GaveAll};
+ghost use Rattle.mysql_packets.specs.Program.{Runs};
 
+use crate::answer::USAGE;
 use crate::command::Command;
+use crate::input::{InputError, read_input};
 use std::alloc::Global;
 use std::io::{Read, Write};
 
@@ -18,20 +21,41 @@ use std::io::{Read, Write};
 /// | 2 | a bad call; the one line is `usage: mypackets COMMAND ARGS` |
 /// | 3 | a read or write failed; some of the lines may be written |
 ///
-/// The words are judged first, which takes no memory. Where a growth is refused later on, the one
-/// line is `refused: Memory` and the status 1. Only a failed read or write gives 3.
-pub fn run<R: Read, W: Write>(alloc: Global, args: &[String], _reader: &mut R, writer: &mut W) -> u8
+/// The words are judged first, which takes no memory. `bulk` alone then reads: all of the input, before the first line
+/// is written, by at most 1,048,576 calls of `read`. An input that has not ended by then is a failed read. Where a
+/// growth is refused, the one line is `refused: Memory` and the status 1. Only a failed read or write gives 3.
+pub fn run<R: Read, W: Write>(alloc: Global, args: &[String], reader: &mut R, writer: &mut W) -> u8
     ensures bad_call { command_of (map string_bytes args.now) ≡ None → IsGiven usage (W.contents writer.old) (W.contents writer.new) result }
-    ensures answer { IsGiven (reply_to (map string_bytes args.now)) (W.contents writer.old) (W.contents writer.new) result
-        ⊎ IsGiven out_of_memory (W.contents writer.old) (W.contents writer.new) result }
-    ensures unread { _reader.new ≡ _reader.old }
+    ensures answer { Runs (command_of (map string_bytes args.now)) (R.remaining reader.old) (R.remaining reader.new) (W.contents writer.old) (W.contents writer.new) result }
+    ensures unread { reads_input (command_of (map string_bytes args.now)) ≡ false → reader.new ≡ reader.old }
 {
     let Some(command) = Command::of(args) else {
-        return give(writer, "usage: mypackets COMMAND ARGS\n", 2);
+        return give(writer, USAGE, 2);
     };
-    match command.answer(alloc) {
+    let input = match input_of(alloc, &command, reader) {
+        Ok(input) => input,
+        Err(InputError::Read) => return 3,
+        Err(InputError::Memory) => return refuse_memory(writer),
+    };
+    match command.answer(alloc, input.as_slice()) {
         Ok(answer) => give(writer, answer.text(), answer.status()),
         Err(_) => refuse_memory(writer),
+    }
+}
+
+/// The input, where the command reads it.
+fn input_of<R: Read>(
+    alloc: Global,
+    command: &Command<'_>,
+    reader: &mut R,
+) -> Result<Vec<u8>, InputError>
+    ensures read { reads_input (Some command.now) ≡ true → IfOk result (λ input. GaveAll (R.remaining reader.old) (R.remaining reader.new) input.items) }
+    ensures unread { reads_input (Some command.now) ≡ false → reader.new ≡ reader.old }
+{
+    if command.reads_input() {
+        read_input(alloc, reader)
+    } else {
+        Ok(Vec::new(alloc))
     }
 }
 

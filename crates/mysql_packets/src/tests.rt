@@ -1,5 +1,7 @@
 //! The program over a reader and a writer in memory.
 
+mod bulk;
+
 use crate::run;
 use std::alloc::{AllocError, Global};
 use std::io;

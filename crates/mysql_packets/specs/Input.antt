@@ -1,0 +1,7 @@
+-- The program's input.
+use Rattle.std.specs.Prelude.{ℕ, List, Option}
+use Rattle.std.specs.Io.KnownBytes.{Consumes, IsAtEnd}
+
+-- the reader gave these bytes, and has no more. Nothing is said of one whose bytes are not known
+abbrev pub GaveAll : Option (List ℕ) → Option (List ℕ) → List ℕ → Type 0
+GaveAll old new input = Consumes old new input × IsAtEnd new
