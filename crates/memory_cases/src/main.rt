@@ -6,6 +6,7 @@
 mod bench;
 mod counted;
 mod raw_bytes;
+mod row;
 mod seq;
 mod shown;
 mod stmt;
@@ -29,6 +30,7 @@ fn run(rt: &(impl Env + Print + AllocGlobal)) -> io::Result<ExitCode> {
     raw_bytes::cases(&mut bench)?;
     seq::cases(&mut bench)?;
     stmt::cases(&mut bench)?;
+    row::cases(&mut bench)?;
     rt.print(bench.lines())?;
     Ok(ExitCode::SUCCESS)
 }
