@@ -12,6 +12,7 @@ mod null_bitmap;
 mod ok;
 mod program;
 mod raw_bytes;
+mod row;
 mod seq;
 mod session;
 mod shown;
@@ -40,6 +41,7 @@ fn run(rt: &(impl Env + Print + AllocGlobal)) -> io::Result<ExitCode> {
     ok::cases(&mut bench)?;
     err::cases(&mut bench)?;
     stmt::cases(&mut bench)?;
+    row::cases(&mut bench)?;
     null_bitmap::cases(&mut bench)?;
     execute::cases(&mut bench)?;
     program::cases(&mut bench)?;
