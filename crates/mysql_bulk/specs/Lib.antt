@@ -13,3 +13,5 @@ pub mod RequestForm
 pub mod NewRequest
 pub mod ParamsRun
 pub mod ReadingBack
+pub mod ContentEq
+pub mod RequestEq

@@ -75,6 +75,19 @@ impl Clone for StmtBulkExecuteParamValue {
     }
 }
 
+impl PartialEq for StmtBulkExecuteParamValue {
+    ghost use Rattle.mysql_wire.specs.contracts.codes.mariadb_bulk_indicator.MariadbBulkIndicatorPartialEq.TheImpl.Laws.{laws-law};
+    ghost use Rattle.mysql_bulk.specs.ContentEq.{param_value_eq, param_value_per};
+
+    ghost eq = { param_value_eq ⟦<MariadbBulkIndicator as PartialEq>⟧.eq };
+
+    ghost laws = { param_value_per ⟦<MariadbBulkIndicator as PartialEq>⟧.eq laws-law };
+
+    fn eq(&self, other: &Self) -> bool {
+        self.indicator == other.indicator && self.value == other.value
+    }
+}
+
 /// The indicator in a byte; after `BULK_INDICATOR_NONE` a value of the column's type, else none.
 impl<'de> MyDeserialize<'de> for StmtBulkExecuteParamValue {
     const SIZE: Option<usize> = None;

@@ -72,6 +72,19 @@ impl Clone for StmtBulkExecuteParamValues {
     }
 }
 
+impl PartialEq for StmtBulkExecuteParamValues {
+    ghost use Rattle.std.specs.Cmp.Lexicographic.{pointwise, lists_per};
+    ghost use Rattle.mysql_bulk.specs.contracts.param_value.StmtBulkExecuteParamValuePartialEq.TheImpl.Laws as of_one;
+
+    ghost eq = { pointwise ⟦<StmtBulkExecuteParamValue as PartialEq>⟧.eq };
+
+    ghost laws = { lists_per of_one.laws-law };
+
+    fn eq(&self, other: &Self) -> bool {
+        self.values == other.values
+    }
+}
+
 impl AsSlice<StmtBulkExecuteParamValue> for StmtBulkExecuteParamValues {
     ghost items = { λ row. row };
 

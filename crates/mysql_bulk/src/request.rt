@@ -201,6 +201,23 @@ impl Clone for ComStmtBulkExecuteRequest {
     }
 }
 
+impl PartialEq for ComStmtBulkExecuteRequest {
+    ghost use Rattle.mysql_bulk.specs.RequestEq.{request_eq, request_per};
+    ghost use Rattle.mysql_bulk.specs.contracts.param_type.StmtBulkExecuteParamTypePartialEq.TheImpl.Laws as of_types;
+    ghost use Rattle.mysql_bulk.specs.contracts.param_value.StmtBulkExecuteParamValuePartialEq.TheImpl.Laws as of_values;
+
+    ghost eq = { request_eq ⟦<StmtBulkExecuteParamType as PartialEq>⟧.eq ⟦<StmtBulkExecuteParamValue as PartialEq>⟧.eq };
+
+    ghost laws = { request_per ⟦<StmtBulkExecuteParamType as PartialEq>⟧.eq ⟦<StmtBulkExecuteParamValue as PartialEq>⟧.eq of_types.laws-law of_values.laws-law };
+
+    fn eq(&self, other: &Self) -> bool {
+        self.stmt_id == other.stmt_id
+            && self.bulk_flags == other.bulk_flags
+            && self.types == other.types
+            && self.values == other.values
+    }
+}
+
 /// The header, the statement's number, the flags, the types where they are sent, and one row of values.
 ///
 /// The types and flags of the columns are handed in; where the request sends types, those stand in their place.

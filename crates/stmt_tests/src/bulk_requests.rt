@@ -105,7 +105,8 @@ fn rows_are_written_by_hand(rt: HostRuntime) -> Result<(), Fail> {
     let values = vec![in alloc; Value::NULL, Value::Int(1)]?;
     let values = StmtBulkExecuteParamValues::new(alloc, values)?;
     let mut out = Vec::new(alloc);
-    values.clone()?.serialize(&mut out)?;
+    values.serialize(&mut out)?;
+    assert!(rt; values.clone()? == values);
     assert_eq!(rt; out.as_slice(), b"\x01\0\x01\0\0\0\0\0\0\0".as_slice());
     let unsigned = StmtBulkExecuteParamType::from_value(&Value::UInt(1));
     assert!(rt; unsigned.column_type() == ColumnType::MYSQL_TYPE_LONGLONG);
@@ -121,6 +122,7 @@ fn clones_have_the_same_rows(rt: HostRuntime) -> Result<(), Fail> {
     let mut copy = builder.clone()?;
     assert!(rt; bytes_of(alloc, builder.build())?.as_slice() == FIRST);
     let request = copy.build().ok().ok_or("the row waits in the copy")?;
-    assert!(rt; written(alloc, &request.clone()?)?.as_slice() == FIRST);
+    assert!(rt; request.clone()? == request);
+    assert!(rt; written(alloc, &request)?.as_slice() == FIRST);
     Ok(())
 }
