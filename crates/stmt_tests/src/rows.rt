@@ -1,7 +1,7 @@
 use mysql_replies::Column;
 use mysql_stmt::{ColumnIndex, Row, RowDeserializer, new_row, new_row_raw};
-use mysql_values::{Binary, ClientSide, FromValue, FromValueError, ServerSide, Text, Value};
-use mysql_wire::{ColumnFlags, ColumnType, Fault, ParseBuf};
+use mysql_values::{Binary, ClientSide, FromValueError, ServerSide, Text, Value};
+use mysql_wire::{ColumnType, Fault, ParseBuf};
 use std::alloc::{AllocError, Global};
 use std::rc::RcSlice;
 use std::test::Fail;
