@@ -17,6 +17,7 @@ mod seq;
 mod session;
 mod shown;
 mod stmt;
+mod values;
 
 use bench::{Asked, Bench};
 use std::process::ExitCode;
@@ -36,6 +37,7 @@ fn run(rt: &(impl Env + Print + AllocGlobal)) -> io::Result<ExitCode> {
     let mut bench = Bench::new(rt.alloc(), asked);
     raw_bytes::cases(&mut bench)?;
     seq::cases(&mut bench)?;
+    values::cases(&mut bench)?;
     session::cases(&mut bench)?;
     column::cases(&mut bench)?;
     ok::cases(&mut bench)?;
