@@ -8,8 +8,9 @@ use std::alloc::Global;
 
 fn sum_of(alloc: Global, packet: &[u8]) -> Result<u64, Fault> {
     let mut buf = ParseBuf::new(alloc, packet);
-    let ok: OkPacketDeserializer<'_, CommonOkPacket> =
-        buf.parse(CapabilityFlags::CLIENT_SESSION_TRACK)?;
+    let ok: OkPacketDeserializer<'_, CommonOkPacket> = buf.parse(
+        CapabilityFlags::CLIENT_SESSION_TRACK,
+    )?;
     let ok = ok.into_inner();
     let mut sum = ok.affected_rows();
     for info in ok.session_state_info(alloc)?.as_slice() {

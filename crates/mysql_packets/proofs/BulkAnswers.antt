@@ -1,5 +1,5 @@
 -- What `bulk` answers to rows.
-use Rattle.std.proofs.Common.{◌≡◌, ℕ, ◌-◌, Bool, true, List, length, map, ◌++◌, Result, Ok, Err, Option, Some, None, IfOk, refl, sym, ap, subst, ◌∙◌}
+use Rattle.std.proofs.Common.{◌≡◌, ℕ, ◌-◌, Bool, true, List, length, map, ◌++◌, Result, Ok, Err, Some, None, IfOk, refl, sym, subst, ◌∙◌}
 use Rattle.mysql_cuts.specs.declared.rule.BulkRule.{BulkRule}
 use Rattle.mysql_cuts.specs.Cut.{IsFewest, ends_after}
 use Rattle.mysql_cuts.specs.Fewest.{weights, NamesFewest}
@@ -21,7 +21,7 @@ new_builder call = record { arity = refl; types_due = refl; waiting = refl }
 
 -- the ends of a fewest cut name one by the rows' sizes
 pub names_fewest : (law : (rule : BulkRule) (limit : ℕ) (rows : List (List Content)) (cut : List (List (List Content))) →
-        IsFewest (rows_packing rule limit (first_length rows)) rows cut → NamesFewest (weights rule limit (first_length rows)) (map row_size rows) (ends_after 0 cut))
+    IsFewest (rows_packing rule limit (first_length rows)) rows cut → NamesFewest (weights rule limit (first_length rows)) (map row_size rows) (ends_after 0 cut))
     (call : BulkCall) (rows : List (List Content)) (requests : List BulkRequest) (ends : List ℕ)
     → GivesFewest (builder_of call) requests ends rows → NamesFewest (weights call.rule (call.max_allowed_packet - 4) (first_length rows)) (map row_size rows) ends
 names_fewest law call rows requests ends gives =

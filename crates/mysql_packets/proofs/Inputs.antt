@@ -1,6 +1,6 @@
 -- What a reader gave.
-use Rattle.std.proofs.Common.{◌≡◌, ◌∙◌, List, ℕ, Option, Some, None, take, sym, append-nil, refl}
-use Rattle.std.specs.Io.KnownBytes.{Consumes, IsAtEnd}
+use Rattle.std.proofs.Common.{◌≡◌, ◌∙◌, List, ℕ, Option, Some, None, take, refl}
+use Rattle.std.specs.Io.KnownBytes.{Consumes}
 
 -- a read that gives nothing leaves what was read
 pub none_more : (a b c : Option (List ℕ)) (input chunk : List ℕ) (n : ℕ) → Consumes a b input → Consumes b c (take n chunk) → n ≡ 0 → Consumes a c input

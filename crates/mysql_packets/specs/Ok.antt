@@ -1,5 +1,5 @@
 -- The command `ok`.
-use Rattle.std.specs.Prelude.{ℕ, List, ◌∷◌, [], ◌++◌, length, Result, Ok, Err, codes, decimal}
+use Rattle.std.specs.Prelude.{ℕ, List, ◌∷◌, [], ◌++◌, length, Ok, Err, codes, decimal}
 use Rattle.std.specs.List.{concat}
 use Rattle.mysql_wire.specs.Flags.{CapabilityFlags}
 use Rattle.mysql_wire.specs.Form.{Form}

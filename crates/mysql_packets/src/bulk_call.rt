@@ -103,8 +103,11 @@ impl BulkCall {
     pub fn builder(&self, alloc: Global) -> ComStmtBulkExecuteRequestBuilder<'static>
         ensures value { result ≡ builder_of self.now }
     {
-        let mut builder =
-            ComStmtBulkExecuteRequestBuilder::new(alloc, self.stmt_id, self.max_allowed_packet);
+        let mut builder = ComStmtBulkExecuteRequestBuilder::new(
+            alloc,
+            self.stmt_id,
+            self.max_allowed_packet,
+        );
         if self.rule.types_always {
             builder = builder.with_types_always();
         }

@@ -97,43 +97,43 @@ const FIVE: &str = "i1\ni2\ni3\ni4\ni5\n";
 #[test]
 fn requests_are_the_fewest(rt: HostRuntime) -> Result<(), Fail> {
     let calls: &[Call<'_>] = &[
-            (
-                &["bulk", "1", "31"],
-                FIVE,
-                0,
-                "request: fa0100000080000800000100000000000000000200000000000000\nrequest: fa010000000000000300000000000000000400000000000000\nrequest: fa010000000000000500000000000000\nrequests: 3\nrows: 5\nfewest: yes\n",
-            ),
-            (
-                &["bulk", "1", "30"],
-                FIVE,
-                0,
-                "request: fa0100000080000800000100000000000000\nrequest: fa010000000000000200000000000000000300000000000000\nrequest: fa010000000000000400000000000000000500000000000000\nrequests: 3\nrows: 5\nfewest: yes\n",
-            ),
-            (
-                &["bulk", "1", "31"],
-                "",
-                0,
-                "requests: 0\nrows: 0\nfewest: yes\n",
-            ),
-            (
-                &["bulk", "1", "11"],
-                "\n",
-                0,
-                "request: fa010000008000\nrequests: 1\nrows: 1\nfewest: yes\n",
-            ),
-            (
-                &["bulk", "1", "11"],
-                "\n\n",
-                0,
-                "request: fa010000008000\nrequests: 1\nrows: 2\nfewest: yes\n",
-            ),
-            (
-                &["bulk", "1", "21"],
-                "N\ni5",
-                0,
-                "request: fa010000008000060001\nrequest: fa010000000000000500000000000000\nrequests: 2\nrows: 2\nfewest: yes\n",
-            ),
-        ];
+        (
+            &["bulk", "1", "31"],
+            FIVE,
+            0,
+            "request: fa0100000080000800000100000000000000000200000000000000\nrequest: fa010000000000000300000000000000000400000000000000\nrequest: fa010000000000000500000000000000\nrequests: 3\nrows: 5\nfewest: yes\n",
+        ),
+        (
+            &["bulk", "1", "30"],
+            FIVE,
+            0,
+            "request: fa0100000080000800000100000000000000\nrequest: fa010000000000000200000000000000000300000000000000\nrequest: fa010000000000000400000000000000000500000000000000\nrequests: 3\nrows: 5\nfewest: yes\n",
+        ),
+        (
+            &["bulk", "1", "31"],
+            "",
+            0,
+            "requests: 0\nrows: 0\nfewest: yes\n",
+        ),
+        (
+            &["bulk", "1", "11"],
+            "\n",
+            0,
+            "request: fa010000008000\nrequests: 1\nrows: 1\nfewest: yes\n",
+        ),
+        (
+            &["bulk", "1", "11"],
+            "\n\n",
+            0,
+            "request: fa010000008000\nrequests: 1\nrows: 2\nfewest: yes\n",
+        ),
+        (
+            &["bulk", "1", "21"],
+            "N\ni5",
+            0,
+            "request: fa010000008000060001\nrequest: fa010000000000000500000000000000\nrequests: 2\nrows: 2\nfewest: yes\n",
+        ),
+    ];
     assert_eq!(rt; first_wrong(rt.alloc(), calls)?, None);
     Ok(())
 }
@@ -141,43 +141,43 @@ fn requests_are_the_fewest(rt: HostRuntime) -> Result<(), Fail> {
 #[test]
 fn requests_by_a_rule(rt: HostRuntime) -> Result<(), Fail> {
     let calls: &[Call<'_>] = &[
-            (
-                &["bulk", "1", "31", "types"],
-                FIVE,
-                0,
-                "request: fa0100000080000800000100000000000000000200000000000000\nrequest: fa0100000080000800000300000000000000000400000000000000\nrequest: fa0100000080000800000500000000000000\nrequests: 3\nrows: 5\nfewest: yes\n",
-            ),
-            (
-                &["bulk", "1", "31", "rows=1"],
-                FIVE,
-                0,
-                "request: fa0100000080000800000100000000000000\nrequest: fa010000000000000200000000000000\nrequest: fa010000000000000300000000000000\nrequest: fa010000000000000400000000000000\nrequest: fa010000000000000500000000000000\nrequests: 5\nrows: 5\nfewest: yes\n",
-            ),
-            (
-                &["bulk", "1", "30", "types"],
-                FIVE,
-                0,
-                "request: fa0100000080000800000100000000000000\nrequest: fa0100000080000800000200000000000000\nrequest: fa0100000080000800000300000000000000\nrequest: fa0100000080000800000400000000000000\nrequest: fa0100000080000800000500000000000000\nrequests: 5\nrows: 5\nfewest: yes\n",
-            ),
-            (
-                &["bulk", "1", "1000", "rows=2"],
-                FIVE,
-                0,
-                "request: fa0100000080000800000100000000000000000200000000000000\nrequest: fa010000000000000300000000000000000400000000000000\nrequest: fa010000000000000500000000000000\nrequests: 3\nrows: 5\nfewest: yes\n",
-            ),
-            (
-                &["bulk", "1", "11", "rows=2"],
-                "\n\n\n",
-                0,
-                "request: fa010000008000\nrequest: fa010000000000\nrequests: 2\nrows: 3\nfewest: yes\n",
-            ),
-            (
-                &["bulk", "1", "11", "types", "rows=2"],
-                "\n\n\n",
-                0,
-                "request: fa010000008000\nrequest: fa010000008000\nrequests: 2\nrows: 3\nfewest: yes\n",
-            ),
-        ];
+        (
+            &["bulk", "1", "31", "types"],
+            FIVE,
+            0,
+            "request: fa0100000080000800000100000000000000000200000000000000\nrequest: fa0100000080000800000300000000000000000400000000000000\nrequest: fa0100000080000800000500000000000000\nrequests: 3\nrows: 5\nfewest: yes\n",
+        ),
+        (
+            &["bulk", "1", "31", "rows=1"],
+            FIVE,
+            0,
+            "request: fa0100000080000800000100000000000000\nrequest: fa010000000000000200000000000000\nrequest: fa010000000000000300000000000000\nrequest: fa010000000000000400000000000000\nrequest: fa010000000000000500000000000000\nrequests: 5\nrows: 5\nfewest: yes\n",
+        ),
+        (
+            &["bulk", "1", "30", "types"],
+            FIVE,
+            0,
+            "request: fa0100000080000800000100000000000000\nrequest: fa0100000080000800000200000000000000\nrequest: fa0100000080000800000300000000000000\nrequest: fa0100000080000800000400000000000000\nrequest: fa0100000080000800000500000000000000\nrequests: 5\nrows: 5\nfewest: yes\n",
+        ),
+        (
+            &["bulk", "1", "1000", "rows=2"],
+            FIVE,
+            0,
+            "request: fa0100000080000800000100000000000000000200000000000000\nrequest: fa010000000000000300000000000000000400000000000000\nrequest: fa010000000000000500000000000000\nrequests: 3\nrows: 5\nfewest: yes\n",
+        ),
+        (
+            &["bulk", "1", "11", "rows=2"],
+            "\n\n\n",
+            0,
+            "request: fa010000008000\nrequest: fa010000000000\nrequests: 2\nrows: 3\nfewest: yes\n",
+        ),
+        (
+            &["bulk", "1", "11", "types", "rows=2"],
+            "\n\n\n",
+            0,
+            "request: fa010000008000\nrequest: fa010000008000\nrequests: 2\nrows: 3\nfewest: yes\n",
+        ),
+    ];
     assert_eq!(rt; first_wrong(rt.alloc(), calls)?, None);
     Ok(())
 }
@@ -188,26 +188,25 @@ fn rows_that_have_no_requests(rt: HostRuntime) -> Result<(), Fail> {
         "b0000000000000000000000000000000000000000000000000000000000000000000000000000000000000000000000000000000000000000000000000000000000000000000000000000000000000000000000000000000000000000000000000000000000";
     let wide = format!(in rt.alloc(); "i1\n{hundred}\n")?;
     let wide_and_mixed = format!(in rt.alloc(); "i1\n{hundred}\ni1 i2\n")?;
-    let after_one =
-        "request: fa0100000080000800000100000000000000\nrefused: RowTooLarge\n";
+    let after_one = "request: fa0100000080000800000100000000000000\nrefused: RowTooLarge\n";
     let calls: &[Call<'_>] = &[
-            (
-                &["bulk", "1", "31"],
-                "i1\ni1 i2\n",
-                1,
-                "refused: MixedArity\n",
-            ),
-            (&["bulk", "1", "31"], wide.as_str(), 1, after_one),
-            (&["bulk", "1", "31"], wide_and_mixed.as_str(), 1, after_one),
-            (&["bulk", "1", "21"], "i5\nN\n", 1, "refused: RowTooLarge\n"),
-            (&["bulk", "1", "10"], "\n\n", 1, "refused: RowTooLarge\n"),
-            (
-                &["bulk", "1", "21", "types"],
-                "N\ni5\n",
-                1,
-                "request: fa010000008000060001\nrefused: RowTooLarge\n",
-            ),
-        ];
+        (
+            &["bulk", "1", "31"],
+            "i1\ni1 i2\n",
+            1,
+            "refused: MixedArity\n",
+        ),
+        (&["bulk", "1", "31"], wide.as_str(), 1, after_one),
+        (&["bulk", "1", "31"], wide_and_mixed.as_str(), 1, after_one),
+        (&["bulk", "1", "21"], "i5\nN\n", 1, "refused: RowTooLarge\n"),
+        (&["bulk", "1", "10"], "\n\n", 1, "refused: RowTooLarge\n"),
+        (
+            &["bulk", "1", "21", "types"],
+            "N\ni5\n",
+            1,
+            "request: fa010000008000060001\nrefused: RowTooLarge\n",
+        ),
+    ];
     assert_eq!(rt; first_wrong(rt.alloc(), calls)?, None);
     Ok(())
 }
@@ -215,25 +214,25 @@ fn rows_that_have_no_requests(rt: HostRuntime) -> Result<(), Fail> {
 #[test]
 fn values_of_a_line(rt: HostRuntime) -> Result<(), Fail> {
     let calls: &[Call<'_>] = &[
-            (
-                &["bulk", "4294967295", "1000"],
-                "i-9223372036854775808 i9223372036854775807 u18446744073709551615 N b bFf00\n",
-                0,
-                "request: faffffffff80000800080008800600fd00fd0000000000000000008000ffffffffffffff7f00ffffffffffffffff0100000002ff00\nrequests: 1\nrows: 1\nfewest: yes\n",
-            ),
-            (
-                &["bulk", "1", "1000"],
-                "N\ni1\nu2\n",
-                0,
-                "request: fa010000008000088001000100000000000000000200000000000000\nrequests: 1\nrows: 3\nfewest: yes\n",
-            ),
-            (
-                &["bulk", "1", "1000"],
-                "i1\nb61\n",
-                0,
-                "request: fa0100000080000800000100000000000000000161\nrequests: 1\nrows: 2\nfewest: yes\n",
-            ),
-        ];
+        (
+            &["bulk", "4294967295", "1000"],
+            "i-9223372036854775808 i9223372036854775807 u18446744073709551615 N b bFf00\n",
+            0,
+            "request: faffffffff80000800080008800600fd00fd0000000000000000008000ffffffffffffff7f00ffffffffffffffff0100000002ff00\nrequests: 1\nrows: 1\nfewest: yes\n",
+        ),
+        (
+            &["bulk", "1", "1000"],
+            "N\ni1\nu2\n",
+            0,
+            "request: fa010000008000088001000100000000000000000200000000000000\nrequests: 1\nrows: 3\nfewest: yes\n",
+        ),
+        (
+            &["bulk", "1", "1000"],
+            "i1\nb61\n",
+            0,
+            "request: fa0100000080000800000100000000000000000161\nrequests: 1\nrows: 2\nfewest: yes\n",
+        ),
+    ];
     assert_eq!(rt; first_wrong(rt.alloc(), calls)?, None);
     Ok(())
 }
@@ -241,16 +240,43 @@ fn values_of_a_line(rt: HostRuntime) -> Result<(), Fail> {
 #[test]
 fn lines_that_are_no_rows(rt: HostRuntime) -> Result<(), Fail> {
     let lines = [
-        "x", "i", "u", "i+5", "i5 ", " i5", " ", "i5  i6", "i5\ti6", "n", "N1", "u-1", "u+1", "I5", "i--5", "i-",
-        "i 5", "b0", "b0g", "b 00", "i5\r", "u18446744073709551616", "i9223372036854775808",
+        "x",
+        "i",
+        "u",
+        "i+5",
+        "i5 ",
+        " i5",
+        " ",
+        "i5  i6",
+        "i5\ti6",
+        "n",
+        "N1",
+        "u-1",
+        "u+1",
+        "I5",
+        "i--5",
+        "i-",
+        "i 5",
+        "b0",
+        "b0g",
+        "b 00",
+        "i5\r",
+        "u18446744073709551616",
+        "i9223372036854775808",
         "i-9223372036854775809",
     ];
     for line in lines {
         let after = format!(in rt.alloc(); "i1\n{line}\ni2\n")?;
-        assert_eq!(rt; first_wrong(rt.alloc(), &[
-                (&["bulk", "1", "31"], line, 2, USAGE),
-                (&["bulk", "1", "31"], after.as_str(), 2, USAGE),
-            ])?, None);
+        assert_eq!(rt;
+            first_wrong(
+                rt.alloc(),
+                &[
+                    (&["bulk", "1", "31"], line, 2, USAGE),
+                    (&["bulk", "1", "31"], after.as_str(), 2, USAGE),
+                ]
+            )?,
+            None
+        );
     }
     let args = words(rt.alloc(), &["bulk", "1", "31"])?;
     let mut reader: &[u8] = &[b'i', 0xff, b'\n'];
@@ -289,7 +315,12 @@ fn bad_calls_read_nothing(rt: HostRuntime) -> Result<(), Fail> {
     for call in calls {
         let args = words(rt.alloc(), call)?;
         let mut written = Vec::new(rt.alloc());
-        let status = run(rt.alloc(), args.as_slice(), &mut FailingReader, &mut written);
+        let status = run(
+            rt.alloc(),
+            args.as_slice(),
+            &mut FailingReader,
+            &mut written,
+        );
         assert_eq!(rt; status, 2);
         assert_eq!(rt; written.as_slice(), USAGE.as_bytes());
     }
@@ -317,7 +348,10 @@ fn each_read_fails_in_turn(rt: HostRuntime) -> Result<(), Fail> {
     let mut written = Vec::new(rt.alloc());
     let status = run(rt.alloc(), args.as_slice(), &mut reader, &mut written);
     assert_eq!(rt; status, 0);
-    assert_eq!(rt; written.as_slice(), b"request: fa0100000080000800000100000000000000000200000000000000\nrequests: 1\nrows: 2\nfewest: yes\n".as_slice());
+    assert_eq!(rt;
+        written.as_slice(),
+        b"request: fa0100000080000800000100000000000000000200000000000000\nrequests: 1\nrows: 2\nfewest: yes\n".as_slice()
+    );
     Ok(())
 }
 
