@@ -4,7 +4,6 @@ use crate::bench::Bench;
 use crate::counted;
 use mysql_packets::run;
 use std::alloc::{AllocError, Global};
-use std::io;
 
 const COLUMN: &str =
     "0364656606736368656d61057461626c65096f72675f7461626c65046e616d65086f72675f6e616d650c21000f000000000100080000";
@@ -30,18 +29,28 @@ pub fn cases(bench: &mut Bench) -> Result<(), AllocError> {
     bench.case(
         "run_err",
         |alloc| shown(alloc, &["err", "200", "ff48042348593030304e6f"]),
+    )?;
+    bench.case(
+        "run_bulk",
+        |alloc| answered(alloc, &["bulk", "1", "31"], b"i1\ni2\ni3\n"),
     )
 }
 
-/// The status that the program answers to the words, and its lines.
+/// What the program answers to the words, where it reads nothing.
 fn shown(alloc: Global, call: &[&str]) -> Result<String, AllocError> {
+    answered(alloc, call, b"")
+}
+
+/// The status that the program answers to the words on an input, and its lines.
+fn answered(alloc: Global, call: &[&str], input: &[u8]) -> Result<String, AllocError> {
     let mut words = Vec::with_capacity(alloc, call.len())?;
     for word in call {
         words.push(String::from_str(alloc, word)?)?;
     }
+    let mut input = input;
     let mut written = Vec::with_capacity(alloc, 1024)?;
     counted::start(alloc);
-    let status = run(alloc, words.as_slice(), &mut io::empty(), &mut written);
+    let status = run(alloc, words.as_slice(), &mut input, &mut written);
     counted::stop(alloc);
     let mut shown = format!(in alloc; "status {status}")?;
     for line in str::from_utf8(written.as_slice()).unwrap_or("?").lines() {

@@ -16,6 +16,3 @@ mod program;
 mod row_text;
 
 pub use program::{refuse_memory, run};
-
-#[cfg(test)]
-mod tests;

@@ -1,7 +1,7 @@
 //! `bulk`, which reads its input.
 
-use super::{FailingReader, USAGE, words};
-use crate::run;
+use crate::commands::{FailingReader, USAGE, words};
+use mysql_packets::run;
 use std::alloc::{AllocError, Global};
 use std::io;
 use std::io::{ErrorKind, Read, Write};

@@ -1,8 +1,6 @@
 //! The program over a reader and a writer in memory.
 
-mod bulk;
-
-use crate::run;
+use mysql_packets::run;
 use std::alloc::{AllocError, Global};
 use std::io;
 use std::io::{ErrorKind, Read, Write};
@@ -10,7 +8,7 @@ use std::test::Fail;
 
 /// Fails at each read.
 #[derive(Drop)]
-struct FailingReader;
+pub(crate) struct FailingReader;
 
 impl Read for FailingReader {
     fn read(&mut self, _buf: &mut [u8]) -> io::Result<usize> {
@@ -38,7 +36,7 @@ impl Write for FailingWriter {
     }
 }
 
-fn words(alloc: Global, call: &[&str]) -> Result<Vec<String>, AllocError> {
+pub(crate) fn words(alloc: Global, call: &[&str]) -> Result<Vec<String>, AllocError> {
     let mut words = Vec::new(alloc);
     for word in call {
         words.push(String::from_str(alloc, word)?)?;
@@ -46,7 +44,7 @@ fn words(alloc: Global, call: &[&str]) -> Result<Vec<String>, AllocError> {
     Ok(words)
 }
 
-const USAGE: &str = "usage: mypackets COMMAND ARGS\n";
+pub(crate) const USAGE: &str = "usage: mypackets COMMAND ARGS\n";
 
 const STATEMENT: &str = "statement_id: 1\nnum_columns: 1\nnum_params: 2\nwarning_count: 0\n";
 
