@@ -20,7 +20,7 @@ use Rattle.mysql_bulk.specs.Builder.{TakesArity, RowFits, accepted, Adds, Builds
 use Rattle.mysql_bulk.specs.Run.{Accepts}
 use Rattle.mysql_bulk.specs.ParamType.{first_length, declared_types}
 use Rattle.mysql_bulk.specs.Refusal.{equal_front, measure, IsRefusal}
-use Rattle.mysql_bulk.specs.WholeRun.{IsNew, HadMemory, AreRequests, GivesCut, SameSettings, GivesFront, GivesFewest, GivesFull}
+use Rattle.mysql_bulk.specs.WholeRun.{IsNew, HadMemory, AreRequests, GivesCut, SameSettings, StopsAt, GivesFront, GivesFewest, GivesFull}
 use Rattle.mysql_cuts.proofs.Packed.{IsPacked, packed_none, packed_more, packed_close, packed_front, packed_fewest, packed_full, packed_fits, packed_stuck, fits_front, types_after, NextDoesNotFit, NoneEmpty-push, joined_push}
 
 EqualLengths-push : (a : ℕ) (rows : List (List Content)) (row : List Content) → EqualLengths a rows → length row ≡ a → EqualLengths a (rows ++ row ∷ [])
@@ -199,8 +199,16 @@ running_sends s all requests ends sent b t rest request r a n =
 -- ---- what a run has given, wherever it stands
 
 pub running_gives : (s : BuilderState) (all : List (List Content)) (requests : List BulkRequest) (ends : List ℕ) (sent : ℕ) (b : BuilderState) (rest : List (List Content)) (e : BulkExecuteRequestError)
-    → Running s all requests ends sent b rest → GivesFront s all requests ends (Some e) b
-running_gives s all requests ends sent b rest e r = record { cut = r.cut; gives = r.gives; dropped = rest; whole = r.whole; all_sent = λ h. cc; same = r.same }
+    → Running s all requests ends sent b rest → StopsAt (Some e) b rest → GivesFront s all requests ends (Some e) b
+running_gives s all requests ends sent b rest e r stops = record { cut = r.cut; gives = r.gives; dropped = rest; whole = r.whole; stops = stops; same = r.same }
+
+-- a run stops at a row that is refused
+pub stops_at : (t : BuilderState) (row : Vec Value) (rest : List (List Content)) (e : BulkExecuteRequestError) → Adds t row (Err e) t → StopsAt (Some e) t (row_of row ∷ rest)
+stops_at t row rest MixedArity a = (row_of row, rest, refl, a.0)
+stops_at t row rest (RowTooLarge back) a = (rest, ap (λ (r : Vec Value). row_of r ∷ rest) (sym a.3), a.2)
+stops_at t row rest (MemoryRow back) a = (rest, ap (λ (r : Vec Value). row_of r ∷ rest) (sym a.2))
+stops_at t row rest NoParams a = absurd a
+stops_at t row rest Memory a = absurd a
 
 equal_first : (o : Option ℕ) (before rest all : List (List Content)) → ArityOf o before → before ++ rest ≡ all → EqualLengths (first_length all) before
 equal_first None before rest all a e = let P : List (List Content) → Type 0 = EqualLengths (first_length all) in subst P (sym a) tt
@@ -261,7 +269,7 @@ done_refusal s all requests ends sent b r w n =
     (λ m. fits_front k (equal_front all) m (subst F (sym front) (packed_fits k r.cut [] all [] (all_packed s all requests ends sent b n r w))), front)
 
 pub done_gives : (s : BuilderState) (all : List (List Content)) (requests : List BulkRequest) (ends : List ℕ) (sent : ℕ) (b : BuilderState) → Running s all requests ends sent b [] → b.waiting ≡ [] → GivesFront s all requests ends None b
-done_gives s all requests ends sent b r w = record { cut = r.cut; gives = r.gives; dropped = []; whole = r.whole; all_sent = λ h. (w, refl); same = r.same }
+done_gives s all requests ends sent b r w = record { cut = r.cut; gives = r.gives; dropped = []; whole = r.whole; stops = (w, refl); same = r.same }
 
 -- ---- the end of a run by a refusal
 

@@ -16,9 +16,9 @@ use Rattle.mysql_bulk.specs.Builder.{Adds, SendsRequest}
 use Rattle.mysql_bulk.specs.Run.{ComesAfter, Comes, Fills}
 use Rattle.mysql_bulk.specs.declared.error.BulkExecuteRequestError.TheVariants.{Memory}
 use Rattle.mysql_bulk.specs.Refusal.{measure, IsRefusal}
-use Rattle.mysql_bulk.specs.WholeRun.{IsNew, HadMemory, GivesFront, GivesFewest, GivesFull}
+use Rattle.mysql_bulk.specs.WholeRun.{IsNew, HadMemory, StopsAt, GivesFront, GivesFewest, GivesFull}
 use Rattle.mysql_cuts.proofs.Packed.{NextDoesNotFit, types_after}
-use Rattle.mysql_bulk.proofs.Running.{Running, running_none, running_accepts, running_sends, running_gives, running_full, done_gives, done_refusal, done_fewest, refused_row, fits_from, as_long}
+use Rattle.mysql_bulk.proofs.Running.{Running, stops_at, running_none, running_accepts, running_sends, running_gives, running_full, done_gives, done_refusal, done_fewest, refused_row, fits_from, as_long}
 
 abbrev pub Input : Type 0
 Input = IntoIter (Vec Value) Global
@@ -130,8 +130,9 @@ module _ (s : BuilderState) (rows : List (List Content)) (requests : List BulkRe
   ends_memory b carried input e w is =
       let r = w.running in
       let H : BulkExecuteRequestError → Type 0 = λ e. HadMemory (Some e) in
+      let S : BulkExecuteRequestError → Type 0 = λ e. StopsAt (Some e) b (values_of (held carried input)) in
       let G : List (List Content) → Type 0 = GivesFull s requests ends in (
-        running_gives s (s.waiting ++ rows) requests ends sent b (values_of (held carried input)) e r,
+        running_gives s (s.waiting ++ rows) requests ends sent b (values_of (held carried input)) e r (subst S (sym is) tt),
         λ n. subst G (new_rows n) (running_full s (s.waiting ++ rows) requests ends sent b (values_of (held carried input)) r n),
         λ n h. absurd (subst H is h),
         λ n h. cc,
@@ -161,7 +162,7 @@ module _ (s : BuilderState) (rows : List (List Content)) (requests : List BulkRe
       let r = running_accepts s (s.waiting ++ rows) requests ends sent b t (values_of f.0) ((row_of f.1) ∷ rest) (subst P seam w.running) f.3 in
       let G : List (List Content) → Type 0 = GivesFull s requests ends in
       let D : List (List Content) → Type 0 = λ l. IsRefusal s l (Some e) in (
-        running_gives s (s.waiting ++ rows) requests ends sent t ((row_of f.1) ∷ rest) e r,
+        running_gives s (s.waiting ++ rows) requests ends sent t ((row_of f.1) ∷ rest) e r (stops_at t f.1 rest e f.4),
         λ n. subst G (new_rows n) (running_full s (s.waiting ++ rows) requests ends sent t ((row_of f.1) ∷ rest) r n),
         λ n h. subst D (new_rows n) (refused_row s (s.waiting ++ rows) requests ends sent t f.1 rest e r f.4 n h),
         λ n h. cc,

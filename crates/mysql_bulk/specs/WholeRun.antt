@@ -1,16 +1,16 @@
 -- What a whole run gives.
-use Rattle.std.specs.Prelude.{◌≡◌, ℕ, true, false, List, [], ◌∷◌, ◌++◌, Option, Some, None}
+use Rattle.std.specs.Prelude.{◌≡◌, ℕ, true, false, List, [], ◌∷◌, ◌++◌, length, Option, Some, None}
 use Rattle.std.specs.Global.{Vec}
 use Rattle.std.specs.Iterator.{YieldsThen}
 use Rattle.mysql_cuts.specs.Cut.{joined, NoneEmpty, IsFewest, IsFullFromFront, ends_after}
 use Rattle.mysql_values.specs.declared.value.Value.{Value}
 use Rattle.mysql_values.specs.Value.{Content}
 use Rattle.mysql_bulk.specs.declared.error.BulkExecuteRequestError.{BulkExecuteRequestError}
-use Rattle.mysql_bulk.specs.declared.error.BulkExecuteRequestError.TheVariants.{MemoryRow, Memory}
+use Rattle.mysql_bulk.specs.declared.error.BulkExecuteRequestError.TheVariants.{MixedArity, RowTooLarge, MemoryRow, NoParams, Memory}
 use Rattle.mysql_bulk.specs.declared.error.BulkExecuteRequestBuilderError.{BulkExecuteRequestBuilderError}
 use Rattle.mysql_bulk.specs.declared.error.BulkExecuteRequestBuilderError.TheVariants.{Request, Params}
 use Rattle.mysql_bulk.specs.Request.{BulkRequest}
-use Rattle.mysql_bulk.specs.Builder.{BuilderState, values_of, IsRequest, sent}
+use Rattle.mysql_bulk.specs.Builder.{row_of, BuilderState, values_of, TakesArity, IsRequest, sent}
 use Rattle.mysql_bulk.specs.Run.{RunState, Comes, NextRequest, RunsTo}
 use Rattle.mysql_bulk.specs.Refusal.{equal_front, measure}
 
@@ -53,13 +53,24 @@ pub record SameSettings (s t : BuilderState) : Type 0 where
   pub rule : t.rule ≡ s.rule
   pub names : t.names ≡ s.names
 
+-- where a run stopped that left a builder so and dropped these rows: behind all rows, or at the one that was refused
+abbrev pub StopsAt : Option BulkExecuteRequestError → BuilderState → List (List Content) → Type 0
+StopsAt None t dropped = (t.waiting ≡ []) × (dropped ≡ [])
+-- its length is not that of the rows before it
+StopsAt (Some MixedArity) t dropped = (row : List Content) × (rest : List (List Content)) × (dropped ≡ row ∷ rest) × (TakesArity t.arity (length row) → ⊥)
+-- all rows before it were sent
+StopsAt (Some (RowTooLarge row)) t dropped = (rest : List (List Content)) × (dropped ≡ row_of row ∷ rest) × (t.waiting ≡ [])
+StopsAt (Some (MemoryRow row)) t dropped = (rest : List (List Content)) × (dropped ≡ row_of row ∷ rest)
+StopsAt (Some NoParams) t dropped = ⊥
+StopsAt (Some Memory) t dropped = Unit {0}
+
 -- a run from s to t over these rows gave a cut of a beginning of them; further rows wait, and others were dropped
 pub record GivesFront (s : BuilderState) (rows : List (List Content)) (requests : List BulkRequest) (ends : List ℕ) (refusal : Option BulkExecuteRequestError) (t : BuilderState) : Type 0 where
   pub cut : List (List (List Content))
   pub gives : GivesCut s requests ends cut
   pub dropped : List (List Content)
   pub whole : (joined cut ++ t.waiting) ++ dropped ≡ rows
-  pub all_sent : refusal ≡ None → (t.waiting ≡ []) × (dropped ≡ [])
+  pub stops : StopsAt refusal t dropped
   pub same : SameSettings s t
 
 -- a fewest cut of the rows was given

@@ -121,7 +121,8 @@ impl<'a> ComStmtBulkExecuteRequestBuilder<'a> {
     /// requests fits the limit (`RowTooLarge`, with the first row that no fitting cut takes), and else no cut that fits
     /// has fewer requests. Where a growth was refused it ends with `Memory` or `MemoryRow`; what was given stands.
     pub fn build_all(&mut self, rows: Vec<Vec<Value>>) -> BulkRun
-        // the requests are those of a cut of a beginning of the rows that waited and came
+        // the requests are those of a cut of a beginning of the rows that waited and came; behind these come the rows that
+        // wait now, and then the row that was refused, if one was
         ensures front { OfRows (λ refusal. GivesFront self.old (self.old.waiting ++ values_of rows.items) result.requests.items result.ends.items refusal self.new) result.refusal }
 
         // on a new builder no fitting cut of the rows of one length is ahead of the requests, however the run ends
