@@ -13,6 +13,7 @@ mod lines;
 pub mod packets;
 mod parts;
 mod program;
+pub mod row;
 mod row_text;
 
 pub use program::{refuse_memory, run};

@@ -3,8 +3,8 @@
 pub mod session_state_change;
 
 pub use mysql_bulk::{
-    BulkExecuteRequestBuilderError, BulkExecuteRequestError, BulkRequests, BulkRun,
-    ComStmtBulkExecuteHeader, ComStmtBulkExecuteRequest, ComStmtBulkExecuteRequestBuilder,
+    BulkExecuteRequestBuilderError, BulkExecuteRequestError, BulkParamsRequests, BulkRequests,
+    BulkRun, ComStmtBulkExecuteHeader, ComStmtBulkExecuteRequest, ComStmtBulkExecuteRequestBuilder,
     InvalidComStmtBulkExecuteHeader, StmtBulkExecuteParamType, StmtBulkExecuteParamValue,
     StmtBulkExecuteParamValues, read_bulk_rows,
 };
@@ -17,4 +17,9 @@ pub use mysql_replies::{
     OkPacketKind, OldEofPacket, ProgressReport, ResultSetTerminator, ServerError, SessionStateInfo,
     SqlState, SqlStateMarker,
 };
-pub use mysql_stmt::{InvalidStmtPacketStatus, NullBitmap, StmtPacket};
+pub use mysql_stmt::{
+    ComStmtClose, ComStmtExecuteHeader, ComStmtExecuteRequest, ComStmtExecuteRequestBuilder,
+    ComStmtSendLongData, ComStmtSendLongDataHeader, InvalidComStmtExecuteHeader,
+    InvalidComStmtSendLongDataHeader, InvalidIterationCount, InvalidStmtPacketStatus,
+    IterationCount, NullBitmap, StmtPacket,
+};
