@@ -2,7 +2,8 @@
 
 The values of a row are one word, parted by commas. An integer is a number behind an n, a float the bits of its wire
 form behind an f (4 bytes) or a d (8 bytes), a date or time its fields behind date or time, parted by colons. A row's
-columns are one word of types and flags; of a text row, whose values do not depend on them, each is 253:0.
+columns are one word of types and flags; of a text row, whose values do not depend on them, each is 253:0, and so is
+each of a bulk execution that sends its types. A bulk execution has a word for each of its rows.
 """
 import re
 import struct
@@ -83,3 +84,36 @@ def text_row(it, packets):
     if api is None:
         return [columns, columns.replace("253:0", UNREPORTED)]
     return [columns, ",".join(text_word(value, api["encoding"]) for value in api["values"])]
+
+
+def handed_word(kind, handed):
+    """The word for a value that was handed in, or for an indicator, behind which no value stands."""
+    if handed in (None, "DEFAULT", "IGNORE"):
+        return "none"
+    if isinstance(handed, dict):
+        return date(handed["dt"])
+    return bin_value(kind, handed, bytes.fromhex(handed) if isinstance(handed, str) else str(handed).encode())
+
+
+def sent_types(it):
+    """The types that a bulk execution sends, each with its byte of flags: none where the execution's flags lack 128."""
+    payload = bytes.fromhex(it["payload"])
+    end = 7 + 2 * it["expected"]["input"]["cols"] if payload[5] & 128 else 7
+    return list(zip(payload[7:end:2], payload[8:end:2], strict=True))
+
+
+def bulk_statement(it):
+    """The connection, and the statement's number there."""
+    return it["id"].rpartition("-")[0], it["expected"]["input"]["stmt_id"]
+
+
+def bulk_rows(it, packets):
+    """A bulk execution without types has the types and values of the last that sent them for the same statement."""
+    until = packets[: packets.index(it) + 1]
+    typed = [other for other in until if other["kind"] == it["kind"] and sent_types(other)]
+    bound = [other for other in typed if bulk_statement(other) == bulk_statement(it)][-1]
+    types = sent_types(bound)
+    columns = ["253:0" if bound is it else f"{kind}:{32 if flags & 128 else 0}" for kind, flags in types]
+    handed = bound["expected"]["input"]["values"][: it["expected"]["input"]["rows"]]
+    rows = [[handed_word(kind, value) for (kind, _), value in zip(types, row, strict=True)] for row in handed]
+    return [",".join(words) for words in [columns, *rows]]

@@ -12,7 +12,7 @@ import json
 import os
 import sys
 
-from captured_rows import binary_row, text_row
+from captured_rows import binary_row, bulk_rows, text_row
 
 TOP = os.path.dirname(os.path.dirname(os.path.realpath(__file__)))
 PACKETS = f"{TOP}/tests/captured/packets.jsonl"
@@ -123,14 +123,19 @@ KINDS = {
     "err": ("capabilities error_code sql_state message", error),
     "progress": ("capabilities stage max_stage progress stage_info", progress),
     "stmt_close": ("stmt_id", closed),
+    "stmt_bulk_execute": ("columns rows", bulk_rows),
     "stmt_send_long_data": ("stmt_id param_index data", sent_ahead),
     "text_row": ("columns values", text_row),
     "binary_row": ("columns values", binary_row),
 }
 
+# those whose words stand in other packets too
+AMONG_OTHERS = (text_row, bulk_rows)
+
 
 def table(kind, packets):
     words, make = KINDS[kind]
+    others = [packets] if make in AMONG_OTHERS else []
     lines = [
         "//! Written by `tools/captured_tables.py` from `tests/captured/packets.jsonl`: change nothing here.",
         "",
@@ -139,7 +144,7 @@ def table(kind, packets):
     ]
     for it in packets:
         if it["kind"] == kind:
-            lines.append(" ".join([it["id"], "x" + it["payload"], *(make(it, packets) if make is text_row else make(it))]) + "\\n\\")
+            lines.append(" ".join([it["id"], "x" + it["payload"], *make(it, *others)]) + "\\n\\")
     return "\n".join([*lines, '";', ""])
 
 

@@ -3,6 +3,7 @@
 //! Each table has a line for each packet: its name, its bytes and what was reported.
 
 mod binary_row;
+mod bulk_executions;
 mod column;
 mod columns;
 mod eof_old;
@@ -16,7 +17,9 @@ mod progress;
 mod reported;
 mod rows;
 mod statements;
+mod stmt_bulk_execute;
 mod stmt_close;
 mod stmt_prepare_ok;
 mod stmt_send_long_data;
 mod text_row;
+mod values;

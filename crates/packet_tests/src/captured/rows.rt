@@ -1,11 +1,12 @@
 //! Rows of results.
 
 use crate::captured::reported::{bytes_at, word};
+use crate::captured::values::{column, is_told};
 use crate::captured::{binary_row, text_row};
 use mysql_replies::Column;
 use mysql_stmt::{Row, RowDeserializer};
-use mysql_values::{Binary, ServerSide, Text, Value};
-use mysql_wire::{ColumnFlags, ColumnType, Fault, Flags, ParseBuf};
+use mysql_values::{Binary, ServerSide, Text};
+use mysql_wire::{Fault, ParseBuf};
 use std::alloc::{AllocError, Global};
 use std::rc::RcSlice;
 use std::test::Fail;
@@ -13,38 +14,11 @@ use std::test::Fail;
 /// The columns of a word of types and flags.
 fn columns(alloc: Global, word: &str) -> Result<RcSlice<Column>, Fail> {
     let mut columns = Vec::new(alloc);
-    for column in word.split(',') {
-        let (code, flags) = column.split_once(':').ok_or("a column has no flags")?;
-        let code: u8 = code.parse().ok().ok_or("a type is no number")?;
-        let bits = flags.parse().ok().ok_or("flags are no number")?;
-        let column_type = ColumnType::try_from(code)
-            .ok()
-            .ok_or("a type is not known")?;
-        columns.push(Column::new(column_type).with_flags(ColumnFlags::from_bits_retain(bits)))?;
+    for told in word.split(',') {
+        let (column_type, flags) = column(told)?;
+        columns.push(Column::new(column_type).with_flags(flags))?;
     }
     Ok(RcSlice::from_vec(columns)?)
-}
-
-/// The word for a value.
-fn shown(alloc: Global, value: &Value) -> Result<String, AllocError> {
-    match value {
-        Value::NULL => format!(in alloc; "none"),
-        Value::Bytes(bytes) => {
-            let digits = hex::encode(alloc, bytes.as_slice())?;
-            format!(in alloc; "x{digits}")
-        }
-        Value::Int(n) => format!(in alloc; "n{n}"),
-        Value::UInt(n) => format!(in alloc; "n{n}"),
-        Value::Float(bits) => format!(in alloc; "f{bits}"),
-        Value::Double(bits) => format!(in alloc; "d{bits}"),
-        Value::Date(year, month, day, hour, minute, second, micros) => {
-            format!(in alloc; "date{year}:{month}:{day}:{hour}:{minute}:{second}:{micros}")
-        }
-        Value::Time(is_negative, days, hour, minute, second, micros) => {
-            let sign = u8::from(*is_negative);
-            format!(in alloc; "time{sign}:{days}:{hour}:{minute}:{second}:{micros}")
-        }
-    }
 }
 
 /// Whether the row holds just the values of the words, as far as these tell.
@@ -54,7 +28,7 @@ fn is_reported(alloc: Global, row: &Row, words: &str) -> Result<bool, AllocError
         let (Some(word), Some(value)) = (words.next(), row.as_ref(place)) else {
             return Ok(false);
         };
-        if word != "-" && shown(alloc, value)?.as_str() != word {
+        if !is_told(alloc, value, word)? {
             return Ok(false);
         }
     }
