@@ -61,7 +61,7 @@ row_again (column ∷ columns) [] a rest = absurd a
 row_again (column ∷ columns) (v ∷ row) a rest =
     let P : List ℕ → Type 0 = λ bytes. (row_of_columns (column ∷ columns)).Spells (v ∷ row) bytes rest in
     subst P (sym (append_assoc (param_value_bytes (given v)) (row_bytes row) rest))
-        (v, row_bytes row ++ rest, value_again column v a.0 (row_bytes row ++ rest), (row, rest, row_again columns row a.1 rest, (refl, refl)))
+    (v, row_bytes row ++ rest, value_again column v a.0 (row_bytes row ++ rest), (row, rest, row_again columns row a.1 rest, (refl, refl)))
 
 row_some : (columns : List BulkColumn) (row : List Content) → columns ≢ [] → AgreesWith columns row → 0 < length (row_bytes row)
 unfolding le_bytes
