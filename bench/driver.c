@@ -7,6 +7,7 @@
  * Only what runs below `measured` is to be counted; the packets, each other than the one before it,
  * are made ahead of it. */
 #include <inttypes.h>
+#include <malloc.h>
 #include <stdint.h>
 #include <stdio.h>
 #include <stdlib.h>
@@ -15,7 +16,8 @@
 typedef uint64_t call(const uint8_t *bytes, size_t len);
 
 call bench_statements_read, bench_statements_written, bench_columns_read, bench_columns_written,
-    bench_ok_packets_read, bench_errors_read, bench_errors_written, bench_bulk_rows_made, bench_bulk_rows_written;
+    bench_ok_packets_read, bench_errors_read, bench_errors_written, bench_rows_read, bench_executions_written,
+    bench_bulk_rows_made, bench_bulk_rows_written;
 
 struct batch {
     uint8_t *bytes;
@@ -161,6 +163,26 @@ static void put_error(struct batch *batch)
     put_framed(batch, fill_error);
 }
 
+static void put_numbers(struct batch *batch)
+{
+    for (int i = 0; i < 5; i++)
+        put_number(batch, varied(), 8);
+}
+
+/* a row without NULLs: its header and its bitmap, five numbers, and five strings */
+static void fill_row(struct batch *batch)
+{
+    put_number(batch, 0, 3);
+    put_numbers(batch);
+    for (int i = 0; i < 5; i++)
+        put_string(batch, 20);
+}
+
+static void put_row(struct batch *batch)
+{
+    put_framed(batch, fill_row);
+}
+
 /* a number of 8 bytes, and 20 bytes of text */
 static void put_bulk_row(struct batch *batch)
 {
@@ -183,6 +205,8 @@ static const struct operation {
     { "ok_packets_read", 10000, "OK packet, read with its session changes", put_ok_packet, bench_ok_packets_read },
     { "errors_read", 10000, "error, read", put_error, bench_errors_read },
     { "errors_written", 10000, "error, read and written", put_error, bench_errors_written },
+    { "rows_read", 10000, "binary row of 10 columns, read", put_row, bench_rows_read },
+    { "executions_written", 10000, "execution of 10 values, built and written", put_numbers, bench_executions_written },
     { "bulk_rows_made", 1000000, "bulk row, made and dropped", put_bulk_row, bench_bulk_rows_made },
     { "bulk_rows_written", 1000000, "bulk row, made, built into requests and written", put_bulk_row, bench_bulk_rows_written },
 };
@@ -195,6 +219,9 @@ __attribute__((noinline)) uint64_t measured(call *run, const struct batch *batch
 int main(int argc, char **argv)
 {
     uint64_t sum = 1;
+    /* a fixed bound for the blocks that stand alone: else glibc moves it with the sizes of those that are freed, and so
+     * does a work of its own at one count of packets, to put together all the small blocks, and not at another */
+    mallopt(M_MMAP_THRESHOLD, 128 * 1024);
     for (size_t i = 0; i < sizeof operations / sizeof *operations; i++) {
         const struct operation *it = &operations[i];
         if (argc != 3) {

@@ -7,6 +7,8 @@
 mod bulk;
 mod columns;
 mod errors;
+mod executions;
 mod ok_packets;
 mod packets;
+mod rows;
 mod statements;

@@ -4,6 +4,7 @@
 #![tactic(auto)]
 
 mod bench;
+mod bulk;
 mod column;
 mod counted;
 mod err;
@@ -46,6 +47,7 @@ fn run(rt: &(impl Env + Print + AllocGlobal)) -> io::Result<ExitCode> {
     row::cases(&mut bench)?;
     null_bitmap::cases(&mut bench)?;
     execute::cases(&mut bench)?;
+    bulk::cases(&mut bench)?;
     program::cases(&mut bench)?;
     rt.print(bench.lines())?;
     Ok(ExitCode::SUCCESS)
