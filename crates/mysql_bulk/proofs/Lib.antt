@@ -5,8 +5,8 @@ pub mod Runs
 pub mod Running
 pub mod Whole
 pub mod Chains
-pub mod EachValue
 pub mod Params
 pub mod NewRequest
 pub mod ParamsRuns
 pub mod RowsAgain
+pub mod BuilderEq

@@ -6,12 +6,13 @@ use Rattle.std.proofs.Math.Bool.{or_assoc}
 use Rattle.std.proofs.lemmas.List.{ext_get_or}
 use Rattle.std.proofs.lemmas.List.FromFn.{get_or-map-range_with_len, length-map-range_with_len}
 use Rattle.mysql_values.specs.declared.value.Value.{Value}
+use Rattle.mysql_values.specs.SentType.{is_uint}
 use Rattle.mysql_values.specs.Value.{Content, content_of, contents_of}
 use Rattle.mysql_values.specs.Value.{NULL, Bytes, Int, UInt, Float, Double, Date, Time}
 use Rattle.mysql_wire.specs.declared.codes.column_type.ColumnType.TheVariants as column
 use Rattle.mysql_bulk.specs.declared.param_type.StmtBulkExecuteParamType.{StmtBulkExecuteParamType}
 use Rattle.mysql_bulk.specs.Flat.{EqualLengths}
-use Rattle.mysql_bulk.specs.ParamType.{typed, type_of, is_uint, first_given, type_from, declared_type, column_of, declared_types, joined_type, joined_types}
+use Rattle.mysql_bulk.specs.ParamType.{typed, type_of, first_given, type_from, declared_type, column_of, declared_types, joined_type, joined_types}
 
 -- ---- a column
 

@@ -1,5 +1,5 @@
 -- The rows of a request are read again from its bytes.
-use Rattle.std.proofs.Common.{◌≡◌, ◌≢◌, ℕ, ◌+◌, ◌<◌, ◌≤◌, ◌^◌, Bool, true, false, if◌then◌else◌, List, [], ◌∷◌, ◌++◌, length, map, refl, sym, ◌∙◌, ap, subst, arith, append_assoc, length-append}
+use Rattle.std.proofs.Common.{◌≡◌, ◌≢◌, ℕ, ◌+◌, ◌<◌, ◌^◌, Bool, true, false, if◌then◌else◌, List, [], ◌∷◌, ◌++◌, length, map, refl, sym, ◌∙◌, ap, subst, arith, append_assoc}
 use Rattle.std.proofs.lemmas.List.{append-nil, map-append}
 use Rattle.std.proofs.lemmas.Grind.{flat_map-append}
 use Rattle.std.proofs.lemmas.List.Elements.{All-map}
@@ -10,6 +10,7 @@ use Rattle.mysql_wire.specs.declared.codes.mariadb_bulk_indicator.MariadbBulkInd
 use Rattle.mysql_wire.specs.declared.codes.mariadb_bulk_indicator.MariadbBulkIndicator.TheVariants.{BULK_INDICATOR_NONE, BULK_INDICATOR_NULL}
 use Rattle.mysql_wire.specs.Flags.{has}
 use Rattle.mysql_wire.specs.Form.{give, either}
+use Rattle.mysql_wire.specs.Each.{each}
 use Rattle.mysql_wire.specs.Many.{many}
 use Rattle.mysql_wire.specs.Int.{raw_int}
 use Rattle.mysql_wire.specs.Writing.{le_bytes}
@@ -18,14 +19,15 @@ use Rattle.mysql_wire.specs.ListAgain.{seq-again, many-again}
 use Rattle.mysql_wire.specs.ColumnType.{column_type-again}
 use Rattle.mysql_wire.specs.MariadbBulkIndicator.{mariadb_bulk_indicator-again}
 use Rattle.mysql_cuts.specs.Cut.{joined}
+use Rattle.mysql_values.specs.SentType.{is_uint}
 use Rattle.mysql_values.specs.Value.{Content, NULL, Bytes, Int, UInt, Float, Double, Date, Time, bin}
 use Rattle.mysql_values.specs.ValueDeserializer.{bin_value}
 use Rattle.mysql_values.specs.ReadingBack.{Agrees}
 use Rattle.mysql_bulk.specs.declared.param_type.StmtBulkExecuteParamType.{StmtBulkExecuteParamType}
-use Rattle.mysql_bulk.specs.ParamType.{param_type, param_type_fields, param_type_bytes, types_bytes, is_uint, first_given, type_from, declared_type, declared_types, first_length}
+use Rattle.mysql_bulk.specs.ParamType.{param_type, param_type_fields, param_type_bytes, types_bytes, first_given, type_from, declared_type, declared_types, first_length}
 use Rattle.mysql_bulk.specs.ParamType as declared
 use Rattle.mysql_bulk.specs.ParamValue.{ParamValue, given, param_value, param_value_bytes, values_bytes, follows}
-use Rattle.mysql_bulk.specs.ParamValues.{BulkColumn, each}
+use Rattle.mysql_bulk.specs.ParamValues.{BulkColumn}
 use Rattle.mysql_bulk.specs.Head.{BulkHead, head, told, column_of, types_sent}
 use Rattle.mysql_bulk.specs.Request.{BulkRequest, request_flags, request_parts, request_bytes}
 use Rattle.mysql_bulk.specs.Builder.{BuilderState, IsRequest}
@@ -39,29 +41,29 @@ one_value : (t : ColumnType) (u : Bool) (i : MariadbBulkIndicator) (v : Content)
 one_value t u i v rest s =
     rw append_assoc (record { 0 = i; 1 = record {} }, bin v ++ rest, mariadb_bulk_indicator-again (record { 0 = i; 1 = record {} }) (bin v ++ rest), (v, rest, s, (refl, refl)))
 
-value_again : (column : BulkColumn) (v : Content) → Agrees column.0 (has column.1.0 32) v → IsSpelling (content_of_column column) v (param_value_bytes (given v))
-value_again column NULL a rest = (given NULL, refl, one_value column.0 (has column.1.0 32) BULK_INDICATOR_NULL NULL rest (refl, refl))
-value_again column (Bytes x) a rest = (given (Bytes x), refl, one_value column.0 (has column.1.0 32) BULK_INDICATOR_NONE (Bytes x) rest (a rest))
-value_again column (Int x) a rest = (given (Int x), refl, one_value column.0 (has column.1.0 32) BULK_INDICATOR_NONE (Int x) rest (a rest))
-value_again column (UInt x) a rest = (given (UInt x), refl, one_value column.0 (has column.1.0 32) BULK_INDICATOR_NONE (UInt x) rest (a rest))
-value_again column (Float x) a rest = (given (Float x), refl, one_value column.0 (has column.1.0 32) BULK_INDICATOR_NONE (Float x) rest (a rest))
-value_again column (Double x) a rest = (given (Double x), refl, one_value column.0 (has column.1.0 32) BULK_INDICATOR_NONE (Double x) rest (a rest))
-value_again column (Date x) a rest = (given (Date x), refl, one_value column.0 (has column.1.0 32) BULK_INDICATOR_NONE (Date x) rest (a rest))
-value_again column (Time x) a rest = (given (Time x), refl, one_value column.0 (has column.1.0 32) BULK_INDICATOR_NONE (Time x) rest (a rest))
+value_again : (place : ℕ) (column : BulkColumn) (v : Content) → Agrees column.0 (has column.1.0 32) v → IsSpelling (content_of_column place column) v (param_value_bytes (given v))
+value_again place column NULL a rest = (given NULL, refl, one_value column.0 (has column.1.0 32) BULK_INDICATOR_NULL NULL rest (refl, refl))
+value_again place column (Bytes x) a rest = (given (Bytes x), refl, one_value column.0 (has column.1.0 32) BULK_INDICATOR_NONE (Bytes x) rest (a rest))
+value_again place column (Int x) a rest = (given (Int x), refl, one_value column.0 (has column.1.0 32) BULK_INDICATOR_NONE (Int x) rest (a rest))
+value_again place column (UInt x) a rest = (given (UInt x), refl, one_value column.0 (has column.1.0 32) BULK_INDICATOR_NONE (UInt x) rest (a rest))
+value_again place column (Float x) a rest = (given (Float x), refl, one_value column.0 (has column.1.0 32) BULK_INDICATOR_NONE (Float x) rest (a rest))
+value_again place column (Double x) a rest = (given (Double x), refl, one_value column.0 (has column.1.0 32) BULK_INDICATOR_NONE (Double x) rest (a rest))
+value_again place column (Date x) a rest = (given (Date x), refl, one_value column.0 (has column.1.0 32) BULK_INDICATOR_NONE (Date x) rest (a rest))
+value_again place column (Time x) a rest = (given (Time x), refl, one_value column.0 (has column.1.0 32) BULK_INDICATOR_NONE (Time x) rest (a rest))
 
 -- the bytes of a row
 abbrev row_bytes : List Content → List ℕ
 row_bytes row = values_bytes (map given row)
 
-row_again : (columns : List BulkColumn) (row : List Content) → AgreesWith columns row → IsSpelling (row_of_columns columns) row (row_bytes row)
+row_again : (place : ℕ) (columns : List BulkColumn) (row : List Content) → AgreesWith columns row → IsSpelling (each content_of_column place columns) row (row_bytes row)
 unfolding each
-row_again [] [] a rest = (refl, refl)
-row_again [] (v ∷ row) a rest = absurd a
-row_again (column ∷ columns) [] a rest = absurd a
-row_again (column ∷ columns) (v ∷ row) a rest =
-    let P : List ℕ → Type 0 = λ bytes. (row_of_columns (column ∷ columns)).Spells (v ∷ row) bytes rest in
+row_again place [] [] a rest = (refl, refl)
+row_again place [] (v ∷ row) a rest = absurd a
+row_again place (column ∷ columns) [] a rest = absurd a
+row_again place (column ∷ columns) (v ∷ row) a rest =
+    let P : List ℕ → Type 0 = λ bytes. (each content_of_column place (column ∷ columns)).Spells (v ∷ row) bytes rest in
     subst P (sym (append_assoc (param_value_bytes (given v)) (row_bytes row) rest))
-    (v, row_bytes row ++ rest, value_again column v a.0 (row_bytes row ++ rest), (row, rest, row_again columns row a.1 rest, (refl, refl)))
+    (v, row_bytes row ++ rest, value_again place column v a.0 (row_bytes row ++ rest), (row, rest, row_again (place + 1) columns row a.1 rest, (refl, refl)))
 
 row_some : (columns : List BulkColumn) (row : List Content) → columns ≢ [] → AgreesWith columns row → 0 < length (row_bytes row)
 unfolding le_bytes
@@ -79,7 +81,7 @@ bytes_of_rows (row ∷ rows) =
 rows_again : (columns : List BulkColumn) (rows : List (List Content)) → columns ≢ [] → All (AgreesWith columns) rows → (many (row_of_columns columns)).Spells rows (values_bytes (map given (joined rows))) []
 rows_again columns rows n a =
     let P : List ℕ → Type 0 = λ bytes. (many (row_of_columns columns)).Spells rows bytes [] in
-    subst P (bytes_of_rows rows) (many-again (AgreesWith columns) (row_of_columns columns) row_bytes (row_again columns) (λ row w. row_some columns row n w) rows a)
+    subst P (bytes_of_rows rows) (many-again (AgreesWith columns) (row_of_columns columns) row_bytes (row_again 0 columns) (λ row w. row_some columns row n w) rows a)
 
 -- ---- the head
 

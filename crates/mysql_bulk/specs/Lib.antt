@@ -13,5 +13,6 @@ pub mod RequestForm
 pub mod NewRequest
 pub mod ParamsRun
 pub mod ReadingBack
-pub mod ContentEq
+pub mod ParamValueEq
 pub mod RequestEq
+pub mod BuilderEq

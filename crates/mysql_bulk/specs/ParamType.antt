@@ -1,8 +1,9 @@
 -- The types that a bulk request declares for its columns.
-use Rattle.std.specs.Prelude.{ℕ, Bool, true, false, if◌then◌else◌, List, [], ◌∷◌, ◌++◌, map, length, get_or}
+use Rattle.std.specs.Prelude.{ℕ, Bool, true, if◌then◌else◌, List, [], ◌∷◌, ◌++◌, map, length, get_or}
 use Rattle.std.specs.List.{range_with_len, list_any, flat_map}
 use Rattle.mysql_values.specs.Value.{Content}
-use Rattle.mysql_values.specs.Value.{NULL, Bytes, Int, UInt, Float, Double, Date, Time}
+use Rattle.mysql_values.specs.Value.{NULL, Int, UInt}
+use Rattle.mysql_values.specs.SentType.{sent_type, is_uint}
 use Rattle.mysql_wire.specs.declared.codes.column_type.ColumnType.{ColumnType}
 use Rattle.mysql_wire.specs.declared.codes.column_type.ColumnType.TheVariants as column
 use Rattle.mysql_wire.specs.ColumnType.{column_type, column_type_code}
@@ -23,18 +24,7 @@ type_flags t = t.flags
 
 -- the type that a value is sent as
 abbrev pub type_of : Content → StmtBulkExecuteParamType
-type_of NULL = typed column.MYSQL_TYPE_NULL false
-type_of (Bytes bytes) = typed column.MYSQL_TYPE_VAR_STRING false
-type_of (Int n) = typed column.MYSQL_TYPE_LONGLONG false
-type_of (UInt n) = typed column.MYSQL_TYPE_LONGLONG true
-type_of (Float bits) = typed column.MYSQL_TYPE_FLOAT false
-type_of (Double bits) = typed column.MYSQL_TYPE_DOUBLE false
-type_of (Date date) = typed column.MYSQL_TYPE_DATETIME false
-type_of (Time time) = typed column.MYSQL_TYPE_TIME false
-
-abbrev pub is_uint : Content → Bool
-is_uint (UInt n) = true
-is_uint _ = false
+type_of value = typed (sent_type value) (is_uint value)
 
 -- the first value that is not null, if there is one
 abbrev pub first_given : List Content → Content

@@ -1,5 +1,5 @@
 -- A run over parameters that an iterator gives, whose values are the rows.
-use Rattle.std.specs.Prelude.{◌≡◌, Bool, true, false, ℕ, List, Option, Some, None, Result, Ok, Err}
+use Rattle.std.specs.Prelude.{◌≡◌, true, false, ℕ, List, Option, Some, None, Result, Ok, Err}
 use Rattle.std.specs.Global.{Vec}
 use Rattle.std.specs.Iterator.{Yields}
 use Rattle.mysql_values.specs.declared.params.Params.{Params}

@@ -9,7 +9,6 @@ use Rattle.mysql_bulk.specs.declared.param_type.StmtBulkExecuteParamType.{StmtBu
 use Rattle.mysql_bulk.specs.ParamType.{first_length, declared_types}
 use Rattle.mysql_bulk.specs.ParamValue.{given}
 use Rattle.mysql_bulk.specs.ParamValues.{BulkColumn}
-use Rattle.mysql_bulk.specs.Flat.{EqualLengths}
 use Rattle.mysql_bulk.specs.Head.{BulkHead, told, column_of}
 use Rattle.mysql_bulk.specs.Request.{BulkRequest}
 use Rattle.mysql_bulk.specs.Builder.{BuilderState}

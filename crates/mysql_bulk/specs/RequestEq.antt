@@ -1,5 +1,5 @@
 -- Equality of requests.
-use Rattle.std.specs.Prelude.{ℕ, Bool, nat_eq, ◌&&◌}
+use Rattle.std.specs.Prelude.{Bool, nat_eq, ◌&&◌}
 use Rattle.std.specs.Cmp.{IsPartialEquivalence, and_per, on_per, partial_equiv_from_equiv, nat_eq_equiv}
 use Rattle.std.specs.Cmp.Lexicographic.{pointwise, lists_per}
 use Rattle.mysql_bulk.specs.declared.param_type.StmtBulkExecuteParamType.{StmtBulkExecuteParamType}

@@ -6,6 +6,7 @@ ghost use Rattle.mysql_cuts.specs.Cut.{PartFits};
 ghost use Rattle.mysql_values.specs.Value.{Content, contents_of};
 ghost use Rattle.mysql_bulk.specs.ParamValue.{given, row_size};
 ghost use Rattle.mysql_bulk.specs.Request.{written_size, request_flags};
+ghost use Rattle.mysql_bulk.specs.BuilderEq.{rows_eq};
 ghost use Rattle.mysql_bulk.specs.Builder.{TakesArity, RowFits, Adds, AddsRow, AddsParams, Builds, WaitingFits, waiting_size, rows_packing};
 
 use crate::error::{BulkExecuteRequestBuilderError, BulkExecuteRequestError};
@@ -24,7 +25,7 @@ use std::mem;
 ///
 /// Rows are added until one does not fit; then a request is built of those that wait, and so on. The first request
 /// alone sends types, if `with_types_always` does not say otherwise.
-#[derive(Drop)]
+#[derive(Debug, Drop)]
 pub struct ComStmtBulkExecuteRequestBuilder<'a> {
     names: Option<&'a [Vec<u8>]>,
     alloc: Global,
@@ -92,6 +93,27 @@ impl<'a> Clone for ComStmtBulkExecuteRequestBuilder<'a> {
             values: self.values.clone()?,
             types: self.types.clone()?,
         })
+    }
+}
+
+/// The same settings, and waiting rows whose values hold the same.
+impl<'a> PartialEq for ComStmtBulkExecuteRequestBuilder<'a> {
+    ghost use Rattle.mysql_bulk.specs.BuilderEq.{builder_eq, builder_per};
+    ghost use Rattle.mysql_cuts.specs.contracts.rule.BulkRulePartialEq.TheImpl.Laws.{laws-law};
+
+    ghost eq = { builder_eq ⟦<BulkRule as PartialEq>⟧.eq };
+
+    ghost laws = { builder_per ⟦<BulkRule as PartialEq>⟧.eq laws-law };
+
+    fn eq(&self, other: &Self) -> bool {
+        self.stmt_id == other.stmt_id
+            && self.limit == other.limit
+            && self.results == other.results
+            && self.rule == other.rule
+            && self.names == other.names
+            && self.types_due == other.types_due
+            && self.arity == other.arity
+            && self.same_rows_wait(other)
     }
 }
 
@@ -237,6 +259,13 @@ impl<'a> ComStmtBulkExecuteRequestBuilder<'a> {
         ensures { IsTrue result ↔ (self.now.waiting ≢ []) }
     {
         self.count != 0
+    }
+
+    /// Whether equal rows wait in both, where their rows have one length.
+    fn same_rows_wait(&self, other: &Self) -> bool
+        ensures { self.now.arity ≡ other.now.arity → result ≡ rows_eq self.now.waiting other.now.waiting }
+    {
+        self.count == other.count && self.values == other.values
     }
 
     /// How many rows wait.

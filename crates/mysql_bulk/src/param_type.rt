@@ -24,17 +24,10 @@ impl StmtBulkExecuteParamType {
     pub fn from_value(value: &Value) -> Self
         ensures { result ≡ type_of (content_of value.now) }
     {
-        let (column_type, flags) = match value {
-            Value::NULL => (ColumnType::MYSQL_TYPE_NULL, 0),
-            Value::Bytes(_) => (ColumnType::MYSQL_TYPE_VAR_STRING, 0),
-            Value::Int(_) => (ColumnType::MYSQL_TYPE_LONGLONG, 0),
-            Value::UInt(_) => (ColumnType::MYSQL_TYPE_LONGLONG, 128),
-            Value::Float(_) => (ColumnType::MYSQL_TYPE_FLOAT, 0),
-            Value::Double(_) => (ColumnType::MYSQL_TYPE_DOUBLE, 0),
-            Value::Date(..) => (ColumnType::MYSQL_TYPE_DATETIME, 0),
-            Value::Time(..) => (ColumnType::MYSQL_TYPE_TIME, 0),
-        };
-        StmtBulkExecuteParamType { column_type, flags }
+        StmtBulkExecuteParamType {
+            column_type: value.sent_type(),
+            flags: if value.is_uint() { 128 } else { 0 },
+        }
     }
 
     /// The type with its byte of flags.
@@ -81,7 +74,7 @@ impl StmtBulkExecuteParamType {
     {
         match self.column_type {
             ColumnType::MYSQL_TYPE_NULL => StmtBulkExecuteParamType::from_value(value),
-            ColumnType::MYSQL_TYPE_LONGLONG if matches!(value, Value::UInt(_)) => {
+            ColumnType::MYSQL_TYPE_LONGLONG if value.is_uint() => {
                 StmtBulkExecuteParamType {
                     column_type: ColumnType::MYSQL_TYPE_LONGLONG,
                     flags: 128,

@@ -77,7 +77,7 @@ impl Clone for StmtBulkExecuteParamValue {
 
 impl PartialEq for StmtBulkExecuteParamValue {
     ghost use Rattle.mysql_wire.specs.contracts.codes.mariadb_bulk_indicator.MariadbBulkIndicatorPartialEq.TheImpl.Laws.{laws-law};
-    ghost use Rattle.mysql_bulk.specs.ContentEq.{param_value_eq, param_value_per};
+    ghost use Rattle.mysql_bulk.specs.ParamValueEq.{param_value_eq, param_value_per};
 
     ghost eq = { param_value_eq ⟦<MariadbBulkIndicator as PartialEq>⟧.eq };
 

@@ -103,7 +103,8 @@ impl<'de> MyDeserialize<'de> for StmtBulkExecuteParamValues {
 
     type Ctx = Vec<(ColumnType, ColumnFlags)>;
 
-    ghost use Rattle.mysql_bulk.specs.ParamValues.{size-each, value_of_column};
+    ghost use Rattle.mysql_wire.specs.Each.{size-each};
+    ghost use Rattle.mysql_bulk.specs.ParamValues.{value_of_column};
 
     ghost form = { λ columns. values_of_columns columns.items };
 
@@ -117,7 +118,7 @@ impl<'de> MyDeserialize<'de> for StmtBulkExecuteParamValues {
         })
     }
 
-    ghost size_is = { λ columns. size-each value_of_column columns.items };
+    ghost size_is = { λ columns. size-each value_of_column 0 columns.items };
 }
 
 impl MySerialize for StmtBulkExecuteParamValues {

@@ -1,5 +1,5 @@
 -- The parts of session changes that are one byte string each.
-use Rattle.std.specs.Prelude.{◌≡◌, ℕ, ◌<◌, ◌^◌, List, Option, None, length}
+use Rattle.std.specs.Prelude.{◌≡◌, ℕ, ◌<◌, ◌^◌, List, None, length}
 use Rattle.mysql_wire.specs.declared.eof.EofBytes.{EofBytes}
 use Rattle.mysql_wire.specs.declared.lenenc.LenEnc.{LenEnc}
 use Rattle.mysql_wire.specs.Form.{Form, map, all_left}

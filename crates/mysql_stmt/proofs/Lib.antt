@@ -2,7 +2,7 @@ pub mod StmtAgain
 pub mod Cells
 pub mod Nulls
 pub mod ParamLengths
-pub mod Each
 pub mod Copies
 pub mod NullBits
 pub mod BitmapAgain
+pub mod CellsEq

@@ -7,5 +7,5 @@ pub mod ParamType
 pub mod ExecuteParams
 pub mod Execute
 pub mod Row
-pub mod RowEq
 pub mod RowForm
+pub mod RowEq

@@ -1,7 +1,7 @@
 -- A bitmap of NULLs in the bytes.
-use Rattle.std.specs.Prelude.{◌≡◌, ℕ, ◌+◌, ◌^◌, List, Option, None, Result, Ok, Err, Bool, true, false, nat_lt, refl}
+use Rattle.std.specs.Prelude.{◌≡◌, ℕ, ◌+◌, ◌^◌, List, None, Ok, Err, Bool, true, false, nat_lt, refl}
 use Rattle.mysql_wire.specs.declared.fault.FaultKind.TheVariants as kind
-use Rattle.mysql_wire.specs.Reading.{Reading, IsTail}
+use Rattle.mysql_wire.specs.Reading.{Reading}
 use Rattle.mysql_wire.specs.Form.{Form, map, either}
 use Rattle.mysql_wire.specs.Bare.{bare}
 use Rattle.mysql_stmt.specs.Bitmap.{Bitmap, bytes_for}

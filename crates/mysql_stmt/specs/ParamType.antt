@@ -1,12 +1,12 @@
 -- The types that values are sent as.
-use Rattle.std.specs.Prelude.{ℕ, ◌++◌, List}
+use Rattle.std.specs.Prelude.{ℕ, if◌then◌else◌, ◌++◌, List}
 use Rattle.std.specs.List.{flat_map}
 use Rattle.mysql_wire.specs.declared.codes.column_type.ColumnType.{ColumnType}
-use Rattle.mysql_wire.specs.declared.codes.column_type.ColumnType.TheVariants as column
 use Rattle.mysql_wire.specs.ColumnType.{column_type_code}
 use Rattle.mysql_wire.specs.Writing.{le_bytes}
 use Rattle.mysql_values.specs.declared.value.Value.{Value}
-use Rattle.mysql_values.specs.Value.{Content, NULL, Bytes, Int, UInt, Float, Double, Date, Time, content_of}
+use Rattle.mysql_values.specs.Value.{Content, content_of}
+use Rattle.mysql_values.specs.SentType.{sent_type, is_uint}
 use Rattle.mysql_stmt.specs.declared.param_type.ParamType.{ParamType}
 
 -- a column type, and its flags
@@ -15,14 +15,7 @@ typed t flags = record { column_type = record { 0 = t; 1 = record {} }; flags = 
 
 -- the type that a value is sent as: an unsigned number has the flag 128
 abbrev pub type_of : Content → ParamType
-type_of NULL = typed column.MYSQL_TYPE_NULL 0
-type_of (Bytes bytes) = typed column.MYSQL_TYPE_VAR_STRING 0
-type_of (Int n) = typed column.MYSQL_TYPE_LONGLONG 0
-type_of (UInt n) = typed column.MYSQL_TYPE_LONGLONG 128
-type_of (Float bits) = typed column.MYSQL_TYPE_FLOAT 0
-type_of (Double bits) = typed column.MYSQL_TYPE_DOUBLE 0
-type_of (Date date) = typed column.MYSQL_TYPE_DATETIME 0
-type_of (Time time) = typed column.MYSQL_TYPE_TIME 0
+type_of value = typed (sent_type value) (if is_uint value then 128 else 0)
 
 -- a byte for the type, and a byte of flags
 abbrev pub type_bytes : ParamType → List ℕ

@@ -1,40 +1,27 @@
--- Equality of rows is symmetric and transitive.
-use Rattle.std.specs.Prelude.{◌≡◌, Bool, true, false, ◌&&◌, Option, Some, None, refl}
-use Rattle.std.specs.Cmp.{IsPartialEquivalence, and_per, on_per}
-use Rattle.std.specs.Cmp.Lexicographic.{pointwise, lists_per}
+-- Equality of rows: it is that of what their values hold.
+use Rattle.std.specs.Prelude.{Bool, ◌&&◌}
+use Rattle.std.specs.Option.{option_eq}
+use Rattle.std.specs.Cmp.{IsPartialEquivalence, and_per, on_per, partial_equiv_from_equiv}
+use Rattle.std.specs.Cmp.Lexicographic.{pointwise, lists_per, lists_equiv, options_equiv}
 use Rattle.mysql_replies.specs.declared.column.Column.{Column}
-use Rattle.mysql_values.specs.declared.value.Value.{Value}
-use Rattle.mysql_stmt.specs.Row.{Cells}
+use Rattle.mysql_values.specs.ContentEq.{content_eq, content_equiv}
+use Rattle.mysql_stmt.specs.Row.{Cells, held}
+use Rattle.mysql_stmt.specs.RowForm.{RowContent}
 
-module _ (value_eq : Value → Value → Bool) where
-  -- both are none, or both are there and equal
-  abbrev pub cell_eq : Option Value → Option Value → Bool
-  cell_eq None None = true
-  cell_eq None (Some y) = false
-  cell_eq (Some x) None = false
-  cell_eq (Some x) (Some y) = value_eq x y
+cells_per : IsPartialEquivalence (pointwise (option_eq content_eq))
+cells_per = partial_equiv_from_equiv (lists_equiv (options_equiv content_equiv))
 
-  module _ (per : IsPartialEquivalence value_eq) where
-    symm : (x y : Option Value) → cell_eq x y ≡ cell_eq y x
-    symm None None = refl
-    symm None (Some y) = refl
-    symm (Some x) None = refl
-    symm (Some x) (Some y) = per.symm x y
+module _ (column_eq : Column → Column → Bool) where
+  -- values that hold the same, beside the same columns
+  abbrev pub row_content_eq : RowContent → RowContent → Bool
+  row_content_eq a b = pointwise (option_eq content_eq) a.cells b.cells && pointwise column_eq a.columns b.columns
 
-    trans : (x y z : Option Value) → cell_eq x y ≡ true → cell_eq y z ≡ true → cell_eq x z ≡ true
-    trans None None z p q = q
-    trans (Some x) (Some y) (Some z) p q = per.trans x y z p q
-    trans None (Some y) z p q = absurd cc
-    trans (Some x) None z p q = absurd cc
-    trans (Some x) (Some y) None p q = absurd cc
-
-    pub cells_per : IsPartialEquivalence cell_eq
-    cells_per = record { symm = symm; trans = trans }
-
-module _ (value_eq : Value → Value → Bool) (column_eq : Column → Column → Bool) where
-  -- the same values beside the same columns
   abbrev pub row_eq : Cells → Cells → Bool
-  row_eq a b = pointwise (cell_eq value_eq) a.cells b.cells && pointwise column_eq a.columns b.columns
+  row_eq a b = pointwise (option_eq content_eq) (held a.cells) (held b.cells) && pointwise column_eq a.columns b.columns
 
-  pub row_per : IsPartialEquivalence value_eq → IsPartialEquivalence column_eq → IsPartialEquivalence row_eq
-  row_per p q = and_per (on_per (λ r. r.cells) (lists_per (cells_per value_eq p))) (on_per (λ r. r.columns) (lists_per q))
+  module _ (column_per : IsPartialEquivalence column_eq) where
+    pub row_content_per : IsPartialEquivalence row_content_eq
+    row_content_per = and_per (on_per (λ (r : RowContent). r.cells) cells_per) (on_per (λ (r : RowContent). r.columns) (lists_per column_per))
+
+    pub row_per : IsPartialEquivalence row_eq
+    row_per = and_per (on_per (λ (r : Cells). held r.cells) cells_per) (on_per (λ (r : Cells). r.columns) (lists_per column_per))

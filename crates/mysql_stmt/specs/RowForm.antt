@@ -1,9 +1,10 @@
 -- Rows in the bytes.
-use Rattle.std.specs.Prelude.{ℕ, ◌+◌, ◌==◌, Bool, List, [], ◌∷◌, length, Option, Some, Result, Ok, Err}
+use Rattle.std.specs.Prelude.{ℕ, ◌+◌, ◌==◌, Bool, List, length, Option, Some, Result, Ok, Err}
 use Rattle.std.specs.Global.{Vec}
 use Rattle.mysql_wire.specs.declared.fault.FaultOf.{FaultOf}
 use Rattle.mysql_wire.specs.Flags.{has}
 use Rattle.mysql_wire.specs.Form.{Form, ◌>>=◌, give, either, map}
+use Rattle.mysql_wire.specs.Each.{each}
 use Rattle.mysql_wire.specs.Skip.{skip}
 use Rattle.mysql_replies.specs.declared.column.Column.{Column}
 use Rattle.mysql_replies.specs.Column.{column_type, flags}
@@ -18,14 +19,6 @@ use Rattle.mysql_stmt.specs.Row.{held}
 pub record RowContent : Type 0 where
   pub cells : List (Option Content)
   pub columns : List Column
-
--- one of each form, in order, each told its place
-unfoldable pub each : {A C : Type 0} → (ℕ → C → Form A) → ℕ → List C → Form (List A)
-each form place [] = give []
-each form place (c ∷ cs) = do
-  x ← form place c
-  xs ← each form (place + 1) cs
-  give (x ∷ xs)
 
 -- a value that is there
 abbrev pub there : Form Content → Form (Option Content)

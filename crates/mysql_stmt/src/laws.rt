@@ -17,6 +17,12 @@ pub fn stmt_packet_again()
     ensures read { (p : StmtPacket) (rest : List ℕ) → StmtFits p → stmt.reads (stmt_bytes p ++ rest) ≡ Ok (p, rest) }
 {}
 
+/// Bytes spell at most one statement packet, with one rest behind it.
+pub fn stmt_packet_once()
+    ensures value { (p q : StmtPacket) (bytes rest left : List ℕ) → stmt.Spells p bytes rest → stmt.Spells q bytes left → p ≡ q }
+    ensures rest { (p q : StmtPacket) (bytes rest left : List ℕ) → stmt.Spells p bytes rest → stmt.Spells q bytes left → rest ≡ left }
+{}
+
 /// What is written of a bitmap of NULLs is read again for the count of its values, whatever follows.
 pub fn null_bitmap_again()
     ensures spelled { (offset count : ℕ) (bytes rest : List ℕ) → count + 7 + offset < 2 ^ 64 → length bytes ≡ bytes_for offset count →
@@ -29,10 +35,4 @@ pub fn null_bitmap_again()
 pub fn row_once()
     ensures text { (columns : List Column) (v w : List (Option Content)) (bytes rest left : List ℕ) → (text_row columns).Spells v bytes rest → (text_row columns).Spells w bytes left → (v ≡ w) × (rest ≡ left) }
     ensures binary { (offset : ℕ) (columns : List Column) (v w : List (Option Content)) (bytes rest left : List ℕ) → (bin_row offset columns).Spells v bytes rest → (bin_row offset columns).Spells w bytes left → (v ≡ w) × (rest ≡ left) }
-{}
-
-/// Bytes spell at most one statement packet, with one rest behind it.
-pub fn stmt_packet_once()
-    ensures value { (p q : StmtPacket) (bytes rest left : List ℕ) → stmt.Spells p bytes rest → stmt.Spells q bytes left → p ≡ q }
-    ensures rest { (p q : StmtPacket) (bytes rest left : List ℕ) → stmt.Spells p bytes rest → stmt.Spells q bytes left → rest ≡ left }
 {}

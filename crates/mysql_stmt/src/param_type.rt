@@ -22,22 +22,13 @@ impl ParamType {
     pub(crate) fn of(value: &Value) -> Self
         ensures { result ≡ type_of (content_of value.now) }
     {
-        let none = StmtExecuteParamFlags::from_bits_retain(0);
-        let (column_type, flags) = match value {
-            Value::NULL => (ColumnType::MYSQL_TYPE_NULL, none),
-            Value::Bytes(_) => (ColumnType::MYSQL_TYPE_VAR_STRING, none),
-            Value::Int(_) => (ColumnType::MYSQL_TYPE_LONGLONG, none),
-            Value::UInt(_) => (
-                ColumnType::MYSQL_TYPE_LONGLONG,
-                StmtExecuteParamFlags::UNSIGNED,
-            ),
-            Value::Float(_) => (ColumnType::MYSQL_TYPE_FLOAT, none),
-            Value::Double(_) => (ColumnType::MYSQL_TYPE_DOUBLE, none),
-            Value::Date(..) => (ColumnType::MYSQL_TYPE_DATETIME, none),
-            Value::Time(..) => (ColumnType::MYSQL_TYPE_TIME, none),
+        let flags = if value.is_uint() {
+            StmtExecuteParamFlags::UNSIGNED
+        } else {
+            StmtExecuteParamFlags::from_bits_retain(0)
         };
         ParamType {
-            column_type: Const::new(column_type),
+            column_type: Const::new(value.sent_type()),
             flags: Const::new(flags),
         }
     }

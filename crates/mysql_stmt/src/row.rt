@@ -212,16 +212,16 @@ impl Clone for Row {
     }
 }
 
-/// The same values, and the same columns.
+/// Values that hold the same, and the same columns.
 impl PartialEq for Row {
     ghost use Rattle.mysql_stmt.specs.RowEq.{row_eq, row_per};
-    ghost use Rattle.mysql_values.specs.contracts.value.ValuePartialEq.TheImpl.Laws as value;
-    ghost use Rattle.mysql_replies.specs.contracts.column.ColumnPartialEq.TheImpl.Laws as column;
+    ghost use Rattle.mysql_replies.specs.contracts.column.ColumnPartialEq.TheImpl.Laws.{laws-law};
 
-    ghost eq = { row_eq ⟦<Value as PartialEq>⟧.eq ⟦<Column as PartialEq>⟧.eq };
+    ghost eq = { row_eq ⟦<Column as PartialEq>⟧.eq };
 
-    ghost laws = { row_per ⟦<Value as PartialEq>⟧.eq ⟦<Column as PartialEq>⟧.eq value.laws-law column.laws-law };
+    ghost laws = { row_per ⟦<Column as PartialEq>⟧.eq laws-law };
 
+    #[tactic(auto, using(crate::proofs::CellsEq::same_cells))]
     fn eq(&self, other: &Self) -> bool {
         self.values == other.values && self.columns == other.columns
     }

@@ -49,6 +49,20 @@ impl<S, P> Clone for RowDeserializer<S, P> {
     }
 }
 
+/// Values that hold the same, and the same columns.
+impl<S, P> PartialEq for RowDeserializer<S, P> {
+    ghost use Rattle.mysql_stmt.specs.RowEq.{row_content_eq, row_content_per};
+    ghost use Rattle.mysql_replies.specs.contracts.column.ColumnPartialEq.TheImpl.Laws.{laws-law};
+
+    ghost eq = { row_content_eq ⟦<Column as PartialEq>⟧.eq };
+
+    ghost laws = { row_content_per ⟦<Column as PartialEq>⟧.eq laws-law };
+
+    fn eq(&self, other: &Self) -> bool {
+        self.0 == other.0
+    }
+}
+
 impl<S, P> From<RowDeserializer<S, P>> for Row {
     ghost from_gives = { λ read row. (held row.cells ≡ read.cells) × (row.columns ≡ read.columns) };
 

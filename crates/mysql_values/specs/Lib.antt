@@ -6,3 +6,5 @@ pub mod FromValue
 pub mod ReadingBack
 pub mod Params
 pub mod ParamsEq
+pub mod ContentEq
+pub mod SentType

@@ -2,9 +2,11 @@
 
 ghost use Rattle.std.specs.Prelude.{◌≡◌, ◌++◌, ℕ, List, Bool, Ok, length};
 ghost use Rattle.mysql_wire.specs.declared.codes.column_type.ColumnType.{ColumnType};
-ghost use Rattle.mysql_values.specs.Value.{Content, bin, bin_size};
+ghost use Rattle.mysql_values.specs.Value.{Content, bin, bin_size, content_of};
 ghost use Rattle.mysql_values.specs.ValueDeserializer.{bin_value};
 ghost use Rattle.mysql_values.specs.ReadingBack.{Agrees, ReadsBack};
+ghost use Rattle.mysql_values.specs.declared.value.Value.{Value};
+ghost use Rattle.mysql_values.specs.ContentEq.{content_eq};
 
 /// The binary form of a value has the length that `Value::bin_len` answers.
 #[tactic(auto, using(crate::proofs::Sizes::sizes))]
@@ -23,4 +25,9 @@ pub fn value_again()
     ensures read { (column_type : ColumnType) (is_unsigned : Bool) (content : Content) (rest : List ℕ) →
         ReadsBack column_type is_unsigned content →
         (bin_value column_type is_unsigned).reads (bin content ++ rest) ≡ Ok (content, rest) }
+{}
+
+/// Values are equal where they hold the same: the same kind, with the same bytes or numbers.
+pub fn equal_values_hold_the_same()
+    ensures { (a b : Value) → ⟦<crate::value::Value as PartialEq>⟧.eq a b ≡ content_eq (content_of a) (content_of b) }
 {}

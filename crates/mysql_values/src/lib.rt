@@ -4,6 +4,7 @@
 mod from_value;
 pub mod laws;
 mod params;
+mod sent_type;
 mod side;
 mod temporal;
 mod value;

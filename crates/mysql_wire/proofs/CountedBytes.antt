@@ -1,5 +1,5 @@
 -- What is written of a content has a count that fits.
-use Rattle.std.proofs.Common.{◌≡◌, ℕ, ◌≤◌, List, length, take, arith}
+use Rattle.std.proofs.Common.{ℕ, ◌≤◌, List, length, take, arith}
 use Rattle.std.proofs.lemmas.List.{length-take}
 
 pub length-cut : {X : Type 0} (n : ℕ) (xs : List X) → length (take n xs) ≤ n

@@ -1,9 +1,9 @@
 -- What a reader of a number needs.
-use Rattle.std.proofs.Common.{◌≡◌, ℕ, suc, ◌≤◌, List, length, take, drop, slice_index, Result, Ok, refl, sym, ◌∙◌, arith}
+use Rattle.std.proofs.Common.{◌≡◌, ℕ, suc, ◌≤◌, List, length, take, drop, slice_index, Ok, refl, sym, ◌∙◌, arith}
 use Rattle.std.specs.Int.{byte_worth, sum_through}
 use Rattle.std.proofs.lemmas.Bool.{le-ltb}
 use Rattle.std.proofs.lemmas.List.{length-take}
-use Rattle.mysql_wire.specs.Form.{Form, number, le_value, map, bytes}
+use Rattle.mysql_wire.specs.Form.{number, le_value, bytes}
 use Rattle.mysql_wire.specs.LittleEndian.{sum-value}
 use Rattle.mysql_wire.specs.Skip.{skip}
 

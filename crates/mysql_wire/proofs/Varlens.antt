@@ -1,9 +1,9 @@
 -- Numbers of varying length: what their reader and their writer need.
-use Rattle.std.proofs.Common.{◌≡◌, ◌≢◌, ℕ, zero, suc, ◌+◌, ◌-◌, ◌*◌, ◌/◌, ◌%◌, ◌^◌, ◌<◌, ◌≤◌, List, [], ◌∷◌, ◌++◌, length, take, drop, Result, Ok, Err, Bool, true, false, nat_lt, ◌==◌, ◌⊎◌, replicate, refl, sym, ap, ◌∙◌, arith, inl, inr}
+use Rattle.std.proofs.Common.{◌≡◌, ◌≢◌, ℕ, zero, suc, ◌+◌, ◌-◌, ◌*◌, ◌/◌, ◌%◌, ◌^◌, ◌<◌, ◌≤◌, List, [], ◌∷◌, ◌++◌, length, take, drop, Ok, Err, Bool, true, false, ◌==◌, ◌⊎◌, replicate, refl, sym, ap, ◌∙◌, arith, inl, inr}
 use Rattle.std.specs.Int.{w8, w64, bit_at, trailing_ones, from_le_bytes, to_le_bytes, bytes_low_first, byte_at}
-use Rattle.std.proofs.lemmas.Bool.{cases_lt, lt-ltb, le-ltb, eq-eqb, ne_eqb, eqb-true}
+use Rattle.std.proofs.lemmas.Bool.{lt-ltb, le-ltb, eq-eqb, ne_eqb, eqb-true}
 use Rattle.std.proofs.lemmas.List.{length-append, length-drop}
-use Rattle.std.proofs.lemmas.Nat.Bits.{bit_at_lowest, bit_at-suc, bit_at-lt, bit_at-trailing_ones}
+use Rattle.std.proofs.lemmas.Nat.Bits.{bit_at_lowest, bit_at-suc, bit_at-trailing_ones}
 use Rattle.mysql_wire.specs.declared.fault.FaultKind.TheVariants as kind
 use Rattle.mysql_wire.specs.declared.fault.FaultOf.{FaultOf}
 use Rattle.mysql_wire.specs.declared.fault.FaultOf.TheVariants as fault
@@ -11,11 +11,11 @@ use Rattle.mysql_wire.specs.declared.int.RawInt.{RawInt}
 use Rattle.mysql_wire.specs.declared.little_endian.LeU64.{LeU64}
 use Rattle.mysql_wire.specs.Int.{raw, raw_int, le_u64}
 use Rattle.mysql_wire.specs.Reading.{Reading, then_read, Faults, done-value, done-rest, done-both}
-use Rattle.mysql_wire.specs.Form.{Form, number, le_value, bytes}
+use Rattle.mysql_wire.specs.Form.{number, le_value, bytes}
 use Rattle.mysql_wire.specs.Writing.{le_bytes}
 use Rattle.mysql_wire.specs.LittleEndian.{length-le_bytes, sum-value}
 use Rattle.mysql_wire.specs.VarlenAgain.{size_fits}
-use Rattle.mysql_wire.specs.Varlen.{varlen, varlen_bytes, varlen_size, fewest_from, low_ones, above_ones}
+use Rattle.mysql_wire.specs.Varlen.{varlen, varlen_bytes, varlen_size, low_ones, above_ones}
 
 -- ---- sizes
 

@@ -1,8 +1,7 @@
 -- The first zero of some bytes.
-use Rattle.std.proofs.Common.{◌≡◌, ℕ, zero, suc, ◌+◌, ◌≤◌, ◌<◌, List, [], ◌∷◌, ◌++◌, length, take, drop, Option, Some, None, Result, Ok, Err, refl, sym, ap, ◌∙◌, arith}
-use Rattle.std.specs.Prelude.{◌==◌, true, slice_index}
+use Rattle.std.proofs.Common.{◌≡◌, ℕ, zero, suc, List, [], ◌∷◌, ◌++◌, take, drop, Some, None, Ok, Err, refl, ap, arith}
 use Rattle.std.proofs.lemmas.Bool.{eqb-true}
-use Rattle.memchr.specs.Find.{IsFirstByte, NoneBefore, Passes, is_byte}
+use Rattle.memchr.specs.Find.{IsFirstByte, is_byte}
 use Rattle.mysql_wire.specs.declared.fault.FaultKind.TheVariants as kind
 use Rattle.mysql_wire.specs.Null.{HasNoZero, null_Spells, null_reads, null-only, null_string, before_zero}
 

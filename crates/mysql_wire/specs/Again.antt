@@ -1,11 +1,10 @@
 -- What is written of a length-encoded form is read again.
-use Rattle.std.specs.Prelude.{◌≡◌, ℕ, ◌<◌, ◌^◌, List, [], ◌∷◌, ◌++◌, length, refl}
+use Rattle.std.specs.Prelude.{ℕ, ◌<◌, ◌^◌, List, [], ◌∷◌, ◌++◌, length, refl}
 use Rattle.std.proofs.Common.{arith, append_assoc, inl, inr}
 use Rattle.std.proofs.lemmas.Bool.{cases_lt, lt-ltb, le-ltb}
-use Rattle.mysql_wire.specs.Form.{Form, bytes, number, ◌>>=◌}
+use Rattle.mysql_wire.specs.Form.{bytes, number}
 use Rattle.mysql_wire.specs.Int.{raw, raw_int, byte}
-use Rattle.mysql_wire.specs.declared.lenenc.LenEnc.{LenEnc}
-use Rattle.mysql_wire.specs.LenEnc.{lenenc, lenenc_from, lenenc_bytes, lenenc_string, lenenc_string_bytes}
+use Rattle.mysql_wire.specs.LenEnc.{lenenc, lenenc_bytes, lenenc_string, lenenc_string_bytes}
 use Rattle.mysql_wire.specs.Spelling.{IsSpelling, byte-again, le_u16-again, le_u24-again, le_u64-again}
 use Rattle.mysql_wire.specs.Writing.{le_bytes}
 

@@ -1,6 +1,6 @@
 -- What is written of a byte string is read again.
 use Rattle.std.specs.Prelude.{◌≡◌, ℕ, zero, suc, ◌<◌, ◌≤◌, ◌^◌, List, [], ◌∷◌, ◌++◌, length, take, Some, true, nat_eq, refl}
-use Rattle.std.proofs.Common.{sym, ap, ◌∙◌, arith, append_assoc, eq-eqb}
+use Rattle.std.proofs.Common.{ap, arith, append_assoc, eq-eqb}
 use Rattle.std.proofs.lemmas.List.{append-nil, take_all}
 use Rattle.mysql_wire.specs.declared.int.RawInt.{RawInt}
 use Rattle.mysql_wire.specs.Form.{Form, all_left, bytes}

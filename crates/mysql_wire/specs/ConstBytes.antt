@@ -1,5 +1,5 @@
 -- Byte strings that have one value.
-use Rattle.std.specs.Prelude.{◌≡◌, ℕ, List, Option, Some, None, length, nat_eq, if◌then◌else◌, refl}
+use Rattle.std.specs.Prelude.{◌≡◌, ℕ, List, Option, Some, None, nat_eq, if◌then◌else◌, refl}
 use Rattle.std.specs.Cmp.Lexicographic.{pointwise}
 use Rattle.mysql_wire.specs.Form.{Form, bytes, decode}
 use Rattle.mysql_wire.specs.declared.const_bytes.ConstBytes.{ConstBytes}

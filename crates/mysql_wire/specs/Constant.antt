@@ -1,5 +1,5 @@
 -- Fields that have one value.
-use Rattle.std.specs.Prelude.{◌≡◌, ℕ, List, Option, Some, None, ◌==◌, refl, if◌then◌else◌}
+use Rattle.std.specs.Prelude.{◌≡◌, ℕ, Option, Some, None, ◌==◌, refl, if◌then◌else◌}
 use Rattle.mysql_wire.specs.Form.{Form, bytes, number, decode}
 use Rattle.mysql_wire.specs.Int.{raw, le_u32}
 use Rattle.mysql_wire.specs.declared.constant.ConstU8.{ConstU8}

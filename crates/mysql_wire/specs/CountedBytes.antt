@@ -1,5 +1,5 @@
 -- Byte strings behind a count of a fixed width.
-use Rattle.std.specs.Prelude.{◌≡◌, ◌++◌, ℕ, List, Option, None, length, take, refl}
+use Rattle.std.specs.Prelude.{◌≡◌, ◌++◌, ℕ, List, None, length, take, refl}
 use Rattle.mysql_wire.specs.Writing.{le_bytes}
 use Rattle.mysql_wire.specs.Form.{Form, ◌>>=◌, bytes}
 use Rattle.mysql_wire.specs.Int.{byte, le_u32, number_of}

@@ -1,11 +1,11 @@
 -- Integers in their wire form.
-use Rattle.std.specs.Prelude.{◌≡◌, ℕ, Option, Some, refl}
+use Rattle.std.specs.Prelude.{◌≡◌, ℕ, Option}
 use Rattle.mysql_wire.specs.declared.int.RawInt.{RawInt}
 use Rattle.mysql_wire.specs.declared.little_endian.LeU16.{LeU16}
 use Rattle.mysql_wire.specs.declared.little_endian.LeU24.{LeU24}
 use Rattle.mysql_wire.specs.declared.little_endian.LeU32.{LeU32}
 use Rattle.mysql_wire.specs.declared.little_endian.LeU64.{LeU64}
-use Rattle.mysql_wire.specs.Form.{Form, map, number, size-number}
+use Rattle.mysql_wire.specs.Form.{Form, map, number}
 
 -- a number in its wire form
 abbrev pub raw_int : {R P : Type 0} → P → RawInt R P

@@ -1,5 +1,5 @@
 -- Length-encoded integers and strings.
-use Rattle.std.specs.Prelude.{◌≡◌, ◌^◌, ◌++◌, [], ◌∷◌, length, if◌then◌else◌, ℕ, List, Option, None, nat_lt, ◌==◌, refl}
+use Rattle.std.specs.Prelude.{◌≡◌, ◌^◌, ◌++◌, [], ◌∷◌, length, if◌then◌else◌, ℕ, List, None, nat_lt, ◌==◌, refl}
 use Rattle.mysql_wire.specs.declared.lenenc.LenEnc.{LenEnc}
 use Rattle.mysql_wire.specs.Writing.{le_bytes}
 use Rattle.mysql_wire.specs.Form.{Form, ◌>>=◌, give, refuse, either, bytes}

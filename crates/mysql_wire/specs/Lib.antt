@@ -28,3 +28,4 @@ pub mod ConstBytes
 pub mod ListAgain
 pub mod VarlenAgain
 pub mod Once
+pub mod Each

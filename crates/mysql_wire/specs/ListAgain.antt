@@ -1,11 +1,11 @@
 -- What is written of a list is read again.
-use Rattle.std.specs.Prelude.{◌≡◌, ℕ, ◌+◌, ◌<◌, ◌^◌, List, [], ◌∷◌, ◌++◌, length, refl}
+use Rattle.std.specs.Prelude.{ℕ, ◌<◌, ◌^◌, List, [], ◌∷◌, ◌++◌, length, refl}
 use Rattle.std.specs.List.{All, flat_map}
-use Rattle.std.proofs.Common.{sym, arith, append_assoc, ap, ◌∙◌}
+use Rattle.std.proofs.Common.{arith, append_assoc}
 use Rattle.std.proofs.lemmas.List.{length-append}
 use Rattle.std.proofs.lemmas.List.Elements.{All-head, All-tail}
-use Rattle.mysql_wire.specs.Form.{Form, number, bytes}
-use Rattle.mysql_wire.specs.Int.{raw, raw_int, le_u64, number_of}
+use Rattle.mysql_wire.specs.Form.{Form}
+use Rattle.mysql_wire.specs.Int.{raw_int, le_u64, number_of}
 use Rattle.mysql_wire.specs.Writing.{le_bytes}
 use Rattle.mysql_wire.specs.Spelling.{IsSpelling, le_u64-again}
 use Rattle.mysql_wire.specs.Many.{many}

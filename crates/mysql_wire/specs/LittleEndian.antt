@@ -4,7 +4,6 @@ use Rattle.std.specs.Int.{byte_at, byte_worth, bytes_low_first, sum_through}
 use Rattle.std.proofs.Common.{sym, ap, ◌∙◌, arith}
 use Rattle.std.proofs.Math.Nat.{div-one, mod-one, mod-eq_of_lt, pow-suc, div-div-eq-div-mul}
 use Rattle.std.proofs.Math.Arith.{mod-mul}
-use Rattle.std.proofs.lemmas.Nat.{pow_pos}
 use Rattle.mysql_wire.specs.Form.{le_value}
 use Rattle.mysql_wire.specs.Writing.{le_bytes}
 

@@ -1,5 +1,5 @@
 -- Skipped bytes.
-use Rattle.std.specs.Prelude.{◌≡◌, ℕ, List, Option, Some, refl}
+use Rattle.std.specs.Prelude.{◌≡◌, ℕ, List, Some, refl}
 use Rattle.mysql_wire.specs.Form.{Form, map, bytes}
 use Rattle.mysql_wire.specs.declared.skip.Skip.{Skip}
 

@@ -1,5 +1,5 @@
 -- What is written is read again.
-use Rattle.std.specs.Prelude.{◌≡◌, ℕ, ◌<◌, ◌^◌, List, [], ◌∷◌, ◌++◌, length, replicate, Option, Some, refl}
+use Rattle.std.specs.Prelude.{◌≡◌, ℕ, ◌<◌, ◌^◌, List, [], ◌∷◌, ◌++◌, length, replicate, Some, refl}
 use Rattle.std.proofs.Common.{ap, sym, ◌∙◌, arith, append_assoc, eq-eqb}
 use Rattle.std.proofs.lemmas.List.{length-replicate}
 use Rattle.mysql_wire.specs.declared.constant.ConstU8.{ConstU8}

@@ -1,7 +1,7 @@
 -- What is written of a number of varying length is read again.
-use Rattle.std.specs.Prelude.{◌≡◌, ◌≢◌, ℕ, zero, suc, ◌+◌, ◌-◌, ◌*◌, ◌^◌, ◌<◌, ◌≤◌, ◌⊎◌, List, ◌∷◌, ◌++◌, ◌==◌, nat_lt, Bool, true, false, refl}
-use Rattle.std.proofs.Common.{sym, arith, inl, inr}
-use Rattle.std.proofs.lemmas.Bool.{cases_lt, lt-ltb, le-ltb, eqb-true, eqb-false}
+use Rattle.std.specs.Prelude.{◌≡◌, ◌≢◌, ℕ, zero, suc, ◌+◌, ◌-◌, ◌*◌, ◌^◌, ◌<◌, ◌≤◌, ◌⊎◌, ◌∷◌, ◌++◌, ◌==◌, Bool, true, false, refl}
+use Rattle.std.proofs.Common.{arith, inl, inr}
+use Rattle.std.proofs.lemmas.Bool.{cases_lt, lt-ltb, le-ltb, eqb-false}
 use Rattle.mysql_wire.specs.Writing.{le_bytes}
 use Rattle.mysql_wire.specs.Spelling.{IsSpelling, number-again}
 use Rattle.mysql_wire.specs.Varlen.{varlen, varlen_bytes, varlen_size, fewest_from}

@@ -126,3 +126,22 @@ fn clones_have_the_same_rows(rt: HostRuntime) -> Result<(), Fail> {
     assert!(rt; written(alloc, &request)?.as_slice() == FIRST);
     Ok(())
 }
+
+#[test]
+fn builders_are_equal_in_settings_and_waiting_rows(rt: HostRuntime) -> Result<(), Fail> {
+    let alloc = rt.alloc();
+    let mut a = builder(alloc, 100);
+    let mut b = builder(alloc, 100);
+    assert!(rt; a == b);
+    assert!(rt; a != builder(alloc, 101));
+    assert!(rt; a != builder(alloc, 100).with_results());
+    assert!(rt; a != builder(alloc, 100).with_max_rows(1));
+    assert!(rt; a.add_row(vec![in alloc; Value::Int(1)]?) == Ok(None));
+    assert!(rt; a != b);
+    assert!(rt; b.add_row(vec![in alloc; Value::UInt(1)]?) == Ok(None));
+    assert!(rt; a != b);
+    assert!(rt; a.clone()? == a);
+    assert!(rt; a.build().is_ok() && b.build().is_ok());
+    assert!(rt; a == b);
+    Ok(())
+}

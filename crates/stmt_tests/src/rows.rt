@@ -56,6 +56,31 @@ fn a_text_row(rt: HostRuntime) -> Result<(), Fail> {
     Ok(())
 }
 
+/// The text row of one column.
+fn read_text(
+    alloc: Global,
+    bytes: &[u8],
+    columns: &RcSlice<Column>,
+) -> Result<RowDeserializer<ServerSide, Text>, Fail> {
+    let mut buf = ParseBuf::new(alloc, bytes);
+    let row: Result<RowDeserializer<ServerSide, Text>, Fault> = buf.parse(columns.clone()?);
+    Ok(row.ok().ok_or("the bytes are a row")?)
+}
+
+#[test]
+fn rows_as_they_are_read_are_equal_where_they_hold_the_same(rt: HostRuntime) -> Result<(), Fail> {
+    let alloc = rt.alloc();
+    let columns = columns(alloc, &[("a", LONGLONG)])?;
+    let one = read_text(alloc, &[1, b'1'], &columns)?;
+    let two = read_text(alloc, &[1, b'2'], &columns)?;
+    let null = read_text(alloc, &[0xfb], &columns)?;
+    assert!(rt; one == read_text(alloc, &[1, b'1'], &columns)?);
+    assert!(rt; one != two);
+    assert!(rt; one != null);
+    assert!(rt; null.clone()? == null);
+    Ok(())
+}
+
 #[test]
 fn a_binary_row(rt: HostRuntime) -> Result<(), Fail> {
     let alloc = rt.alloc();

@@ -1,6 +1,6 @@
 //! Bulk executions, read as the values that were handed to the client's API.
 
-use crate::captured::reported::{bytes_at, word};
+use crate::captured::reported::{all_agree, bytes_at, word};
 use crate::captured::stmt_bulk_execute::PACKETS;
 use crate::captured::values::{column, is_told};
 use mysql_bulk::read_bulk_rows;
@@ -30,23 +30,24 @@ fn is_handed_in(alloc: Global, row: &[Value], words: &str) -> Result<bool, Alloc
     Ok(words.next().is_none())
 }
 
+/// Whether the execution of the line is read whole, as the rows that were handed in.
+fn agrees(alloc: Global, line: &str) -> Result<bool, Fail> {
+    let bytes = bytes_at(alloc, line, 1)?;
+    let types = types(alloc, word(line, 2))?;
+    let mut buf = ParseBuf::new(alloc, bytes.as_slice());
+    let read: Result<Vec<Vec<Value>>, Fault> = read_bulk_rows(types.as_slice(), &mut buf);
+    let mut rows = line.split(' ').skip(3);
+    for row in read.ok().ok_or("a captured bulk execution is refused")? {
+        let words = rows.next().ok_or("more rows are read than were handed in")?;
+        if !is_handed_in(alloc, row.as_slice(), words)? {
+            return Ok(false);
+        }
+    }
+    Ok(buf.is_empty() && rows.next().is_none())
+}
+
 #[test]
 fn bulk_executions_are_read_as_handed_in(rt: HostRuntime) -> Result<(), Fail> {
     let alloc = rt.alloc();
-    for line in PACKETS.lines() {
-        let id = word(line, 0);
-        let bytes = bytes_at(alloc, line, 1)?;
-        let types = types(alloc, word(line, 2))?;
-        let mut buf = ParseBuf::new(alloc, bytes.as_slice());
-        let read: Result<Vec<Vec<Value>>, Fault> = read_bulk_rows(types.as_slice(), &mut buf);
-        assert!(rt; buf.is_empty(), "{id}");
-        let mut rows = line.split(' ').skip(3);
-        for row in read.ok().ok_or("a captured bulk execution is refused")? {
-            let words = rows.next().ok_or("more rows are read than were handed in")?;
-            assert!(rt; is_handed_in(alloc, row.as_slice(), words)?, "{id}");
-        }
-        assert!(rt; rows.next().is_none(), "{id}");
-    }
-    assert_eq!(rt; PACKETS.lines().count(), 6);
-    Ok(())
+    all_agree(&rt, PACKETS, 6, |line| agrees(alloc, line))
 }

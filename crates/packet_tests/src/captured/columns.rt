@@ -1,7 +1,7 @@
 //! Column definitions.
 
 use crate::captured::column::PACKETS;
-use crate::captured::reported::{are_reported, bytes_at};
+use crate::captured::reported::{all_agree, are_reported, bytes_at};
 use mysql_replies::Column;
 use mysql_wire::{Fault, Flags, MySerialize, ParseBuf};
 use std::alloc::{AllocError, Global};
@@ -25,20 +25,24 @@ fn shown(alloc: Global, column: &Column) -> Result<String, AllocError> {
     )
 }
 
+/// Whether the packet of the line is read whole, as it was reported, and written again.
+fn agrees(alloc: Global, line: &str) -> Result<bool, Fail> {
+    let bytes = bytes_at(alloc, line, 1)?;
+    let mut buf = ParseBuf::new(alloc, bytes.as_slice());
+    let read: Result<Column, Fault> = buf.parse(());
+    let column = read.ok().ok_or("a captured column is refused")?;
+    let shown = shown(alloc, &column)?;
+    let mut written = Vec::new(alloc);
+    column.serialize(&mut written)?;
+    Ok(
+        buf.is_empty()
+            && are_reported(line, 2, shown.as_str())
+            && written.as_slice() == bytes.as_slice(),
+    )
+}
+
 #[test]
 fn columns_are_read_as_reported(rt: HostRuntime) -> Result<(), Fail> {
-    for line in PACKETS.lines() {
-        let bytes = bytes_at(rt.alloc(), line, 1)?;
-        let mut buf = ParseBuf::new(rt.alloc(), bytes.as_slice());
-        let read: Result<Column, Fault> = buf.parse(());
-        let column = read.ok().ok_or("a captured column is refused")?;
-        assert!(rt; buf.is_empty(), "{line}");
-        let shown = shown(rt.alloc(), &column)?;
-        assert!(rt; are_reported(line, 2, shown.as_str()), "{shown} {line}");
-        let mut written = Vec::new(rt.alloc());
-        column.serialize(&mut written)?;
-        assert_eq!(rt; written.as_slice(), bytes.as_slice(), "{line}");
-    }
-    assert_eq!(rt; PACKETS.lines().count(), 219);
-    Ok(())
+    let alloc = rt.alloc();
+    all_agree(&rt, PACKETS, 219, |line| agrees(alloc, line))
 }

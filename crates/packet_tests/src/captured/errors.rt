@@ -1,6 +1,6 @@
 //! Errors and progress reports.
 
-use crate::captured::reported::{are_reported, bytes_at, capabilities};
+use crate::captured::reported::{all_agree, are_reported, bytes_at, capabilities};
 use crate::captured::{err, progress};
 use mysql_replies::{ErrPacket, ProgressReport, ServerError};
 use mysql_wire::{Fault, MySerialize, ParseBuf};
@@ -50,11 +50,7 @@ fn agrees(alloc: Global, line: &str) -> Result<bool, Fail> {
 
 #[test]
 fn errors_and_progress_are_read_as_reported(rt: HostRuntime) -> Result<(), Fail> {
-    for (packets, count) in [(err::PACKETS, 26), (progress::PACKETS, 2)] {
-        for line in packets.lines() {
-            assert!(rt; agrees(rt.alloc(), line)?, "{line}");
-        }
-        assert_eq!(rt; packets.lines().count(), count);
-    }
-    Ok(())
+    let alloc = rt.alloc();
+    all_agree(&rt, err::PACKETS, 26, |line| agrees(alloc, line))?;
+    all_agree(&rt, progress::PACKETS, 2, |line| agrees(alloc, line))
 }

@@ -1,6 +1,6 @@
 //! OK packets of three kinds, down to what they say of the session.
 
-use crate::captured::reported::{are_reported, bytes_at, capabilities};
+use crate::captured::reported::{all_agree, are_reported, bytes_at, capabilities};
 use crate::captured::{eof_old, ok_common, ok_terminator};
 use crate::ok_kind::{OkKind, read_ok};
 use mysql_replies::{OkPacket, SessionStateInfo};
@@ -98,16 +98,23 @@ fn agrees(alloc: Global, line: &str, kind: OkKind) -> Result<bool, Fail> {
 
 #[test]
 fn ok_packets_are_read_as_reported(rt: HostRuntime) -> Result<(), Fail> {
-    let tables = [
-        (ok_common::PACKETS, OkKind::Common, 59),
-        (ok_terminator::PACKETS, OkKind::Terminator, 10),
-        (eof_old::PACKETS, OkKind::OldEof, 41),
-    ];
-    for (packets, kind, count) in tables {
-        for line in packets.lines() {
-            assert!(rt; agrees(rt.alloc(), line, kind)?, "{line}");
-        }
-        assert_eq!(rt; packets.lines().count(), count);
-    }
-    Ok(())
+    let alloc = rt.alloc();
+    all_agree(
+        &rt,
+        ok_common::PACKETS,
+        59,
+        |line| agrees(alloc, line, OkKind::Common),
+    )?;
+    all_agree(
+        &rt,
+        ok_terminator::PACKETS,
+        10,
+        |line| agrees(alloc, line, OkKind::Terminator),
+    )?;
+    all_agree(
+        &rt,
+        eof_old::PACKETS,
+        41,
+        |line| agrees(alloc, line, OkKind::OldEof),
+    )
 }

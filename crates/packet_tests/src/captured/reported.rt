@@ -2,7 +2,24 @@
 
 use mysql_wire::{CapabilityFlags, Flags};
 use std::alloc::Global;
+use std::process::Abort;
 use std::test::Fail;
+
+/// Each packet of the table agrees with what was reported, and they are so many.
+pub fn all_agree<F: Fn(&str) -> Result<bool, Fail>>(
+    rt: &impl Abort,
+    packets: &str,
+    count: usize,
+    agrees: F,
+) -> Result<(), Fail>
+    requires { F.IsAlwaysCallable agrees }
+{
+    for line in packets.lines() {
+        assert!(rt; agrees(line)?, "{line}");
+    }
+    assert_eq!(rt; packets.lines().count(), count);
+    Ok(())
+}
 
 /// The word at that place, or no text.
 pub fn word(line: &str, place: usize) -> &str {

@@ -1,10 +1,10 @@
 //! Rows of results.
 
-use crate::captured::reported::{bytes_at, word};
+use crate::captured::reported::{all_agree, bytes_at, word};
 use crate::captured::values::{column, is_told};
 use crate::captured::{binary_row, text_row};
 use mysql_replies::Column;
-use mysql_stmt::{Row, RowDeserializer};
+use mysql_stmt::{Row, RowDeserializer, RowProtocol};
 use mysql_values::{Binary, ServerSide, Text};
 use mysql_wire::{Fault, ParseBuf};
 use std::alloc::{AllocError, Global};
@@ -35,40 +35,34 @@ fn is_reported(alloc: Global, row: &Row, words: &str) -> Result<bool, AllocError
     Ok(words.next().is_none())
 }
 
+/// Whether the row of the line is read whole in the protocol `P`, as SQL returned it.
+fn agrees<P: RowProtocol>(alloc: Global, line: &str) -> Result<bool, Fail> {
+    let bytes = bytes_at(alloc, line, 1)?;
+    let columns = columns(alloc, word(line, 2))?;
+    let mut buf = ParseBuf::new(alloc, bytes.as_slice());
+    let read: Result<RowDeserializer<ServerSide, P>, Fault> = buf.parse(columns);
+    let row = read.ok().ok_or("a captured row is refused")?.into_inner();
+    Ok(buf.is_empty() && is_reported(alloc, &row, word(line, 3))?)
+}
+
 #[test]
 fn text_rows_are_read_as_reported(rt: HostRuntime) -> Result<(), Fail> {
     let alloc = rt.alloc();
-    for line in text_row::PACKETS.lines() {
-        let id = word(line, 0);
-        let bytes = bytes_at(alloc, line, 1)?;
-        let mut buf = ParseBuf::new(alloc, bytes.as_slice());
-        let read: Result<RowDeserializer<ServerSide, Text>, Fault> = buf.parse(columns(
-            alloc,
-            word(line, 2),
-        )?);
-        assert!(rt; buf.is_empty(), "{id}");
-        let row = read.ok().ok_or("a captured row is refused")?.into_inner();
-        assert!(rt; is_reported(alloc, &row, word(line, 3))?, "{id}");
-    }
-    assert_eq!(rt; text_row::PACKETS.lines().count(), 86);
-    Ok(())
+    all_agree(
+        &rt,
+        text_row::PACKETS,
+        86,
+        |line| agrees::<Text>(alloc, line),
+    )
 }
 
 #[test]
 fn binary_rows_are_read_as_reported(rt: HostRuntime) -> Result<(), Fail> {
     let alloc = rt.alloc();
-    for line in binary_row::PACKETS.lines() {
-        let id = word(line, 0);
-        let bytes = bytes_at(alloc, line, 1)?;
-        let mut buf = ParseBuf::new(alloc, bytes.as_slice());
-        let read: Result<RowDeserializer<ServerSide, Binary>, Fault> = buf.parse(columns(
-            alloc,
-            word(line, 2),
-        )?);
-        assert!(rt; buf.is_empty(), "{id}");
-        let row = read.ok().ok_or("a captured row is refused")?.into_inner();
-        assert!(rt; is_reported(alloc, &row, word(line, 3))?, "{id}");
-    }
-    assert_eq!(rt; binary_row::PACKETS.lines().count(), 10);
-    Ok(())
+    all_agree(
+        &rt,
+        binary_row::PACKETS,
+        10,
+        |line| agrees::<Binary>(alloc, line),
+    )
 }

@@ -1,7 +1,7 @@
 use Rattle.std.proofs.Common.{true}
 use Rattle.std.proofs.lemmas.Result.{err_from_is_err_and}
 use Rattle.mysql_bulk.specs.ParamValues.{value_of_column}
-use Rattle.mysql_bulk.proofs.EachValue.{next-one, one-fails, none-left}
+use Rattle.mysql_wire.proofs.Each.{next-one, one-fails, none-left}
 use Rattle.mysql_bulk.proofs.param_values.read_values.Goals as goal
 
 pub returns-in_err-value-clause-value : goal.returns-in_err-value-clause-value

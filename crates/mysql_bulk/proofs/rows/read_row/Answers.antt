@@ -5,7 +5,7 @@ use Rattle.mysql_wire.specs.Reading.{Reading, then_read}
 use Rattle.mysql_values.specs.Value.{Content, content_of, contents_of}
 use Rattle.mysql_bulk.specs.ParamValue.{ParamValue}
 use Rattle.mysql_bulk.specs.Rows.{content_of_column}
-use Rattle.mysql_bulk.proofs.EachValue.{next-one, one-fails, none-left, mapped-fails}
+use Rattle.mysql_wire.proofs.Each.{next-one, one-fails, none-left, mapped-fails}
 use Rattle.mysql_bulk.proofs.rows.read_row.Goals as goal
 
 pub returns-in_err-value-clause-value : goal.returns-in_err-value-clause-value

@@ -8,7 +8,7 @@ use Rattle.mysql_values.specs.Value.{Content, content_of}
 use Rattle.mysql_stmt.specs.Bitmap.{cell}
 use Rattle.mysql_stmt.specs.Row.{held}
 use Rattle.mysql_stmt.specs.RowForm.{bin_cell, bin_value_unless}
-use Rattle.mysql_stmt.proofs.Each.{next-one, one-fails, none-left, mapped-fails}
+use Rattle.mysql_wire.proofs.Each.{next-one, one-fails, none-left, mapped-fails}
 use Rattle.mysql_stmt.proofs.NullBits.{is-one}
 use Rattle.mysql_stmt.proofs.row_protocol.read_values.Goals as goal
 

@@ -1,7 +1,8 @@
 use Rattle.std.proofs.Common.{◌≡◌, ◌≤◌, drop, length, vec_capacity}
+use Rattle.mysql_wire.specs.Each.{each}
 use Rattle.mysql_wire.proofs.Counted.{with_front}
 use Rattle.mysql_stmt.specs.Row.{held}
-use Rattle.mysql_stmt.specs.RowForm.{each, bin_cell, bin_cells}
+use Rattle.mysql_stmt.specs.RowForm.{bin_cell, bin_cells}
 use Rattle.mysql_stmt.proofs.row_protocol.read_values.Given as goal
 
 abbrev pub invariant-loop-i : goal.invariant-loop-i

@@ -1,4 +1,3 @@
-use Rattle.std.proofs.Common.{◌≡◌, arith}
 use Rattle.mysql_wire.proofs.Varlens.{word_fits}
 use Rattle.mysql_wire.proofs.varlen.above_ones.Goals as goal
 

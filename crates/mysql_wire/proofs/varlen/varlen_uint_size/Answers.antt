@@ -1,4 +1,4 @@
-use Rattle.std.proofs.Common.{◌≡◌, rules, sym, ◌∙◌, arith}
+use Rattle.std.proofs.Common.{◌≡◌, sym, ◌∙◌, arith}
 use Rattle.mysql_wire.specs.Varlen.{varlen_size}
 use Rattle.mysql_wire.proofs.Varlens.{size_is_length}
 use Rattle.mysql_wire.proofs.varlen.varlen_uint_size.Goals as goal

@@ -6,23 +6,23 @@ use Rattle.mysql_wire.specs.declared.fault.FaultOf.TheVariants as fault
 use Rattle.mysql_wire.specs.Reading.{Reading, Faults, then_read}
 use Rattle.mysql_wire.specs.Form.{Form}
 use Rattle.mysql_wire.proofs.Counted.{with_front, regroup}
-use Rattle.mysql_bulk.specs.ParamValues.{each}
+use Rattle.mysql_wire.specs.Each.{each}
 
-module _ {A C : Type 0} (f : C → Form A) (front : List A) (cs : List C) (i : ℕ) (bytes : List ℕ) (total : Reading (List A)) (so_far : with_front front ((each f (drop i cs)).reads bytes) ≡ total) where
-  pub next-one : (d : C) (x : A) (after : List ℕ) → i < length cs → (f (get_or cs i d)).reads bytes ≡ Ok (x, after) → with_front (front ++ x ∷ []) ((each f (drop (i + 1) cs)).reads after) ≡ total
+module _ {A C : Type 0} (f : ℕ → C → Form A) (front : List A) (cs : List C) (i : ℕ) (bytes : List ℕ) (total : Reading (List A)) (so_far : with_front front ((each f i (drop i cs)).reads bytes) ≡ total) where
+  pub next-one : (d : C) (x : A) (after : List ℕ) → i < length cs → (f i (get_or cs i d)).reads bytes ≡ Ok (x, after) → with_front (front ++ x ∷ []) ((each f (i + 1) (drop (i + 1) cs)).reads after) ≡ total
   unfolding each
   next-one d x after lt h =
-      let one : with_front front ((each f (drop i cs)).reads bytes) ≡ with_front (front ++ x ∷ []) ((each f (drop (i + 1) cs)).reads after) =
-      rw (drop_more cs i d lt, h) (regroup front x ((each f (drop (i + 1) cs)).reads after)) in
+      let one : with_front front ((each f i (drop i cs)).reads bytes) ≡ with_front (front ++ x ∷ []) ((each f (i + 1) (drop (i + 1) cs)).reads after) =
+      rw (drop_more cs i d lt, h) (regroup front x ((each f (i + 1) (drop (i + 1) cs)).reads after)) in
       sym one ∙ so_far
 
-  fails-with : (d : C) (e : _) → i < length cs → (f (get_or cs i d)).reads bytes ≡ Err e → total ≡ Err e
+  fails-with : (d : C) (e : _) → i < length cs → (f i (get_or cs i d)).reads bytes ≡ Err e → total ≡ Err e
   unfolding each
   fails-with d e lt h =
-      let one : with_front front ((each f (drop i cs)).reads bytes) ≡ Err e = rw (drop_more cs i d lt, h) refl in
+      let one : with_front front ((each f i (drop i cs)).reads bytes) ≡ Err e = rw (drop_more cs i d lt, h) refl in
       sym so_far ∙ one
 
-  pub one-fails : (d : C) (b : Bool) (e : FaultOf) → i < length cs → Faults b e ((f (get_or cs i d)).reads bytes) → Faults true e total
+  pub one-fails : (d : C) (b : Bool) (e : FaultOf) → i < length cs → Faults b e ((f i (get_or cs i d)).reads bytes) → Faults true e total
   one-fails d b fault.Memory lt h = refl
   one-fails d b fault.UnexpectedEof lt h = fails-with d _ lt h
   one-fails d b (fault.InvalidData text) lt h = fails-with d _ lt h
@@ -31,7 +31,7 @@ module _ {A C : Type 0} (f : C → Form A) (front : List A) (cs : List C) (i : �
   pub none-left : length cs ≤ i → total ≡ Ok (front, bytes)
   unfolding each
   none-left le =
-      let one : with_front front ((each f (drop i cs)).reads bytes) ≡ Ok (front, bytes) = rw (drop_all i cs le) (ap (λ (xs : List A). Ok (xs, bytes)) (append-nil front)) in
+      let one : with_front front ((each f i (drop i cs)).reads bytes) ≡ Ok (front, bytes) = rw (drop_all i cs le) (ap (λ (xs : List A). Ok (xs, bytes)) (append-nil front)) in
       sym so_far ∙ one
 
 -- a value that is made of what is read

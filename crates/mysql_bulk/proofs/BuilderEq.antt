@@ -1,0 +1,77 @@
+-- The rows that wait are equal where their values are, which stand in one list.
+use Rattle.std.proofs.Common.{◌≡◌, ◌≢◌, ℕ, zero, suc, ◌+◌, ◌*◌, ◌≤◌, Bool, true, false, ◌&&◌, List, [], ◌∷◌, length, take, drop, map, unwrap_or, refl, sym, ◌∙◌, ap, subst, arith, rules, inl, inr}
+use Rattle.std.specs.Prelude.{nat_eq}
+use Rattle.std.specs.Cmp.Lexicographic.{pointwise, unequal}
+use Rattle.std.proofs.Math.Nat.{suc-mul}
+use Rattle.std.proofs.Math.Bool.{and_assoc}
+use Rattle.std.proofs.lemmas.Bool.Decides.{eqb_tells}
+use Rattle.std.proofs.lemmas.List.{length-drop, nil_from_length}
+use Rattle.mysql_values.specs.Value.{Content}
+use Rattle.mysql_values.specs.ContentEq.{content_eq}
+use Rattle.mysql_wire.specs.contracts.codes.mariadb_bulk_indicator.MariadbBulkIndicatorPartialEq.TheImpl as indicator
+use Rattle.mysql_bulk.specs.ParamValue.{ParamValue, given, plain}
+use Rattle.mysql_bulk.specs.ParamValueEq.{param_value_eq}
+use Rattle.mysql_bulk.specs.Flat.{rows_of}
+use Rattle.mysql_bulk.specs.Builder.{BuilderState, Keeps}
+use Rattle.mysql_bulk.specs.BuilderEq.{rows_eq}
+use Rattle.mysql_bulk.specs.declared.param_type.StmtBulkExecuteParamType.{StmtBulkExecuteParamType}
+use Rattle.mysql_bulk.proofs.FlatRows.{length-rows_of}
+
+abbrev value_eq : ParamValue → ParamValue → Bool
+value_eq = param_value_eq indicator.ghosts.eq
+
+-- values that are sent are equal where they hold the same
+given_eq : (a b : Content) → value_eq (given a) (given b) ≡ content_eq a b
+given_eq a b = search rules
+
+all_given : (xs ys : List Content) → pointwise value_eq (map given xs) (map given ys) ≡ pointwise content_eq xs ys
+all_given [] [] = refl
+all_given [] (y ∷ ys) = refl
+all_given (x ∷ xs) [] = refl
+all_given (x ∷ xs) (y ∷ ys) = λ i. given_eq x y i && all_given xs ys i
+
+module _ {A : Type 0} (E : A → A → Bool) where
+  -- the first values are compared, and then the others
+  parts_eq : (n : ℕ) (xs ys : List A) → n ≤ length xs → n ≤ length ys → (pointwise E (take n xs) (take n ys) && pointwise E (drop n xs) (drop n ys)) ≡ pointwise E xs ys
+  parts_eq zero xs ys p q = refl
+  parts_eq (suc n) [] ys p q = absurd (omega (arith, p))
+  parts_eq (suc n) (x ∷ xs) [] p q = absurd (omega (arith, q))
+  parts_eq (suc n) (x ∷ xs) (y ∷ ys) p q =
+      and_assoc (E x y) (pointwise E (take n xs) (take n ys)) (pointwise E (drop n xs) (drop n ys)) ∙ ap (λ b. E x y && b) (parts_eq n xs ys (omega (arith, p)) (omega (arith, q)))
+
+rows_flat : (a n : ℕ) (xs ys : List Content) → length xs ≡ n * a → length ys ≡ n * a → rows_eq (rows_of a n xs) (rows_of a n ys) ≡ pointwise content_eq xs ys
+rows_flat a zero xs ys p q =
+    let N : List Content → List Content → Type 0 = λ xs ys. true ≡ pointwise content_eq xs ys in
+    subst (N xs) (sym (nil_from_length ys (omega (arith, q)))) (subst (λ l. N l []) (sym (nil_from_length xs (omega (arith, p)))) refl)
+rows_flat a (suc n) xs ys p q =
+    let more : suc n * a ≡ n * a + a = suc-mul n a in
+    let others = rows_flat a n (drop a xs) (drop a ys) (omega (arith, p, more, length-drop a xs)) (omega (arith, q, more, length-drop a ys)) in
+    ap (λ b. pointwise content_eq (take a xs) (take a ys) && b) others ∙ parts_eq content_eq a xs ys (omega (arith, p, more)) (omega (arith, q, more))
+
+module _ {s t : BuilderState} {n m size other : ℕ} {xs ys : List ParamValue} {types further : List StmtBulkExecuteParamType} (k : Keeps s n size xs types) (l : Keeps t m other ys further) (same : s.arity ≡ t.arity) where
+  as_given : pointwise value_eq xs ys ≡ pointwise content_eq (plain xs) (plain ys)
+  as_given = (λ i. pointwise value_eq (k.given_is i) (l.given_is i)) ∙ all_given (plain xs) (plain ys)
+
+  abbrev rows : List (List Content)
+  rows = rows_of (unwrap_or s.arity 0) n (plain xs)
+
+  others : t.waiting ≡ rows_of (unwrap_or s.arity 0) m (plain ys)
+  others = l.rows_is ∙ ap (λ a. rows_of (unwrap_or a 0) m (plain ys)) (sym same)
+
+  both : rows_eq s.waiting t.waiting ≡ rows_eq rows (rows_of (unwrap_or s.arity 0) m (plain ys))
+  both = λ i. rows_eq (k.rows_is i) (others i)
+
+  as_many : n ≡ m → rows_eq rows (rows_of (unwrap_or s.arity 0) m (plain ys)) ≡ pointwise content_eq (plain xs) (plain ys)
+  as_many e =
+      let long : length (plain ys) ≡ n * unwrap_or s.arity 0 = l.flat.lengths ∙ (λ i. sym e i * unwrap_or (sym same i) 0) in
+      ap (λ c. rows_eq rows (rows_of (unwrap_or s.arity 0) c (plain ys))) (sym e) ∙ rows_flat (unwrap_or s.arity 0) n (plain xs) (plain ys) k.flat.lengths long
+
+  not_as_many : n ≢ m → rows_eq rows (rows_of (unwrap_or s.arity 0) m (plain ys)) ≡ false
+  not_as_many d =
+      unequal (pointwise content_eq) rows (rows_of (unwrap_or s.arity 0) m (plain ys)) (λ e. d (sym (length-rows_of (unwrap_or s.arity 0) n (plain xs)) ∙ e ∙ length-rows_of (unwrap_or s.arity 0) m (plain ys)))
+
+  pub same_count : n ≡ m → pointwise value_eq xs ys ≡ rows_eq s.waiting t.waiting
+  same_count e = as_given ∙ sym (both ∙ as_many e)
+
+  pub other_count : n ≢ m → nat_eq n m ≡ rows_eq s.waiting t.waiting
+  other_count d = elim (eqb_tells n m) [ inl equal ↦ absurd (d equal.1) | inr differ ↦ differ.0 ∙ sym (both ∙ not_as_many d) ]
