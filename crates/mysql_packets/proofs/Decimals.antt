@@ -8,33 +8,18 @@ use Rattle.std.specs.Result.{OkIff, result_ok}
 use Rattle.std.specs.Str.Parse.{AllDigits, IsNumeral, ParsesUnsigned, digits_value, without_leading_plus, starts_with_minus}
 use Rattle.std.proofs.lemmas.Fmt.{IsAscii-from_digits}
 use Rattle.std.proofs.lemmas.Str.{IsUtf8-from_ascii}
+use Rattle.mysql_packets.proofs.Numerals.{AreDigits, both, numeral_of}
 use Rattle.mysql_packets.specs.Decimal.{is_decimal, decimal_of, below, number_below}
 
-both : (a b : Bool) → (a && b) ≡ true → (a ≡ true) × (b ≡ true)
-both true b e = (refl, e)
-both false b e = absurd cc
-
-digit_below : (c : ℕ) → is_ascii_digit c ≡ true → digit_value c < 10
-digit_below c e = grind (arith, common_steps)
-
-no_plus : (c : ℕ) (cs : List ℕ) → is_ascii_digit c ≡ true → without_leading_plus (c ∷ cs) ≡ c ∷ cs
-no_plus c cs e = grind (arith, common_steps)
-
-all_digits : (w : List ℕ) → list_all is_ascii_digit w ≡ true → AllDigits 10 w
-all_digits [] e = tt
-all_digits (c ∷ cs) e =
-    let b = both (is_ascii_digit c) (list_all is_ascii_digit cs) e in
-    (digit_below c b.0, all_digits cs b.1)
+decimal_digits : AreDigits 10 is_ascii_digit
+decimal_digits c e = grind (arith, common_steps)
 
 -- such a word is a numeral
 pub is_numeral : (w : List ℕ) → is_decimal w ≡ true → IsNumeral 10 w × (without_leading_plus w ≡ w)
 unfolding is_decimal
-is_numeral [] judged = absurd cc
-is_numeral (c ∷ cs) judged =
-    let w : List ℕ = c ∷ cs in
+is_numeral w judged =
     let b = both (nat_le 1 (length w)) (list_all is_ascii_digit w) judged in
-    let first = both (is_ascii_digit c) (list_all is_ascii_digit cs) b.1 in
-    ((omega arith, all_digits w b.1), no_plus c cs first.0)
+    numeral_of 10 is_ascii_digit decimal_digits w b.0 b.1
 
 -- and a text
 pub is_text : (w : List ℕ) → is_decimal w ≡ true → IsUtf8 w

@@ -8,6 +8,7 @@ use Rattle.std.specs.Result.{result_ok}
 use Rattle.hex.specs.Hex.{decode_of, is_hex_digit}
 use Rattle.hex.specs.declared.error.FromHexError.{FromHexError}
 use Rattle.hex.proofs.HexLemmas.{decode_of-digits, decode_of-ok}
+use Rattle.mysql_packets.proofs.Numerals.{both}
 use Rattle.mysql_packets.specs.Digits.{are_pairs, bytes_of, digits_bytes}
 
 same_digit : (c : ℕ) → is_ascii_hexdigit c ≡ is_hex_digit c
@@ -16,10 +17,6 @@ same_digit c = grind (arith, common_steps)
 same_digits : (s : List ℕ) → list_all is_ascii_hexdigit s ≡ list_all is_hex_digit s
 same_digits [] = refl
 same_digits (c ∷ s) = rw (same_digit c, same_digits s) refl
-
-both : (a b : Bool) → (a && b) ≡ true → (a ≡ true) × (b ≡ true)
-both true b e = (refl, e)
-both false b e = absurd cc
 
 none_result : (r : Result (List ℕ) FromHexError) → ((bytes : List ℕ) → r ≡ Ok bytes → ⊥) → result_ok r ≡ None
 none_result (Ok bytes) refused = absurd (refused bytes refl)

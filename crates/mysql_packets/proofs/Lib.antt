@@ -1,3 +1,4 @@
+pub mod Numerals
 pub mod Judged
 pub mod Words
 pub mod Refused
