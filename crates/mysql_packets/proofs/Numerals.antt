@@ -1,5 +1,5 @@
 -- Words of digits, whatever their base.
-use Rattle.std.proofs.Common.{◌≡◌, ◌≢◌, ℕ, ◌<◌, ◌≤◌, ◌&&◌, Bool, true, false, refl, List, [], ◌∷◌, length, nat_le, arith}
+use Rattle.std.proofs.Common.{◌≡◌, ◌≢◌, ℕ, ◌<◌, ◌&&◌, Bool, true, false, refl, List, [], ◌∷◌, length, nat_le, arith}
 use Rattle.std.proofs.lemmas.Grind.{common_steps}
 use Rattle.std.specs.Char.{digit_value}
 use Rattle.std.specs.List.{list_all}
@@ -9,7 +9,7 @@ pub both : (a b : Bool) → (a && b) ≡ true → (a ≡ true) × (b ≡ true)
 both true b e = (refl, e)
 both false b e = absurd cc
 
--- each of these characters is a digit of the base, and none is a sign
+-- each of these characters is a digit of the base, and none is a plus
 abbrev pub AreDigits : (base : ℕ) → (ℕ → Bool) → Type 0
 AreDigits base is_digit = (c : ℕ) → is_digit c ≡ true → (digit_value c < base) × (c ≢ 43)
 
@@ -22,7 +22,7 @@ all_digits base is_digit are (c ∷ cs) e =
 no_plus : (c : ℕ) (cs : List ℕ) → c ≢ 43 → without_leading_plus (c ∷ cs) ≡ c ∷ cs
 no_plus c cs other = grind (arith, common_steps)
 
--- a word of such digits is a numeral, with no sign in front
+-- a word of such digits is a numeral, with no plus in front
 pub numeral_of : (base : ℕ) (is_digit : ℕ → Bool) → AreDigits base is_digit → (w : List ℕ) → nat_le 1 (length w) ≡ true → list_all is_digit w ≡ true → IsNumeral base w × (without_leading_plus w ≡ w)
 numeral_of base is_digit are [] some all = absurd cc
 numeral_of base is_digit are (c ∷ cs) some all =
