@@ -1,0 +1,10 @@
+pub mod TrailingZero
+pub mod AuthPlugin
+pub mod AuthPluginData
+pub mod Parsec
+pub mod AuthMoreData
+pub mod PublicKeyRequest
+pub mod PublicKeyResponse
+pub mod OldAuthSwitchRequest
+pub mod AuthSwitchRequest
+pub mod SslRequest

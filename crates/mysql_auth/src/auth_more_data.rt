@@ -1,0 +1,97 @@
+//! Further data of an authentication.
+#![tactic(auto, using(mysql_wire::proofs::Packets::packets), unfolding(crate::specs::AuthMoreData::auth_more_data))]
+
+ghost use Rattle.std.specs.Prelude.{false, ◌≡◌, IfOk};
+ghost use Rattle.std.specs.Cow.{cow_slice_items};
+ghost use Rattle.mysql_auth.specs.AuthMoreData as spec;
+
+use mysql_wire::{
+    AnyWidth, ConstFault, ConstU8, EofBytes, FaultOf, MyDeserialize, ParseBuf, Parts, RawBytes,
+    Sink, parts,
+};
+use std::alloc::{AllocError, Global};
+use std::borrow::CowSlice;
+use thiserror::Error;
+
+/// The first byte of further data is not `01`.
+#[derive(Clone, Copy, Debug, Default, PartialEq, Eq, Hash, Error)]
+#[error("Invalid AuthMoreData header")]
+pub struct InvalidAuthMoreDataHeader;
+
+impl ConstFault for InvalidAuthMoreDataHeader {
+    const MESSAGE: &'static str = "Invalid AuthMoreData header";
+}
+
+/// The first byte of further data: `01`.
+pub type AuthMoreDataHeader = ConstU8<InvalidAuthMoreDataHeader, 0x01>;
+
+/// What a server sends beyond its first challenge (`Protocol::AuthMoreData`): the byte `01`, and the plugin's data to
+/// the end of the packet.
+///
+/// A packet that begins with another byte is `InvalidData`, an empty one `UnexpectedEof`.
+#[derive(Clone, Debug, PartialEq, Eq, Drop)]
+pub struct AuthMoreData<'a> {
+    header: AuthMoreDataHeader,
+    data: RawBytes<'a, EofBytes>,
+}
+
+impl<'a> AuthMoreData<'a> {
+    /// The packet of this data.
+    #[inline]
+    pub fn new(data: CowSlice<'a, u8>) -> Self
+        ensures value { result ≡ spec.more_data_of (cow_slice_items «data».entry) }
+    {
+        AuthMoreData {
+            header: ConstU8::new(),
+            data: RawBytes::new(data),
+        }
+    }
+
+    /// The plugin's data.
+    #[inline]
+    pub fn data(&self) -> &[u8]
+        ensures value { result.now ≡ spec.more_data self.now }
+    {
+        self.data.as_bytes()
+    }
+
+    /// The same packet, on memory of its own.
+    pub fn into_owned(self, alloc: Global) -> Result<AuthMoreData<'static>, AllocError>
+        ensures value { IfOk result (λ owned. owned ≡ self.entry) }
+    {
+        Ok(AuthMoreData {
+            header: self.header,
+            data: self.data.into_owned(alloc)?,
+        })
+    }
+}
+
+impl<'de> MyDeserialize<'de> for AuthMoreData<'de> {
+    const SIZE: Option<usize> = None;
+
+    type Size = AnyWidth;
+
+    ghost takes_memory = { false };
+
+    type Ctx = ();
+
+    ghost form = { spec.auth_more_data.form };
+
+    fn deserialize<'s>(_ctx: (), buf: &mut ParseBuf<'de>) -> Result<Self, FaultOf<'s>> {
+        Ok(AuthMoreData {
+            header: buf.parse(())?,
+            data: buf.parse(())?,
+        })
+    }
+
+    ghost size_is = { λ _. spec.size-auth_more_data };
+}
+
+impl Parts for AuthMoreData<'_> {
+    ghost bytes = { spec.auth_more_data.bytes };
+
+    #[inline(always)]
+    fn put<S: Sink>(&self, sink: &mut S) {
+        sink.part(&parts!(self.header, self.data));
+    }
+}

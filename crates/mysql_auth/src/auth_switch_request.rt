@@ -1,0 +1,114 @@
+//! The switch to another plugin.
+#![tactic(auto, using(mysql_wire::proofs::Packets::packets), unfolding(crate::specs::AuthSwitchRequest::auth_switch_request))]
+
+ghost use Rattle.std.specs.Prelude.{false, ◌≡◌, IfOk};
+ghost use Rattle.std.specs.Cow.{cow_slice_items};
+ghost use Rattle.mysql_auth.specs.AuthPlugin.{plugin_of};
+ghost use Rattle.mysql_auth.specs.AuthSwitchRequest as spec;
+ghost use Rattle.mysql_auth.specs.TrailingZero.{without_last_zero};
+
+use crate::auth_plugin::AuthPlugin;
+use crate::trailing_zero::without_last_zero;
+use mysql_wire::{
+    AnyWidth, ConstFault, ConstU8, EofBytes, FaultOf, MyDeserialize, NullBytes, ParseBuf, Parts,
+    RawBytes, Sink, parts,
+};
+use std::alloc::{AllocError, Global};
+use std::borrow::CowSlice;
+use thiserror::Error;
+
+/// The first byte of a switch is not `fe`.
+#[derive(Clone, Copy, Debug, Default, PartialEq, Eq, Hash, Error)]
+#[error("Invalid auth switch request header")]
+pub struct InvalidAuthSwitchRequestHeader;
+
+impl ConstFault for InvalidAuthSwitchRequestHeader {
+    const MESSAGE: &'static str = "Invalid auth switch request header";
+}
+
+/// The first byte of a switch, the old one too: `fe`.
+pub type AuthSwitchRequestHeader = ConstU8<InvalidAuthSwitchRequestHeader, 0xfe>;
+
+/// A server's request to switch to another plugin (`Protocol::AuthSwitchRequest`): the byte `fe`, the plugin's name,
+/// which ends in a zero, and the plugin's data to the end of the packet.
+///
+/// A packet that begins with another byte is `InvalidData`; an empty one, or a name without its zero, is
+/// `UnexpectedEof`.
+#[derive(Clone, Debug, PartialEq, Eq, Drop)]
+pub struct AuthSwitchRequest<'a> {
+    header: AuthSwitchRequestHeader,
+    auth_plugin: RawBytes<'a, NullBytes>,
+    plugin_data: RawBytes<'a, EofBytes>,
+}
+
+impl<'a> AuthSwitchRequest<'a> {
+    /// The request to switch to the plugin of this name, with this data.
+    #[inline]
+    pub fn new(auth_plugin: CowSlice<'a, u8>, plugin_data: CowSlice<'a, u8>) -> Self
+        ensures value { result ≡ spec.switch_to (cow_slice_items auth_plugin.entry) (cow_slice_items plugin_data.entry) }
+    {
+        AuthSwitchRequest {
+            header: ConstU8::new(),
+            auth_plugin: RawBytes::new(auth_plugin),
+            plugin_data: RawBytes::new(plugin_data),
+        }
+    }
+
+    /// The plugin to switch to.
+    #[inline]
+    pub fn auth_plugin(&self) -> AuthPlugin<'_>
+        ensures value { result ≡ plugin_of (spec.plugin_name self.now) }
+    {
+        AuthPlugin::from_bytes(self.auth_plugin.as_bytes())
+    }
+
+    /// The plugin's data, mostly a new scramble, without one zero at its end.
+    #[inline]
+    pub fn plugin_data(&self) -> &[u8]
+        ensures value { result.now ≡ without_last_zero (spec.plugin_data self.now) }
+    {
+        without_last_zero(self.plugin_data.as_bytes())
+    }
+
+    /// The same request, on memory of its own.
+    pub fn into_owned(self, alloc: Global) -> Result<AuthSwitchRequest<'static>, AllocError>
+        ensures value { IfOk result (λ owned. owned ≡ self.entry) }
+    {
+        Ok(AuthSwitchRequest {
+            header: self.header,
+            auth_plugin: self.auth_plugin.into_owned(alloc)?,
+            plugin_data: self.plugin_data.into_owned(alloc)?,
+        })
+    }
+}
+
+impl<'de> MyDeserialize<'de> for AuthSwitchRequest<'de> {
+    const SIZE: Option<usize> = None;
+
+    type Size = AnyWidth;
+
+    ghost takes_memory = { false };
+
+    type Ctx = ();
+
+    ghost form = { spec.auth_switch_request.form };
+
+    fn deserialize<'s>(_ctx: (), buf: &mut ParseBuf<'de>) -> Result<Self, FaultOf<'s>> {
+        Ok(AuthSwitchRequest {
+            header: buf.parse(())?,
+            auth_plugin: buf.parse(())?,
+            plugin_data: buf.parse(())?,
+        })
+    }
+
+    ghost size_is = { λ _. spec.size-auth_switch_request };
+}
+
+impl Parts for AuthSwitchRequest<'_> {
+    ghost bytes = { spec.auth_switch_request.bytes };
+
+    #[inline(always)]
+    fn put<S: Sink>(&self, sink: &mut S) {
+        sink.part(&parts!(self.header, self.auth_plugin, self.plugin_data));
+    }
+}

@@ -1,0 +1,62 @@
+//! Laws over the grammars and the defined bytes of this crate's packets.
+//!
+//! Each law is a function with nothing in it, whose contract holds for all values.
+#![tactic(auto, using(mysql_wire::proofs::Packets::packets))]
+
+ghost use Rattle.std.specs.Prelude.{◌≡◌, ◌++◌, ℕ, List, Ok};
+ghost use Rattle.mysql_auth.specs.declared.auth_more_data.AuthMoreData.{AuthMoreData};
+ghost use Rattle.mysql_auth.specs.declared.auth_plugin.AuthPlugin.{AuthPlugin};
+ghost use Rattle.mysql_auth.specs.declared.auth_switch_request.AuthSwitchRequest.{AuthSwitchRequest};
+ghost use Rattle.mysql_auth.specs.declared.old_auth_switch_request.OldAuthSwitchRequest.{OldAuthSwitchRequest};
+ghost use Rattle.mysql_auth.specs.declared.public_key_request.PublicKeyRequest.{PublicKeyRequest};
+ghost use Rattle.mysql_auth.specs.declared.public_key_response.PublicKeyResponse.{PublicKeyResponse};
+ghost use Rattle.mysql_auth.specs.declared.ssl_request.SslRequest.{SslRequest};
+ghost use Rattle.mysql_auth.specs.AuthMoreData.{auth_more_data};
+ghost use Rattle.mysql_auth.specs.AuthPlugin.{auth_plugin};
+ghost use Rattle.mysql_auth.specs.AuthSwitchRequest.{auth_switch_request};
+ghost use Rattle.mysql_auth.specs.OldAuthSwitchRequest.{old_auth_switch_request};
+ghost use Rattle.mysql_auth.specs.PublicKeyRequest.{public_key_request};
+ghost use Rattle.mysql_auth.specs.PublicKeyResponse.{public_key_response};
+ghost use Rattle.mysql_auth.specs.SslRequest.{ssl_request};
+
+/// What is written of a plugin is read again, where nothing follows and the plugin is that of its name.
+pub fn auth_plugin_again()
+    ensures spelled { (p : AuthPlugin) (rest : List ℕ) → auth_plugin.fits tt p rest → (auth_plugin.form tt).Spells p (auth_plugin.bytes p ++ rest) rest }
+    ensures read { (p : AuthPlugin) (rest : List ℕ) → auth_plugin.fits tt p rest → (auth_plugin.form tt).reads (auth_plugin.bytes p ++ rest) ≡ Ok (p, rest) }
+{}
+
+/// What is written of further data is read again, where nothing follows.
+pub fn auth_more_data_again()
+    ensures spelled { (p : AuthMoreData) (rest : List ℕ) → auth_more_data.fits tt p rest → (auth_more_data.form tt).Spells p (auth_more_data.bytes p ++ rest) rest }
+    ensures read { (p : AuthMoreData) (rest : List ℕ) → auth_more_data.fits tt p rest → (auth_more_data.form tt).reads (auth_more_data.bytes p ++ rest) ≡ Ok (p, rest) }
+{}
+
+/// What is written of a request for a public key is read again, whatever follows.
+pub fn public_key_request_again()
+    ensures spelled { (p : PublicKeyRequest) (rest : List ℕ) → public_key_request.fits tt p rest → (public_key_request.form tt).Spells p (public_key_request.bytes p ++ rest) rest }
+    ensures read { (p : PublicKeyRequest) (rest : List ℕ) → public_key_request.fits tt p rest → (public_key_request.form tt).reads (public_key_request.bytes p ++ rest) ≡ Ok (p, rest) }
+{}
+
+/// What is written of a public key is read again, where nothing follows.
+pub fn public_key_response_again()
+    ensures spelled { (p : PublicKeyResponse) (rest : List ℕ) → public_key_response.fits tt p rest → (public_key_response.form tt).Spells p (public_key_response.bytes p ++ rest) rest }
+    ensures read { (p : PublicKeyResponse) (rest : List ℕ) → public_key_response.fits tt p rest → (public_key_response.form tt).reads (public_key_response.bytes p ++ rest) ≡ Ok (p, rest) }
+{}
+
+/// What is written of a switch to the oldest plugin is read again, whatever follows.
+pub fn old_auth_switch_request_again()
+    ensures spelled { (p : OldAuthSwitchRequest) (rest : List ℕ) → old_auth_switch_request.fits tt p rest → (old_auth_switch_request.form tt).Spells p (old_auth_switch_request.bytes p ++ rest) rest }
+    ensures read { (p : OldAuthSwitchRequest) (rest : List ℕ) → old_auth_switch_request.fits tt p rest → (old_auth_switch_request.form tt).reads (old_auth_switch_request.bytes p ++ rest) ≡ Ok (p, rest) }
+{}
+
+/// What is written of a switch is read again, where nothing follows and no zero is in the plugin's name.
+pub fn auth_switch_request_again()
+    ensures spelled { (p : AuthSwitchRequest) (rest : List ℕ) → auth_switch_request.fits tt p rest → (auth_switch_request.form tt).Spells p (auth_switch_request.bytes p ++ rest) rest }
+    ensures read { (p : AuthSwitchRequest) (rest : List ℕ) → auth_switch_request.fits tt p rest → (auth_switch_request.form tt).reads (auth_switch_request.bytes p ++ rest) ≡ Ok (p, rest) }
+{}
+
+/// What is written of a request for TLS is read again, whatever follows.
+pub fn ssl_request_again()
+    ensures spelled { (p : SslRequest) (rest : List ℕ) → ssl_request.fits tt p rest → (ssl_request.form tt).Spells p (ssl_request.bytes p ++ rest) rest }
+    ensures read { (p : SslRequest) (rest : List ℕ) → ssl_request.fits tt p rest → (ssl_request.form tt).reads (ssl_request.bytes p ++ rest) ≡ Ok (p, rest) }
+{}

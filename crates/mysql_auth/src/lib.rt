@@ -1,0 +1,29 @@
+//! What a client and a server say before the first command: the handshake, the response to it, the request for TLS,
+//! the switches to another plugin, the packets with keys and further data, and the change of a session's user.
+#![tactic(auto)]
+
+mod auth_more_data;
+mod auth_plugin;
+mod auth_plugin_data;
+mod auth_switch_request;
+pub mod laws;
+mod old_auth_switch_request;
+mod parsec;
+mod public_key_request;
+mod public_key_response;
+mod ssl_request;
+mod trailing_zero;
+
+pub use auth_more_data::{AuthMoreData, AuthMoreDataHeader, InvalidAuthMoreDataHeader};
+pub use auth_plugin::AuthPlugin;
+pub use auth_plugin_data::AuthPluginData;
+pub use auth_switch_request::{
+    AuthSwitchRequest, AuthSwitchRequestHeader, InvalidAuthSwitchRequestHeader,
+};
+pub use old_auth_switch_request::OldAuthSwitchRequest;
+pub use parsec::parse_parsec_salt;
+pub use public_key_request::{InvalidPublicKeyRequest, PublicKeyRequest, PublicKeyRequestHeader};
+pub use public_key_response::{
+    InvalidPublicKeyResponse, PublicKeyResponse, PublicKeyResponseHeader,
+};
+pub use ssl_request::SslRequest;

@@ -1,0 +1,121 @@
+//! The request for TLS.
+#![tactic(auto, using(mysql_wire::proofs::Packets::packets), unfolding(crate::specs::SslRequest::ssl_request))]
+
+ghost use Rattle.std.specs.Prelude.{false, ◌≡◌};
+ghost use Rattle.mysql_auth.specs.SslRequest as spec;
+
+use bitflags::Flags;
+use mysql_wire::{
+    CapabilityFlags, Const, FaultOf, Fixed, LeU32, MariadbCapabilities, MyDeserialize, ParseBuf,
+    Parts, RawInt, Sink, Skip, parts,
+};
+
+/// A client's request to go on in TLS (`Protocol::SSLRequest`): the first 32 bytes of a
+/// handshake response, numbers with their low byte first.
+///
+/// | Bytes | Field |
+/// |---|---|
+/// | 4 | `capabilities` |
+/// | 4 | `max_packet_size` |
+/// | 1 | `character_set` |
+/// | 19 | skipped, with any values; written as zeros |
+/// | 4 | what a MariaDB client can do besides |
+///
+/// Fewer than 32 bytes are `UnexpectedEof`.
+#[derive(Clone, Debug, PartialEq, Eq, Drop)]
+pub struct SslRequest {
+    capabilities: Const<CapabilityFlags, LeU32>,
+    max_packet_size: RawInt<LeU32>,
+    character_set: RawInt<u8>,
+    skipped: Skip<19>,
+    mariadb_capabilities: Const<MariadbCapabilities, LeU32>,
+}
+
+impl SslRequest {
+    /// A request of these, without capabilities of MariaDB's own.
+    pub fn new(capabilities: CapabilityFlags, max_packet_size: u32, character_set: u8) -> Self
+        ensures value { result ≡ spec.request_of capabilities max_packet_size character_set (record { 0 = 0; 1 = record {} }) }
+    {
+        SslRequest {
+            capabilities: Const::new(capabilities),
+            max_packet_size: RawInt::new(max_packet_size),
+            character_set: RawInt::new(character_set),
+            skipped: Skip,
+            mariadb_capabilities: Const::new(MariadbCapabilities::from_bits_retain(0)),
+        }
+    }
+
+    /// The same request with these capabilities of MariaDB's own, which servers from 10.2 on look at.
+    pub fn with_mariadb_capabilities(self, mariadb_capabilities: MariadbCapabilities) -> Self
+        ensures value { result ≡ spec.with_mariadb mariadb_capabilities self }
+    {
+        SslRequest {
+            mariadb_capabilities: Const::new(mariadb_capabilities),
+            ..self
+        }
+    }
+
+    /// What the client can do.
+    #[inline]
+    pub fn capabilities(&self) -> CapabilityFlags
+        ensures value { result ≡ spec.capabilities self.now }
+    {
+        self.capabilities.0
+    }
+
+    /// The largest packet that the client takes, in bytes.
+    #[inline]
+    pub fn max_packet_size(&self) -> u32
+        ensures value { result ≡ spec.max_packet_size self.now }
+    {
+        self.max_packet_size.0
+    }
+
+    /// The number of the client's character set and collation.
+    #[inline]
+    pub fn character_set(&self) -> u8
+        ensures value { result ≡ spec.character_set self.now }
+    {
+        self.character_set.0
+    }
+}
+
+impl<'de> MyDeserialize<'de> for SslRequest {
+    const SIZE: Option<usize> = Some(32);
+
+    type Size = Fixed<32>;
+
+    ghost takes_memory = { false };
+
+    type Ctx = ();
+
+    ghost form = { spec.ssl_request.form };
+
+    fn deserialize<'s>(_ctx: (), buf: &mut ParseBuf<'de>) -> Result<Self, FaultOf<'s>> {
+        let mut fields: ParseBuf<'de> = buf.parse(32)?;
+        Ok(SslRequest {
+            capabilities: fields.parse_unchecked(())?,
+            max_packet_size: fields.parse_unchecked(())?,
+            character_set: fields.parse_unchecked(())?,
+            skipped: fields.parse_unchecked(())?,
+            mariadb_capabilities: fields.parse_unchecked(())?,
+        })
+    }
+
+    ghost size_is = { λ _. spec.size-ssl_request };
+}
+
+impl Parts for SslRequest {
+    ghost bytes = { spec.ssl_request.bytes };
+
+    #[inline(always)]
+    fn put<S: Sink>(&self, sink: &mut S) {
+        sink.part(&parts!(
+            self.capabilities,
+            self.max_packet_size,
+            self.character_set,
+            self.skipped,
+            self.mariadb_capabilities
+        ));
+    }
+}
