@@ -1,0 +1,4 @@
+pub mod RegisterSlave
+pub mod TableDump
+pub mod BinlogDump
+pub mod SemiSyncAck

@@ -1,0 +1,163 @@
+//! The request for a binary log from a position.
+#![tactic(auto, using(mysql_wire::proofs::Packets::packets), unfolding(crate::specs::BinlogDump::binlog_dump))]
+
+ghost use Rattle.std.specs.Prelude.{false, ◌≡◌, [], true, is_ok, IfOk, IsUtf8};
+ghost use Rattle.std.specs.Cow.{cow_slice_items, cow_str_bytes, IsOwnedStr};
+ghost use Rattle.mysql_wire.specs.Text.{lossy_text};
+ghost use Rattle.mysql_repl.specs.BinlogDump as spec;
+
+use mysql_wire::{
+    AnyWidth, BinlogDumpFlags, Const, ConstFault, ConstU8, EofBytes, FaultOf, Flags, LeU16, LeU32,
+    MyDeserialize, ParseBuf, Parts, RawBytes, RawInt, Sink, parts,
+};
+use std::alloc::{AllocError, Global};
+use std::borrow::{CowSlice, CowStr};
+use thiserror::Error;
+
+/// The first byte of a dump by position is not `12`.
+#[derive(Clone, Copy, Debug, Default, PartialEq, Eq, Hash, Error)]
+#[error("Invalid header for COM_BINLOG_DUMP")]
+pub struct InvalidComBinlogDumpHeader;
+
+impl ConstFault for InvalidComBinlogDumpHeader {
+    const MESSAGE: &'static str = "Invalid header for COM_BINLOG_DUMP";
+}
+
+/// The first byte of a dump by position: `12`.
+pub type ComBinlogDumpHeader = ConstU8<InvalidComBinlogDumpHeader, 0x12>;
+
+/// A replica's request for a binary log from a position (`COM_BINLOG_DUMP`).
+///
+/// | Bytes | Field |
+/// |---|---|
+/// | 1 | `12` |
+/// | 4 | `pos` |
+/// | 2 | `flags` |
+/// | 4 | `server_id` |
+/// | the others | `filename` |
+///
+/// Numbers have the low byte first. Fewer than 11 bytes are `UnexpectedEof`, another first byte is
+/// `InvalidData`. Reading takes no memory.
+#[derive(Clone, Debug, PartialEq, Eq, Hash, Drop)]
+pub struct ComBinlogDump<'a> {
+    header: ComBinlogDumpHeader,
+    pos: RawInt<LeU32>,
+    flags: Const<BinlogDumpFlags, LeU16>,
+    server_id: RawInt<LeU32>,
+    filename: RawBytes<'a, EofBytes>,
+}
+
+impl<'a> ComBinlogDump<'a> {
+    /// The request of the replica with this number, from position 0, with no flag and no file's name:
+    /// the server then sends its first binary log.
+    pub fn new(server_id: u32) -> Self
+        ensures value { result ≡ spec.dump_of server_id 0 0 [] }
+    {
+        ComBinlogDump {
+            header: ConstU8::new(),
+            pos: RawInt::new(0),
+            flags: Const::new(BinlogDumpFlags::empty()),
+            server_id: RawInt::new(server_id),
+            filename: RawBytes::default(),
+        }
+    }
+
+    /// The request from this position on.
+    pub fn with_pos(mut self, pos: u32) -> Self
+        ensures value { result ≡ spec.with_pos pos self.entry }
+    {
+        self.pos = RawInt::new(pos);
+        self
+    }
+
+    /// The request with these flags.
+    pub fn with_flags(mut self, flags: BinlogDumpFlags) -> Self
+        ensures value { result ≡ spec.with_flags flags self.entry }
+    {
+        self.flags = Const::new(flags);
+        self
+    }
+
+    /// The request for the binary log of this name.
+    pub fn with_filename(mut self, filename: CowSlice<'a, u8>) -> Self
+        ensures value { result ≡ spec.with_filename (cow_slice_items filename.entry) self.entry }
+    {
+        self.filename = RawBytes::new(filename);
+        self
+    }
+
+    /// The position from which the log is sent.
+    #[inline]
+    pub fn pos(&self) -> u32
+        ensures value { result ≡ spec.pos self.now }
+    {
+        self.pos.0
+    }
+
+    /// How the log is sent.
+    #[inline]
+    pub fn flags(&self) -> BinlogDumpFlags
+        ensures value { result ≡ spec.flags_of self.now }
+    {
+        self.flags.0
+    }
+
+    /// The replica's number.
+    #[inline]
+    pub fn server_id(&self) -> u32
+        ensures value { result ≡ spec.server_id self.now }
+    {
+        self.server_id.0
+    }
+
+    /// The bytes of the log's name.
+    #[inline]
+    pub fn filename_raw(&self) -> &[u8]
+        ensures value { result.now ≡ spec.filename self.now }
+    {
+        self.filename.as_bytes()
+    }
+
+    /// The log's name as text, with U+FFFD for what is not UTF-8. UTF-8 is borrowed.
+    pub fn filename(&self, alloc: Global) -> Result<CowStr<'_>, AllocError>
+        ensures text { IfOk result (λ text. cow_str_bytes text ≡ lossy_text (spec.filename self.now)) }
+        ensures utf8 { IsUtf8 (spec.filename self.now) → (is_ok result ≡ true) × IfOk result (λ text. IsOwnedStr text → ⊥) }
+    {
+        self.filename.as_str(alloc)
+    }
+}
+
+impl<'de> MyDeserialize<'de> for ComBinlogDump<'de> {
+    const SIZE: Option<usize> = None;
+
+    type Size = AnyWidth;
+
+    ghost takes_memory = { false };
+
+    type Ctx = ();
+
+    ghost form = { spec.binlog_dump.form };
+
+    fn deserialize<'s>(_ctx: (), buf: &mut ParseBuf<'de>) -> Result<Self, FaultOf<'s>> {
+        let mut head: ParseBuf<'de> = buf.parse(11)?;
+        Ok(ComBinlogDump {
+            header: head.parse_unchecked(())?,
+            pos: head.parse_unchecked(())?,
+            flags: head.parse_unchecked(())?,
+            server_id: head.parse_unchecked(())?,
+            filename: buf.parse(())?,
+        })
+    }
+
+    ghost size_is = { λ _. spec.size-binlog_dump };
+}
+
+impl Parts for ComBinlogDump<'_> {
+    ghost bytes = { spec.binlog_dump.bytes };
+
+    #[inline(always)]
+    fn put<S: Sink>(&self, sink: &mut S) {
+        let head = parts!(self.header, self.pos, self.flags, self.server_id);
+        sink.part(&parts!(head, self.filename));
+    }
+}

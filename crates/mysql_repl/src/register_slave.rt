@@ -1,0 +1,274 @@
+//! The registration of a replica.
+#![tactic(auto, using(mysql_wire::proofs::Packets::packets), unfolding(crate::specs::RegisterSlave::register_slave))]
+
+ghost use Rattle.std.specs.Prelude.{false, ◌≡◌, true, is_ok, IfOk, IsUtf8, OnErr};
+ghost use Rattle.mysql_wire.specs.Reading.{Answers, IsTail};
+ghost use Rattle.std.specs.Cow.{cow_slice_items, cow_str_bytes, IsOwnedStr};
+ghost use Rattle.mysql_wire.specs.Text.{lossy_text};
+ghost use Rattle.mysql_repl.specs.RegisterSlave as spec;
+
+use mysql_wire::{
+    AnyWidth, ConstFault, ConstU8, FaultOf, LeU16, LeU32, MyDeserialize, ParseBuf, Parts, RawBytes,
+    RawInt, Sink, U8Bytes, parts,
+};
+use std::alloc::{AllocError, Global};
+use std::borrow::{CowSlice, CowStr};
+use thiserror::Error;
+
+/// The first byte of a registration is not `15`.
+#[derive(Clone, Copy, Debug, Default, PartialEq, Eq, Hash, Error)]
+#[error("Invalid header for COM_REGISTER_SLAVE")]
+pub struct InvalidComRegisterSlaveHeader;
+
+impl ConstFault for InvalidComRegisterSlaveHeader {
+    const MESSAGE: &'static str = "Invalid header for COM_REGISTER_SLAVE";
+}
+
+/// The first byte of a registration: `15`.
+pub type ComRegisterSlaveHeader = ConstU8<InvalidComRegisterSlaveHeader, 0x15>;
+
+/// The registration of a replica at its source (`COM_REGISTER_SLAVE`), before it asks for a binary
+/// log.
+///
+/// | Bytes | Field |
+/// |---|---|
+/// | 1 | `15` |
+/// | 4 | `server_id` |
+/// | 1 + n | `hostname`, behind its length |
+/// | 1 + n | `user`, behind its length |
+/// | 1 + n | `password`, behind its length |
+/// | 2 | `port` |
+/// | 4 | `replication_rank` |
+/// | 4 | `master_id` |
+///
+/// Numbers have the low byte first. The first 255 bytes of a string are written. Missing bytes are
+/// `UnexpectedEof`, another first byte is `InvalidData`. Reading takes no memory.
+#[derive(Clone, Debug, PartialEq, Eq, Hash, Drop)]
+pub struct ComRegisterSlave<'a> {
+    header: ComRegisterSlaveHeader,
+    server_id: RawInt<LeU32>,
+    hostname: RawBytes<'a, U8Bytes>,
+    user: RawBytes<'a, U8Bytes>,
+    password: RawBytes<'a, U8Bytes>,
+    port: RawInt<LeU16>,
+    replication_rank: RawInt<LeU32>,
+    master_id: RawInt<LeU32>,
+}
+
+impl<'a> ComRegisterSlave<'a> {
+    /// The registration of the replica with this number. All else is empty or 0.
+    pub fn new(server_id: u32) -> Self
+        ensures value { result ≡ spec.registration server_id }
+    {
+        ComRegisterSlave {
+            header: ConstU8::new(),
+            server_id: RawInt::new(server_id),
+            hostname: RawBytes::default(),
+            user: RawBytes::default(),
+            password: RawBytes::default(),
+            port: RawInt::new(0),
+            replication_rank: RawInt::new(0),
+            master_id: RawInt::new(0),
+        }
+    }
+
+    /// The registration with this name or address of the replica, which the source lists.
+    pub fn with_hostname(mut self, hostname: CowSlice<'a, u8>) -> Self
+        ensures value { result ≡ spec.with_hostname (cow_slice_items hostname.entry) self.entry }
+    {
+        self.hostname = RawBytes::new(hostname);
+        self
+    }
+
+    /// The registration with this account of the replica, which the source lists.
+    pub fn with_user(mut self, user: CowSlice<'a, u8>) -> Self
+        ensures value { result ≡ spec.with_user (cow_slice_items user.entry) self.entry }
+    {
+        self.user = RawBytes::new(user);
+        self
+    }
+
+    /// The registration with this password of the account.
+    pub fn with_password(mut self, password: CowSlice<'a, u8>) -> Self
+        ensures value { result ≡ spec.with_password (cow_slice_items password.entry) self.entry }
+    {
+        self.password = RawBytes::new(password);
+        self
+    }
+
+    /// The registration with this port of the replica, which the source lists.
+    pub fn with_port(mut self, port: u16) -> Self
+        ensures value { result ≡ spec.with_port port self.entry }
+    {
+        self.port = RawInt::new(port);
+        self
+    }
+
+    /// The registration with this rank, which servers ignore.
+    pub fn with_replication_rank(mut self, replication_rank: u32) -> Self
+        ensures value { result ≡ spec.with_replication_rank replication_rank self.entry }
+    {
+        self.replication_rank = RawInt::new(replication_rank);
+        self
+    }
+
+    /// The registration with this number of the source, mostly 0.
+    pub fn with_master_id(mut self, master_id: u32) -> Self
+        ensures value { result ≡ spec.with_master_id master_id self.entry }
+    {
+        self.master_id = RawInt::new(master_id);
+        self
+    }
+
+    /// The replica's number.
+    #[inline]
+    pub fn server_id(&self) -> u32
+        ensures value { result ≡ spec.server_id self.now }
+    {
+        self.server_id.0
+    }
+
+    /// The bytes of the replica's name or address.
+    #[inline]
+    pub fn hostname_raw(&self) -> &[u8]
+        ensures value { result.now ≡ spec.hostname self.now }
+    {
+        self.hostname.as_bytes()
+    }
+
+    /// The replica's name or address as text, with U+FFFD for what is not UTF-8. UTF-8 is borrowed.
+    pub fn hostname(&self, alloc: Global) -> Result<CowStr<'_>, AllocError>
+        ensures text { IfOk result (λ text. cow_str_bytes text ≡ lossy_text (spec.hostname self.now)) }
+        ensures utf8 { IsUtf8 (spec.hostname self.now) → (is_ok result ≡ true) × IfOk result (λ text. IsOwnedStr text → ⊥) }
+    {
+        self.hostname.as_str(alloc)
+    }
+
+    /// The bytes of the account's name.
+    #[inline]
+    pub fn user_raw(&self) -> &[u8]
+        ensures value { result.now ≡ spec.user self.now }
+    {
+        self.user.as_bytes()
+    }
+
+    /// The account's name as text, with U+FFFD for what is not UTF-8. UTF-8 is borrowed.
+    pub fn user(&self, alloc: Global) -> Result<CowStr<'_>, AllocError>
+        ensures text { IfOk result (λ text. cow_str_bytes text ≡ lossy_text (spec.user self.now)) }
+        ensures utf8 { IsUtf8 (spec.user self.now) → (is_ok result ≡ true) × IfOk result (λ text. IsOwnedStr text → ⊥) }
+    {
+        self.user.as_str(alloc)
+    }
+
+    /// The bytes of the password.
+    #[inline]
+    pub fn password_raw(&self) -> &[u8]
+        ensures value { result.now ≡ spec.password self.now }
+    {
+        self.password.as_bytes()
+    }
+
+    /// The password as text, with U+FFFD for what is not UTF-8. UTF-8 is borrowed.
+    pub fn password(&self, alloc: Global) -> Result<CowStr<'_>, AllocError>
+        ensures text { IfOk result (λ text. cow_str_bytes text ≡ lossy_text (spec.password self.now)) }
+        ensures utf8 { IsUtf8 (spec.password self.now) → (is_ok result ≡ true) × IfOk result (λ text. IsOwnedStr text → ⊥) }
+    {
+        self.password.as_str(alloc)
+    }
+
+    /// The replica's port.
+    #[inline]
+    pub fn port(&self) -> u16
+        ensures value { result ≡ spec.port self.now }
+    {
+        self.port.0
+    }
+
+    /// The rank, which servers ignore.
+    #[inline]
+    pub fn replication_rank(&self) -> u32
+        ensures value { result ≡ spec.replication_rank self.now }
+    {
+        self.replication_rank.0
+    }
+
+    /// The source's number.
+    #[inline]
+    pub fn master_id(&self) -> u32
+        ensures value { result ≡ spec.master_id self.now }
+    {
+        self.master_id.0
+    }
+}
+
+/// The first five bytes: the header and the replica's number.
+#[tactic(auto, using(mysql_wire::proofs::Packets::packets), unfolding(crate::specs::RegisterSlave::register_slave_head))]
+fn read_head<'s>(
+    buf: &mut ParseBuf<'_>,
+) -> Result<(ComRegisterSlaveHeader, RawInt<LeU32>), FaultOf<'s>>
+    ensures value { Answers false result buf.new ((spec.register_slave_head.form tt).reads buf.old) }
+    ensures tail { OnErr result (IsTail buf.new buf.old) }
+{
+    let mut head: ParseBuf<'_> = buf.parse(5)?;
+    Ok((head.parse_unchecked(())?, head.parse_unchecked(())?))
+}
+
+/// The last ten bytes: the port, the rank and the source's number.
+#[tactic(auto, using(mysql_wire::proofs::Packets::packets), unfolding(crate::specs::RegisterSlave::register_slave_end))]
+fn read_end<'s>(
+    buf: &mut ParseBuf<'_>,
+) -> Result<(RawInt<LeU16>, RawInt<LeU32>, RawInt<LeU32>), FaultOf<'s>>
+    ensures value { Answers false result buf.new ((spec.register_slave_end.form tt).reads buf.old) }
+    ensures tail { OnErr result (IsTail buf.new buf.old) }
+{
+    let mut end: ParseBuf<'_> = buf.parse(10)?;
+    let port = end.parse_unchecked(())?;
+    let replication_rank = end.parse_unchecked(())?;
+    let master_id = end.parse_unchecked(())?;
+    Ok((port, replication_rank, master_id))
+}
+
+impl<'de> MyDeserialize<'de> for ComRegisterSlave<'de> {
+    const SIZE: Option<usize> = None;
+
+    type Size = AnyWidth;
+
+    ghost takes_memory = { false };
+
+    type Ctx = ();
+
+    ghost form = { spec.register_slave.form };
+
+    fn deserialize<'s>(_ctx: (), buf: &mut ParseBuf<'de>) -> Result<Self, FaultOf<'s>> {
+        let mut rest = buf.rest();
+        let (header, server_id) = read_head(&mut rest)?;
+        let hostname = rest.parse(())?;
+        let user = rest.parse(())?;
+        let password = rest.parse(())?;
+        let (port, replication_rank, master_id) = read_end(&mut rest)?;
+        *buf = rest;
+        Ok(ComRegisterSlave {
+            header,
+            server_id,
+            hostname,
+            user,
+            password,
+            port,
+            replication_rank,
+            master_id,
+        })
+    }
+
+    ghost size_is = { λ _. spec.size-register_slave };
+}
+
+impl Parts for ComRegisterSlave<'_> {
+    ghost bytes = { spec.register_slave.bytes };
+
+    #[inline(always)]
+    fn put<S: Sink>(&self, sink: &mut S) {
+        let head = parts!(self.header, self.server_id);
+        let end = parts!(self.port, self.replication_rank, self.master_id);
+        sink.part(&parts!(head, self.hostname, self.user, self.password, end));
+    }
+}

@@ -1,0 +1,126 @@
+//! The acknowledgement of a position.
+#![tactic(auto, using(mysql_wire::proofs::Packets::packets), unfolding(crate::specs::SemiSyncAck::semi_sync_ack))]
+
+ghost use Rattle.std.specs.Prelude.{false, ◌≡◌, true, is_ok, IfOk, IsUtf8};
+ghost use Rattle.std.specs.Cow.{cow_slice_items, cow_str_bytes, IsOwnedStr};
+ghost use Rattle.mysql_wire.specs.Text.{lossy_text};
+ghost use Rattle.mysql_repl.specs.SemiSyncAck as spec;
+
+use mysql_wire::{
+    AnyWidth, ConstFault, ConstU8, EofBytes, FaultOf, LeU64, MyDeserialize, ParseBuf, Parts,
+    RawBytes, RawInt, Sink, parts,
+};
+use std::alloc::{AllocError, Global};
+use std::borrow::{CowSlice, CowStr};
+use thiserror::Error;
+
+/// The first byte of an acknowledgement is not `ef`.
+#[derive(Clone, Copy, Debug, Default, PartialEq, Eq, Hash, Error)]
+#[error("Invalid semi-sync ack packet header")]
+pub struct InvalidSemiSyncAckPacketPacketHeader;
+
+impl ConstFault for InvalidSemiSyncAckPacketPacketHeader {
+    const MESSAGE: &'static str = "Invalid semi-sync ack packet header";
+}
+
+/// The first byte of an acknowledgement: `ef`.
+pub type SemiSyncAckPacketPacketHeader = ConstU8<InvalidSemiSyncAckPacketPacketHeader, 0xef>;
+
+/// A replica's acknowledgement of an event that asked for one (semi-synchronous replication): the
+/// byte `ef`, the position behind the event in eight bytes, the low one first, and the name of the
+/// binary log to the end of the packet.
+///
+/// Fewer than 9 bytes are `UnexpectedEof`, another first byte is `InvalidData`. Reading takes no
+/// memory.
+#[derive(PartialEq, Drop)]
+pub struct SemiSyncAckPacket<'a> {
+    header: SemiSyncAckPacketPacketHeader,
+    position: RawInt<LeU64>,
+    filename: RawBytes<'a, EofBytes>,
+}
+
+impl<'a> SemiSyncAckPacket<'a> {
+    /// The acknowledgement of this position of the binary log of this name.
+    pub fn new(position: u64, filename: CowSlice<'a, u8>) -> Self
+        ensures value { result ≡ spec.ack_of position (cow_slice_items filename.entry) }
+    {
+        SemiSyncAckPacket {
+            header: ConstU8::new(),
+            position: RawInt::new(position),
+            filename: RawBytes::new(filename),
+        }
+    }
+
+    /// The acknowledgement of this position.
+    pub fn with_position(mut self, position: u64) -> Self
+        ensures value { result ≡ spec.with_position position self.entry }
+    {
+        self.position = RawInt::new(position);
+        self
+    }
+
+    /// The acknowledgement for the binary log of this name.
+    pub fn with_filename(mut self, filename: CowSlice<'a, u8>) -> Self
+        ensures value { result ≡ spec.with_filename (cow_slice_items filename.entry) self.entry }
+    {
+        self.filename = RawBytes::new(filename);
+        self
+    }
+
+    /// The position behind the event.
+    #[inline]
+    pub fn position(&self) -> u64
+        ensures value { result ≡ spec.position self.now }
+    {
+        self.position.0
+    }
+
+    /// The bytes of the log's name.
+    #[inline]
+    pub fn filename_raw(&self) -> &[u8]
+        ensures value { result.now ≡ spec.filename self.now }
+    {
+        self.filename.as_bytes()
+    }
+
+    /// The log's name as text, with U+FFFD for what is not UTF-8. UTF-8 is borrowed.
+    pub fn filename(&self, alloc: Global) -> Result<CowStr<'_>, AllocError>
+        ensures text { IfOk result (λ text. cow_str_bytes text ≡ lossy_text (spec.filename self.now)) }
+        ensures utf8 { IsUtf8 (spec.filename self.now) → (is_ok result ≡ true) × IfOk result (λ text. IsOwnedStr text → ⊥) }
+    {
+        self.filename.as_str(alloc)
+    }
+}
+
+impl<'de> MyDeserialize<'de> for SemiSyncAckPacket<'de> {
+    const SIZE: Option<usize> = None;
+
+    type Size = AnyWidth;
+
+    ghost takes_memory = { false };
+
+    type Ctx = ();
+
+    ghost form = { spec.semi_sync_ack.form };
+
+    fn deserialize<'s>(_ctx: (), buf: &mut ParseBuf<'de>) -> Result<Self, FaultOf<'s>> {
+        let mut head: ParseBuf<'de> = buf.parse(9)?;
+        Ok(SemiSyncAckPacket {
+            header: head.parse_unchecked(())?,
+            position: head.parse_unchecked(())?,
+            filename: buf.parse(())?,
+        })
+    }
+
+    ghost size_is = { λ _. spec.size-semi_sync_ack };
+}
+
+impl Parts for SemiSyncAckPacket<'_> {
+    ghost bytes = { spec.semi_sync_ack.bytes };
+
+    #[inline(always)]
+    fn put<S: Sink>(&self, sink: &mut S) {
+        let head = parts!(self.header, self.position);
+        sink.part(&parts!(head, self.filename));
+    }
+}
