@@ -22,20 +22,24 @@ judge() {
     fi
 }
 
-# expect WHAT STATUS OUTPUT COMMAND ..: on what stands in the file input, it writes the lines of OUTPUT and
-# nothing to standard error, and ends with STATUS
-expect() {
-    local wrong= status
-    "${@:4}" <input >output 2>errors
-    status=$?
-    if ((status != $2)); then
-        wrong="it ended with status $status, and not $2"
+# compare WHAT STATUS OUTPUT ERRORS ENDED: what was run ended with STATUS, and wrote OUTPUT, and ERRORS to standard error
+compare() {
+    local wrong=
+    if (($5 != $2)); then
+        wrong="it ended with status $5, and not $2"
     elif ! cmp -s output <(printf '%s' "$3"); then
         wrong="it wrote: $(head -c 400 output)"
-    elif [[ -s errors ]]; then
+    elif ! cmp -s errors <(printf '%s' "$4"); then
         wrong="it wrote to standard error: $(head -c 400 errors)"
     fi
     judge "$1" "$wrong"
+}
+
+# expect WHAT STATUS OUTPUT COMMAND ..: on what stands in the file input, it writes the lines of OUTPUT and
+# nothing to standard error, and ends with STATUS
+expect() {
+    "${@:4}" <input >output 2>errors
+    compare "${@:1:3}" '' "$?"
 }
 
 # fails_to_write WHAT COMMAND ..: its output takes nothing, so it ends with status 3
@@ -117,6 +121,44 @@ bulk_on $'i1\n' 'options in the other order' 2 "$usage" 1 31 rows=1 types
 fails_to_write 'bulk requests on a full device' "$top/mypackets" bulk 1 31
 "$top/mypackets" bulk 1 31 <. >output 2>errors
 judge 'an input that cannot be read' "$( (($? == 3)) && [[ ! -s output && ! -s errors ]] || printf 'it did not end with status 3 alone')"
+
+# unproved WHAT STATUS OUTPUT WORD ..: on what comes from the file input with a pause, the program without proof
+# writes OUTPUT within a minute (half of that on a machine that is not busy), and says that nothing was proved
+unproved() {
+    (cat input && sleep 3) | timeout 60 "$top/mypackets" --unproved "${@:4}" >output 2>errors
+    compare "${@:1:3}" $'mypackets: runs without proof, which takes about half a minute
+mypackets: nothing of this run was proved\n' "$?"
+}
+
+unproved 'a statement packet without proof' 0 "$statement" stmt 000100000001000200000000
+unproved 'a cut statement packet without proof' 1 $'refused: UnexpectedEof\n' stmt 0001000000010002000000
+unproved 'no word without proof' 2 "$usage"
+printf 'i1\ni2\n' >input
+unproved 'two rows without proof' 0 'request: fa0100000080000800000100000000000000000200000000000000
+requests: 1
+rows: 2
+fewest: yes
+' bulk 1 31
+
+# A repository of two crates, and an rt that builds nothing, for what the first run says.
+mkdir -p -- work/bin work/crates/{upper,lower,mypackets}/{src,specs,proofs} && cp -- "$top/mypackets" work/
+printf '%s\n' 'mypackets: upper kit' 'upper: lower  # behind the one below it' 'lower:' 'other: upper' >work/crates.txt
+printf '%s\n' '#!/bin/sh' 'test "$1" = lib && exit "${LIB_STATUS:-0}"' 'printf "#!/bin/sh\necho ran\n" >out/mypackets' \
+    'chmod +x out/mypackets' "echo 'usage: mypackets COMMAND ARGS'" 'exit 2' >work/bin/rt
+chmod +x work/bin/rt
+first='mypackets: proves and builds the program and its 2 libraries, which takes ten to twenty minutes on four processors
+mypackets: meanwhile ./mypackets --unproved WORDS answers in half a minute, without proof
+mypackets: lower, 1 of 3
+'
+PATH=$PWD/work/bin:$PATH LIB_STATUS=7 work/mypackets stmt >output 2>errors
+compare 'a first run that builds nothing' 125 '' "${first}mypackets: the program could not be built (rt ended with status 7)
+" "$?"
+PATH=$PWD/work/bin:$PATH work/mypackets stmt >output 2>errors
+compare 'a first run' 0 $'ran\n' "${first}mypackets: upper, 2 of 3
+mypackets: mypackets, 3 of 3
+" "$?"
+PATH=$PWD/work/bin:$PATH work/mypackets stmt >output 2>errors
+compare 'a second run' 0 $'ran\n' '' "$?"
 
 printf '%d passed, %d failed\n' "$passed" "$failed"
 ((failed == 0))
