@@ -18,7 +18,8 @@ use Rattle.mysql_values.specs.declared.temporal.TimeSpan.{TimeSpan}
 use Rattle.mysql_values.specs.Temporal.{day, day_fields, day_bytes, clock, clock_fields, clock_bytes, date_time, date_time_bytes, time_span, time_span_bytes, is_midnight, is_zero_day, zero_day, midnight, sign_byte}
 use Rattle.mysql_values.specs.Value.{Content, NULL, Bytes, Int, UInt, Float, Double, Date, Time, bin}
 use Rattle.mysql_values.specs.ValueDeserializer.{bin_value, string_value, date_value}
-use Rattle.mysql_values.specs.ReadingBack.{is_string, is_date, DateFits, TimeFits, ReadsBack, Agrees}
+use Rattle.mysql_values.specs.ReadingBack.{is_string, is_date, DateFits, TimeFits, ReadsBack, Agrees, IsInRange}
+use Rattle.mysql_values.specs.SentType.{sent_type, is_uint}
 
 -- ---- leaves
 
@@ -163,3 +164,18 @@ agrees-by_type type u (Float bits) h = λ rest. value-again type u (Float bits) 
 agrees-by_type type u (Double bits) h = λ rest. value-again type u (Double bits) rest h
 agrees-by_type type u (Date date) h = λ rest. value-again type u (Date date) rest h
 agrees-by_type type u (Time time) h = λ rest. value-again type u (Time time) rest h
+
+-- ---- the type that a value is sent as
+
+reads_back : (content : Content) → IsInRange content → ReadsBack (sent_type content) (is_uint content) content
+reads_back NULL h = refl
+reads_back (Bytes bytes) h = (refl, h)
+reads_back (Int x) h = (refl, refl, h)
+reads_back (UInt n) h = (refl, refl, h)
+reads_back (Float bits) h = (refl, h)
+reads_back (Double bits) h = (refl, h)
+reads_back (Date date) h = (refl, h)
+reads_back (Time time) h = (refl, h)
+
+pub sent-agrees : (content : Content) → IsInRange content → Agrees (sent_type content) (is_uint content) content
+sent-agrees content h = agrees-by_type (sent_type content) (is_uint content) content (reads_back content h)

@@ -58,6 +58,17 @@ ReadsBack type is_unsigned (Double bits) = (type ≡ column_type.MYSQL_TYPE_DOUB
 ReadsBack type is_unsigned (Date date) = (is_date type ≡ true) × DateFits date
 ReadsBack type is_unsigned (Time time) = (type ≡ column_type.MYSQL_TYPE_TIME) × TimeFits time
 
+-- its numbers have their widths, and its sign is not lost
+abbrev pub IsInRange : Content → Type 0
+IsInRange NULL = Unit {0}
+IsInRange (Bytes bytes) = length bytes < 2 ^ 64
+IsInRange (Int x) = FitsSigned w64 x
+IsInRange (UInt n) = n < 2 ^ 64
+IsInRange (Float bits) = bits < 2 ^ 32
+IsInRange (Double bits) = bits < 2 ^ 64
+IsInRange (Date date) = DateFits date
+IsInRange (Time time) = TimeFits time
+
 -- a content agrees with a column's type: it is none, or its binary form is read as that content, whatever follows
 abbrev pub Agrees : ColumnType → Bool → Content → Type 0
 Agrees type is_unsigned NULL = Unit {0}

@@ -4,9 +4,13 @@ ghost use Rattle.std.specs.Prelude.{◌≡◌, ◌++◌, ℕ, List, Bool, Ok, le
 ghost use Rattle.mysql_wire.specs.declared.codes.column_type.ColumnType.{ColumnType};
 ghost use Rattle.mysql_values.specs.Value.{Content, bin, bin_size, content_of};
 ghost use Rattle.mysql_values.specs.ValueDeserializer.{bin_value};
-ghost use Rattle.mysql_values.specs.ReadingBack.{Agrees, ReadsBack};
+ghost use Rattle.mysql_values.specs.ReadingBack.{Agrees, IsInRange, ReadsBack};
+ghost use Rattle.mysql_values.specs.SentType.{sent_type, is_uint};
 ghost use Rattle.mysql_values.specs.declared.value.Value.{Value};
 ghost use Rattle.mysql_values.specs.ContentEq.{content_eq};
+
+use crate::value_deserializer::{BinValue, TextValue, ValueDeserializer};
+use mysql_wire::MyDeserialize;
 
 /// The binary form of a value has the length that `Value::bin_len` answers.
 #[tactic(auto, using(crate::proofs::Sizes::sizes))]
@@ -26,6 +30,22 @@ pub fn value_again()
         ReadsBack column_type is_unsigned content →
         (bin_value column_type is_unsigned).reads (bin content ++ rest) ≡ Ok (content, rest) }
 {}
+
+/// A value whose numbers have their widths, as those of every [`Value`](crate::Value) have, agrees with the type that it
+/// is sent as; but a negative span of no time is read without its sign.
+pub fn sent_value_agrees()
+    ensures { (content : Content) → IsInRange content → Agrees (sent_type content) (is_uint content) content }
+{}
+
+/// No value has a constant size, neither in text nor in its binary form.
+pub fn no_value_has_a_constant_size() -> (Option<usize>, Option<usize>)
+    ensures { result ≡ record { 0 = None; 1 = None } }
+{
+    (
+        <ValueDeserializer<TextValue> as MyDeserialize>::SIZE,
+        <ValueDeserializer<BinValue> as MyDeserialize>::SIZE,
+    )
+}
 
 /// Values are equal where they hold the same: the same kind, with the same bytes or numbers.
 pub fn equal_values_hold_the_same()

@@ -1,8 +1,6 @@
 //! Dates and times, as the binary protocol writes them.
 
-ghost use Rattle.std.specs.Prelude.{false, ◌≡◌, ◌+◌, ◌++◌, ◌≤◌, vec_len, vec_capacity, length, Some, None, OnErr, refl};
-ghost use Rattle.mysql_wire.specs.Writing.{saturated};
-ghost use Rattle.mysql_wire.specs.Reading.{Answers, IsTail, HasBytes};
+ghost use Rattle.std.specs.Prelude.{false, ◌≡◌};
 
 use mysql_wire::{
     AnyWidth, FaultOf, Fixed, IntRepr, LeU16, LeU32, MyDeserialize, MySerialize, ParseBuf, RawInt,

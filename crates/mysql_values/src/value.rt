@@ -1,7 +1,6 @@
 //! Values of parameters and rows.
 
-ghost use Rattle.std.specs.Prelude.{◌≡◌, ◌+◌, ◌++◌, ◌≤◌, vec_len, vec_capacity, length};
-ghost use Rattle.mysql_wire.specs.Writing.{saturated};
+ghost use Rattle.std.specs.Prelude.{◌≡◌};
 
 use crate::temporal::{Clock, DateTime, Day, TimeSpan};
 use mysql_wire::{BytesRepr, IntRepr, LeU32, LeU64, LenEnc, MySerialize};

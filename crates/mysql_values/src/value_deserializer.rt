@@ -1,8 +1,8 @@
 //! Values read from rows and requests.
 
 ghost use Rattle.std.specs.Int.{w8, w16, w32};
-ghost use Rattle.std.specs.Prelude.{true, ◌≡◌, ◌≤◌, length, List, ℕ, None, OnErr, refl};
-ghost use Rattle.mysql_wire.specs.Reading.{Answers, IsTail, HasBytes};
+ghost use Rattle.std.specs.Prelude.{true, false, ◌≡◌, OnErr, refl};
+ghost use Rattle.mysql_wire.specs.Reading.{Answers, IsTail};
 
 use crate::temporal::{DateTime, TimeSpan};
 use crate::value::Value;
@@ -71,6 +71,7 @@ impl<'de> MyDeserialize<'de> for ValueDeserializer<TextValue> {
 }
 
 ghost use Rattle.mysql_values.specs.Value.{contents};
+ghost use Rattle.mysql_values.specs.ReadingBack.{is_string};
 ghost use Rattle.mysql_values.specs.ValueDeserializer.{string_value, short_integer, long_integer, date_value, time_value, bin_value};
 
 /// The content of a length-encoded string, on memory of its own.
@@ -84,7 +85,7 @@ fn read_string<'s>(buf: &mut ParseBuf<'_>) -> Result<Value, FaultOf<'s>>
 }
 
 fn read_date<'s>(buf: &mut ParseBuf<'_>) -> Result<Value, FaultOf<'s>>
-    ensures value { Answers true (contents result) buf.new (date_value.reads buf.old) }
+    ensures value { Answers false (contents result) buf.new (date_value.reads buf.old) }
     ensures tail { OnErr result (IsTail buf.new buf.old) }
 {
     let date: DateTime = buf.parse(())?;
@@ -100,7 +101,7 @@ fn read_date<'s>(buf: &mut ParseBuf<'_>) -> Result<Value, FaultOf<'s>>
 }
 
 fn read_time<'s>(buf: &mut ParseBuf<'_>) -> Result<Value, FaultOf<'s>>
-    ensures value { Answers true (contents result) buf.new (time_value.reads buf.old) }
+    ensures value { Answers false (contents result) buf.new (time_value.reads buf.old) }
     ensures tail { OnErr result (IsTail buf.new buf.old) }
 {
     let time: TimeSpan = buf.parse(())?;
@@ -117,7 +118,7 @@ fn read_time<'s>(buf: &mut ParseBuf<'_>) -> Result<Value, FaultOf<'s>>
 /// An integer of one byte, with a sign unless the column has none.
 #[tactic(auto, unfolding(mysql_wire::specs::Int::raw))]
 fn read_tiny<'s>(is_unsigned: bool, buf: &mut ParseBuf<'_>) -> Result<Value, FaultOf<'s>>
-    ensures value { Answers true (contents result) buf.new ((short_integer w8 1 is_unsigned).reads buf.old) }
+    ensures value { Answers false (contents result) buf.new ((short_integer w8 1 is_unsigned).reads buf.old) }
     ensures tail { OnErr result (IsTail buf.new buf.old) }
 {
     let number: RawInt<u8> = buf.parse(())?;
@@ -131,7 +132,7 @@ fn read_tiny<'s>(is_unsigned: bool, buf: &mut ParseBuf<'_>) -> Result<Value, Fau
 /// An integer of two bytes, with a sign unless the column has none.
 #[tactic(auto, unfolding(mysql_wire::specs::Int::raw))]
 fn read_short<'s>(is_unsigned: bool, buf: &mut ParseBuf<'_>) -> Result<Value, FaultOf<'s>>
-    ensures value { Answers true (contents result) buf.new ((short_integer w16 2 is_unsigned).reads buf.old) }
+    ensures value { Answers false (contents result) buf.new ((short_integer w16 2 is_unsigned).reads buf.old) }
     ensures tail { OnErr result (IsTail buf.new buf.old) }
 {
     let number: RawInt<LeU16> = buf.parse(())?;
@@ -145,7 +146,7 @@ fn read_short<'s>(is_unsigned: bool, buf: &mut ParseBuf<'_>) -> Result<Value, Fa
 /// An integer of four bytes, with a sign unless the column has none.
 #[tactic(auto, unfolding(mysql_wire::specs::Int::raw))]
 fn read_long<'s>(is_unsigned: bool, buf: &mut ParseBuf<'_>) -> Result<Value, FaultOf<'s>>
-    ensures value { Answers true (contents result) buf.new ((short_integer w32 4 is_unsigned).reads buf.old) }
+    ensures value { Answers false (contents result) buf.new ((short_integer w32 4 is_unsigned).reads buf.old) }
     ensures tail { OnErr result (IsTail buf.new buf.old) }
 {
     let number: RawInt<LeU32> = buf.parse(())?;
@@ -159,7 +160,7 @@ fn read_long<'s>(is_unsigned: bool, buf: &mut ParseBuf<'_>) -> Result<Value, Fau
 /// An integer of eight bytes.
 #[tactic(auto, unfolding(mysql_wire::specs::Int::raw))]
 fn read_longlong<'s>(is_unsigned: bool, buf: &mut ParseBuf<'_>) -> Result<Value, FaultOf<'s>>
-    ensures value { Answers true (contents result) buf.new ((long_integer is_unsigned).reads buf.old) }
+    ensures value { Answers false (contents result) buf.new ((long_integer is_unsigned).reads buf.old) }
     ensures tail { OnErr result (IsTail buf.new buf.old) }
 {
     let number: RawInt<LeU64> = buf.parse(())?;
@@ -170,14 +171,14 @@ fn read_longlong<'s>(is_unsigned: bool, buf: &mut ParseBuf<'_>) -> Result<Value,
     })
 }
 
-/// A value of a column's type.
+/// A value of a column's type. A string alone takes memory.
 #[tactic(auto, unfolding(mysql_wire::specs::Int::raw))]
 fn read_bin<'s>(
     column_type: ColumnType,
     is_unsigned: bool,
     buf: &mut ParseBuf<'_>,
 ) -> Result<Value, FaultOf<'s>>
-    ensures value { Answers true (contents result) buf.new ((bin_value column_type is_unsigned).reads buf.old) }
+    ensures value { Answers (is_string column_type) (contents result) buf.new ((bin_value column_type is_unsigned).reads buf.old) }
     ensures tail { OnErr result (IsTail buf.new buf.old) }
 {
     match column_type {
@@ -235,10 +236,11 @@ impl<'de> MyDeserialize<'de> for ValueDeserializer<BinValue> {
 
     type Ctx = (ColumnType, ColumnFlags);
 
+    ghost use Rattle.mysql_wire.specs.FlagMasks.{UNSIGNED_FLAG};
     ghost use Rattle.mysql_wire.specs.Flags.{has};
     ghost use Rattle.mysql_wire.specs.Form.{unsized};
 
-    ghost form = { λ column. unsized (bin_value column.0 (has column.1.0 32)) };
+    ghost form = { λ column. unsized (bin_value column.0 (has column.1.0 UNSIGNED_FLAG)) };
 
     fn deserialize<'s>(
         column: (ColumnType, ColumnFlags),

@@ -37,9 +37,10 @@ use Rattle.mysql_wire.specs.Null.{HasNoZero, null_string, null_bytes}
 use Rattle.mysql_wire.specs.Seq as seq_form
 use Rattle.mysql_wire.specs.Seq.{counted}
 use Rattle.mysql_wire.specs.Skip as skip_form
-use Rattle.mysql_wire.specs.Spelling.{IsSpelling, number-again, raw-again, const_byte-again, skip-again}
+use Rattle.mysql_wire.specs.Spelling.{IsSpelling, number-again, raw-again, const_byte-again, const_u32-again, skip-again}
 use Rattle.mysql_wire.specs.Writing.{le_bytes}
 use Rattle.mysql_wire.specs.Codec.{Codec, Fields}
+use Rattle.mysql_wire.specs.CodecFits.{then_bytes, then_fits, option_len, option_fits, choice_of, choice_bytes, choice_len, choice_fits, each_fits, is_there, if_left_fits}
 use Rattle.mysql_wire.specs.CodecAgain as law
 
 -- ---- fields, in the layout's order
@@ -60,9 +61,9 @@ abbrev pub ◌>>=◌ : {C P A B : Type 0} → Fields C P A → (A → Fields C P
 f >>= g = record {
   form = λ c. form.◌>>=◌ (f.form c) (λ a. (g a).form c);
   value = λ p. (g (f.value p)).value p;
-  bytes = law.then_bytes f g;
+  bytes = then_bytes f g;
   len = λ p. f.len p + (g (f.value p)).len p;
-  fits = law.then_fits f g;
+  fits = then_fits f g;
   exact = law.then-exact f g;
   again = law.then-again f g;
 }
@@ -135,8 +136,8 @@ abbrev pub when : {C A : Type 0} → (C → Bool) → Codec C A → Codec C (Opt
 when flag f = record {
   form = λ c. form.when (flag c) (f.form c);
   bytes = optional_bytes f.bytes;
-  len = law.option_len f;
-  fits = λ c o rest. law.option_fits f (flag c) c o rest;
+  len = option_len f;
+  fits = λ c o rest. option_fits f (flag c) c o rest;
   exact = λ c o rest h. law.option-exact f (flag c) c o rest h;
   again = λ c o rest h. law.option-again f (flag c) c o rest h;
 }
@@ -145,10 +146,10 @@ when flag f = record {
 abbrev pub either : {C P A B X : Type 0} (test : C → Bool) (part : P → A ⊎ B) (of_left : A → X) (l : Codec C A) (of_right : B → X) (r : Codec C B) → Fields C P X
 either test part of_left l of_right r = record {
   form = λ c. form.either (test c) (form.map of_left (l.form c)) (form.map of_right (r.form c));
-  value = λ p. law.choice_of of_left of_right l r (part p);
-  bytes = λ p. law.choice_bytes of_left of_right l r (part p);
-  len = λ p. law.choice_len of_left of_right l r (part p);
-  fits = λ c p rest. law.choice_fits of_left of_right l r (test c) c (part p) rest;
+  value = λ p. choice_of of_left of_right l r (part p);
+  bytes = λ p. choice_bytes of_left of_right l r (part p);
+  len = λ p. choice_len of_left of_right l r (part p);
+  fits = λ c p rest. choice_fits of_left of_right l r (test c) c (part p) rest;
   exact = λ c p rest h. law.choice-exact of_left of_right l r (test c) c (part p) rest h;
   again = λ c p rest h. law.choice-again of_left of_right l r (test c) c (part p) rest h;
 }
@@ -159,7 +160,7 @@ list_of n f = record {
   form = λ c. counted n (f.form c);
   bytes = λ xs. flat_map f.bytes xs;
   len = λ xs. length (flat_map f.bytes xs);
-  fits = λ c xs rest. (length xs ≡ n) × law.each_fits f c xs rest;
+  fits = λ c xs rest. (length xs ≡ n) × each_fits f c xs rest;
   exact = λ c xs rest h. refl;
   again = law.so_many-again f n;
 }
@@ -170,7 +171,7 @@ list_to_end f some = record {
   form = λ c. many (f.form c);
   bytes = λ xs. flat_map f.bytes xs;
   len = λ xs. length (flat_map f.bytes xs);
-  fits = λ c xs rest. (rest ≡ []) × law.each_fits f c xs [];
+  fits = λ c xs rest. (rest ≡ []) × each_fits f c xs [];
   exact = λ c xs rest h. refl;
   again = law.many-again f some;
 }
@@ -252,7 +253,7 @@ string_eof = record {
 -- a number of four bytes that has one value
 abbrev pub const_u32 : {C T : Type 0} (value : ℕ) → Codec C (ConstU32 T value)
 const_u32 value = leaf (constant_form.const_le_u32 value) (λ v. le_bytes 4 value) (λ v. 4) (λ v. value < 2 ^ 32)
-    (λ v h. length-le_bytes 4 value) (λ v h. law.const_u32-again value v h)
+    (λ v h. length-le_bytes 4 value) (λ v h. const_u32-again value v h)
 
 -- bytes that have one value
 abbrev pub const_bytes : {C T : Type 0} (n : ℕ) (value : List ℕ) → Codec C (ConstBytes T n)
@@ -287,7 +288,7 @@ u64_counted_list f = record {
   form = λ c. seq_form.seq (number_of le_u64) (f.form c);
   bytes = seq_form.seq_bytes (le_bytes 8) f.bytes;
   len = λ xs. length (seq_form.seq_bytes (le_bytes 8) f.bytes xs);
-  fits = λ c xs rest. (length xs < 2 ^ 64) × law.each_fits f c xs rest;
+  fits = λ c xs rest. (length xs < 2 ^ 64) × each_fits f c xs rest;
   exact = λ c xs rest h. refl;
   again = law.u64_list-again f;
 }
@@ -295,10 +296,10 @@ u64_counted_list f = record {
 -- a part that is there exactly where bytes are left
 abbrev pub if_bytes_left : {C A : Type 0} (f : Codec C A) → ((a : A) → 0 < f.len a) → Codec C (Option A)
 if_bytes_left f some = record {
-  form = λ c. form.looking (λ bytes. form.when (law.is_there bytes) (f.form c));
+  form = λ c. form.looking (λ bytes. form.when (is_there bytes) (f.form c));
   bytes = optional_bytes f.bytes;
-  len = law.option_len f;
-  fits = law.if_left_fits f;
+  len = option_len f;
+  fits = if_left_fits f;
   exact = law.if_left-exact f;
   again = law.if_left-again f some;
 }

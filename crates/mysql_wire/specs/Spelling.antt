@@ -3,13 +3,14 @@ use Rattle.std.specs.Prelude.{◌≡◌, ℕ, ◌<◌, ◌^◌, List, [], ◌∷
 use Rattle.std.proofs.Common.{ap, sym, ◌∙◌, arith, append_assoc, eq-eqb}
 use Rattle.std.proofs.lemmas.List.{length-replicate}
 use Rattle.mysql_wire.specs.declared.constant.ConstU8.{ConstU8}
+use Rattle.mysql_wire.specs.declared.constant.ConstU32.{ConstU32}
 use Rattle.mysql_wire.specs.declared.skip.Skip.{Skip}
 use Rattle.mysql_wire.specs.Form.{Form, block, bytes, number}
 use Rattle.mysql_wire.specs.Writing.{le_bytes, joined, joined_to}
 use Rattle.mysql_wire.specs.LittleEndian.{value-le_bytes, length-le_bytes}
 use Rattle.mysql_wire.specs.Int.{byte, le_u16, le_u24, le_u32, le_u64, raw, raw_int}
 use Rattle.mysql_wire.specs.Skip.{skip}
-use Rattle.mysql_wire.specs.Constant.{const_byte, const_u8}
+use Rattle.mysql_wire.specs.Constant.{const_byte, const_u8, const_le_u32, const_u32}
 
 -- the text is a spelling of the value, whatever follows
 abbrev pub IsSpelling : {A : Type 0} → Form A → A → List ℕ → Type 0
@@ -82,3 +83,11 @@ unfolding const_byte number bytes
 const_byte-again {T} value v rest =
     let e : const_u8 {T = T} value value ≡ Some v = rw (eq-eqb value value refl) refl in
     (value, e, (value ∷ [], omega arith, (refl, refl)))
+
+pub const_u32-again : {T : Type 0} (value : ℕ) (v : ConstU32 T value) → value < 2 ^ 32 → IsSpelling (const_le_u32 value) v (le_bytes 4 value)
+unfolding const_le_u32
+const_u32-again {T} value v lt rest =
+    let e : const_u32 {T = T} value value ≡ Some v = rw (eq-eqb value value refl) refl in
+    (raw_int value, e, le_u32-again value lt rest)
+
+pub ruleset constants_again = (const_byte-again, const_u32-again, skip-again, block-again)

@@ -1,7 +1,13 @@
 -- Bytes as text.
-use Rattle.std.specs.Prelude.{ℕ, List, encode_utf8_all}
+use Rattle.std.specs.Prelude.{◌≡◌, ℕ, List, Result, true, is_ok, IfOk, IsUtf8, encode_utf8_all}
+use Rattle.std.specs.Cow.{IsOwnedStr}
+use Rattle.std.specs.declared.borrow.CowStr.{CowStr}
 use Rattle.bstr.specs.Utf8.{lossy_chars}
 
 -- the text of the bytes, with U+FFFD for what is no character
 abbrev pub lossy_text : List ℕ → List ℕ
 lossy_text bytes = encode_utf8_all (lossy_chars bytes)
+
+-- Of UTF-8 the text is given, and borrowed: so it takes no memory.
+abbrev pub BorrowsUtf8 : {Z E : Type 0} → List ℕ → Result (CowStr Z) E → Type 0
+BorrowsUtf8 bytes result = IsUtf8 bytes → (is_ok result ≡ true) × IfOk result (λ text. IsOwnedStr text → ⊥)

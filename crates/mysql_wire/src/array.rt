@@ -1,9 +1,6 @@
 //! Byte strings whose length the type tells.
 
-ghost use Rattle.std.specs.Prelude.{false, ◌≡◌, ◌+◌, ◌++◌, vec_len, vec_capacity, ◌≤◌, length, List, ℕ, Option, Some, OnErr};
-ghost use Rattle.mysql_wire.specs.Writing.{saturated};
-ghost use Rattle.mysql_wire.specs.Form.{Form};
-ghost use Rattle.mysql_wire.specs.Reading.{Answers, IsTail, HasBytes};
+ghost use Rattle.std.specs.Prelude.{false};
 
 use crate::buf::ParseBuf;
 use crate::fault::FaultOf;

@@ -1,9 +1,6 @@
 //! Byte strings whose count stands elsewhere.
 
-ghost use Rattle.std.specs.Prelude.{false, ◌≡◌, ◌+◌, ◌++◌, take, vec_len, vec_capacity, ◌≤◌, length, List, ℕ, Option, None, OnErr, refl};
-ghost use Rattle.mysql_wire.specs.Writing.{saturated};
-ghost use Rattle.mysql_wire.specs.Form.{Form};
-ghost use Rattle.mysql_wire.specs.Reading.{Answers, IsTail};
+ghost use Rattle.std.specs.Prelude.{◌≡◌, take, ◌≤◌, length, refl};
 
 use crate::buf::ParseBuf;
 use crate::bytes::BytesRepr;

@@ -1,8 +1,7 @@
 //! A block of so many bytes, whose fields are read from it alone.
 
-ghost use Rattle.std.specs.Prelude.{false, ◌≡◌, ◌+◌, ◌++◌, [], ◌∷◌, replicate, ◌≤◌, length, List, ℕ, Option, Some, None, refl};
-ghost use Rattle.mysql_wire.specs.Form.{Form, bytes};
-ghost use Rattle.mysql_wire.specs.Reading.{Answers, IsTail, HasBytes};
+ghost use Rattle.std.specs.Prelude.{false, refl};
+ghost use Rattle.mysql_wire.specs.Form.{bytes};
 
 use crate::buf::ParseBuf;
 use crate::fault::FaultOf;

@@ -1,11 +1,11 @@
 //! Byte strings in their wire forms.
 
-ghost use Rattle.std.specs.Prelude.{false, true, is_ok, IsUtf8, ◌≡◌, ◌+◌, ◌++◌, vec_len, vec_capacity, ◌≤◌, ◌↔◌, length, List, [], ℕ, Option, Some, None, OnErr, IfOk, IsTrue, refl};
-ghost use Rattle.std.specs.Cow.{cow_slice_items, cow_str_bytes, IsOwnedStr};
-ghost use Rattle.mysql_wire.specs.Text.{lossy_text};
+ghost use Rattle.std.specs.Prelude.{false, ◌≡◌, ◌+◌, ◌++◌, vec_len, vec_capacity, ◌≤◌, ◌↔◌, length, List, [], ℕ, None, OnErr, IfOk, IsTrue};
+ghost use Rattle.std.specs.Cow.{cow_slice_items, cow_str_bytes};
+ghost use Rattle.mysql_wire.specs.Text.{lossy_text, BorrowsUtf8};
 ghost use Rattle.mysql_wire.specs.Writing.{saturated};
 ghost use Rattle.mysql_wire.specs.Form.{Form};
-ghost use Rattle.mysql_wire.specs.Reading.{Answers, IsTail, HasBytes};
+ghost use Rattle.mysql_wire.specs.Reading.{Answers, IsTail};
 
 use crate::buf::ParseBuf;
 use crate::fault::FaultOf;
@@ -93,14 +93,14 @@ impl<'a, R> RawBytes<'a, R> {
     /// The content as text, with U+FFFD for what is not UTF-8. UTF-8 is borrowed.
     pub fn as_str(&self, alloc: Global) -> Result<CowStr<'_>, AllocError>
         ensures text { IfOk result (λ text. cow_str_bytes text ≡ lossy_text self.now) }
-        ensures utf8 { IsUtf8 self.now → (is_ok result ≡ true) × IfOk result (λ text. IsOwnedStr text → ⊥) }
+        ensures utf8 { BorrowsUtf8 self.now result }
     {
         self.as_bytes().to_str_lossy(alloc)
     }
 
-    /// The same content, on memory of its own. An owned content is kept as it is.
+    /// The same content, on memory of its own.
     ///
-    /// Where the copy is refused, the string is given up, and the bytes that it borrowed stay.
+    /// Where memory is refused, the string is given up.
     pub fn into_owned(self, alloc: Global) -> Result<RawBytes<'static, R>, AllocError>
         ensures { IfOk result (λ owned. owned ≡ self.entry) }
     {
@@ -168,7 +168,6 @@ impl<R> Eq for RawBytes<'_, R> {
 impl<R> Hash for RawBytes<'_, R> {
     ghost use Rattle.std.proofs.Common.{rules};
     ghost use Rattle.std.specs.Hash as fed;
-    ghost use Rattle.std.specs.Hash.{items_Alike};
 
     ghost hash_input = { fed.slice fed.u8 };
 

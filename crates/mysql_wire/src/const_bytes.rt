@@ -1,9 +1,6 @@
 //! Byte strings that have one value.
 
-ghost use Rattle.std.specs.Prelude.{false, ◌≡◌, ◌+◌, ◌++◌, vec_len, vec_capacity, ◌≤◌, length, List, ℕ, Option, Some, OnErr};
-ghost use Rattle.mysql_wire.specs.Writing.{saturated};
-ghost use Rattle.mysql_wire.specs.Form.{Form};
-ghost use Rattle.mysql_wire.specs.Reading.{Answers, IsTail, HasBytes};
+ghost use Rattle.std.specs.Prelude.{false, ◌≡◌, length, List, ℕ};
 
 use crate::buf::ParseBuf;
 use crate::constant::ConstFault;

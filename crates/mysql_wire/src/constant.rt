@@ -1,8 +1,6 @@
 //! Fields that have one value.
 
-ghost use Rattle.std.specs.Prelude.{false, ◌≡◌, ◌+◌, ◌++◌, [], ◌∷◌, ◌≤◌, length, List, ℕ, Option, Some, None};
-ghost use Rattle.mysql_wire.specs.Form.{Form};
-ghost use Rattle.mysql_wire.specs.Reading.{Answers, IsTail, HasBytes};
+ghost use Rattle.std.specs.Prelude.{false, [], ◌∷◌};
 
 use crate::buf::ParseBuf;
 use crate::fault::FaultOf;

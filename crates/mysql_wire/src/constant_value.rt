@@ -1,8 +1,6 @@
 //! Flag words and coded values in their wire form.
 
-ghost use Rattle.std.specs.Prelude.{false, ◌≡◌, ◌≤◌, ◌+◌, ◌++◌, length, List, ℕ, Option, Some, None};
-ghost use Rattle.mysql_wire.specs.Form.{Form};
-ghost use Rattle.mysql_wire.specs.Reading.{Answers, IsTail, HasBytes};
+ghost use Rattle.std.specs.Prelude.{false, ◌≡◌, Option, Some};
 
 use crate::buf::ParseBuf;
 use crate::fault::FaultOf;

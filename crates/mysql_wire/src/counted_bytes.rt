@@ -1,9 +1,6 @@
 //! Byte strings behind a count of a fixed width.
 
-ghost use Rattle.std.specs.Prelude.{false, ◌≡◌, ◌+◌, ◌++◌, take, vec_len, vec_capacity, ◌≤◌, length, List, ℕ, Option, None, OnErr};
-ghost use Rattle.mysql_wire.specs.Writing.{saturated};
-ghost use Rattle.mysql_wire.specs.Form.{Form};
-ghost use Rattle.mysql_wire.specs.Reading.{Answers, IsTail};
+ghost use Rattle.std.specs.Prelude.{take};
 
 use crate::bare::first_bytes;
 use crate::buf::ParseBuf;

@@ -1,8 +1,5 @@
 //! One of two values.
 
-ghost use Rattle.std.specs.Prelude.{◌≡◌, ◌+◌, ◌++◌, ◌≤◌, length, vec_len, vec_capacity, List, ℕ};
-ghost use Rattle.mysql_wire.specs.Writing.{saturated};
-
 use crate::proto::MySerialize;
 
 /// One of two values, written as that value alone. It is never read: the bytes do not tell which one they spell.

@@ -1,10 +1,6 @@
 //! Byte strings that run to the end of the packet.
 
-ghost use Rattle.std.specs.Prelude.{false, ◌≡◌, ◌+◌, ◌++◌, vec_len, vec_capacity, ◌≤◌, ◌↔◌, length, List, [], ℕ, Option, Some, None, OnErr, IfOk, IsTrue, refl};
-ghost use Rattle.std.specs.Cow.{cow_slice_items};
-ghost use Rattle.mysql_wire.specs.Writing.{saturated};
-ghost use Rattle.mysql_wire.specs.Form.{Form};
-ghost use Rattle.mysql_wire.specs.Reading.{Answers, IsTail, HasBytes};
+ghost use Rattle.std.specs.Prelude.{refl};
 
 use crate::buf::ParseBuf;
 use crate::bytes::BytesRepr;

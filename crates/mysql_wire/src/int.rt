@@ -1,8 +1,7 @@
 //! Integers of fixed widths.
 
-ghost use Rattle.std.specs.Prelude.{false, ◌≡◌, ◌+◌, ◌++◌, vec_len, vec_capacity, ◌≤◌, length, List, ℕ, Option, Some, None, OnErr, refl};
-ghost use Rattle.mysql_wire.specs.Writing.{le_bytes, saturated};
-ghost use Rattle.mysql_wire.specs.Form.{Form, number, size-number};
+ghost use Rattle.std.specs.Prelude.{false, ◌≡◌, ◌+◌, ◌++◌, vec_len, vec_capacity, ◌≤◌, length, List, ℕ, Option, OnErr};
+ghost use Rattle.mysql_wire.specs.Form.{Form};
 ghost use Rattle.mysql_wire.specs.Reading.{Answers, IsTail, HasBytes};
 
 use crate::buf::ParseBuf;

@@ -4,7 +4,7 @@
 //! `f` has `f.Spells value bytes rest`, which says that `bytes` are a spelling of `value` and then
 //! `rest`, and `f.reads bytes`, which is what reading `bytes` gives.
 
-ghost use Rattle.std.specs.Prelude.{◌≡◌, ◌+◌, ◌^◌, ◌<◌, ◌++◌, ◌∷◌, [], length, replicate, ℕ, List, Option, Some, Ok, true};
+ghost use Rattle.std.specs.Prelude.{◌≡◌, ◌+◌, ◌^◌, ◌<◌, length, ℕ, List, Some, Ok};
 ghost use Rattle.mysql_wire.specs.Reading.{IsTail};
 ghost use Rattle.mysql_wire.specs.Int.{byte, le_u16, le_u24, le_u32, le_u64, raw_int};
 ghost use Rattle.mysql_wire.specs.LenEnc.{lenenc, lenenc_bytes, lenenc_string, lenenc_string_bytes};
@@ -13,17 +13,24 @@ ghost use Rattle.mysql_wire.specs.Spelling.{IsSpelling};
 
 mod byte_strings;
 mod constant_values;
+mod constants;
+mod equality;
+mod faults;
 mod lists;
 
-use crate::bytes::RawBytes;
 use crate::proto::MyDeserialize;
 pub use byte_strings::{
     array_again, bare_string_again, const_bytes_again, null_string_again, rest_again,
     u8_string_again, u32_string_again,
 };
 pub use constant_values::{coded_byte_again, flag_word_again, switching_changes_one_flag};
+pub use constants::{block_again, const_u8_again, const_u32_again, skip_again};
+pub use equality::{
+    equal_byte_strings_hash_equally, equal_coded_values_hash_equally,
+    equal_flag_words_hash_equally, equal_integers_hash_equally, equal_lists_hash_equally,
+};
+pub use faults::{block_faults, first_fault_comes_first};
 pub use lists::{count_again, list_again, values_to_the_end_again, varlen_again};
-use std::hash::Hash;
 
 /// Bytes are spellings of at most one value of a type, with one rest.
 pub fn at_most_one_value<'de, T: MyDeserialize<'de>>()
@@ -67,9 +74,4 @@ pub fn lenenc_again()
 #[tactic(auto, using(crate::specs::Again::lenenc_again))]
 pub fn lenenc_string_again()
     ensures { (content : List ℕ) → length content < 2 ^ 64 → IsSpelling lenenc_string content (lenenc_string_bytes content) }
-{}
-
-/// Byte strings with one content are equal and hash equally, borrowed or owned.
-pub fn equal_byte_strings_hash_equally<R>()
-    ensures { (x y : List ℕ) → ⟦<RawBytes<'static, R> as PartialEq>⟧.eq x y ≡ true → ⟦<RawBytes<'static, R> as Hash>⟧.hash_input x ≡ ⟦<RawBytes<'static, R> as Hash>⟧.hash_input y }
 {}

@@ -1,9 +1,8 @@
 //! Integers of fixed widths, the low byte first.
 
-ghost use Rattle.std.specs.Prelude.{false, ◌≡◌, ◌+◌, ◌++◌, vec_len, vec_capacity, ◌≤◌, length, List, ℕ, Option, Some, None, OnErr, refl};
-ghost use Rattle.mysql_wire.specs.Writing.{le_bytes, saturated};
-ghost use Rattle.mysql_wire.specs.Form.{Form, number, size-number};
-ghost use Rattle.mysql_wire.specs.Reading.{Answers, IsTail, HasBytes};
+ghost use Rattle.std.specs.Prelude.{Some};
+ghost use Rattle.mysql_wire.specs.Writing.{le_bytes};
+ghost use Rattle.mysql_wire.specs.Form.{number, size-number};
 
 use crate::buf::ParseBuf;
 use crate::fault::FaultOf;

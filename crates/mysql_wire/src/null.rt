@@ -1,10 +1,5 @@
 //! Byte strings that end in a zero.
 
-ghost use Rattle.std.specs.Prelude.{false, ◌≡◌, ◌+◌, ◌++◌, [], ◌∷◌, vec_len, vec_capacity, ◌≤◌, length, List, ℕ, Option, None, OnErr};
-ghost use Rattle.mysql_wire.specs.Writing.{saturated};
-ghost use Rattle.mysql_wire.specs.Form.{Form};
-ghost use Rattle.mysql_wire.specs.Reading.{Answers, IsTail};
-
 use crate::buf::ParseBuf;
 use crate::bytes::BytesRepr;
 use crate::fault::FaultOf;

@@ -1,10 +1,8 @@
 //! Lists of values.
 
-ghost use Rattle.std.specs.Prelude.{true, false, ◌≡◌, ◌≤◌, ◌+◌, ◌++◌, ◌∷◌, [], ◌↔◌, length, vec_len, vec_capacity, List, ℕ, Option, None, OnOk, OnErr, IfOk, IsTrue, refl};
-ghost use Rattle.std.specs.List.{flat_map};
+ghost use Rattle.std.specs.Prelude.{true, false, ◌≡◌, ◌≤◌, ◌+◌, ◌++◌, ◌∷◌, [], ◌↔◌, length, vec_len, vec_capacity, List, ℕ, OnOk, OnErr, IfOk, IsTrue, refl};
 ghost use Rattle.std.specs.Cow.{cow_slice_items};
-ghost use Rattle.mysql_wire.specs.Reading.{Answers, IsTail, HasBytes};
-ghost use Rattle.mysql_wire.specs.Writing.{saturated};
+ghost use Rattle.mysql_wire.specs.Reading.{Answers, IsTail};
 ghost use Rattle.mysql_wire.specs.Form.{Form, give};
 ghost use Rattle.mysql_wire.specs.Seq.{counted, items_of, seq, seq_bytes, IsHeld};
 
@@ -23,14 +21,13 @@ use std::marker::{Model, PhantomData};
 
 /// How many values to reserve room for: no more than the count, nor than the unread bytes can hold.
 ///
-/// Values without a constant size get none: their list grows as they are read.
+/// Values without a constant size, or without bytes, get none: their list grows as they are read.
 fn room_for(count: u64, size: Option<usize>, unread: usize) -> usize
     ensures wanted { result ≤ count }
     ensures held { IsHeld size result unread }
 {
     match size {
-        None => 0,
-        Some(0) => count as usize,
+        None | Some(0) => 0,
         Some(size) => (count as usize).min(unread / size),
     }
 }

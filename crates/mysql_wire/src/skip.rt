@@ -1,8 +1,6 @@
 //! Bytes that are skipped.
 
-ghost use Rattle.std.specs.Prelude.{false, ◌≡◌, ◌+◌, ◌++◌, [], ◌∷◌, replicate, ◌≤◌, length, List, ℕ, Option, Some, None, refl};
-ghost use Rattle.mysql_wire.specs.Form.{Form, bytes};
-ghost use Rattle.mysql_wire.specs.Reading.{Answers, IsTail, HasBytes};
+ghost use Rattle.std.specs.Prelude.{false, replicate};
 
 use crate::buf::ParseBuf;
 use crate::fault::FaultOf;

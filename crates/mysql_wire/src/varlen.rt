@@ -1,8 +1,7 @@
 //! Numbers of varying length.
 
-ghost use Rattle.std.specs.Prelude.{false, ◌≡◌, ◌+◌, ◌-◌, ◌*◌, ◌^◌, ◌++◌, ◌<◌, ◌≤◌, vec_len, vec_capacity, length, List, ℕ, Option, None, OnOk, OnErr};
-ghost use Rattle.mysql_wire.specs.Form.{Form};
-ghost use Rattle.mysql_wire.specs.Reading.{Answers, IsTail, HasBytes};
+ghost use Rattle.std.specs.Prelude.{false, ◌≡◌, ◌+◌, ◌-◌, ◌*◌, ◌^◌, ◌++◌, ◌<◌, ◌≤◌, length, None, OnOk, OnErr};
+ghost use Rattle.mysql_wire.specs.Reading.{Answers};
 ghost use Rattle.mysql_wire.specs.Varlen.{varlen, varlen_bytes, varlen_size, size-varlen};
 
 use crate::buf::ParseBuf;

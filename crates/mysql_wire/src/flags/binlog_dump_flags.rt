@@ -1,6 +1,7 @@
 //! How a binary log is sent.
 
-ghost use Rattle.std.specs.Prelude.{◌≡◌, [], ◌∷◌, codes};
+ghost use Rattle.std.specs.Prelude.{[], ◌∷◌, codes};
+ghost use Rattle.mysql_wire.specs.FlagMasks.{BINLOG_DUMP_NON_BLOCK, BINLOG_THROUGH_POSITION, BINLOG_THROUGH_GTID};
 
 use crate::flags::{FlagNames, FlagWord, named_flags};
 use bitflags::Flag;
@@ -27,7 +28,7 @@ impl FlagWord<BinlogDumpNames, u16> {
 }
 
 impl FlagNames<u16> for BinlogDumpNames {
-    ghost table = { (codes "BINLOG_DUMP_NON_BLOCK", 1) ∷ (codes "BINLOG_THROUGH_POSITION", 2) ∷ (codes "BINLOG_THROUGH_GTID", 4) ∷ [] };
+    ghost table = { (codes "BINLOG_DUMP_NON_BLOCK", BINLOG_DUMP_NON_BLOCK) ∷ (codes "BINLOG_THROUGH_POSITION", BINLOG_THROUGH_POSITION) ∷ (codes "BINLOG_THROUGH_GTID", BINLOG_THROUGH_GTID) ∷ [] };
 
     fn flags<'a>() -> &'a [Flag<BinlogDumpFlags>] {
         BinlogDumpFlags::FLAGS

@@ -1,6 +1,7 @@
 //! What a client and a server can do.
 
-ghost use Rattle.std.specs.Prelude.{◌≡◌, [], ◌∷◌, codes};
+ghost use Rattle.std.specs.Prelude.{[], ◌∷◌, codes};
+ghost use Rattle.mysql_wire.specs.FlagMasks.{CLIENT_CONNECT_WITH_DB, CLIENT_PROTOCOL_41, CLIENT_SECURE_CONNECTION, CLIENT_PLUGIN_AUTH, CLIENT_CONNECT_ATTRS, CLIENT_PLUGIN_AUTH_LENENC_CLIENT_DATA, CLIENT_SESSION_TRACK, CLIENT_PROGRESS_OBSOLETE};
 
 use crate::flags::{FlagNames, FlagWord, named_flags};
 use bitflags::Flag;
@@ -45,7 +46,7 @@ impl FlagWord<CapabilityNames, u32> {
 }
 
 impl FlagNames<u32> for CapabilityNames {
-    ghost table = { (codes "CLIENT_CONNECT_WITH_DB", 8) ∷ (codes "CLIENT_PROTOCOL_41", 512) ∷ (codes "CLIENT_SECURE_CONNECTION", 32768) ∷ (codes "CLIENT_PLUGIN_AUTH", 524288) ∷ (codes "CLIENT_CONNECT_ATTRS", 1048576) ∷ (codes "CLIENT_PLUGIN_AUTH_LENENC_CLIENT_DATA", 2097152) ∷ (codes "CLIENT_SESSION_TRACK", 8388608) ∷ (codes "CLIENT_PROGRESS_OBSOLETE", 536870912) ∷ [] };
+    ghost table = { (codes "CLIENT_CONNECT_WITH_DB", CLIENT_CONNECT_WITH_DB) ∷ (codes "CLIENT_PROTOCOL_41", CLIENT_PROTOCOL_41) ∷ (codes "CLIENT_SECURE_CONNECTION", CLIENT_SECURE_CONNECTION) ∷ (codes "CLIENT_PLUGIN_AUTH", CLIENT_PLUGIN_AUTH) ∷ (codes "CLIENT_CONNECT_ATTRS", CLIENT_CONNECT_ATTRS) ∷ (codes "CLIENT_PLUGIN_AUTH_LENENC_CLIENT_DATA", CLIENT_PLUGIN_AUTH_LENENC_CLIENT_DATA) ∷ (codes "CLIENT_SESSION_TRACK", CLIENT_SESSION_TRACK) ∷ (codes "CLIENT_PROGRESS_OBSOLETE", CLIENT_PROGRESS_OBSOLETE) ∷ [] };
 
     fn flags<'a>() -> &'a [Flag<CapabilityFlags>] {
         CapabilityFlags::FLAGS

@@ -1,6 +1,7 @@
 //! What holds of the values of a column.
 
-ghost use Rattle.std.specs.Prelude.{◌≡◌, [], ◌∷◌, codes};
+ghost use Rattle.std.specs.Prelude.{[], ◌∷◌, codes};
+ghost use Rattle.mysql_wire.specs.FlagMasks.{NOT_NULL_FLAG, UNSIGNED_FLAG};
 
 use crate::flags::{FlagNames, FlagWord, named_flags};
 use bitflags::Flag;
@@ -24,7 +25,7 @@ impl FlagWord<ColumnFlagNames, u16> {
 }
 
 impl FlagNames<u16> for ColumnFlagNames {
-    ghost table = { (codes "NOT_NULL_FLAG", 1) ∷ (codes "UNSIGNED_FLAG", 32) ∷ [] };
+    ghost table = { (codes "NOT_NULL_FLAG", NOT_NULL_FLAG) ∷ (codes "UNSIGNED_FLAG", UNSIGNED_FLAG) ∷ [] };
 
     fn flags<'a>() -> &'a [Flag<ColumnFlags>] {
         ColumnFlags::FLAGS

@@ -1,6 +1,7 @@
 //! Which cursor a statement opens.
 
-ghost use Rattle.std.specs.Prelude.{◌≡◌, [], ◌∷◌, codes};
+ghost use Rattle.std.specs.Prelude.{[], ◌∷◌, codes};
+ghost use Rattle.mysql_wire.specs.FlagMasks.{CURSOR_TYPE_NO_CURSOR};
 
 use crate::flags::{FlagNames, FlagWord, named_flags};
 use bitflags::Flag;
@@ -20,7 +21,7 @@ impl FlagWord<CursorNames, u8> {
 }
 
 impl FlagNames<u8> for CursorNames {
-    ghost table = { (codes "CURSOR_TYPE_NO_CURSOR", 0) ∷ [] };
+    ghost table = { (codes "CURSOR_TYPE_NO_CURSOR", CURSOR_TYPE_NO_CURSOR) ∷ [] };
 
     fn flags<'a>() -> &'a [Flag<CursorType>] {
         CursorType::FLAGS

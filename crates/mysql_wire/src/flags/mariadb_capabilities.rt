@@ -1,6 +1,7 @@
 //! What a MariaDB client and server can do.
 
-ghost use Rattle.std.specs.Prelude.{◌≡◌, [], ◌∷◌, codes};
+ghost use Rattle.std.specs.Prelude.{[], ◌∷◌, codes};
+ghost use Rattle.mysql_wire.specs.FlagMasks.{MARIADB_CLIENT_STMT_BULK_OPERATIONS, MARIADB_CLIENT_CACHE_METADATA};
 
 use crate::flags::{FlagNames, FlagWord, named_flags};
 use bitflags::Flag;
@@ -27,7 +28,7 @@ impl FlagWord<MariadbCapabilityNames, u32> {
 }
 
 impl FlagNames<u32> for MariadbCapabilityNames {
-    ghost table = { (codes "MARIADB_CLIENT_STMT_BULK_OPERATIONS", 4) ∷ (codes "MARIADB_CLIENT_CACHE_METADATA", 16) ∷ [] };
+    ghost table = { (codes "MARIADB_CLIENT_STMT_BULK_OPERATIONS", MARIADB_CLIENT_STMT_BULK_OPERATIONS) ∷ (codes "MARIADB_CLIENT_CACHE_METADATA", MARIADB_CLIENT_CACHE_METADATA) ∷ [] };
 
     fn flags<'a>() -> &'a [Flag<MariadbCapabilities>] {
         MariadbCapabilities::FLAGS

@@ -1,6 +1,7 @@
 //! The state of a session.
 
-ghost use Rattle.std.specs.Prelude.{◌≡◌, [], ◌∷◌, codes};
+ghost use Rattle.std.specs.Prelude.{[], ◌∷◌, codes};
+ghost use Rattle.mysql_wire.specs.FlagMasks.{SERVER_STATUS_AUTOCOMMIT, SERVER_SESSION_STATE_CHANGED};
 
 use crate::flags::{FlagNames, FlagWord, named_flags};
 use bitflags::Flag;
@@ -24,7 +25,7 @@ impl FlagWord<StatusNames, u16> {
 }
 
 impl FlagNames<u16> for StatusNames {
-    ghost table = { (codes "SERVER_STATUS_AUTOCOMMIT", 2) ∷ (codes "SERVER_SESSION_STATE_CHANGED", 16384) ∷ [] };
+    ghost table = { (codes "SERVER_STATUS_AUTOCOMMIT", SERVER_STATUS_AUTOCOMMIT) ∷ (codes "SERVER_SESSION_STATE_CHANGED", SERVER_SESSION_STATE_CHANGED) ∷ [] };
 
     fn flags<'a>() -> &'a [Flag<StatusFlags>] {
         StatusFlags::FLAGS

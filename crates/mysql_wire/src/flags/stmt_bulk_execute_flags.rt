@@ -1,6 +1,7 @@
 //! How rows are sent and answered in bulk.
 
-ghost use Rattle.std.specs.Prelude.{◌≡◌, [], ◌∷◌, codes};
+ghost use Rattle.std.specs.Prelude.{[], ◌∷◌, codes};
+ghost use Rattle.mysql_wire.specs.FlagMasks.{SEND_UNIT_RESULTS, SEND_TYPES_TO_SERVER};
 
 use crate::flags::{FlagNames, FlagWord, named_flags};
 use bitflags::Flag;
@@ -24,7 +25,7 @@ impl FlagWord<StmtBulkExecuteNames, u16> {
 }
 
 impl FlagNames<u16> for StmtBulkExecuteNames {
-    ghost table = { (codes "SEND_UNIT_RESULTS", 64) ∷ (codes "SEND_TYPES_TO_SERVER", 128) ∷ [] };
+    ghost table = { (codes "SEND_UNIT_RESULTS", SEND_UNIT_RESULTS) ∷ (codes "SEND_TYPES_TO_SERVER", SEND_TYPES_TO_SERVER) ∷ [] };
 
     fn flags<'a>() -> &'a [Flag<StmtBulkExecuteFlags>] {
         StmtBulkExecuteFlags::FLAGS

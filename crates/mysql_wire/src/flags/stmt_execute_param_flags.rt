@@ -1,6 +1,7 @@
 //! What holds of one parameter of a statement.
 
-ghost use Rattle.std.specs.Prelude.{◌≡◌, [], ◌∷◌, codes};
+ghost use Rattle.std.specs.Prelude.{[], ◌∷◌, codes};
+ghost use Rattle.mysql_wire.specs.FlagMasks.{UNSIGNED};
 
 use crate::flags::{FlagNames, FlagWord, named_flags};
 use bitflags::Flag;
@@ -21,7 +22,7 @@ impl FlagWord<StmtExecuteParamNames, u8> {
 }
 
 impl FlagNames<u8> for StmtExecuteParamNames {
-    ghost table = { (codes "UNSIGNED", 128) ∷ [] };
+    ghost table = { (codes "UNSIGNED", UNSIGNED) ∷ [] };
 
     fn flags<'a>() -> &'a [Flag<StmtExecuteParamFlags>] {
         StmtExecuteParamFlags::FLAGS

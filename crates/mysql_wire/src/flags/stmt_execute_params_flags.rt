@@ -1,6 +1,7 @@
 //! How the parameters of a statement are sent.
 
-ghost use Rattle.std.specs.Prelude.{◌≡◌, [], ◌∷◌, codes};
+ghost use Rattle.std.specs.Prelude.{[], ◌∷◌, codes};
+ghost use Rattle.mysql_wire.specs.FlagMasks.{NEW_PARAMS_BOUND};
 
 use crate::flags::{FlagNames, FlagWord, named_flags};
 use bitflags::Flag;
@@ -21,7 +22,7 @@ impl FlagWord<StmtExecuteParamsNames, u8> {
 }
 
 impl FlagNames<u8> for StmtExecuteParamsNames {
-    ghost table = { (codes "NEW_PARAMS_BOUND", 1) ∷ [] };
+    ghost table = { (codes "NEW_PARAMS_BOUND", NEW_PARAMS_BOUND) ∷ [] };
 
     fn flags<'a>() -> &'a [Flag<StmtExecuteParamsFlags>] {
         StmtExecuteParamsFlags::FLAGS

@@ -1,0 +1,86 @@
+-- The masks of the flags, each under the name that its constant has in src/flags.
+use Rattle.std.specs.Prelude.{ℕ}
+
+-- ---- BinlogDumpFlags
+
+abbrev pub BINLOG_DUMP_NON_BLOCK : ℕ
+BINLOG_DUMP_NON_BLOCK = 1
+
+abbrev pub BINLOG_THROUGH_POSITION : ℕ
+BINLOG_THROUGH_POSITION = 2
+
+abbrev pub BINLOG_THROUGH_GTID : ℕ
+BINLOG_THROUGH_GTID = 4
+
+-- ---- CapabilityFlags
+
+abbrev pub CLIENT_CONNECT_WITH_DB : ℕ
+CLIENT_CONNECT_WITH_DB = 0x0000_0008
+
+abbrev pub CLIENT_PROTOCOL_41 : ℕ
+CLIENT_PROTOCOL_41 = 0x0000_0200
+
+abbrev pub CLIENT_SECURE_CONNECTION : ℕ
+CLIENT_SECURE_CONNECTION = 0x0000_8000
+
+abbrev pub CLIENT_PLUGIN_AUTH : ℕ
+CLIENT_PLUGIN_AUTH = 0x0008_0000
+
+abbrev pub CLIENT_CONNECT_ATTRS : ℕ
+CLIENT_CONNECT_ATTRS = 0x0010_0000
+
+abbrev pub CLIENT_PLUGIN_AUTH_LENENC_CLIENT_DATA : ℕ
+CLIENT_PLUGIN_AUTH_LENENC_CLIENT_DATA = 0x0020_0000
+
+abbrev pub CLIENT_SESSION_TRACK : ℕ
+CLIENT_SESSION_TRACK = 0x0080_0000
+
+abbrev pub CLIENT_PROGRESS_OBSOLETE : ℕ
+CLIENT_PROGRESS_OBSOLETE = 0x2000_0000
+
+-- ---- ColumnFlags
+
+abbrev pub NOT_NULL_FLAG : ℕ
+NOT_NULL_FLAG = 1
+
+abbrev pub UNSIGNED_FLAG : ℕ
+UNSIGNED_FLAG = 32
+
+-- ---- CursorType
+
+abbrev pub CURSOR_TYPE_NO_CURSOR : ℕ
+CURSOR_TYPE_NO_CURSOR = 0
+
+-- ---- MariadbCapabilities
+
+abbrev pub MARIADB_CLIENT_STMT_BULK_OPERATIONS : ℕ
+MARIADB_CLIENT_STMT_BULK_OPERATIONS = 0x04
+
+abbrev pub MARIADB_CLIENT_CACHE_METADATA : ℕ
+MARIADB_CLIENT_CACHE_METADATA = 0x10
+
+-- ---- StatusFlags
+
+abbrev pub SERVER_STATUS_AUTOCOMMIT : ℕ
+SERVER_STATUS_AUTOCOMMIT = 0x0002
+
+abbrev pub SERVER_SESSION_STATE_CHANGED : ℕ
+SERVER_SESSION_STATE_CHANGED = 0x4000
+
+-- ---- StmtBulkExecuteFlags
+
+abbrev pub SEND_UNIT_RESULTS : ℕ
+SEND_UNIT_RESULTS = 64
+
+abbrev pub SEND_TYPES_TO_SERVER : ℕ
+SEND_TYPES_TO_SERVER = 128
+
+-- ---- StmtExecuteParamFlags
+
+abbrev pub UNSIGNED : ℕ
+UNSIGNED = 128
+
+-- ---- StmtExecuteParamsFlags
+
+abbrev pub NEW_PARAMS_BOUND : ℕ
+NEW_PARAMS_BOUND = 1

@@ -1,0 +1,29 @@
+//! Which fault a reading answers where more than one thing is at fault.
+
+ghost use Rattle.std.specs.Prelude.{◌≡◌, ◌<◌, ◌∷◌, ◌++◌, length, ℕ, List, Err};
+ghost use Rattle.mysql_wire.specs.Form.{block};
+ghost use Rattle.mysql_wire.specs.Grammar.{then_reads};
+ghost use Rattle.mysql_wire.specs.declared.fault.FaultKind.{FaultKind};
+ghost use Rattle.mysql_wire.specs.declared.fault.FaultKind.TheVariants.{InvalidData, UnexpectedEof};
+
+use crate::proto::MyDeserialize;
+
+/// Of one value and then another, whose reading may be told by the first: where the first has a fault, that is the
+/// answer; and else the second one's, on the bytes behind the first.
+pub fn first_fault_comes_first<'de, A: MyDeserialize<'de>, B: MyDeserialize<'de>>()
+    ensures first { (ctx : A.Ctx) (next : A → B.Ctx) (bytes : List ℕ) (fault : FaultKind) → (A.form ctx).reads bytes ≡ Err fault
+        → then_reads (A.form ctx) (λ a. B.form (next a)) bytes ≡ Err fault }
+    ensures second { (ctx : A.Ctx) (next : A → B.Ctx) (a : A) (bytes rest : List ℕ) (fault : FaultKind) → (A.form ctx).Spells a bytes rest → (B.form (next a)).reads rest ≡ Err fault
+        → then_reads (A.form ctx) (λ a. B.form (next a)) bytes ≡ Err fault }
+{}
+
+/// A block that is short is `UnexpectedEof` before any field of it is looked at, and bytes of it that its fields leave
+/// are `InvalidData`.
+#[tactic(auto, using(crate::proofs::Blocks::block_faults))]
+pub fn block_faults<'de, T: MyDeserialize<'de>>()
+    ensures short { (ctx : T.Ctx) (n : ℕ) (bytes : List ℕ) → length bytes < n → (block n (T.form ctx)).reads bytes ≡ Err UnexpectedEof }
+    ensures inside { (ctx : T.Ctx) (n : ℕ) (inside rest : List ℕ) (fault : FaultKind) → length inside ≡ n → (T.form ctx).reads inside ≡ Err fault
+        → (block n (T.form ctx)).reads (inside ++ rest) ≡ Err fault }
+    ensures left { (ctx : T.Ctx) (v : T) (b : ℕ) (inside more rest : List ℕ) → (T.form ctx).Spells v inside (b ∷ more)
+        → (block (length inside) (T.form ctx)).reads (inside ++ rest) ≡ Err InvalidData }
+{}
