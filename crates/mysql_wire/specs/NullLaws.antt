@@ -1,7 +1,7 @@
 -- What byte strings that end in a zero spell and what reading one gives agree.
 use Rattle.std.specs.Prelude.{◌≡◌, ℕ, zero, suc, List, [], ◌∷◌, ◌++◌, Ok, refl}
 use Rattle.std.proofs.Common.{ap, sym, ◌∙◌, append_assoc}
-use Rattle.mysql_wire.specs.Reading.{Reading, IsTail, then_read-ok, done-along}
+use Rattle.mysql_wire.specs.Reading.{IsTail, then_read-ok, done-along}
 use Rattle.mysql_wire.specs.NullGrammar.{null_Spells, null_reads}
 
 pub null-found : (content bytes rest : List ℕ) → null_reads bytes ≡ Ok (content, rest) → null_Spells content bytes rest

@@ -6,7 +6,7 @@ use Rattle.std.proofs.lemmas.Nat.{pow_pos, div-add-mod', div-mul-add, mod-mul-ad
 use Rattle.std.proofs.Math.Arith.{mod-mul}
 use Rattle.std.proofs.Math.Nat.{pow-suc}
 use Rattle.mysql_wire.specs.declared.fault.FaultKind.TheVariants as kind
-use Rattle.mysql_wire.specs.Reading.{Reading, IsTail, then_read, then_read-ok, done-value, done-rest, done-both}
+use Rattle.mysql_wire.specs.Reading.{Reading, IsTail, then_read-ok, done-value, done-rest, done-both}
 use Rattle.mysql_wire.specs.Form.{number, le_value, bytes}
 use Rattle.mysql_wire.specs.VarlenGrammar.{varlen_Spells, low_ones, above_ones, varlen_reads}
 
