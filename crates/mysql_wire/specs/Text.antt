@@ -1,5 +1,5 @@
 -- Bytes as text.
-use Rattle.std.specs.Prelude.{◌≡◌, ℕ, List, Result, true, is_ok, IfOk, IsUtf8, encode_utf8_all}
+use Rattle.std.specs.Prelude.{◌≡◌, ℕ, List, Option, Some, None, Result, true, is_ok, IfOk, IfSome, IsUtf8, encode_utf8_all}
 use Rattle.std.specs.Cow.{IsOwnedStr}
 use Rattle.std.specs.declared.borrow.CowStr.{CowStr}
 use Rattle.bstr.specs.Utf8.{lossy_chars}
@@ -11,3 +11,8 @@ lossy_text bytes = encode_utf8_all (lossy_chars bytes)
 -- Of UTF-8 the text is given, and borrowed: so it takes no memory.
 abbrev pub BorrowsUtf8 : {Z E : Type 0} → List ℕ → Result (CowStr Z) E → Type 0
 BorrowsUtf8 bytes result = IsUtf8 bytes → (is_ok result ≡ true) × IfOk result (λ text. IsOwnedStr text → ⊥)
+
+-- The same of bytes that may not be there: without them there is no text, which takes no memory either.
+abbrev pub OptionBorrowsUtf8 : {Z E : Type 0} → Option (List ℕ) → Result (Option (CowStr Z)) E → Type 0
+OptionBorrowsUtf8 None result = is_ok result ≡ true
+OptionBorrowsUtf8 (Some bytes) result = IsUtf8 bytes → (is_ok result ≡ true) × IfOk result (λ text. IfSome text (λ t. IsOwnedStr t → ⊥))

@@ -2,9 +2,10 @@
 
 use mysql_values::{BinValue, TextValue, ValueDeserializer};
 use mysql_wire::{
-    BareBytes, CapabilityFlags, ColumnType, Const, ConstFault, ConstU8, ConstU32, EofBytes, IntRepr,
-    LeU16, LeU24, LeU32, LeU64, LenEnc, MariadbBulkIndicator, MyDeserialize, NullBytes, ParseBuf,
-    RawBytes, RawInt, Seq, SessionStateType, Skip, StatusFlags, U8Bytes, U32Bytes, Unknown, VarLen,
+    BareBytes, CapabilityFlags, ColumnType, Const, ConstFault, ConstU8, ConstU32, EofBytes,
+    IntRepr, LeU16, LeU24, LeU32, LeU64, LenEnc, MariadbBulkIndicator, MyDeserialize, NullBytes,
+    ParseBuf, RawBytes, RawInt, Seq, SessionStateType, Skip, StatusFlags, U8Bytes, U32Bytes,
+    Unknown, VarLen,
 };
 
 struct Marker;
@@ -31,10 +32,19 @@ fn a_constant_or_coded_form_has_its_width(rt: HostRuntime) {
     assert_eq!(rt; <ConstU8<Marker, 0xff> as MyDeserialize>::SIZE, Some(1));
     assert_eq!(rt; <ConstU32<Marker, 1> as MyDeserialize>::SIZE, Some(4));
     assert_eq!(rt; <Const<StatusFlags, LeU16> as MyDeserialize>::SIZE, Some(2));
-    assert_eq!(rt; <Const<CapabilityFlags, LeU32> as MyDeserialize>::SIZE, Some(4));
+    assert_eq!(rt;
+        <Const<CapabilityFlags, LeU32> as MyDeserialize>::SIZE,
+        Some(4)
+    );
     assert_eq!(rt; <Const<ColumnType, u8> as MyDeserialize>::SIZE, Some(1));
-    assert_eq!(rt; <Const<SessionStateType, u8> as MyDeserialize>::SIZE, Some(1));
-    assert_eq!(rt; <Const<MariadbBulkIndicator, u8> as MyDeserialize>::SIZE, Some(1));
+    assert_eq!(rt;
+        <Const<SessionStateType, u8> as MyDeserialize>::SIZE,
+        Some(1)
+    );
+    assert_eq!(rt;
+        <Const<MariadbBulkIndicator, u8> as MyDeserialize>::SIZE,
+        Some(1)
+    );
 }
 
 #[test]
