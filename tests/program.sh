@@ -123,9 +123,9 @@ fails_to_write 'bulk requests on a full device' "$top/mypackets" bulk 1 31
 judge 'an input that cannot be read' "$( (($? == 3)) && [[ ! -s output && ! -s errors ]] || printf 'it did not end with status 3 alone')"
 
 # unproved WHAT STATUS OUTPUT WORD ..: on what comes from the file input with a pause, the program without proof
-# writes OUTPUT within a minute (half of that on a machine that is not busy), and says that nothing was proved
+# writes OUTPUT within two minutes (half a one on a machine that is not busy), and says that nothing was proved
 unproved() {
-    (cat input && sleep 3) | timeout 60 "$top/mypackets" --unproved "${@:4}" >output 2>errors
+    (cat input && sleep 3) | timeout 120 "$top/mypackets" --unproved "${@:4}" >output 2>errors
     compare "${@:1:3}" $'mypackets: runs without proof, which takes about half a minute
 mypackets: nothing of this run was proved\n' "$?"
 }
