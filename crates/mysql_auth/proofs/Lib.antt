@@ -1,1 +1,4 @@
 mod Rounds
+mod HandshakeFits
+mod Scanner
+mod Once

@@ -8,3 +8,7 @@ pub mod PublicKeyResponse
 pub mod OldAuthSwitchRequest
 pub mod AuthSwitchRequest
 pub mod SslRequest
+pub mod LastName
+pub mod Handshake
+pub mod Version
+pub mod Scan

@@ -11,6 +11,9 @@ ghost use Rattle.mysql_auth.specs.declared.old_auth_switch_request.OldAuthSwitch
 ghost use Rattle.mysql_auth.specs.declared.public_key_request.PublicKeyRequest.{PublicKeyRequest};
 ghost use Rattle.mysql_auth.specs.declared.public_key_response.PublicKeyResponse.{PublicKeyResponse};
 ghost use Rattle.mysql_auth.specs.declared.ssl_request.SslRequest.{SslRequest};
+ghost use Rattle.mysql_auth.specs.declared.handshake.HandshakePacket.{HandshakePacket};
+ghost use Rattle.mysql_auth.specs.Version.{HasVersion, HasMariadbVersion};
+ghost use Rattle.mysql_auth.specs.Handshake.{handshake, HandshakeFits};
 ghost use Rattle.mysql_auth.specs.AuthMoreData.{auth_more_data};
 ghost use Rattle.mysql_auth.specs.AuthPlugin.{auth_plugin};
 ghost use Rattle.mysql_auth.specs.AuthSwitchRequest.{auth_switch_request};
@@ -59,4 +62,22 @@ pub fn auth_switch_request_again()
 pub fn ssl_request_again()
     ensures spelled { (p : SslRequest) (rest : List ℕ) → ssl_request.fits tt p rest → (ssl_request.form tt).Spells p (ssl_request.bytes p ++ rest) rest }
     ensures read { (p : SslRequest) (rest : List ℕ) → ssl_request.fits tt p rest → (ssl_request.form tt).reads (ssl_request.bytes p ++ rest) ≡ Ok (p, rest) }
+{}
+
+/// What is written of a handshake is read again.
+pub fn handshake_again()
+    ensures spelled { (p : HandshakePacket) (rest : List ℕ) → handshake.fits tt p rest → (handshake.form tt).Spells p (handshake.bytes p ++ rest) rest }
+    ensures read { (p : HandshakePacket) (rest : List ℕ) → handshake.fits tt p rest → (handshake.form tt).reads (handshake.bytes p ++ rest) ≡ Ok (p, rest) }
+{}
+
+/// What makes a handshake be read again, in plain words.
+#[tactic(auto, using(crate::proofs::HandshakeFits::handshakes))]
+pub fn handshake_fits()
+    ensures fits { (p : HandshakePacket) (rest : List ℕ) → HandshakeFits p rest → handshake.fits tt p rest }
+{}
+
+/// A text begins with at most one version.
+pub fn one_version()
+    ensures one { (text : List ℕ) (v w : ℕ × ℕ × ℕ) → HasVersion text v → HasVersion text w → v ≡ w }
+    ensures one_mariadb { (text : List ℕ) (v w : ℕ × ℕ × ℕ) → HasMariadbVersion text v → HasMariadbVersion text w → v ≡ w }
 {}

@@ -6,6 +6,9 @@ mod auth_more_data;
 mod auth_plugin;
 mod auth_plugin_data;
 mod auth_switch_request;
+mod handshake;
+mod handshake_head;
+mod last_name;
 pub mod laws;
 mod old_auth_switch_request;
 mod parsec;
@@ -13,6 +16,7 @@ mod public_key_request;
 mod public_key_response;
 mod ssl_request;
 mod trailing_zero;
+mod version;
 
 pub use auth_more_data::{AuthMoreData, AuthMoreDataHeader, InvalidAuthMoreDataHeader};
 pub use auth_plugin::AuthPlugin;
@@ -20,6 +24,8 @@ pub use auth_plugin_data::AuthPluginData;
 pub use auth_switch_request::{
     AuthSwitchRequest, AuthSwitchRequestHeader, InvalidAuthSwitchRequestHeader,
 };
+pub use handshake::HandshakePacket;
+pub use last_name::LastName;
 pub use old_auth_switch_request::OldAuthSwitchRequest;
 pub use parsec::parse_parsec_salt;
 pub use public_key_request::{InvalidPublicKeyRequest, PublicKeyRequest, PublicKeyRequestHeader};

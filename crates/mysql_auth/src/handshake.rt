@@ -1,0 +1,380 @@
+//! What a server says first.
+#![tactic(auto, using(mysql_wire::proofs::Packets::packets), unfolding(crate::specs::Handshake::handshake, crate::specs::Handshake::handshake_head, crate::specs::Handshake::handshake_block, crate::specs::Handshake::data_length))]
+
+ghost use Rattle.std.specs.Prelude.{false, true, [], is_ok, IsUtf8, ◌≡◌, ◌++◌, ℕ, List, Option, Some, None, IfOk, IfSome, IfNone, option_map};
+ghost use Rattle.std.specs.Option.{unwrap_or};
+ghost use Rattle.std.specs.Cow.{cow_slice_items, cow_str_bytes, IsOwnedStr};
+ghost use Rattle.mysql_wire.specs.Text.{lossy_text};
+ghost use Rattle.mysql_auth.specs.Handshake as spec;
+ghost use Rattle.mysql_auth.specs.Version.{HasVersion, IsMariadbVersion};
+
+use crate::auth_plugin::AuthPlugin;
+use crate::handshake_head::HandshakeHead;
+use crate::last_name::LastName;
+use crate::trailing_zero::without_last_zero;
+use crate::version::{mariadb_server_version, server_version};
+use bitflags::Flags;
+use mysql_wire::{
+    AnyWidth, BareBytes, CapabilityFlags, Const, FaultOf, MariadbCapabilities, MyDeserialize,
+    ParseBuf, Parts, RawBytes, RawInt, Sink, Skip, StatusFlags, parts,
+};
+use std::alloc::{AllocError, Global};
+use std::borrow::{CowSlice, CowStr};
+use std::cmp::{max, min};
+
+/// How many bytes a plugin is given as its scramble.
+const NONCE_LEN: usize = 20;
+
+/// What a server says first (`Protocol::HandshakeV10`).
+///
+/// The protocol's version and the server's, which ends in a zero; 31 bytes; under
+/// `CLIENT_SECURE_CONNECTION` the second scramble; under `CLIENT_PLUGIN_AUTH` the name of a plugin,
+/// to the end. In the 31 bytes:
+///
+/// | Bytes | Field |
+/// |---|---|
+/// | 4 | `connection_id` |
+/// | 8 | `scramble_1` |
+/// | 1 | skipped |
+/// | 2 | the low half of `capabilities` |
+/// | 1 | `default_collation` |
+/// | 2 | `status_flags` |
+/// | 2 | the high half of `capabilities` |
+/// | 1 | the length of both scrambles: 8 less, but at least 13, is that of the second |
+/// | 6 | skipped |
+/// | 4 | `mariadb_ext_capabilities` |
+#[derive(Clone, Debug, PartialEq, Eq, Hash, Drop)]
+pub struct HandshakePacket<'a> {
+    head: HandshakeHead<'a>,
+    scramble_2: Option<RawBytes<'a, BareBytes<247>>>,
+    auth_plugin_name: Option<RawBytes<'a, LastName>>,
+}
+
+/// The 20 bytes of both scrambles.
+fn nonce_of(alloc: Global, scramble_1: &[u8], scramble_2: &[u8]) -> Result<Vec<u8>, AllocError>
+    ensures value { IfOk result (λ nonce. nonce.items ≡ spec.resized 20 (scramble_1.now ++ scramble_2.now)) }
+{
+    let joined_len = scramble_1.len().saturating_add(scramble_2.len());
+    let mut nonce = Vec::with_capacity(alloc, max(NONCE_LEN, joined_len))?;
+    nonce.extend_from_slice(scramble_1)?;
+    nonce.extend_from_slice(scramble_2)?;
+    nonce.resize(NONCE_LEN, 0)?;
+    Ok(nonce)
+}
+
+/// How many bytes the second scramble has, for the length of both that was read.
+fn scramble_length(data_length: u8) -> usize
+    ensures value { result ≡ spec.scramble_length data_length }
+{
+    max(13, usize::from(data_length).saturating_sub(8))
+}
+
+impl<'a> HandshakePacket<'a> {
+    /// A handshake of these, without capabilities of MariaDB's own.
+    pub fn new(
+        protocol_version: u8,
+        server_version: CowSlice<'a, u8>,
+        connection_id: u32,
+        scramble_1: [u8; 8],
+        scramble_2: Option<CowSlice<'a, u8>>,
+        capabilities: CapabilityFlags,
+        default_collation: u8,
+        status_flags: StatusFlags,
+        auth_plugin_name: Option<CowSlice<'a, u8>>,
+    ) -> Self
+        ensures protocol_version { spec.protocol_version result ≡ protocol_version }
+        ensures server_version { spec.server_version result ≡ cow_slice_items server_version.entry }
+        ensures connection_id { spec.connection_id result ≡ connection_id }
+        ensures scramble_1 { spec.scramble_1 result ≡ scramble_1 }
+        ensures scramble_2 { spec.scramble_2 result ≡ option_map cow_slice_items scramble_2.entry }
+        ensures capabilities { spec.capabilities result ≡ capabilities.0 }
+        ensures default_collation { spec.default_collation result ≡ default_collation }
+        ensures status_flags { spec.status_flags result ≡ status_flags }
+        ensures auth_plugin_name { spec.auth_plugin_name result ≡ option_map cow_slice_items auth_plugin_name.entry }
+        ensures mariadb_ext_capabilities { (spec.mariadb_ext_capabilities result).0 ≡ 0 }
+    {
+        let bits = capabilities.bits();
+        HandshakePacket {
+            head: HandshakeHead {
+                protocol_version: RawInt::new(protocol_version),
+                server_version: RawBytes::new(server_version),
+                connection_id: RawInt::new(connection_id),
+                scramble_1,
+                filler: Skip,
+                capabilities_low: RawInt::new((bits % 0x1_0000) as u16),
+                default_collation: RawInt::new(default_collation),
+                status_flags: Const::new(status_flags),
+                capabilities_high: RawInt::new((bits / 0x1_0000) as u16),
+                reserved: Skip,
+                mariadb_capabilities: Const::new(MariadbCapabilities::from_bits_retain(0)),
+            },
+            scramble_2: match scramble_2 {
+                Some(scramble) => Some(RawBytes::new(scramble)),
+                None => None,
+            },
+            auth_plugin_name: match auth_plugin_name {
+                Some(name) => Some(RawBytes::new(name)),
+                None => None,
+            },
+        }
+    }
+
+    /// The same handshake with these capabilities of MariaDB's own.
+    pub fn with_mariadb_ext_capabilities(self, flags: MariadbCapabilities) -> Self
+        ensures value { result ≡ spec.with_mariadb flags self.entry }
+    {
+        let HandshakePacket {
+            head,
+            scramble_2,
+            auth_plugin_name,
+        } = self;
+        let mut head = head;
+        head.mariadb_capabilities = Const::new(flags);
+        HandshakePacket {
+            head,
+            scramble_2,
+            auth_plugin_name,
+        }
+    }
+
+    /// The protocol's version.
+    pub fn protocol_version(&self) -> u8
+        ensures value { result ≡ spec.protocol_version self.now }
+    {
+        self.head.protocol_version.0
+    }
+
+    /// The bytes of the server's version.
+    pub fn server_version_ref(&self) -> &[u8]
+        ensures value { result.now ≡ spec.server_version self.now }
+    {
+        self.head.server_version.as_bytes()
+    }
+
+    /// The server's version as text, with U+FFFD for what is not UTF-8. UTF-8 is borrowed.
+    pub fn server_version_str(&self, alloc: Global) -> Result<CowStr<'_>, AllocError>
+        ensures text { IfOk result (λ text. cow_str_bytes text ≡ lossy_text (spec.server_version self.now)) }
+        ensures utf8 { IsUtf8 (spec.server_version self.now) → (is_ok result ≡ true) × IfOk result (λ text. IsOwnedStr text → ⊥) }
+    {
+        self.head.server_version.as_str(alloc)
+    }
+
+    /// The server's version: the first three numbers with dots between them that the text begins with.
+    ///
+    /// The first two have one or two digits; the third has the first one to three digits that stand there.
+    pub fn server_version_parsed(&self) -> Option<(u16, u16, u16)>
+        ensures some { IfSome result (HasVersion (spec.server_version self.now)) }
+        ensures none { IfNone result ((v : ℕ × ℕ × ℕ) → HasVersion (spec.server_version self.now) v → ⊥) }
+    {
+        server_version(self.server_version_ref())
+    }
+
+    /// The version of MariaDB: three such numbers with `-MariaDB` right behind them, behind a `5.5.5-` at the front of
+    /// the text or else at the front itself.
+    pub fn maria_db_server_version_parsed(&self) -> Option<(u16, u16, u16)>
+        ensures some { IfSome result (IsMariadbVersion (spec.server_version self.now)) }
+        ensures none { IfNone result ((v : ℕ × ℕ × ℕ) → IsMariadbVersion (spec.server_version self.now) v → ⊥) }
+    {
+        mariadb_server_version(self.server_version_ref())
+    }
+
+    /// The connection's number.
+    pub fn connection_id(&self) -> u32
+        ensures value { result ≡ spec.connection_id self.now }
+    {
+        self.head.connection_id.0
+    }
+
+    /// The first scramble.
+    pub fn scramble_1_ref(&self) -> &[u8]
+        ensures value { result.now ≡ spec.scramble_1 self.now }
+    {
+        &self.head.scramble_1
+    }
+
+    /// The server's collation.
+    pub fn default_collation(&self) -> u8
+        ensures value { result ≡ spec.default_collation self.now }
+    {
+        self.head.default_collation.0
+    }
+
+    /// The session's state.
+    pub fn status_flags(&self) -> StatusFlags
+        ensures value { result ≡ spec.status_flags self.now }
+    {
+        self.head.status_flags.0
+    }
+
+    /// What a MariaDB server can do besides.
+    pub fn mariadb_ext_capabilities(&self) -> MariadbCapabilities
+        ensures value { result ≡ spec.mariadb_ext_capabilities self.now }
+    {
+        self.head.mariadb_capabilities.0
+    }
+
+    /// The same handshake, on memory of its own.
+    pub fn into_owned(self, alloc: Global) -> Result<HandshakePacket<'static>, AllocError>
+        ensures value { IfOk result (λ owned. owned ≡ self.entry) }
+    {
+        let HandshakePacket {
+            head,
+            scramble_2,
+            auth_plugin_name,
+        } = self;
+        let scramble_2 = match scramble_2 {
+            Some(scramble) => Some(scramble.into_owned(alloc)?),
+            None => None,
+        };
+        let auth_plugin_name = match auth_plugin_name {
+            Some(name) => Some(name.into_owned(alloc)?),
+            None => None,
+        };
+        Ok(HandshakePacket {
+            head: head.into_owned(alloc)?,
+            scramble_2,
+            auth_plugin_name,
+        })
+    }
+
+    /// What the server can do.
+    pub fn capabilities(&self) -> CapabilityFlags
+        ensures value { result.0 ≡ spec.capabilities self.now }
+    {
+        self.head.capabilities()
+    }
+
+    /// The second scramble, where one was sent.
+    pub fn scramble_2_ref(&self) -> Option<&[u8]>
+        ensures value { option_map (λ s. s.now) result ≡ spec.scramble_2 self.now }
+    {
+        match &self.scramble_2 {
+            Some(scramble) => Some(scramble.as_bytes()),
+            None => None,
+        }
+    }
+
+    /// The plugin's name, where one was sent.
+    pub fn auth_plugin_name_ref(&self) -> Option<&[u8]>
+        ensures value { option_map (λ s. s.now) result ≡ spec.auth_plugin_name self.now }
+    {
+        match &self.auth_plugin_name {
+            Some(name) => Some(name.as_bytes()),
+            None => None,
+        }
+    }
+
+    /// The plugin's name as text, where one was sent, with U+FFFD for what is not UTF-8. UTF-8 is borrowed.
+    pub fn auth_plugin_name_str(&self, alloc: Global) -> Result<Option<CowStr<'_>>, AllocError>
+        ensures text { IfOk result (λ text. option_map cow_str_bytes text ≡ option_map lossy_text (spec.auth_plugin_name self.now)) }
+        ensures none { spec.auth_plugin_name self.now ≡ None → is_ok result ≡ true }
+        ensures utf8 { (name : List ℕ) → spec.auth_plugin_name self.now ≡ Some name → IsUtf8 name → (is_ok result ≡ true) × IfOk result (λ text. IfSome text (λ text. IsOwnedStr text → ⊥)) }
+    {
+        match &self.auth_plugin_name {
+            Some(name) => Ok(Some(name.as_str(alloc)?)),
+            None => Ok(None),
+        }
+    }
+
+    /// The plugin, where one was named. One zero at the end of the name is taken off.
+    pub fn auth_plugin(&self) -> Option<AuthPlugin<'_>>
+        ensures value { result ≡ spec.auth_plugin self.now }
+    {
+        match &self.auth_plugin_name {
+            Some(name) => Some(AuthPlugin::from_bytes(without_last_zero(name.as_bytes()))),
+            None => None,
+        }
+    }
+
+    /// The scramble that a plugin is given: both scrambles, cut to 20 bytes or filled with zeros.
+    pub fn nonce(&self, alloc: Global) -> Result<Vec<u8>, AllocError>
+        ensures value { IfOk result (λ nonce. nonce.items ≡ spec.nonce self.now) }
+    {
+        nonce_of(alloc, self.scramble_1_ref(), self.scramble_2_or_empty())
+    }
+
+    fn scramble_2_or_empty(&self) -> &[u8]
+        ensures value { result.now ≡ unwrap_or (spec.scramble_2 self.now) [] }
+    {
+        match &self.scramble_2 {
+            Some(scramble) => scramble.as_bytes(),
+            None => &[],
+        }
+    }
+
+    /// The length of both scrambles that is written.
+    fn data_length(&self) -> u8
+        ensures value { result ≡ spec.data_length self.now }
+    {
+        if !self
+            .capabilities()
+            .contains(CapabilityFlags::CLIENT_PLUGIN_AUTH)
+        {
+            return 0;
+        }
+        match &self.scramble_2 {
+            Some(scramble) => 8 + min(scramble.as_bytes().len(), 247) as u8,
+            None => 0,
+        }
+    }
+}
+
+impl<'de> MyDeserialize<'de> for HandshakePacket<'de> {
+    const SIZE: Option<usize> = None;
+
+    type Size = AnyWidth;
+
+    ghost takes_memory = { false };
+
+    type Ctx = ();
+
+    ghost form = { spec.handshake.form };
+
+    fn deserialize<'s>(_ctx: (), buf: &mut ParseBuf<'de>) -> Result<Self, FaultOf<'s>> {
+        let mut rest = buf.rest();
+        let (head, data_length) = HandshakeHead::read(&mut rest)?;
+        let capabilities = head.capabilities();
+        let scramble_2 = if capabilities.contains(CapabilityFlags::CLIENT_SECURE_CONNECTION) {
+            Some(rest.parse(scramble_length(data_length))?)
+        } else {
+            None
+        };
+        let auth_plugin_name = if capabilities.contains(CapabilityFlags::CLIENT_PLUGIN_AUTH) {
+            Some(rest.parse(())?)
+        } else {
+            None
+        };
+        *buf = rest;
+        Ok(HandshakePacket {
+            head,
+            scramble_2,
+            auth_plugin_name,
+        })
+    }
+
+    ghost size_is = { λ _. spec.size-handshake };
+}
+
+impl Parts for HandshakePacket<'_> {
+    ghost bytes = { spec.handshake.bytes };
+
+    #[inline(always)]
+    fn put<S: Sink>(&self, sink: &mut S) {
+        let head = &self.head;
+        let data_length: RawInt<u8> = RawInt::new(self.data_length());
+        let fixed = parts!(
+            head.connection_id,
+            head.scramble_1,
+            head.filler,
+            head.capabilities_low,
+            head.default_collation,
+            head.status_flags,
+            head.capabilities_high,
+            data_length,
+            head.reserved,
+            head.mariadb_capabilities
+        );
+        let head = parts!(head.protocol_version, head.server_version, fixed);
+        sink.part(&parts!(head, self.scramble_2, self.auth_plugin_name));
+    }
+}

@@ -1,0 +1,104 @@
+//! What every handshake has.
+#![tactic(auto, using(mysql_wire::proofs::Packets::packets), unfolding(crate::specs::Handshake::handshake_head, crate::specs::Handshake::handshake_block))]
+
+ghost use Rattle.std.specs.Prelude.{false, ◌+◌, ◌≡◌, length, OnOk, IfOk};
+ghost use Rattle.mysql_wire.specs.Reading.{Answers};
+ghost use Rattle.mysql_auth.specs.Handshake as spec;
+
+use bitflags::Flags;
+use mysql_wire::{
+    CapabilityFlags, Const, FaultOf, LeU16, LeU32, MariadbCapabilities, NullBytes, ParseBuf,
+    RawBytes, RawInt, Skip, StatusFlags,
+};
+use std::alloc::{AllocError, Global};
+
+/// What every handshake has: the versions, and 31 bytes.
+///
+/// The length of both scrambles, which stands among these, isn't kept: the second scramble tells it.
+#[derive(Clone, Debug, PartialEq, Eq, Hash, Drop)]
+pub(crate) struct HandshakeHead<'a> {
+    pub(crate) protocol_version: RawInt<u8>,
+    pub(crate) server_version: RawBytes<'a, NullBytes>,
+    pub(crate) connection_id: RawInt<LeU32>,
+    pub(crate) scramble_1: [u8; 8],
+    pub(crate) filler: Skip<1>,
+    pub(crate) capabilities_low: RawInt<LeU16>,
+    pub(crate) default_collation: RawInt<u8>,
+    pub(crate) status_flags: Const<StatusFlags, LeU16>,
+    pub(crate) capabilities_high: RawInt<LeU16>,
+    pub(crate) reserved: Skip<6>,
+    pub(crate) mariadb_capabilities: Const<MariadbCapabilities, LeU32>,
+}
+
+impl<'a> HandshakeHead<'a> {
+    /// What the server can do, from both halves.
+    pub(crate) fn capabilities(&self) -> CapabilityFlags
+        ensures value { result.0 ≡ spec.capabilities_of self.now }
+    {
+        let low = u32::from(self.capabilities_low.0);
+        let high = u32::from(self.capabilities_high.0);
+        CapabilityFlags::from_bits_retain(low + high * 0x1_0000)
+    }
+
+    /// The same, on memory of its own.
+    pub(crate) fn into_owned(self, alloc: Global) -> Result<HandshakeHead<'static>, AllocError>
+        ensures value { IfOk result (λ owned. owned ≡ self.entry) }
+    {
+        Ok(HandshakeHead {
+            protocol_version: self.protocol_version,
+            server_version: self.server_version.into_owned(alloc)?,
+            connection_id: self.connection_id,
+            scramble_1: self.scramble_1,
+            filler: Skip,
+            capabilities_low: self.capabilities_low,
+            default_collation: self.default_collation,
+            status_flags: self.status_flags,
+            capabilities_high: self.capabilities_high,
+            reserved: Skip,
+            mariadb_capabilities: self.mariadb_capabilities,
+        })
+    }
+
+    /// The head with these versions, and the length of both scrambles.
+    fn read_block<'s>(
+        protocol_version: RawInt<u8>,
+        server_version: RawBytes<'a, NullBytes>,
+        fixed: &mut ParseBuf<'a>,
+    ) -> Result<(HandshakeHead<'a>, u8), FaultOf<'s>>
+        ensures value { Answers false result fixed.new (((spec.handshake_block protocol_version server_version.entry).form tt).reads fixed.old) }
+        ensures exact { OnOk result (length fixed.old ≡ 31 + length fixed.new) }
+    {
+        let connection_id = fixed.parse(())?;
+        let scramble_1 = fixed.parse(())?;
+        let filler = fixed.parse(())?;
+        let capabilities_low = fixed.parse(())?;
+        let default_collation = fixed.parse(())?;
+        let status_flags = fixed.parse(())?;
+        let capabilities_high = fixed.parse(())?;
+        let data_length: RawInt<u8> = fixed.parse(())?;
+        let head = HandshakeHead {
+            protocol_version,
+            server_version,
+            connection_id,
+            scramble_1,
+            filler,
+            capabilities_low,
+            default_collation,
+            status_flags,
+            capabilities_high,
+            reserved: fixed.parse(())?,
+            mariadb_capabilities: fixed.parse(())?,
+        };
+        Ok((head, data_length.0))
+    }
+
+    /// The head, and the length of both scrambles.
+    pub(crate) fn read<'s>(buf: &mut ParseBuf<'a>) -> Result<(HandshakeHead<'a>, u8), FaultOf<'s>>
+        ensures value { Answers false result buf.new ((spec.handshake_head.form tt).reads buf.old) }
+    {
+        let protocol_version = buf.parse(())?;
+        let server_version = buf.parse(())?;
+        let mut fixed: ParseBuf<'a> = buf.parse(31)?;
+        HandshakeHead::read_block(protocol_version, server_version, &mut fixed)
+    }
+}
