@@ -4,7 +4,7 @@ use Rattle.std.specs.List.{concat}
 use Rattle.hex.specs.Hex.{encode_lower}
 use Rattle.mysql_wire.specs.ColumnType.{column_type_code}
 use Rattle.mysql_replies.specs.declared.column.Column.{Column}
-use Rattle.mysql_replies.specs.Column.{column, column_bytes, schema, table, org_table, name, org_name, character_set, column_length, column_type, flags, decimals}
+use Rattle.mysql_replies.specs.Column.{column, schema, table, org_table, name, org_name, character_set, column_length, column_type, flags, decimals}
 use Rattle.mysql_packets.specs.Lines.{line, prefixed}
 use Rattle.mysql_packets.specs.Answer.{Answer, of_reading}
 
@@ -22,9 +22,9 @@ column_lines c rest =
     ∷ line (codes "flags") (decimal (flags c).0)
     ∷ line (codes "decimals") (decimal (decimals c))
     ∷ line (codes "rest") (decimal rest)
-    ∷ line (codes "bytes") (encode_lower (column_bytes c))
+    ∷ line (codes "bytes") (encode_lower (column.bytes c))
     ∷ []
     )
 
 abbrev pub column_answer : List ℕ → Answer
-column_answer bytes = of_reading column_lines (column.reads bytes)
+column_answer bytes = of_reading column_lines ((column.form tt).reads bytes)

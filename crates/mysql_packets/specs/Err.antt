@@ -7,7 +7,7 @@ use Rattle.mysql_replies.specs.declared.err_packet.ErrPacket.{ErrPacket}
 use Rattle.mysql_replies.specs.declared.err_packet.ErrPacket.TheVariants as err
 use Rattle.mysql_replies.specs.declared.server_error.ServerError.{ServerError}
 use Rattle.mysql_replies.specs.declared.progress_report.ProgressReport.{ProgressReport}
-use Rattle.mysql_replies.specs.ErrPacket.{err_packet, err_packet_bytes, err_text}
+use Rattle.mysql_replies.specs.ErrPacket.{err_packet, err_text}
 use Rattle.mysql_replies.specs.ServerError.{error_code, sql_state_of, message}
 use Rattle.mysql_replies.specs.SqlState.{state_bytes}
 use Rattle.mysql_replies.specs.ProgressReport.{progress, stage, max_stage, stage_info}
@@ -47,9 +47,9 @@ err_lines p rest =
     part_lines p ++ concat (
     line (codes "text") (err_text p)
     ∷ line (codes "rest") (decimal rest)
-    ∷ line (codes "bytes") (encode_lower (err_packet_bytes p))
+    ∷ line (codes "bytes") (encode_lower (err_packet.bytes p))
     ∷ []
     )
 
 abbrev pub err_answer : CapabilityFlags → List ℕ → Answer
-err_answer capabilities bytes = of_reading err_lines ((err_packet capabilities).reads bytes)
+err_answer capabilities bytes = of_reading err_lines ((err_packet.form capabilities).reads bytes)

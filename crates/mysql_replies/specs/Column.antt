@@ -1,13 +1,12 @@
 -- A column of a result.
-use Rattle.std.specs.Prelude.{ℕ, List, [], ◌∷◌, codes}
+use Rattle.std.specs.Prelude.{◌≡◌, ℕ, List, [], ◌∷◌, None, codes, refl}
 use Rattle.mysql_wire.specs.declared.codes.column_type.ColumnType.{ColumnType}
-use Rattle.mysql_wire.specs.ConstBytes.{const_bytes}
+use Rattle.mysql_wire.specs.Codec.{Codec, Fields}
+use Rattle.mysql_wire.specs.Codecs.{◌>>=◌, give, field, packet, const_bytes}
 use Rattle.mysql_wire.specs.Flags.{ColumnFlags}
-use Rattle.mysql_wire.specs.Form.{Form, ◌>>=◌, give}
-use Rattle.mysql_wire.specs.Writing.{joined}
 use Rattle.mysql_replies.specs.declared.column.Column.{Column}
-use Rattle.mysql_replies.specs.ColumnMeta.{column_meta, column_meta_bytes, meta_of, ColumnMetaFits}
-use Rattle.mysql_replies.specs.ColumnFields.{column_fields, column_fields_bytes, fields_of, ColumnFieldsFit}
+use Rattle.mysql_replies.specs.ColumnMeta.{column_meta, meta_of}
+use Rattle.mysql_replies.specs.ColumnFields.{column_fields, fields_of}
 
 -- `def`, length-encoded
 abbrev pub catalog_bytes : List ℕ
@@ -86,21 +85,16 @@ abbrev pub with_decimals : Column → ℕ → Column
 with_decimals c x = column_of (schema c) (table c) (org_table c) (name c) (org_name c) (character_set c) (column_length c) (column_type c) (flags c) x
 
 -- the catalog, five names, thirteen bytes of fields
-abbrev pub column : Form Column
-column = do
-  catalog ← const_bytes 4 catalog_bytes
-  meta ← column_meta
-  fields ← column_fields
+abbrev pub column_parts : Fields (Unit {0}) Column Column
+column_parts = do
+  catalog ← field (λ c. c.catalog) (const_bytes 4 catalog_bytes)
+  meta ← field (λ c. c.meta) column_meta
+  fields ← field (λ c. c.fields) column_fields
   give (record { catalog = catalog; meta = meta; fields = fields })
 
--- the same, each in its shortest spelling
-abbrev pub column_parts : Column → List (List ℕ)
-column_parts c = catalog_bytes ∷ column_meta_bytes c.meta ∷ column_fields_bytes c.fields ∷ []
+unfoldable pub column : Codec (Unit {0}) Column
+column = packet column_parts (λ c. refl)
 
-abbrev pub column_bytes : Column → List ℕ
-column_bytes c = joined (column_parts c)
-
--- lengths and numbers that have their widths
-pub record ColumnFits (c : Column) : Type 0 where
-  pub meta : ColumnMetaFits c.meta
-  pub fields : ColumnFieldsFit c.fields
+pub size-column : (column.form tt).size ≡ None
+unfolding column
+size-column = refl

@@ -1,13 +1,12 @@
 -- The fields of a column that have fixed lengths.
-use Rattle.std.specs.Prelude.{◌≡◌, ℕ, ◌<◌, ◌^◌, List, [], ◌∷◌, Some}
+use Rattle.std.specs.Prelude.{◌≡◌, ℕ, Some, refl}
 use Rattle.mysql_wire.specs.declared.codes.column_type.ColumnType.{ColumnType}
-use Rattle.mysql_wire.specs.ColumnType.{column_type, column_type_code}
-use Rattle.mysql_wire.specs.Constant.{const_byte}
-use Rattle.mysql_wire.specs.Flags.{ColumnFlags, flag_word}
-use Rattle.mysql_wire.specs.Form.{Form, ◌>>=◌, give, block, size-block}
-use Rattle.mysql_wire.specs.Int.{byte, le_u16, le_u32, raw_int}
-use Rattle.mysql_wire.specs.Skip.{skip}
-use Rattle.mysql_wire.specs.Writing.{le_bytes, joined}
+use Rattle.mysql_wire.specs.Codec.{Codec, Fields}
+use Rattle.mysql_wire.specs.Codecs.{◌>>=◌, give, field, block, packet, const_u8, u8, u16, u32, coded, flags, skip}
+use Rattle.mysql_wire.specs.ColumnType.{column_type_code, column_type_of, column_type-again}
+use Rattle.mysql_wire.specs.Flags.{ColumnFlags}
+use Rattle.mysql_wire.specs.Form.{size-block}
+use Rattle.mysql_wire.specs.Int.{raw_int}
 use Rattle.mysql_replies.specs.declared.column_fields.ColumnFields.{ColumnFields}
 
 -- the fields of these
@@ -27,51 +26,29 @@ abbrev pub fields_of_type : ColumnType → ColumnFields
 fields_of_type column_type = fields_of 0 0 column_type (record { 0 = 0; 1 = record {} }) 0
 
 -- 0c, the character set, the length, the type, the flags, the decimals, and two bytes with any values
-abbrev pub column_field_list : Form ColumnFields
+abbrev pub column_field_list : Fields (Unit {0}) ColumnFields ColumnFields
 column_field_list = do
-  len ← const_byte 0x0c
-  character_set ← le_u16
-  column_length ← le_u32
-  kind ← column_type
-  flags ← flag_word 2
-  decimals ← byte
-  filler ← skip 2
+  fixed_length_fields_len ← field (λ f. f.fixed_length_fields_len) (const_u8 0x0c)
+  character_set ← field (λ f. f.character_set) u16
+  column_length ← field (λ f. f.column_length) u32
+  column_type ← field (λ f. f.column_type) (coded column_type_code column_type_of column_type-again)
+  flags ← field (λ f. f.flags) (flags 2)
+  decimals ← field (λ f. f.decimals) u8
+  filler ← field (λ f. f.filler) (skip 2)
   give (record {
-    fixed_length_fields_len = len;
+    fixed_length_fields_len = fixed_length_fields_len;
     character_set = character_set;
     column_length = column_length;
-    column_type = kind;
+    column_type = column_type;
     flags = flags;
     decimals = decimals;
     filler = filler;
   })
 
 -- thirteen bytes
-unfoldable pub column_fields : Form ColumnFields
-column_fields = block 13 column_field_list
+unfoldable pub column_fields : Codec (Unit {0}) ColumnFields
+column_fields = packet (block 13 column_field_list (λ f. refl)) (λ f. refl)
 
-pub size-column_fields : column_fields.size ≡ Some 13
+pub size-column_fields : (column_fields.form tt).size ≡ Some 13
 unfolding column_fields
-size-column_fields = size-block 13 column_field_list
-
--- the fields in the same order, the skipped bytes as zeros
-abbrev pub column_fields_parts : ColumnFields → List (List ℕ)
-column_fields_parts f =
-    (0x0c ∷ [])
-    ∷ le_bytes 2 f.character_set.0
-    ∷ le_bytes 4 f.column_length.0
-    ∷ le_bytes 1 (column_type_code f.column_type.0)
-    ∷ le_bytes 2 f.flags.0.0
-    ∷ le_bytes 1 f.decimals.0
-    ∷ (0 ∷ 0 ∷ [])
-    ∷ []
-
-unfoldable pub column_fields_bytes : ColumnFields → List ℕ
-column_fields_bytes f = joined (column_fields_parts f)
-
--- numbers that have their widths
-pub record ColumnFieldsFit (f : ColumnFields) : Type 0 where
-  pub character_set : f.character_set.0 < 2 ^ 16
-  pub column_length : f.column_length.0 < 2 ^ 32
-  pub flags : f.flags.0.0 < 2 ^ 16
-  pub decimals : f.decimals.0 < 2 ^ 8
+size-column_fields = size-block 13 (column_field_list.form tt)

@@ -1,8 +1,7 @@
 -- The names of a column.
-use Rattle.std.specs.Prelude.{◌≡◌, ℕ, ◌<◌, ◌^◌, List, [], ◌∷◌, length, None, refl}
-use Rattle.mysql_wire.specs.Form.{Form, ◌>>=◌, give}
-use Rattle.mysql_wire.specs.LenEnc.{lenenc_string, lenenc_string_bytes}
-use Rattle.mysql_wire.specs.Writing.{joined}
+use Rattle.std.specs.Prelude.{◌≡◌, ℕ, List, [], None, refl}
+use Rattle.mysql_wire.specs.Codec.{Codec, Fields}
+use Rattle.mysql_wire.specs.Codecs.{◌>>=◌, give, field, packet, string_lenenc}
 use Rattle.mysql_replies.specs.declared.column_meta.ColumnMeta.{ColumnMeta}
 
 abbrev pub meta_of : List ℕ → List ℕ → List ℕ → List ℕ → List ℕ → ColumnMeta
@@ -12,36 +11,18 @@ abbrev pub no_names : ColumnMeta
 no_names = meta_of [] [] [] [] []
 
 -- five strings, length-encoded
-unfoldable pub column_meta : Form ColumnMeta
-column_meta = do
-  schema ← lenenc_string
-  table ← lenenc_string
-  org_table ← lenenc_string
-  name ← lenenc_string
-  org_name ← lenenc_string
+abbrev pub column_meta_fields : Fields (Unit {0}) ColumnMeta ColumnMeta
+column_meta_fields = do
+  schema ← field (λ m. m.schema) string_lenenc
+  table ← field (λ m. m.table) string_lenenc
+  org_table ← field (λ m. m.org_table) string_lenenc
+  name ← field (λ m. m.name) string_lenenc
+  org_name ← field (λ m. m.org_name) string_lenenc
   give (meta_of schema table org_table name org_name)
 
-pub size-column_meta : column_meta.size ≡ None
+unfoldable pub column_meta : Codec (Unit {0}) ColumnMeta
+column_meta = packet column_meta_fields (λ m. refl)
+
+pub size-column_meta : (column_meta.form tt).size ≡ None
 unfolding column_meta
 size-column_meta = refl
-
--- the shortest spelling of each
-abbrev pub column_meta_parts : ColumnMeta → List (List ℕ)
-column_meta_parts m =
-    lenenc_string_bytes m.schema
-    ∷ lenenc_string_bytes m.table
-    ∷ lenenc_string_bytes m.org_table
-    ∷ lenenc_string_bytes m.name
-    ∷ lenenc_string_bytes m.org_name
-    ∷ []
-
-unfoldable pub column_meta_bytes : ColumnMeta → List ℕ
-column_meta_bytes m = joined (column_meta_parts m)
-
--- lengths that a number of eight bytes can tell
-pub record ColumnMetaFits (m : ColumnMeta) : Type 0 where
-  pub schema : length m.schema < 2 ^ 64
-  pub table : length m.table < 2 ^ 64
-  pub org_table : length m.org_table < 2 ^ 64
-  pub name : length m.name < 2 ^ 64
-  pub org_name : length m.org_name < 2 ^ 64

@@ -1,15 +1,17 @@
 -- Errors and progress reports, in their packet.
-use Rattle.std.specs.Prelude.{◌≡◌, ℕ, ◌<◌, ◌^◌, List, [], ◌∷◌, None, Bool, true, false, ◌&&◌, ◌==◌, refl}
+use Rattle.std.specs.Prelude.{◌≡◌, ℕ, ◌<◌, ◌^◌, List, [], length, None, Bool, true, false, ◌&&◌, ◌==◌, refl}
+use Rattle.std.proofs.Common.{◌⊎◌, inl, inr}
 use Rattle.mysql_wire.specs.Flags.{CapabilityFlags, has}
-use Rattle.mysql_wire.specs.Form.{Form, ◌>>=◌, give, block, either, map}
-use Rattle.mysql_wire.specs.Constant.{const_byte}
-use Rattle.mysql_wire.specs.Int.{le_u16}
-use Rattle.mysql_wire.specs.Writing.{le_bytes, joined}
+use Rattle.mysql_wire.specs.Int.{raw_int}
+use Rattle.mysql_wire.specs.Codec.{Codec, Fields}
+use Rattle.mysql_wire.specs.Codecs.{◌>>=◌, give, field, block, packet, with_context, without_context, either, const_u8, u16}
 use Rattle.mysql_replies.specs.declared.err_packet.InvalidErrPacketHeader.{InvalidErrPacketHeader}
 use Rattle.mysql_replies.specs.declared.err_packet.ErrPacket.{ErrPacket}
 use Rattle.mysql_replies.specs.declared.err_packet.ErrPacket.TheVariants as err
-use Rattle.mysql_replies.specs.ProgressReport.{progress_report, progress_report_bytes, progress_text, ProgressReportFits}
-use Rattle.mysql_replies.specs.ServerError.{error_code, server_error, server_error_bytes, error_text, ServerErrorFits}
+use Rattle.mysql_replies.specs.declared.progress_report.ProgressReport.{ProgressReport}
+use Rattle.mysql_replies.specs.declared.server_error.ServerError.{ServerError}
+use Rattle.mysql_replies.specs.ProgressReport.{progress_report, progress_text, stage, max_stage, progress, stage_info}
+use Rattle.mysql_replies.specs.ServerError.{error_code, sql_state_of, server_error, error_text, StateFits}
 
 abbrev pub is_error : ErrPacket → Bool
 is_error (err.Error e) = true
@@ -26,42 +28,65 @@ takes_progress capabilities = has capabilities.0 0x20000000
 abbrev pub sends_state : CapabilityFlags → Bool
 sends_state capabilities = has capabilities.0 0x200
 
--- ff, and a code
-abbrev pub err_head : Form ℕ
+-- the code of an error, and ffff for a report
+abbrev pub packet_code : ErrPacket → ℕ
+packet_code (err.Error e) = error_code e
+packet_code (err.Progress r) = 0xffff
+
+abbrev pub report_or_error : ErrPacket → ProgressReport ⊎ ServerError
+report_or_error (err.Error e) = inr e
+report_or_error (err.Progress r) = inl r
+
+-- ff, and the code
+abbrev pub err_head : Fields CapabilityFlags ErrPacket ℕ
 err_head = do
-  header ← const_byte {T = InvalidErrPacketHeader} 0xff
-  code ← le_u16
+  header ← field (λ p. record { 0 = record {} }) (const_u8 {T = InvalidErrPacketHeader} 0xff)
+  code ← field (λ p. raw_int (packet_code p)) u16
   give code.0
 
 -- Three bytes with the code. Behind the code ffff, where the client takes them, a progress report;
 -- else an error, with a state under protocol 4.1.
-unfoldable pub err_packet : CapabilityFlags → Form ErrPacket
-err_packet capabilities = do
-  code ← block 3 err_head
-  either (code == 0xffff && takes_progress capabilities)
-      (map err.Progress progress_report)
-      (map err.Error (server_error code (sends_state capabilities)))
+abbrev pub err_packet_fields : Fields CapabilityFlags ErrPacket ErrPacket
+err_packet_fields = do
+  code ← block 3 err_head (λ p. refl)
+  whole ← either (λ capabilities. code == 0xffff && takes_progress capabilities)
+      report_or_error
+      err.Progress (without_context progress_report)
+      err.Error (with_context (λ capabilities. (code, sends_state capabilities)) server_error)
+  give whole
 
-pub size-err_packet : (capabilities : CapabilityFlags) → (err_packet capabilities).size ≡ None
+pub same-err_packet : (p : ErrPacket) → err_packet_fields.value p ≡ p
+same-err_packet (err.Error e) = refl
+same-err_packet (err.Progress r) = refl
+
+unfoldable pub err_packet : Codec CapabilityFlags ErrPacket
+err_packet = packet err_packet_fields same-err_packet
+
+pub size-err_packet : (capabilities : CapabilityFlags) → (err_packet.form capabilities).size ≡ None
 unfolding err_packet
 size-err_packet capabilities = refl
-
--- ff, the code, and the error or the report
-abbrev pub err_packet_parts : ErrPacket → List (List ℕ)
-err_packet_parts (err.Error e) = (0xff ∷ []) ∷ le_bytes 2 (error_code e) ∷ server_error_bytes e ∷ []
-err_packet_parts (err.Progress r) = (0xff ∷ []) ∷ le_bytes 2 0xffff ∷ progress_report_bytes r ∷ []
-
-unfoldable pub err_packet_bytes : ErrPacket → List ℕ
-err_packet_bytes p = joined (err_packet_parts p)
 
 -- that of the part
 abbrev pub err_text : ErrPacket → List ℕ
 err_text (err.Error e) = error_text e
 err_text (err.Progress r) = progress_text r
 
--- An error has a state just under protocol 4.1, runs to the end, and is not what is read as a
--- report; a report is sent to a client that takes it.
+-- what makes an error be read again: a state just under protocol 4.1, of five bytes; it is not what is read as a report,
+-- and nothing follows
+pub record ErrorFits (capabilities : CapabilityFlags) (e : ServerError) (rest : List ℕ) : Type 0 where
+  pub code : error_code e < 2 ^ 16
+  pub state : StateFits (sends_state capabilities) (sql_state_of e)
+  pub no_report : (error_code e == 0xffff && takes_progress capabilities) ≡ false
+  pub at_end : rest ≡ []
+
+-- and a report: it is sent to a client that takes it
+pub record ReportFits (capabilities : CapabilityFlags) (r : ProgressReport) : Type 0 where
+  pub taken : takes_progress capabilities ≡ true
+  pub stage : stage r < 2 ^ 8
+  pub max_stage : max_stage r < 2 ^ 8
+  pub progress : progress r < 2 ^ 24
+  pub stage_info : length (stage_info r) < 2 ^ 64
+
 abbrev pub ErrPacketFits : CapabilityFlags → ErrPacket → List ℕ → Type 0
-ErrPacketFits capabilities (err.Error e) rest =
-    (error_code e < 2 ^ 16) × ServerErrorFits (sends_state capabilities) e × ((error_code e == 0xffff && takes_progress capabilities) ≡ false) × (rest ≡ [])
-ErrPacketFits capabilities (err.Progress r) rest = (takes_progress capabilities ≡ true) × ProgressReportFits r
+ErrPacketFits capabilities (err.Error e) rest = ErrorFits capabilities e rest
+ErrPacketFits capabilities (err.Progress r) rest = ReportFits capabilities r

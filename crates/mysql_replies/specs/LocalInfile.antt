@@ -1,8 +1,7 @@
 -- The request for a local file.
-use Rattle.std.specs.Prelude.{ℕ, List, [], ◌∷◌}
-use Rattle.mysql_wire.specs.Form.{Form, ◌>>=◌, give, all_left}
-use Rattle.mysql_wire.specs.Constant.{const_byte}
-use Rattle.mysql_wire.specs.Writing.{joined}
+use Rattle.std.specs.Prelude.{◌≡◌, ℕ, List, None, refl}
+use Rattle.mysql_wire.specs.Codec.{Codec, Fields}
+use Rattle.mysql_wire.specs.Codecs.{◌>>=◌, give, field, packet, const_u8, string_eof}
 use Rattle.mysql_replies.specs.declared.local_infile.LocalInfilePacket.{LocalInfilePacket}
 
 -- the bytes of the file's name
@@ -14,15 +13,15 @@ abbrev pub request_for : List ℕ → LocalInfilePacket
 request_for name = record { header = record { 0 = record {} }; file_name = name }
 
 -- fb, and the file's name to the end
-abbrev pub local_infile : Form LocalInfilePacket
-local_infile = do
-  header ← const_byte 0xfb
-  file_name ← all_left
+abbrev pub local_infile_fields : Fields (Unit {0}) LocalInfilePacket LocalInfilePacket
+local_infile_fields = do
+  header ← field (λ p. p.header) (const_u8 0xfb)
+  file_name ← field file_name string_eof
   give (record { header = header; file_name = file_name })
 
--- the shortest spelling of each field
-abbrev pub local_infile_parts : LocalInfilePacket → List (List ℕ)
-local_infile_parts p = (0xfb ∷ []) ∷ file_name p ∷ []
+unfoldable pub local_infile : Codec (Unit {0}) LocalInfilePacket
+local_infile = packet local_infile_fields (λ p. refl)
 
-abbrev pub local_infile_bytes : LocalInfilePacket → List ℕ
-local_infile_bytes p = joined (local_infile_parts p)
+pub size-local_infile : (local_infile.form tt).size ≡ None
+unfolding local_infile
+size-local_infile = refl

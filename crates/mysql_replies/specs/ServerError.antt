@@ -1,10 +1,10 @@
 -- An error that a server reports.
-use Rattle.std.specs.Prelude.{◌≡◌, ℕ, List, [], ◌∷◌, ◌++◌, Option, Some, None, Bool, true, false, codes, refl}
+use Rattle.std.specs.Prelude.{◌≡◌, ℕ, List, ◌++◌, length, Option, Some, None, Bool, true, false, codes, refl}
 use Rattle.std.specs.Fmt.{decimal}
-use Rattle.mysql_wire.specs.Form.{Form, ◌>>=◌, give, when, all_left}
-use Rattle.mysql_wire.specs.Writing.{joined}
 use Rattle.mysql_wire.specs.Text.{lossy_text}
-use Rattle.mysql_replies.specs.SqlState.{sql_state, sql_state_bytes, state_bytes, SqlStateFits}
+use Rattle.mysql_wire.specs.Codec.{Codec, Fields}
+use Rattle.mysql_wire.specs.Codecs.{◌>>=◌, give, field, packet, from_context, when, without_context, string_eof}
+use Rattle.mysql_replies.specs.SqlState.{sql_state, state_bytes}
 use Rattle.mysql_replies.specs.declared.sql_state.SqlState.{SqlState}
 use Rattle.mysql_replies.specs.declared.server_error.ServerError.{ServerError}
 
@@ -22,25 +22,20 @@ message e = e.message
 abbrev pub error_of : ℕ → Option SqlState → List ℕ → ServerError
 error_of code state message = record { code = code; state = state; message = message }
 
--- the state where one is sent, and the message to the end
-unfoldable pub server_error : ℕ → Bool → Form ServerError
-server_error code has_state = do
-  state ← when has_state sql_state
-  message ← all_left
+-- the code that the reader is told, the state where one is sent, and the message to the end
+abbrev pub server_error_fields : Fields (ℕ × Bool) ServerError ServerError
+server_error_fields = do
+  code ← field error_code (from_context (λ c. c.0))
+  state ← field sql_state_of (when (λ c. c.1) (without_context sql_state))
+  message ← field message string_eof
   give (error_of code state message)
 
-pub size-server_error : (code : ℕ) (has_state : Bool) → (server_error code has_state).size ≡ None
+unfoldable pub server_error : Codec (ℕ × Bool) ServerError
+server_error = packet server_error_fields (λ e. refl)
+
+pub size-server_error : (c : ℕ × Bool) → (server_error.form c).size ≡ None
 unfolding server_error
-size-server_error code has_state = refl
-
--- a state where there is one
-abbrev pub state_parts : Option SqlState → List (List ℕ) → List (List ℕ)
-state_parts None parts = parts
-state_parts (Some state) parts = sql_state_bytes state ∷ parts
-
--- the state, and the message; the code is left out
-unfoldable pub server_error_bytes : ServerError → List ℕ
-server_error_bytes e = joined (state_parts e.state (message e ∷ []))
+size-server_error c = refl
 
 -- `ERROR 1096 (HY000): No tables used`, or without a state `ERROR 1096: No tables used`
 abbrev pub error_text_of : ℕ → Option SqlState → List ℕ → List ℕ
@@ -51,12 +46,7 @@ error_text_of code (Some state) message =
 abbrev pub error_text : ServerError → List ℕ
 error_text e = error_text_of e.code e.state e.message
 
--- the state is there just where the reader is told so
+-- the state is there just where the reader is told so, and has five bytes
 abbrev pub StateFits : Bool → Option SqlState → Type 0
-StateFits true (Some state) = SqlStateFits state
-StateFits true None = ⊥
-StateFits false (Some state) = ⊥
-StateFits false None = Unit {0}
-
-pub record ServerErrorFits (has_state : Bool) (e : ServerError) : Type 0 where
-  pub state : StateFits has_state (sql_state_of e)
+StateFits has_state None = has_state ≡ false
+StateFits has_state (Some state) = (has_state ≡ true) × (length (state_bytes state) ≡ 5)

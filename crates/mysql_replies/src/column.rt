@@ -1,4 +1,5 @@
 //! A column of a result.
+#![tactic(auto, using(mysql_wire::proofs::Packets::packets), unfolding(crate::specs::Column::column))]
 
 ghost use Rattle.std.specs.Prelude.{◌≡◌, true, length, is_ok, IsUtf8, None, refl, IfOk, ◌∷◌};
 ghost use Rattle.std.specs.Cow.{cow_str_bytes, IsOwnedStr};
@@ -9,7 +10,7 @@ use crate::column_fields::ColumnFields;
 use crate::column_meta::ColumnMeta;
 use mysql_wire::{
     AnyWidth, ColumnFlags, ColumnType, Const, ConstBytes, ConstBytesValue, ConstFault, FaultOf,
-    LenEnc, MyDeserialize, MySerialize, ParseBuf, RawBytes, RawInt, append_all, len_of,
+    LenEnc, MyDeserialize, ParseBuf, Parts, RawBytes, RawInt, Sink, parts,
 };
 use std::alloc::{AllocError, Global};
 use std::borrow::{CowSlice, CowStr};
@@ -352,9 +353,8 @@ impl<'de> MyDeserialize<'de> for Column {
 
     type Ctx = ();
 
-    ghost form = { λ _. spec.column };
+    ghost form = { spec.column.form };
 
-    #[tactic(auto, using(mysql_wire::proofs::Tails::tails))]
     fn deserialize<'s>(_ctx: (), buf: &mut ParseBuf<'de>) -> Result<Self, FaultOf<'s>> {
         Ok(Column {
             catalog: buf.parse(())?,
@@ -363,18 +363,14 @@ impl<'de> MyDeserialize<'de> for Column {
         })
     }
 
-    ghost size_is = { λ _. refl };
+    ghost size_is = { λ _. spec.size-column };
 }
 
-impl MySerialize for Column {
-    ghost bytes = { spec.column_bytes };
+impl Parts for Column {
+    ghost bytes = { spec.column.bytes };
 
-    #[tactic(auto, using(mysql_wire::specs::Writing::lengths))]
-    fn defined_len(&self) -> usize {
-        len_of!(self.catalog, self.meta, self.fields)
-    }
-
-    fn append(&self, out: &mut Vec<u8>) {
-        append_all!(out; self.catalog, self.meta, self.fields);
+    #[inline(always)]
+    fn put<S: Sink>(&self, sink: &mut S) {
+        sink.part(&parts!(self.catalog, self.meta, self.fields));
     }
 }

@@ -1,11 +1,12 @@
 //! The fields of a column that have fixed lengths.
+#![tactic(auto, using(mysql_wire::proofs::Blocks::blocks), unfolding(crate::specs::ColumnFields::column_fields))]
 
 ghost use Rattle.std.specs.Prelude.{◌≡◌, false, Some};
 ghost use Rattle.mysql_replies.specs.ColumnFields as spec;
 
 use mysql_wire::{
     ColumnFlags, ColumnType, Const, ConstFault, ConstU8, FaultOf, Fixed, LeU16, LeU32,
-    MyDeserialize, MySerialize, ParseBuf, RawInt, Skip, append_all, len_of,
+    MyDeserialize, ParseBuf, Parts, RawInt, Sink, Skip, parts,
 };
 use thiserror::Error;
 
@@ -60,9 +61,8 @@ impl<'de> MyDeserialize<'de> for ColumnFields {
 
     type Ctx = ();
 
-    ghost form = { λ _. spec.column_fields };
+    ghost form = { spec.column_fields.form };
 
-    #[tactic(auto, using(mysql_wire::proofs::Blocks::blocks), unfolding(crate::specs::ColumnFields::column_fields))]
     fn deserialize<'s>(_ctx: (), buf: &mut ParseBuf<'de>) -> Result<Self, FaultOf<'s>> {
         let mut fields: ParseBuf<'de> = buf.parse(13)?;
         Ok(ColumnFields {
@@ -79,12 +79,12 @@ impl<'de> MyDeserialize<'de> for ColumnFields {
     ghost size_is = { λ _. spec.size-column_fields };
 }
 
-impl MySerialize for ColumnFields {
-    ghost bytes = { spec.column_fields_bytes };
+impl Parts for ColumnFields {
+    ghost bytes = { spec.column_fields.bytes };
 
-    #[tactic(auto, using(mysql_wire::specs::Writing::lengths), unfolding(mysql_wire::specs::Writing::le_bytes, crate::specs::ColumnFields::column_fields_bytes))]
-    fn defined_len(&self) -> usize {
-        len_of!(
+    #[inline(always)]
+    fn put<S: Sink>(&self, sink: &mut S) {
+        sink.part(&parts!(
             self.fixed_length_fields_len,
             self.character_set,
             self.column_length,
@@ -92,15 +92,6 @@ impl MySerialize for ColumnFields {
             self.flags,
             self.decimals,
             self.filler
-        )
-    }
-
-    #[tactic(auto, unfolding(crate::specs::ColumnFields::column_fields_bytes))]
-    fn append(&self, out: &mut Vec<u8>) {
-        append_all!(
-            out;
-            self.fixed_length_fields_len, self.character_set, self.column_length,
-            self.column_type, self.flags, self.decimals, self.filler
-        );
+        ));
     }
 }

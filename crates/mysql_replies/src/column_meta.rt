@@ -1,4 +1,5 @@
 //! The names of a column.
+#![tactic(auto, using(mysql_wire::proofs::Packets::packets), unfolding(crate::specs::ColumnMeta::column_meta))]
 
 ghost use Rattle.std.specs.Prelude.{◌≡◌, true, None, IfOk};
 ghost use Rattle.mysql_wire.specs.LenEnc.{lenenc_string};
@@ -6,7 +7,7 @@ ghost use Rattle.mysql_wire.specs.Reading.{Answers};
 ghost use Rattle.mysql_replies.specs.ColumnMeta as spec;
 
 use mysql_wire::{
-    AnyWidth, FaultOf, LenEnc, MyDeserialize, MySerialize, ParseBuf, RawBytes, append_all, len_of,
+    AnyWidth, FaultOf, LenEnc, MyDeserialize, ParseBuf, Parts, RawBytes, Sink, parts,
 };
 
 /// The names of a column, each a length-encoded string, on memory of their own.
@@ -51,9 +52,8 @@ impl<'de> MyDeserialize<'de> for ColumnMeta {
 
     type Ctx = ();
 
-    ghost form = { λ _. spec.column_meta };
+    ghost form = { spec.column_meta.form };
 
-    #[tactic(auto, using(mysql_wire::proofs::Tails::tails), unfolding(crate::specs::ColumnMeta::column_meta))]
     fn deserialize<'s>(_ctx: (), buf: &mut ParseBuf<'de>) -> Result<Self, FaultOf<'s>> {
         let mut rest = buf.rest();
         let meta = ColumnMeta {
@@ -70,22 +70,17 @@ impl<'de> MyDeserialize<'de> for ColumnMeta {
     ghost size_is = { λ _. spec.size-column_meta };
 }
 
-impl MySerialize for ColumnMeta {
-    ghost bytes = { spec.column_meta_bytes };
+impl Parts for ColumnMeta {
+    ghost bytes = { spec.column_meta.bytes };
 
-    #[tactic(auto, using(mysql_wire::specs::Writing::lengths), unfolding(crate::specs::ColumnMeta::column_meta_bytes))]
-    fn defined_len(&self) -> usize {
-        len_of!(
+    #[inline(always)]
+    fn put<S: Sink>(&self, sink: &mut S) {
+        sink.part(&parts!(
             self.schema,
             self.table,
             self.org_table,
             self.name,
             self.org_name
-        )
-    }
-
-    #[tactic(auto, unfolding(crate::specs::ColumnMeta::column_meta_bytes))]
-    fn append(&self, out: &mut Vec<u8>) {
-        append_all!(out; self.schema, self.table, self.org_table, self.name, self.org_name);
+        ));
     }
 }

@@ -1,4 +1,5 @@
 //! Errors and progress reports, in their packet.
+#![tactic(auto, using(mysql_wire::proofs::Packets::packets), unfolding(crate::specs::ErrPacket::err_packet))]
 
 ghost use Rattle.std.specs.Prelude.{false, true, ◌≡◌, None, Some, refl};
 ghost use Rattle.mysql_replies.specs.ErrPacket as spec;
@@ -8,8 +9,8 @@ use crate::progress_report::ProgressReport;
 use crate::server_error::ServerError;
 use bitflags::Flags;
 use mysql_wire::{
-    AnyWidth, CapabilityFlags, ConstFault, ConstU8, FaultOf, LeU16, MyDeserialize, MySerialize,
-    ParseBuf, RawInt, append_all, len_of,
+    AnyWidth, CapabilityFlags, ConstFault, ConstU8, FaultOf, LeU16, MyDeserialize, ParseBuf, Parts,
+    RawInt, Sink, parts,
 };
 use std::fmt;
 use thiserror::Error;
@@ -92,9 +93,8 @@ impl<'de> MyDeserialize<'de> for ErrPacket<'de> {
     /// What both sides can do.
     type Ctx = CapabilityFlags;
 
-    ghost form = { λ capabilities. spec.err_packet capabilities };
+    ghost form = { spec.err_packet.form };
 
-    #[tactic(auto, using(mysql_wire::proofs::Blocks::blocks), unfolding(crate::specs::ErrPacket::err_packet))]
     fn deserialize<'s>(
         capabilities: CapabilityFlags,
         buf: &mut ParseBuf<'de>,
@@ -114,38 +114,25 @@ impl<'de> MyDeserialize<'de> for ErrPacket<'de> {
         Ok(packet)
     }
 
-    ghost size_is = { λ capabilities. spec.size-err_packet capabilities };
+    ghost size_is = { spec.size-err_packet };
 }
 
-impl MySerialize for ErrPacket<'_> {
-    ghost bytes = { spec.err_packet_bytes };
+impl Parts for ErrPacket<'_> {
+    ghost bytes = { spec.err_packet.bytes };
 
-    #[tactic(auto, using(mysql_wire::specs::Writing::lengths), unfolding(mysql_wire::specs::Writing::le_bytes, crate::specs::ErrPacket::err_packet_bytes))]
-    fn defined_len(&self) -> usize {
+    #[inline(always)]
+    fn put<S: Sink>(&self, sink: &mut S) {
         let header = ErrPacketHeader::new();
         match self {
             ErrPacket::Error(error) => {
                 let code: RawInt<LeU16> = RawInt::new(error.error_code());
-                len_of!(header, code, *error)
+                let head = parts!(header, code);
+                sink.part(&parts!(head, *error));
             }
             ErrPacket::Progress(report) => {
                 let code: RawInt<LeU16> = RawInt::new(PROGRESS_CODE);
-                len_of!(header, code, *report)
-            }
-        }
-    }
-
-    #[tactic(auto, unfolding(crate::specs::ErrPacket::err_packet_bytes))]
-    fn append(&self, out: &mut Vec<u8>) {
-        let header = ErrPacketHeader::new();
-        match self {
-            ErrPacket::Error(error) => {
-                let code: RawInt<LeU16> = RawInt::new(error.error_code());
-                append_all!(out; header, code, *error);
-            }
-            ErrPacket::Progress(report) => {
-                let code: RawInt<LeU16> = RawInt::new(PROGRESS_CODE);
-                append_all!(out; header, code, *report);
+                let head = parts!(header, code);
+                sink.part(&parts!(head, *report));
             }
         }
     }

@@ -1,4 +1,5 @@
 //! The request for a file of the client's.
+#![tactic(auto, using(mysql_wire::proofs::Packets::packets), unfolding(crate::specs::LocalInfile::local_infile))]
 
 ghost use Rattle.std.specs.Prelude.{false, ◌≡◌, None, refl, IfOk, true, is_ok, IsUtf8};
 ghost use Rattle.std.specs.Cow.{cow_slice_items, cow_str_bytes, IsOwnedStr};
@@ -6,8 +7,8 @@ ghost use Rattle.mysql_wire.specs.Text.{lossy_text};
 ghost use Rattle.mysql_replies.specs.LocalInfile as infile;
 
 use mysql_wire::{
-    AnyWidth, ConstFault, ConstU8, EofBytes, FaultOf, MyDeserialize, MySerialize, ParseBuf,
-    RawBytes, append_all, len_of,
+    AnyWidth, ConstFault, ConstU8, EofBytes, FaultOf, MyDeserialize, ParseBuf, Parts, RawBytes,
+    Sink, parts,
 };
 use std::alloc::{AllocError, Global};
 use std::borrow::{CowSlice, CowStr};
@@ -83,9 +84,8 @@ impl<'de> MyDeserialize<'de> for LocalInfilePacket<'de> {
 
     type Ctx = ();
 
-    ghost form = { λ _. infile.local_infile };
+    ghost form = { infile.local_infile.form };
 
-    #[tactic(auto, using(mysql_wire::proofs::Tails::tails))]
     fn deserialize<'s>(_ctx: (), buf: &mut ParseBuf<'de>) -> Result<Self, FaultOf<'s>> {
         Ok(LocalInfilePacket {
             header: buf.parse(())?,
@@ -93,18 +93,14 @@ impl<'de> MyDeserialize<'de> for LocalInfilePacket<'de> {
         })
     }
 
-    ghost size_is = { λ _. refl };
+    ghost size_is = { λ _. infile.size-local_infile };
 }
 
-impl MySerialize for LocalInfilePacket<'_> {
-    ghost bytes = { infile.local_infile_bytes };
+impl Parts for LocalInfilePacket<'_> {
+    ghost bytes = { infile.local_infile.bytes };
 
-    #[tactic(auto, using(mysql_wire::specs::Writing::lengths), unfolding(mysql_wire::specs::Writing::le_bytes))]
-    fn defined_len(&self) -> usize {
-        len_of!(self.header, self.file_name)
-    }
-
-    fn append(&self, out: &mut Vec<u8>) {
-        append_all!(out; self.header, self.file_name);
+    #[inline(always)]
+    fn put<S: Sink>(&self, sink: &mut S) {
+        sink.part(&parts!(self.header, self.file_name));
     }
 }

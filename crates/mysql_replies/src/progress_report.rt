@@ -1,4 +1,5 @@
 //! How far a server is with a long statement.
+#![tactic(auto, using(mysql_wire::proofs::Packets::packets), unfolding(crate::specs::ProgressReport::progress_report))]
 
 ghost use Rattle.std.specs.Prelude.{false, ◌≡◌, None, Some, refl, IfOk, true, is_ok, IsUtf8};
 ghost use Rattle.std.specs.Cow.{cow_slice_items, cow_str_bytes, IsOwnedStr};
@@ -7,8 +8,7 @@ ghost use Rattle.mysql_replies.specs.ProgressReport as spec;
 
 use bstr::BStr;
 use mysql_wire::{
-    AnyWidth, FaultOf, LeU24, LenEnc, MyDeserialize, MySerialize, ParseBuf, RawBytes, RawInt,
-    append_all, len_of,
+    AnyWidth, FaultOf, LeU24, LenEnc, MyDeserialize, ParseBuf, Parts, RawBytes, RawInt, Sink, parts,
 };
 use std::alloc::{AllocError, Global};
 use std::borrow::{CowSlice, CowStr};
@@ -103,9 +103,8 @@ impl<'de> MyDeserialize<'de> for ProgressReport<'de> {
 
     type Ctx = ();
 
-    ghost form = { λ _. spec.progress_report };
+    ghost form = { spec.progress_report.form };
 
-    #[tactic(auto, using(mysql_wire::proofs::Blocks::blocks), unfolding(crate::specs::ProgressReport::progress_report))]
     fn deserialize<'s>(_ctx: (), buf: &mut ParseBuf<'de>) -> Result<Self, FaultOf<'s>> {
         let mut rest = buf.rest();
         let mut numbers: ParseBuf<'de> = rest.parse(6)?;
@@ -126,25 +125,14 @@ impl<'de> MyDeserialize<'de> for ProgressReport<'de> {
     ghost size_is = { λ _. spec.size-progress_report };
 }
 
-impl MySerialize for ProgressReport<'_> {
-    ghost bytes = { spec.progress_report_bytes };
+impl Parts for ProgressReport<'_> {
+    ghost bytes = { spec.progress_report.bytes };
 
-    #[tactic(auto, using(mysql_wire::specs::Writing::lengths), unfolding(mysql_wire::specs::Writing::le_bytes, crate::specs::ProgressReport::progress_report_bytes))]
-    fn defined_len(&self) -> usize {
+    #[inline(always)]
+    fn put<S: Sink>(&self, sink: &mut S) {
         let count: RawInt<u8> = RawInt::new(1);
-        len_of!(
-            count,
-            self.stage,
-            self.max_stage,
-            self.progress,
-            self.stage_info
-        )
-    }
-
-    #[tactic(auto, unfolding(crate::specs::ProgressReport::progress_report_bytes))]
-    fn append(&self, out: &mut Vec<u8>) {
-        let count: RawInt<u8> = RawInt::new(1);
-        append_all!(out; count, self.stage, self.max_stage, self.progress, self.stage_info);
+        let numbers = parts!(count, self.stage, self.max_stage, self.progress);
+        sink.part(&parts!(numbers, self.stage_info));
     }
 }
 

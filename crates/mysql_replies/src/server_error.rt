@@ -1,4 +1,5 @@
 //! An error that a server reports.
+#![tactic(auto, using(mysql_wire::proofs::Packets::packets), unfolding(crate::specs::ServerError::server_error))]
 
 ghost use Rattle.std.specs.Prelude.{false, ◌≡◌, None, Some, refl, IfOk, option_map, true, is_ok, IsUtf8};
 ghost use Rattle.std.specs.Cow.{cow_slice_items, cow_str_bytes, IsOwnedStr};
@@ -8,7 +9,7 @@ ghost use Rattle.mysql_replies.specs.ServerError as spec;
 use crate::sql_state::SqlState;
 use bstr::BStr;
 use mysql_wire::{
-    AnyWidth, EofBytes, FaultOf, MyDeserialize, MySerialize, ParseBuf, RawBytes, append_all, len_of,
+    AnyWidth, EofBytes, FaultOf, MyDeserialize, ParseBuf, Parts, RawBytes, Sink, parts,
 };
 use std::alloc::{AllocError, Global};
 use std::borrow::{CowSlice, CowStr};
@@ -92,9 +93,8 @@ impl<'de> MyDeserialize<'de> for ServerError<'de> {
     /// The code, and whether an SQL state stands in front of the message.
     type Ctx = (u16, bool);
 
-    ghost form = { λ ctx. spec.server_error ctx.0 ctx.1 };
+    ghost form = { spec.server_error.form };
 
-    #[tactic(auto, using(mysql_wire::proofs::Tails::tails), unfolding(crate::specs::ServerError::server_error))]
     fn deserialize<'s>(ctx: (u16, bool), buf: &mut ParseBuf<'de>) -> Result<Self, FaultOf<'s>> {
         let (code, has_state) = ctx;
         let state = if has_state {
@@ -109,26 +109,15 @@ impl<'de> MyDeserialize<'de> for ServerError<'de> {
         })
     }
 
-    ghost size_is = { λ ctx. spec.size-server_error ctx.0 ctx.1 };
+    ghost size_is = { spec.size-server_error };
 }
 
-impl MySerialize for ServerError<'_> {
-    ghost bytes = { spec.server_error_bytes };
+impl Parts for ServerError<'_> {
+    ghost bytes = { spec.server_error.bytes };
 
-    #[tactic(auto, using(mysql_wire::specs::Writing::lengths), unfolding(crate::specs::ServerError::server_error_bytes))]
-    fn defined_len(&self) -> usize {
-        match &self.state {
-            Some(state) => len_of!(*state, self.message),
-            None => self.message.defined_len(),
-        }
-    }
-
-    #[tactic(auto, unfolding(crate::specs::ServerError::server_error_bytes))]
-    fn append(&self, out: &mut Vec<u8>) {
-        match &self.state {
-            Some(state) => append_all!(out; *state, self.message),
-            None => self.message.append(out),
-        }
+    #[inline(always)]
+    fn put<S: Sink>(&self, sink: &mut S) {
+        sink.part(&parts!(self.state, self.message));
     }
 }
 

@@ -1,4 +1,5 @@
 //! An entry of the state string of an OK packet.
+#![tactic(auto, using(mysql_wire::proofs::Packets::packets), unfolding(crate::specs::SessionStateInfo::session_state_info))]
 
 ghost use Rattle.std.specs.Prelude.{true, false, ◌≡◌, [], List, ℕ, None, refl, IfOk};
 ghost use Rattle.mysql_wire.specs.Reading.{Answers};
@@ -7,8 +8,8 @@ ghost use Rattle.mysql_replies.specs.SessionStateInfo as spec;
 
 use mysql_session::SessionStateChange;
 use mysql_wire::{
-    AnyWidth, Const, Fault, FaultOf, LenEnc, MyDeserialize, MySerialize, ParseBuf, RawBytes,
-    SessionStateType, append_all, len_of,
+    AnyWidth, Const, Fault, FaultOf, LenEnc, MyDeserialize, ParseBuf, Parts, RawBytes,
+    SessionStateType, Sink, parts,
 };
 use std::alloc::{AllocError, Global};
 
@@ -70,9 +71,8 @@ impl<'de> MyDeserialize<'de> for SessionStateInfo<'de> {
 
     type Ctx = ();
 
-    ghost form = { λ _. spec.session_state_info };
+    ghost form = { spec.session_state_info.form };
 
-    #[tactic(auto, using(mysql_wire::proofs::Tails::tails), unfolding(crate::specs::SessionStateInfo::session_state_info))]
     fn deserialize<'s>(_ctx: (), buf: &mut ParseBuf<'de>) -> Result<Self, FaultOf<'s>> {
         Ok(SessionStateInfo {
             data_type: buf.parse(())?,
@@ -83,16 +83,11 @@ impl<'de> MyDeserialize<'de> for SessionStateInfo<'de> {
     ghost size_is = { λ _. spec.size-session_state_info };
 }
 
-impl MySerialize for SessionStateInfo<'_> {
-    ghost bytes = { spec.session_state_info_bytes };
+impl Parts for SessionStateInfo<'_> {
+    ghost bytes = { spec.session_state_info.bytes };
 
-    #[tactic(auto, using(mysql_wire::specs::Writing::lengths), unfolding(mysql_wire::specs::Writing::le_bytes, crate::specs::SessionStateInfo::session_state_info_bytes))]
-    fn defined_len(&self) -> usize {
-        len_of!(self.data_type, self.content)
-    }
-
-    #[tactic(auto, unfolding(crate::specs::SessionStateInfo::session_state_info_bytes))]
-    fn append(&self, out: &mut Vec<u8>) {
-        append_all!(out; self.data_type, self.content);
+    #[inline(always)]
+    fn put<S: Sink>(&self, sink: &mut S) {
+        sink.part(&parts!(self.data_type, self.content));
     }
 }

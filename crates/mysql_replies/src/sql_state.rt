@@ -1,4 +1,5 @@
 //! The SQL state of an error.
+#![tactic(auto, using(mysql_wire::proofs::Packets::packets), unfolding(crate::specs::SqlState::sql_state))]
 
 ghost use Rattle.std.specs.Prelude.{false, ◌≡◌, Some, refl, IfOk, true, is_ok, IsUtf8};
 ghost use Rattle.std.specs.Cow.{cow_str_bytes, IsOwnedStr};
@@ -7,7 +8,7 @@ ghost use Rattle.mysql_replies.specs.SqlState as spec;
 
 use bstr::ByteSlice;
 use mysql_wire::{
-    ConstFault, ConstU8, FaultOf, Fixed, MyDeserialize, MySerialize, ParseBuf, append_all,
+    ConstFault, ConstU8, FaultOf, Fixed, MyDeserialize, ParseBuf, Parts, Sink, parts,
 };
 use std::alloc::{AllocError, Global};
 use std::borrow::CowStr;
@@ -72,9 +73,8 @@ impl<'de> MyDeserialize<'de> for SqlState {
 
     type Ctx = ();
 
-    ghost form = { λ _. spec.sql_state };
+    ghost form = { spec.sql_state.form };
 
-    #[tactic(auto, using(mysql_wire::proofs::Blocks::blocks), unfolding(crate::specs::SqlState::sql_state))]
     fn deserialize<'s>(_ctx: (), buf: &mut ParseBuf<'de>) -> Result<Self, FaultOf<'s>> {
         let mut fields: ParseBuf<'de> = buf.parse(6)?;
         Ok(SqlState {
@@ -86,16 +86,11 @@ impl<'de> MyDeserialize<'de> for SqlState {
     ghost size_is = { λ _. spec.size-sql_state };
 }
 
-impl MySerialize for SqlState {
-    ghost bytes = { spec.sql_state_bytes };
+impl Parts for SqlState {
+    ghost bytes = { spec.sql_state.bytes };
 
-    #[tactic(auto, unfolding(mysql_wire::specs::Writing::saturated, crate::specs::SqlState::sql_state_bytes))]
-    fn defined_len(&self) -> usize {
-        6
-    }
-
-    #[tactic(auto, unfolding(crate::specs::SqlState::sql_state_bytes))]
-    fn append(&self, out: &mut Vec<u8>) {
-        append_all!(out; self.marker, self.state);
+    #[inline(always)]
+    fn put<S: Sink>(&self, sink: &mut S) {
+        sink.part(&parts!(self.marker, self.state));
     }
 }

@@ -1,4 +1,2 @@
-pub mod Lengths
-pub mod SessionTextAgain
-pub mod SystemVariableAgain
 pub mod SessionStateChangeAgain
+pub mod SystemVariablesFit

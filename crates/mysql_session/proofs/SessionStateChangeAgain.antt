@@ -1,15 +1,13 @@
 use Rattle.std.proofs.Common.{ℕ, List, [], ◌∷◌, ◌++◌, true, false, refl, arith}
-use Rattle.std.proofs.lemmas.List.{append-nil}
 use Rattle.mysql_wire.specs.declared.codes.session_state_type.SessionStateType.{SessionStateType}
 use Rattle.mysql_wire.specs.declared.codes.session_state_type.SessionStateType.TheVariants as kind
 use Rattle.mysql_wire.specs.LenEnc.{lenenc_string, lenenc_string_bytes, lenenc_bytes}
 use Rattle.mysql_wire.specs.Again.{lenenc_string-again}
 use Rattle.mysql_session.specs.declared.session_state_change.SessionStateChange.{SessionStateChange}
 use Rattle.mysql_session.specs.declared.session_state_change.SessionStateChange.TheVariants as change
-use Rattle.mysql_session.specs.SessionText.{Unsupported}
+use Rattle.mysql_session.specs.SessionText.{Unsupported, lenenc_text, gtids}
+use Rattle.mysql_session.specs.SystemVariables.{system_variables}
 use Rattle.mysql_session.specs.SessionStateChange.{session_state_change, session_state_change_bytes, ChangeFits}
-use Rattle.mysql_session.proofs.SessionTextAgain.{lenenc_text-again, gtids-again}
-use Rattle.mysql_session.proofs.SystemVariableAgain.{system_variables-again}
 
 one_character : (b : ℕ) (rest : List ℕ) → lenenc_string.Spells (b ∷ []) (1 ∷ b ∷ rest) rest
 unfolding lenenc_string_bytes lenenc_bytes
@@ -19,11 +17,11 @@ pub session_state_change-again : (k : SessionStateType) (c : SessionStateChange)
 unfolding session_state_change session_state_change_bytes
 session_state_change-again k (change.IsTracked true) rest fits = rw fits (49 ∷ [], refl, one_character 49 rest)
 session_state_change-again k (change.IsTracked false) rest fits = rw fits (48 ∷ [], refl, one_character 48 rest)
-session_state_change-again k (change.Schema s) rest fits = rw fits.0 (s, refl, lenenc_text-again s fits.1 rest)
-session_state_change-again k (change.SystemVariables vs) rest fits = rw (fits.0, fits.2, append-nil) (vs, refl, system_variables-again vs fits.1)
-session_state_change-again k (change.Gtids g) rest fits = rw (fits.0, fits.1, append-nil) (g, refl, gtids-again g)
-session_state_change-again k (change.TransactionCharacteristics c) rest fits = rw fits.0 (c, refl, lenenc_text-again c fits.1 rest)
-session_state_change-again k (change.TransactionState s) rest fits = rw fits.0 (s, refl, lenenc_text-again s fits.1 rest)
+session_state_change-again k (change.Schema s) rest fits = rw fits.0 (s, refl, lenenc_text.again tt s rest fits.1)
+session_state_change-again k (change.SystemVariables vs) rest fits = rw fits.0 (vs, refl, system_variables.again tt vs rest fits.1)
+session_state_change-again k (change.Gtids g) rest fits = rw fits.0 (g, refl, gtids.again tt g rest fits.1)
+session_state_change-again k (change.TransactionCharacteristics c) rest fits = rw fits.0 (c, refl, lenenc_text.again tt c rest fits.1)
+session_state_change-again k (change.TransactionState s) rest fits = rw fits.0 (s, refl, lenenc_text.again tt s rest fits.1)
 session_state_change-again k (change.Unsupported u) rest fits = absurd fits
 
 pub never-unsupported : (k : SessionStateType) (u : Unsupported) (bytes rest : List ℕ) → (session_state_change k).Spells (change.Unsupported u) bytes rest → ⊥

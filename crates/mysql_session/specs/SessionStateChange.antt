@@ -3,12 +3,12 @@ use Rattle.std.specs.Prelude.{refl, ◌≡◌, ℕ, List, [], ◌∷◌, None, B
 use Rattle.std.specs.Cmp.Lexicographic.{pointwise}
 use Rattle.mysql_wire.specs.declared.codes.session_state_type.SessionStateType.{SessionStateType}
 use Rattle.mysql_wire.specs.declared.codes.session_state_type.SessionStateType.TheVariants as kind
-use Rattle.mysql_wire.specs.Form.{Form, map, all_left}
+use Rattle.mysql_wire.specs.Form.{Form, map}
 use Rattle.mysql_wire.specs.LenEnc.{lenenc_string, size-lenenc_string}
 use Rattle.mysql_session.specs.declared.session_state_change.SessionStateChange.{SessionStateChange}
 use Rattle.mysql_session.specs.declared.session_state_change.SessionStateChange.TheVariants as change
-use Rattle.mysql_session.specs.SessionText.{lenenc_text, lenenc_text_bytes, gtids, gtids_bytes, size-session_text, TextFits}
-use Rattle.mysql_session.specs.SystemVariables.{system_variables, size-system_variables, system_variables_bytes, SystemVariablesFit}
+use Rattle.mysql_session.specs.SessionText.{lenenc_text, gtids}
+use Rattle.mysql_session.specs.SystemVariables.{system_variables, size-system_variables}
 
 -- the content is `1`
 abbrev pub is_one : List ℕ → Bool
@@ -19,40 +19,39 @@ is_tracked content = change.IsTracked (is_one content)
 
 -- what the data of each type is
 unfoldable pub session_state_change : SessionStateType → Form SessionStateChange
-session_state_change kind.SESSION_TRACK_SYSTEM_VARIABLES = map change.SystemVariables system_variables
-session_state_change kind.SESSION_TRACK_SCHEMA = map change.Schema lenenc_text
+session_state_change kind.SESSION_TRACK_SYSTEM_VARIABLES = map change.SystemVariables (system_variables.form tt)
+session_state_change kind.SESSION_TRACK_SCHEMA = map change.Schema (lenenc_text.form tt)
 session_state_change kind.SESSION_TRACK_STATE_CHANGE = map is_tracked lenenc_string
-session_state_change kind.SESSION_TRACK_GTIDS = map change.Gtids gtids
-session_state_change kind.SESSION_TRACK_TRANSACTION_CHARACTERISTICS = map change.TransactionCharacteristics lenenc_text
-session_state_change kind.SESSION_TRACK_TRANSACTION_STATE = map change.TransactionState lenenc_text
+session_state_change kind.SESSION_TRACK_GTIDS = map change.Gtids (gtids.form tt)
+session_state_change kind.SESSION_TRACK_TRANSACTION_CHARACTERISTICS = map change.TransactionCharacteristics (lenenc_text.form tt)
+session_state_change kind.SESSION_TRACK_TRANSACTION_STATE = map change.TransactionState (lenenc_text.form tt)
 
 pub size-session_state_change : (k : SessionStateType) → (session_state_change k).size ≡ None
-unfolding session_state_change
+unfolding session_state_change lenenc_text gtids
 size-session_state_change kind.SESSION_TRACK_SYSTEM_VARIABLES = size-system_variables
-size-session_state_change kind.SESSION_TRACK_SCHEMA = size-session_text _ _ lenenc_string size-lenenc_string
+size-session_state_change kind.SESSION_TRACK_SCHEMA = refl
 size-session_state_change kind.SESSION_TRACK_STATE_CHANGE = size-lenenc_string
-size-session_state_change kind.SESSION_TRACK_GTIDS = size-session_text _ _ all_left refl
-size-session_state_change kind.SESSION_TRACK_TRANSACTION_CHARACTERISTICS = size-session_text _ _ lenenc_string size-lenenc_string
-size-session_state_change kind.SESSION_TRACK_TRANSACTION_STATE = size-session_text _ _ lenenc_string size-lenenc_string
+size-session_state_change kind.SESSION_TRACK_GTIDS = refl
+size-session_state_change kind.SESSION_TRACK_TRANSACTION_CHARACTERISTICS = refl
+size-session_state_change kind.SESSION_TRACK_TRANSACTION_STATE = refl
 
 -- the bytes of each kind; `01 31` or `01 30` of whether changes are tracked
 unfoldable pub session_state_change_bytes : SessionStateChange → List ℕ
 session_state_change_bytes (change.IsTracked true) = 1 ∷ 49 ∷ []
 session_state_change_bytes (change.IsTracked false) = 1 ∷ 48 ∷ []
-session_state_change_bytes (change.Schema s) = lenenc_text_bytes s
-session_state_change_bytes (change.SystemVariables vs) = system_variables_bytes vs
-session_state_change_bytes (change.Gtids g) = gtids_bytes g
-session_state_change_bytes (change.TransactionCharacteristics c) = lenenc_text_bytes c
-session_state_change_bytes (change.TransactionState s) = lenenc_text_bytes s
-session_state_change_bytes (change.Unsupported u) = lenenc_text_bytes u
+session_state_change_bytes (change.Schema s) = lenenc_text.bytes s
+session_state_change_bytes (change.SystemVariables vs) = system_variables.bytes vs
+session_state_change_bytes (change.Gtids g) = gtids.bytes g
+session_state_change_bytes (change.TransactionCharacteristics c) = lenenc_text.bytes c
+session_state_change_bytes (change.TransactionState s) = lenenc_text.bytes s
+session_state_change_bytes (change.Unsupported u) = lenenc_text.bytes u
 
--- The reader is told the kind of the change, and nothing follows a change that runs to the end.
--- A change of another kind is never read.
+-- The reader is told the kind of the change. A change of another kind is never read.
 abbrev pub ChangeFits : SessionStateType → SessionStateChange → List ℕ → Type 0
 ChangeFits k (change.IsTracked b) rest = k ≡ kind.SESSION_TRACK_STATE_CHANGE
-ChangeFits k (change.Schema s) rest = (k ≡ kind.SESSION_TRACK_SCHEMA) × TextFits s
-ChangeFits k (change.SystemVariables vs) rest = (k ≡ kind.SESSION_TRACK_SYSTEM_VARIABLES) × SystemVariablesFit vs × (rest ≡ [])
-ChangeFits k (change.Gtids g) rest = (k ≡ kind.SESSION_TRACK_GTIDS) × (rest ≡ [])
-ChangeFits k (change.TransactionCharacteristics c) rest = (k ≡ kind.SESSION_TRACK_TRANSACTION_CHARACTERISTICS) × TextFits c
-ChangeFits k (change.TransactionState s) rest = (k ≡ kind.SESSION_TRACK_TRANSACTION_STATE) × TextFits s
+ChangeFits k (change.Schema s) rest = (k ≡ kind.SESSION_TRACK_SCHEMA) × lenenc_text.fits tt s rest
+ChangeFits k (change.SystemVariables vs) rest = (k ≡ kind.SESSION_TRACK_SYSTEM_VARIABLES) × system_variables.fits tt vs rest
+ChangeFits k (change.Gtids g) rest = (k ≡ kind.SESSION_TRACK_GTIDS) × gtids.fits tt g rest
+ChangeFits k (change.TransactionCharacteristics c) rest = (k ≡ kind.SESSION_TRACK_TRANSACTION_CHARACTERISTICS) × lenenc_text.fits tt c rest
+ChangeFits k (change.TransactionState s) rest = (k ≡ kind.SESSION_TRACK_TRANSACTION_STATE) × lenenc_text.fits tt s rest
 ChangeFits k (change.Unsupported u) rest = ⊥

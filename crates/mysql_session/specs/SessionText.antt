@@ -1,9 +1,11 @@
 -- The parts of session changes that are one byte string each.
-use Rattle.std.specs.Prelude.{◌≡◌, ℕ, ◌<◌, ◌^◌, List, None, length}
+use Rattle.std.specs.Prelude.{ℕ, List, refl}
 use Rattle.mysql_wire.specs.declared.eof.EofBytes.{EofBytes}
 use Rattle.mysql_wire.specs.declared.lenenc.LenEnc.{LenEnc}
-use Rattle.mysql_wire.specs.Form.{Form, map, all_left}
-use Rattle.mysql_wire.specs.LenEnc.{lenenc_string, lenenc_string_bytes}
+use Rattle.mysql_wire.specs.Codec.{Codec, Fields}
+use Rattle.mysql_wire.specs.Codecs.{◌>>=◌, give, field, packet, string_eof, string_lenenc}
+use Rattle.mysql_wire.specs.Form as form
+use Rattle.mysql_wire.specs.Form.{Form}
 use Rattle.mysql_session.specs.declared.session_text.SessionText.{SessionText}
 use Rattle.mysql_session.specs.declared.session_text.SchemaName.{SchemaName}
 use Rattle.mysql_session.specs.declared.session_text.GtidSet.{GtidSet}
@@ -19,12 +21,13 @@ abbrev pub text_of : {N R : Type 0} → List ℕ → SessionText N R
 text_of bytes = record { 0 = bytes; 1 = record {} }
 
 -- a text in the form of its bytes
-unfoldable pub session_text : {N R : Type 0} → Form (List ℕ) → Form (SessionText N R)
-session_text form = map text_of form
+abbrev pub session_text : {N R : Type 0} → Form (List ℕ) → Form (SessionText N R)
+session_text bytes = form.◌>>=◌ bytes (λ content. form.give (text_of content))
 
-pub size-session_text : (N R : Type 0) (form : Form (List ℕ)) → form.size ≡ None → (session_text {N = N} {R = R} form).size ≡ None
-unfolding session_text
-size-session_text N R form e = e
+abbrev pub session_text_fields : {C N R : Type 0} → Codec C (List ℕ) → Fields C (SessionText N R) (SessionText N R)
+session_text_fields bytes = do
+  content ← field text_bytes bytes
+  give (text_of content)
 
 -- ---- the texts by their names
 
@@ -44,20 +47,9 @@ abbrev pub Unsupported : Type 0
 Unsupported = SessionText OtherChange LenEnc
 
 -- all but GTIDs: the length-encoded bytes
-abbrev pub lenenc_text : {N : Type 0} → Form (SessionText N LenEnc)
-lenenc_text = session_text lenenc_string
+unfoldable pub lenenc_text : {N : Type 0} → Codec (Unit {0}) (SessionText N LenEnc)
+lenenc_text = packet (session_text_fields string_lenenc) (λ text. refl)
 
 -- GTIDs: all that is left
-abbrev pub gtids : Form Gtids
-gtids = session_text all_left
-
--- their shortest spelling
-abbrev pub lenenc_text_bytes : {N : Type 0} → SessionText N LenEnc → List ℕ
-lenenc_text_bytes text = lenenc_string_bytes (text_bytes text)
-
-abbrev pub gtids_bytes : Gtids → List ℕ
-gtids_bytes text = text_bytes text
-
--- a length that a number of eight bytes can tell
-pub record TextFits {N : Type 0} (text : SessionText N LenEnc) : Type 0 where
-  pub text_bytes : length (text_bytes text) < 2 ^ 64
+unfoldable pub gtids : Codec (Unit {0}) Gtids
+gtids = packet (session_text_fields string_eof) (λ text. refl)

@@ -1,8 +1,7 @@
 -- A system variable and its value.
-use Rattle.std.specs.Prelude.{◌≡◌, ℕ, ◌<◌, ◌^◌, List, [], ◌∷◌, length, None, refl}
-use Rattle.mysql_wire.specs.Form.{Form, ◌>>=◌, give}
-use Rattle.mysql_wire.specs.LenEnc.{lenenc_string, lenenc_string_bytes}
-use Rattle.mysql_wire.specs.Writing.{joined}
+use Rattle.std.specs.Prelude.{◌≡◌, ℕ, ◌<◌, ◌^◌, List, length, None, refl}
+use Rattle.mysql_wire.specs.Codec.{Codec, Fields}
+use Rattle.mysql_wire.specs.Codecs.{◌>>=◌, give, field, packet, string_lenenc}
 use Rattle.mysql_session.specs.declared.system_variable.SystemVariable.{SystemVariable}
 
 -- the bytes of the name and of the value
@@ -17,19 +16,18 @@ abbrev pub variable_of : List ℕ → List ℕ → SystemVariable
 variable_of name value = record { name = name; value = value }
 
 -- the name and the value, each length-encoded
-unfoldable pub system_variable : Form SystemVariable
-system_variable = do
-  name ← lenenc_string
-  value ← lenenc_string
+abbrev pub system_variable_fields : Fields (Unit {0}) SystemVariable SystemVariable
+system_variable_fields = do
+  name ← field variable_name string_lenenc
+  value ← field variable_value string_lenenc
   give (variable_of name value)
 
-pub size-system_variable : system_variable.size ≡ None
+unfoldable pub system_variable : Codec (Unit {0}) SystemVariable
+system_variable = packet system_variable_fields (λ v. refl)
+
+pub size-system_variable : (system_variable.form tt).size ≡ None
 unfolding system_variable
 size-system_variable = refl
-
--- the shortest spelling of each
-unfoldable pub system_variable_bytes : SystemVariable → List ℕ
-system_variable_bytes v = joined (lenenc_string_bytes (variable_name v) ∷ lenenc_string_bytes (variable_value v) ∷ [])
 
 -- lengths that a number of eight bytes can tell
 pub record SystemVariableFits (v : SystemVariable) : Type 0 where

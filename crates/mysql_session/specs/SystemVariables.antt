@@ -1,22 +1,20 @@
 -- System variables and their values.
-use Rattle.std.specs.Prelude.{◌≡◌, ℕ, List, None}
-use Rattle.std.specs.List.{All, flat_map}
-use Rattle.mysql_wire.specs.Form.{Form}
-use Rattle.mysql_wire.specs.Many.{many, size-many}
+use Rattle.std.specs.Prelude.{◌≡◌, ◌<◌, List, None}
+use Rattle.mysql_wire.specs.Many.{size-many}
+use Rattle.mysql_wire.specs.Codec.{Codec}
+use Rattle.mysql_wire.specs.CodecAgain.{some-lenenc, some-then}
+use Rattle.mysql_wire.specs.Codecs.{list_to_end}
 use Rattle.mysql_session.specs.declared.system_variable.SystemVariable.{SystemVariable}
-use Rattle.mysql_session.specs.SystemVariable.{system_variable, system_variable_bytes, SystemVariableFits}
+use Rattle.mysql_session.specs.SystemVariable.{system_variable, variable_name}
+
+pub some-variable : (v : SystemVariable) → 0 < system_variable.len v
+unfolding system_variable
+some-variable v = some-then _ (some-lenenc (variable_name v))
 
 -- variables, to the end
-unfoldable pub system_variables : Form (List SystemVariable)
-system_variables = many system_variable
+unfoldable pub system_variables : Codec (Unit {0}) (List SystemVariable)
+system_variables = list_to_end system_variable some-variable
 
-pub size-system_variables : system_variables.size ≡ None
+pub size-system_variables : (system_variables.form tt).size ≡ None
 unfolding system_variables
-size-system_variables = size-many system_variable
-
--- the shortest spelling of each
-abbrev pub system_variables_bytes : List SystemVariable → List ℕ
-system_variables_bytes variables = flat_map system_variable_bytes variables
-
-abbrev pub SystemVariablesFit : List SystemVariable → Type 0
-SystemVariablesFit = All SystemVariableFits
+size-system_variables = size-many (system_variable.form tt)

@@ -1,32 +1,40 @@
 //! Laws over the grammars and the defined bytes of session changes.
 //!
 //! Each law is a function with nothing in it, whose contract holds for all values.
+#![tactic(auto, using(mysql_wire::proofs::Packets::packets))]
 
 ghost use Rattle.std.specs.Prelude.{◌≡◌, ◌++◌, [], List, ℕ, true};
+ghost use Rattle.std.specs.List.{All};
 ghost use Rattle.mysql_wire.specs.declared.codes.session_state_type.SessionStateType.{SessionStateType};
 ghost use Rattle.mysql_session.specs.declared.session_state_change.SessionStateChange.{SessionStateChange};
 ghost use Rattle.mysql_session.specs.declared.session_state_change.SessionStateChange.TheVariants as change;
 ghost use Rattle.mysql_session.specs.declared.system_variable.SystemVariable.{SystemVariable};
-ghost use Rattle.mysql_session.specs.SessionText.{lenenc_text, lenenc_text_bytes, gtids, gtids_bytes, Gtids, Schema, TransactionCharacteristics, TransactionState, Unsupported, TextFits};
+ghost use Rattle.mysql_session.specs.SessionText.{lenenc_text, gtids, Gtids, Schema, TransactionCharacteristics, TransactionState, Unsupported};
 ghost use Rattle.mysql_session.specs.SessionStateChange.{session_state_change, session_state_change_bytes, ChangeFits};
-ghost use Rattle.mysql_session.specs.SystemVariable.{system_variable, system_variable_bytes, SystemVariableFits};
-ghost use Rattle.mysql_session.specs.SystemVariables.{system_variables, system_variables_bytes, SystemVariablesFit};
+ghost use Rattle.mysql_session.specs.SystemVariable.{system_variable, SystemVariableFits};
+ghost use Rattle.mysql_session.specs.SystemVariables.{system_variables};
 
 use std::hash::Hash;
 
 /// What is written of each part of a change is read again, whatever follows.
 pub fn session_parts_again()
-    ensures schema { (x : Schema) (rest : List ℕ) → TextFits x → lenenc_text.Spells x (lenenc_text_bytes x ++ rest) rest }
-    ensures characteristics { (x : TransactionCharacteristics) (rest : List ℕ) → TextFits x → lenenc_text.Spells x (lenenc_text_bytes x ++ rest) rest }
-    ensures state { (x : TransactionState) (rest : List ℕ) → TextFits x → lenenc_text.Spells x (lenenc_text_bytes x ++ rest) rest }
-    ensures unsupported { (x : Unsupported) (rest : List ℕ) → TextFits x → lenenc_text.Spells x (lenenc_text_bytes x ++ rest) rest }
-    ensures variable { (x : SystemVariable) (rest : List ℕ) → SystemVariableFits x → system_variable.Spells x (system_variable_bytes x ++ rest) rest }
+    ensures schema { (x : Schema) (rest : List ℕ) → lenenc_text.fits tt x rest → (lenenc_text.form tt).Spells x (lenenc_text.bytes x ++ rest) rest }
+    ensures characteristics { (x : TransactionCharacteristics) (rest : List ℕ) → lenenc_text.fits tt x rest → (lenenc_text.form tt).Spells x (lenenc_text.bytes x ++ rest) rest }
+    ensures state { (x : TransactionState) (rest : List ℕ) → lenenc_text.fits tt x rest → (lenenc_text.form tt).Spells x (lenenc_text.bytes x ++ rest) rest }
+    ensures unsupported { (x : Unsupported) (rest : List ℕ) → lenenc_text.fits tt x rest → (lenenc_text.form tt).Spells x (lenenc_text.bytes x ++ rest) rest }
+    ensures variable { (x : SystemVariable) (rest : List ℕ) → system_variable.fits tt x rest → (system_variable.form tt).Spells x (system_variable.bytes x ++ rest) rest }
 {}
 
 /// What is written of a part that runs to the end is read again, where nothing follows.
 pub fn session_ends_again()
-    ensures gtids { (x : Gtids) → gtids.Spells x (gtids_bytes x) [] }
-    ensures variables { (xs : List SystemVariable) → SystemVariablesFit xs → system_variables.Spells xs (system_variables_bytes xs) [] }
+    ensures gtids { (x : Gtids) (rest : List ℕ) → gtids.fits tt x rest → (gtids.form tt).Spells x (gtids.bytes x ++ rest) rest }
+    ensures variables { (xs : List SystemVariable) (rest : List ℕ) → system_variables.fits tt xs rest → (system_variables.form tt).Spells xs (system_variables.bytes xs ++ rest) rest }
+{}
+
+/// What makes system variables be read again, where nothing follows: lengths that eight bytes can tell.
+#[tactic(auto, using(crate::proofs::SystemVariablesFit::variables_fit))]
+pub fn system_variables_fit()
+    ensures fits { (vs : List SystemVariable) → All SystemVariableFits vs → system_variables.fits tt vs [] }
 {}
 
 /// What is written of a change is read again, where the reader is told its type.

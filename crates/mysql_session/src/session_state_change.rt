@@ -1,4 +1,5 @@
 //! A change of a session's state.
+#![tactic(auto, using(mysql_wire::proofs::Packets::packets), unfolding(crate::specs::SessionStateChange::session_state_change, crate::specs::SessionStateChange::session_state_change_bytes, crate::specs::SessionText::lenenc_text, crate::specs::SessionText::gtids))]
 
 ghost use Rattle.std.specs.Prelude.{true, ◌≡◌, None, refl, IfOk};
 ghost use Rattle.mysql_session.specs.SessionStateChange as spec;
@@ -8,7 +9,7 @@ use crate::session_text::{
 };
 use crate::system_variables::SystemVariables;
 use mysql_wire::{
-    AnyWidth, FaultOf, LenEnc, MyDeserialize, MySerialize, ParseBuf, RawBytes, SessionStateType,
+    AnyWidth, FaultOf, LenEnc, MyDeserialize, ParseBuf, Parts, RawBytes, SessionStateType, Sink,
 };
 use std::alloc::{AllocError, Global};
 
@@ -73,9 +74,8 @@ impl<'de> MyDeserialize<'de> for SessionStateChange<'de> {
     /// What of the session's state has changed.
     type Ctx = SessionStateType;
 
-    ghost form = { λ kind. spec.session_state_change kind };
+    ghost form = { spec.session_state_change };
 
-    #[tactic(auto, using(mysql_wire::proofs::Tails::tails), unfolding(crate::specs::SessionStateChange::session_state_change))]
     fn deserialize<'s>(
         kind: SessionStateType,
         buf: &mut ParseBuf<'de>,
@@ -99,40 +99,24 @@ impl<'de> MyDeserialize<'de> for SessionStateChange<'de> {
         })
     }
 
-    ghost size_is = { λ kind. spec.size-session_state_change kind };
+    ghost size_is = { spec.size-session_state_change };
 }
 
-impl MySerialize for SessionStateChange<'_> {
+impl Parts for SessionStateChange<'_> {
     ghost bytes = { spec.session_state_change_bytes };
 
-    #[tactic(auto, unfolding(mysql_wire::specs::Writing::saturated, crate::specs::SessionStateChange::session_state_change_bytes))]
-    fn defined_len(&self) -> usize {
+    fn put<S: Sink>(&self, sink: &mut S) {
         match self {
-            SessionStateChange::IsTracked(_) => 2,
-            SessionStateChange::Schema(schema) => schema.defined_len(),
-            SessionStateChange::SystemVariables(variables) => variables.defined_len(),
-            SessionStateChange::Gtids(gtids) => gtids.defined_len(),
+            SessionStateChange::IsTracked(true) => sink.part(b"\x011"),
+            SessionStateChange::IsTracked(false) => sink.part(b"\x010"),
+            SessionStateChange::Schema(schema) => sink.part(schema),
+            SessionStateChange::SystemVariables(variables) => sink.part(variables),
+            SessionStateChange::Gtids(gtids) => sink.part(gtids),
             SessionStateChange::TransactionCharacteristics(characteristics) => {
-                characteristics.defined_len()
+                sink.part(characteristics)
             }
-            SessionStateChange::TransactionState(state) => state.defined_len(),
-            SessionStateChange::Unsupported(unsupported) => unsupported.defined_len(),
-        }
-    }
-
-    #[tactic(auto, unfolding(crate::specs::SessionStateChange::session_state_change_bytes))]
-    fn append(&self, out: &mut Vec<u8>) {
-        match self {
-            SessionStateChange::IsTracked(true) => out.extend_from_slice(b"\x011").unwrap(),
-            SessionStateChange::IsTracked(false) => out.extend_from_slice(b"\x010").unwrap(),
-            SessionStateChange::Schema(schema) => schema.append(out),
-            SessionStateChange::SystemVariables(variables) => variables.append(out),
-            SessionStateChange::Gtids(gtids) => gtids.append(out),
-            SessionStateChange::TransactionCharacteristics(characteristics) => {
-                characteristics.append(out)
-            }
-            SessionStateChange::TransactionState(state) => state.append(out),
-            SessionStateChange::Unsupported(unsupported) => unsupported.append(out),
+            SessionStateChange::TransactionState(state) => sink.part(state),
+            SessionStateChange::Unsupported(unsupported) => sink.part(unsupported),
         }
     }
 }

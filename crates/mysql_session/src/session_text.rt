@@ -1,9 +1,9 @@
 //! The parts of session changes that are one byte string each.
 
-ghost use Rattle.std.specs.Prelude.{false, true, is_ok, IsUtf8, ◌≡◌, None, IfOk};
+ghost use Rattle.std.specs.Prelude.{false, true, is_ok, IsUtf8, ◌≡◌, None, IfOk, refl};
 ghost use Rattle.std.specs.Cow.{cow_slice_items, cow_str_bytes, IsOwnedStr};
 ghost use Rattle.mysql_wire.specs.Text.{lossy_text};
-ghost use Rattle.mysql_session.specs.SessionText.{session_text, size-session_text, text_bytes, text_of};
+ghost use Rattle.mysql_session.specs.SessionText.{session_text, text_bytes, text_of};
 
 use mysql_wire::{
     AnyWidth, BytesRepr, EofBytes, FaultOf, LenEnc, MyDeserialize, MySerialize, ParseBuf, RawBytes,
@@ -99,13 +99,12 @@ impl<'de, N, R: BytesRepr<Ctx = ()>> MyDeserialize<'de> for SessionText<'de, N, 
 
     ghost form = { λ _. session_text (R.form tt) };
 
-    #[tactic(auto, unfolding(crate::specs::SessionText::session_text))]
     fn deserialize<'s>(_ctx: (), buf: &mut ParseBuf<'de>) -> Result<Self, FaultOf<'s>> {
         let mut bytes = R::deserialize((), buf)?;
         Ok(SessionText::new(CowSlice::Borrowed(bytes.eat_all())))
     }
 
-    ghost size_is = { λ _. size-session_text _ _ (R.form tt) (R.size_is tt) };
+    ghost size_is = { λ _. refl };
 }
 
 impl<N, R: BytesRepr> MySerialize for SessionText<'_, N, R> {

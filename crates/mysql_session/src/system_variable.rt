@@ -1,4 +1,5 @@
 //! A system variable and its value.
+#![tactic(auto, using(mysql_wire::proofs::Packets::packets), unfolding(crate::specs::SystemVariable::system_variable))]
 
 ghost use Rattle.std.specs.Prelude.{false, true, is_ok, IsUtf8, ◌≡◌, None, refl, IfOk};
 ghost use Rattle.std.specs.Cow.{cow_slice_items, cow_str_bytes, IsOwnedStr};
@@ -6,7 +7,7 @@ ghost use Rattle.mysql_wire.specs.Text.{lossy_text};
 ghost use Rattle.mysql_session.specs.SystemVariable as spec;
 
 use mysql_wire::{
-    AnyWidth, FaultOf, LenEnc, MyDeserialize, MySerialize, ParseBuf, RawBytes, append_all, len_of,
+    AnyWidth, FaultOf, LenEnc, MyDeserialize, ParseBuf, Parts, RawBytes, Sink, parts,
 };
 use std::alloc::{AllocError, Global};
 use std::borrow::{CowSlice, CowStr};
@@ -83,9 +84,8 @@ impl<'de> MyDeserialize<'de> for SystemVariable<'de> {
 
     type Ctx = ();
 
-    ghost form = { λ _. spec.system_variable };
+    ghost form = { spec.system_variable.form };
 
-    #[tactic(auto, using(mysql_wire::proofs::Tails::tails), unfolding(crate::specs::SystemVariable::system_variable))]
     fn deserialize<'s>(_ctx: (), buf: &mut ParseBuf<'de>) -> Result<Self, FaultOf<'s>> {
         Ok(SystemVariable {
             name: buf.parse(())?,
@@ -96,16 +96,11 @@ impl<'de> MyDeserialize<'de> for SystemVariable<'de> {
     ghost size_is = { λ _. spec.size-system_variable };
 }
 
-impl MySerialize for SystemVariable<'_> {
-    ghost bytes = { spec.system_variable_bytes };
+impl Parts for SystemVariable<'_> {
+    ghost bytes = { spec.system_variable.bytes };
 
-    #[tactic(auto, using(mysql_wire::specs::Writing::lengths), unfolding(crate::specs::SystemVariable::system_variable_bytes))]
-    fn defined_len(&self) -> usize {
-        len_of!(self.name, self.value)
-    }
-
-    #[tactic(auto, unfolding(crate::specs::SystemVariable::system_variable_bytes))]
-    fn append(&self, out: &mut Vec<u8>) {
-        append_all!(out; self.name, self.value);
+    #[inline(always)]
+    fn put<S: Sink>(&self, sink: &mut S) {
+        sink.part(&parts!(self.name, self.value));
     }
 }

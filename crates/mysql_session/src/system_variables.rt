@@ -1,4 +1,5 @@
 //! System variables and their values.
+#![tactic(auto, using(mysql_wire::proofs::Packets::packets), unfolding(crate::specs::SystemVariables::system_variables))]
 
 ghost use Rattle.std.specs.Prelude.{true, ◌≡◌, None, refl, IfOk};
 ghost use Rattle.mysql_session.specs.SystemVariables as spec;
@@ -106,9 +107,8 @@ impl<'de> MyDeserialize<'de> for SystemVariables<'de> {
 
     type Ctx = ();
 
-    ghost form = { λ _. spec.system_variables };
+    ghost form = { spec.system_variables.form };
 
-    #[tactic(auto, using(mysql_wire::proofs::Tails::tails), unfolding(crate::specs::SystemVariables::system_variables))]
     fn deserialize<'s>(_ctx: (), buf: &mut ParseBuf<'de>) -> Result<Self, FaultOf<'s>> {
         Ok(SystemVariables(read_all(buf)?))
     }
@@ -117,7 +117,7 @@ impl<'de> MyDeserialize<'de> for SystemVariables<'de> {
 }
 
 impl MySerialize for SystemVariables<'_> {
-    ghost bytes = { spec.system_variables_bytes };
+    ghost bytes = { spec.system_variables.bytes };
 
     fn defined_len(&self) -> usize {
         items_len(self.as_slice())

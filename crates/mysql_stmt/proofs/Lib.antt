@@ -1,4 +1,3 @@
-pub mod StmtAgain
 pub mod Cells
 pub mod Nulls
 pub mod ParamLengths

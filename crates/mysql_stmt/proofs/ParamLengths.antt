@@ -1,12 +1,12 @@
 -- How many bytes the parameters of an execution take.
-use Rattle.std.proofs.Common.{◌≡◌, ◌≢◌, ◌+◌, ◌*◌, ◌<◌, ◌≤◌, inl, inr, ◌↔◌, IsTrue, Bool, true, false, ℕ, List, [], ◌∷◌, ◌++◌, length, take, min, get_or, ap, refl, ◌∙◌, arith, sum_by}
+use Rattle.std.proofs.Common.{◌≡◌, ◌≢◌, ◌+◌, ◌*◌, ◌<◌, ◌≤◌, inl, inr, ◌↔◌, IsTrue, Bool, true, false, ℕ, List, [], ◌∷◌, ◌++◌, length, take, min, get_or, ap, append_assoc, refl, ◌∙◌, arith, sum_by}
 use Rattle.std.specs.List.{flat_map}
 use Rattle.std.proofs.lemmas.Bool.{cases_lt}
 use Rattle.std.proofs.lemmas.Bool.Decides.{nat_tests}
-use Rattle.std.proofs.lemmas.List.{length-append, length-take}
+use Rattle.std.proofs.lemmas.List.{append-nil, length-append, length-take}
 use Rattle.std.proofs.lemmas.List.Folds.{length-flat_map-take}
 use Rattle.std.proofs.lemmas.List.Sums.{sum_by-cons}
-use Rattle.mysql_wire.specs.Writing.{le_bytes, saturated}
+use Rattle.mysql_wire.specs.Writing.{le_bytes}
 use Rattle.mysql_values.specs.declared.value.Value.{Value}
 use Rattle.mysql_values.specs.Value.{Content, NULL, Bytes, Int, UInt, Float, Double, Date, Time, content_of, bin, size_of}
 use Rattle.mysql_values.proofs.Sizes.{length-bin}
@@ -90,11 +90,8 @@ pub where_more : (values : List Value) (bytes : List ℕ) → values ≢ [] → 
 where_more [] bytes some = absurd (some refl)
 where_more (v ∷ values) bytes some = refl
 
-pub saturated-zero : saturated 0 ≡ 0
-unfolding saturated
-saturated-zero = refl
-
-pub ruleset where_known = (where_none, where_more, saturated-zero)
+-- with nothing behind the last part
+pub ruleset whole = (where_none, where_more, append-nil, append_assoc)
 
 where_some_fits : (values : List Value) (bytes : List ℕ) → 10 + length bytes ≤ max_payload → 10 + length (where_some values bytes) ≤ max_payload
 where_some_fits [] bytes fits = omega arith
@@ -107,11 +104,10 @@ params_fit p marks rule few =
     where_some_fits p.values.now _ (some_fit p.bitmap.bytes p.flags.0.0 p.values.now p.as_long_data marks.len rule few)
 
 -- ten bytes stand before the parameters
-pub length-head : (stmt_id flags : ℕ) (params : List ℕ) → length ((0x17 ∷ []) ++ le_bytes 4 stmt_id ++ le_bytes 1 flags ++ le_bytes 4 1 ++ params) ≡ 10 + length params
+pub length-head : (stmt_id flags : ℕ) (params : List ℕ)
+    → length (((0x17 ∷ []) ++ (le_bytes 4 stmt_id ++ (le_bytes 1 flags ++ (le_bytes 4 1 ++ [])))) ++ params) ≡ 10 + length params
 unfolding le_bytes
-length-head stmt_id flags params = omega (arith, length-append ((0x17 ∷ []) ++ le_bytes 4 stmt_id ++ le_bytes 1 flags ++ le_bytes 4 1) params)
-
-pub same_four : {a b c d e f g h : ℕ} → a ≡ e → b ≡ f → c ≡ g → d ≡ h → (a ∷ b ∷ c ∷ d ∷ []) ≡ (e ∷ f ∷ g ∷ h ∷ [])
-same_four p q r s = cc
+length-head stmt_id flags params =
+    omega (arith, length-append ((0x17 ∷ []) ++ (le_bytes 4 stmt_id ++ (le_bytes 1 flags ++ (le_bytes 4 1 ++ [])))) params)
 
 pub ruleset param_lengths = (length-types_bytes, length-values)

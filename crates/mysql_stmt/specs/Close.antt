@@ -1,11 +1,17 @@
 -- The end of a prepared statement.
-use Rattle.std.specs.Prelude.{ℕ, List, [], ◌∷◌}
-use Rattle.mysql_wire.specs.Writing.{le_bytes, joined}
+use Rattle.std.specs.Prelude.{refl}
+use Rattle.mysql_wire.specs.Codec.{Codec, Fields}
+use Rattle.mysql_wire.specs.Codecs.{◌>>=◌, give, field, block, packet, const_u8, u32}
+use Rattle.mysql_wire.specs.Int.{raw_int}
 use Rattle.mysql_stmt.specs.declared.close.ComStmtClose.{ComStmtClose}
 
 -- 19, and the statement's number
-abbrev pub close_parts : ComStmtClose → List (List ℕ)
-close_parts p = le_bytes 1 0x19 ∷ le_bytes 4 p.stmt_id ∷ []
+abbrev pub close_fields : Fields (Unit {0}) ComStmtClose ComStmtClose
+close_fields = do
+  header ← field (λ p. record { 0 = record {} }) (const_u8 {T = Unit {0}} 0x19)
+  stmt_id ← field (λ p. raw_int p.stmt_id) u32
+  give (record { stmt_id = stmt_id.0 })
 
-abbrev pub close_bytes : ComStmtClose → List ℕ
-close_bytes p = joined (close_parts p)
+-- five bytes
+unfoldable pub close : Codec (Unit {0}) ComStmtClose
+close = packet (block 5 close_fields (λ p. refl)) (λ p. refl)

@@ -1,6 +1,8 @@
 -- One execution of a prepared statement.
-use Rattle.std.specs.Prelude.{ℕ, Bool, List, [], ◌∷◌}
-use Rattle.mysql_wire.specs.Writing.{le_bytes, joined}
+use Rattle.std.specs.Prelude.{ℕ, Bool, List, ◌++◌}
+use Rattle.mysql_wire.specs.Codec.{Fields}
+use Rattle.mysql_wire.specs.Codecs.{◌>>=◌, give, field, const_u8, const_u32, u32}
+use Rattle.mysql_wire.specs.Codecs as codec
 use Rattle.mysql_values.specs.declared.value.Value.{Value}
 use Rattle.mysql_stmt.specs.ExecuteParams.{params_bytes}
 use Rattle.mysql_stmt.specs.declared.execute.ComStmtExecuteRequest.{ComStmtExecuteRequest}
@@ -27,15 +29,15 @@ as_long_data r = r.params.as_long_data
 
 -- ---- the bytes
 
--- 17, the statement's number, the flags, the count of executions, and the parameters
-abbrev pub execute_parts : ComStmtExecuteRequest → List (List ℕ)
-execute_parts r =
-    (0x17 ∷ [])
-    ∷ le_bytes 4 (stmt_id r)
-    ∷ le_bytes 1 (flags r)
-    ∷ le_bytes 4 1
-    ∷ params_bytes r.params
-    ∷ []
+-- 17, the statement's number, the flags, the count of executions
+abbrev pub execute_head : Fields (Unit {0}) ComStmtExecuteRequest (Unit {0})
+execute_head = do
+  header ← field (λ r. r.header) (const_u8 0x17)
+  stmt_id ← field (λ r. r.stmt_id) u32
+  flags ← field (λ r. r.flags) (codec.flags 1)
+  iteration_count ← field (λ r. r.iteration_count) (const_u32 1)
+  give tt
 
+-- and the parameters
 abbrev pub execute_bytes : ComStmtExecuteRequest → List ℕ
-execute_bytes r = joined (execute_parts r)
+execute_bytes r = execute_head.bytes r ++ params_bytes r.params

@@ -1,8 +1,8 @@
 -- The parameters of an execution.
-use Rattle.std.specs.Prelude.{◌≡◌, ℕ, ◌+◌, ◌*◌, ◌-◌, ◌^◌, Bool, if◌then◌else◌, List, [], ◌∷◌, length, take, sum_by, slice_get}
+use Rattle.std.specs.Prelude.{◌≡◌, ℕ, ◌+◌, ◌*◌, ◌-◌, ◌^◌, Bool, if◌then◌else◌, List, [], ◌∷◌, ◌++◌, length, take, sum_by, slice_get}
 use Rattle.std.specs.List.{flat_map}
 use Rattle.std.specs.Option.{option_map_or}
-use Rattle.mysql_wire.specs.Writing.{le_bytes, joined}
+use Rattle.mysql_wire.specs.Writing.{le_bytes}
 use Rattle.mysql_values.specs.declared.value.Value.{Value}
 use Rattle.mysql_values.specs.Value.{Content, NULL, Bytes, content_of, bin, size_of}
 use Rattle.mysql_stmt.specs.Bitmap.{bytes_for, cell}
@@ -50,18 +50,13 @@ max_payload = 2 ^ 24 - 1
 -- ---- the bytes
 
 -- the bitmap, the flags, the types and the values
-abbrev pub params_parts : ExecuteParams → List (List ℕ)
-params_parts p =
-    take 8192 p.bitmap.bytes
-    ∷ le_bytes 1 p.flags.0.0
-    ∷ types_bytes p.values.now
-    ∷ data_bytes p.as_long_data p.values.now
-    ∷ []
+abbrev pub some_params_bytes : ExecuteParams → List ℕ
+some_params_bytes p = take 8192 p.bitmap.bytes ++ le_bytes 1 p.flags.0.0 ++ types_bytes p.values.now ++ data_bytes p.as_long_data p.values.now
 
--- the parts, where there are values
+-- the bytes, where there are values
 abbrev pub where_some : List Value → List ℕ → List ℕ
 where_some [] bytes = []
 where_some (v ∷ values) bytes = bytes
 
 abbrev pub params_bytes : ExecuteParams → List ℕ
-params_bytes p = where_some p.values.now (joined (params_parts p))
+params_bytes p = where_some p.values.now (some_params_bytes p)

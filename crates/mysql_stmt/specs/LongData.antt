@@ -1,20 +1,23 @@
 -- The data of one parameter, sent ahead of an execution.
-use Rattle.std.specs.Prelude.{ℕ, List, [], ◌∷◌}
-use Rattle.mysql_wire.specs.Writing.{le_bytes, joined}
+use Rattle.std.specs.Prelude.{ℕ, List, refl}
+use Rattle.mysql_wire.specs.Codec.{Codec, Fields}
+use Rattle.mysql_wire.specs.Codecs.{◌>>=◌, give, field, packet, const_u8, u16, u32, string_eof}
+use Rattle.mysql_wire.specs.Int.{raw_int}
 use Rattle.mysql_stmt.specs.declared.long_data.ComStmtSendLongData.{ComStmtSendLongData}
 
 -- this data, for that parameter of that statement
-abbrev pub long_data : ℕ → ℕ → List ℕ → ComStmtSendLongData
-long_data stmt_id param_index content = record {
-  header = record { 0 = record {} };
-  stmt_id = record { 0 = stmt_id; 1 = record {} };
-  param_index = record { 0 = param_index; 1 = record {} };
-  content = content;
-}
+abbrev pub long_data_of : ℕ → ℕ → List ℕ → ComStmtSendLongData
+long_data_of stmt_id param_index content =
+    record { header = record { 0 = record {} }; stmt_id = raw_int stmt_id; param_index = raw_int param_index; content = content }
 
 -- 18, the statement's number, the parameter's place, and the data to the end
-abbrev pub long_data_parts : ComStmtSendLongData → List (List ℕ)
-long_data_parts p = (0x18 ∷ []) ∷ le_bytes 4 p.stmt_id.0 ∷ le_bytes 2 p.param_index.0 ∷ p.content ∷ []
+abbrev pub long_data_fields : Fields (Unit {0}) ComStmtSendLongData ComStmtSendLongData
+long_data_fields = do
+  header ← field (λ p. p.header) (const_u8 0x18)
+  stmt_id ← field (λ p. p.stmt_id) u32
+  param_index ← field (λ p. p.param_index) u16
+  content ← field (λ p. p.content) string_eof
+  give (record { header = header; stmt_id = stmt_id; param_index = param_index; content = content })
 
-abbrev pub long_data_bytes : ComStmtSendLongData → List ℕ
-long_data_bytes p = joined (long_data_parts p)
+unfoldable pub long_data : Codec (Unit {0}) ComStmtSendLongData
+long_data = packet long_data_fields (λ p. refl)

@@ -1,21 +1,19 @@
 -- The answer to a prepared statement.
-use Rattle.std.specs.Prelude.{ℕ, ◌<◌, ◌^◌, List, [], ◌∷◌}
-use Rattle.mysql_wire.specs.Writing.{le_bytes, joined}
+use Rattle.std.specs.Prelude.{◌≡◌, ℕ, Some, refl}
+use Rattle.mysql_wire.specs.Form.{size-block}
+use Rattle.mysql_wire.specs.Codec.{Codec, Fields}
+use Rattle.mysql_wire.specs.Codecs.{◌>>=◌, give, field, block, packet, const_u8, skip, u16, u32}
 use Rattle.mysql_stmt.specs.declared.stmt.StmtPacket.{StmtPacket}
-use Rattle.mysql_wire.specs.Form.{Form, block, ◌>>=◌, give}
-use Rattle.mysql_wire.specs.Int.{le_u16, le_u32}
-use Rattle.mysql_wire.specs.Skip.{skip}
-use Rattle.mysql_wire.specs.Constant.{const_byte}
 
 -- 0, the statement's number, the counts of columns and parameters, a byte with any value, the count of warnings
-abbrev pub stmt_fields : Form StmtPacket
+abbrev pub stmt_fields : Fields (Unit {0}) StmtPacket StmtPacket
 stmt_fields = do
-  status ← const_byte 0
-  statement_id ← le_u32
-  num_columns ← le_u16
-  num_params ← le_u16
-  skipped ← skip 1
-  warning_count ← le_u16
+  status ← field (λ p. p.status) (const_u8 0)
+  statement_id ← field (λ p. p.statement_id) u32
+  num_columns ← field (λ p. p.num_columns) u16
+  num_params ← field (λ p. p.num_params) u16
+  skipped ← field (λ p. p.skipped) (skip 1)
+  warning_count ← field (λ p. p.warning_count) u16
   give (record {
     status = status;
     statement_id = statement_id;
@@ -26,8 +24,12 @@ stmt_fields = do
   })
 
 -- twelve bytes
-abbrev pub stmt : Form StmtPacket
-stmt = block 12 stmt_fields
+unfoldable pub stmt : Codec (Unit {0}) StmtPacket
+stmt = packet (block 12 stmt_fields (λ p. refl)) (λ p. refl)
+
+pub size-stmt : (stmt.form tt).size ≡ Some 12
+unfolding stmt
+size-stmt = size-block 12 (stmt_fields.form tt)
 
 -- ---- the packet's numbers
 
@@ -42,24 +44,3 @@ num_params p = p.num_params.0
 
 abbrev pub warning_count : StmtPacket → ℕ
 warning_count p = p.warning_count.0
-
--- the defined bytes: each field in the layout's order, the skipped byte as 0
-abbrev pub stmt_parts : StmtPacket → List (List ℕ)
-stmt_parts p =
-    (0 ∷ [])
-    ∷ le_bytes 4 (statement_id p)
-    ∷ le_bytes 2 (num_columns p)
-    ∷ le_bytes 2 (num_params p)
-    ∷ (0 ∷ [])
-    ∷ le_bytes 2 (warning_count p)
-    ∷ []
-
-abbrev pub stmt_bytes : StmtPacket → List ℕ
-stmt_bytes p = joined (stmt_parts p)
-
--- when the defined bytes are read as the packet: each number has its width, as a u32 and the u16s always have
-pub record StmtFits (p : StmtPacket) : Type 0 where
-  pub statement_id : statement_id p < 2 ^ 32
-  pub num_columns : num_columns p < 2 ^ 16
-  pub num_params : num_params p < 2 ^ 16
-  pub warning_count : warning_count p < 2 ^ 16

@@ -1,8 +1,9 @@
 //! The end of a prepared statement.
+#![tactic(auto, using(mysql_wire::proofs::Packets::packets), unfolding(crate::specs::Close::close))]
 
 ghost use Rattle.std.specs.Prelude.{◌≡◌};
 
-use mysql_wire::{LeU32, MySerialize, RawInt, append_all, len_of};
+use mysql_wire::{ConstU8, LeU32, Parts, RawInt, Sink, parts};
 
 /// The command's byte.
 const COM_STMT_CLOSE: u8 = 0x19;
@@ -26,20 +27,15 @@ impl ComStmtClose {
     }
 }
 
-impl MySerialize for ComStmtClose {
-    ghost use Rattle.mysql_stmt.specs.Close.{close_bytes};
+impl Parts for ComStmtClose {
+    ghost use Rattle.mysql_stmt.specs.Close.{close};
 
-    ghost bytes = { close_bytes };
+    ghost bytes = { close.bytes };
 
-    #[tactic(auto, using(mysql_wire::specs::Writing::lengths), unfolding(mysql_wire::specs::Writing::le_bytes))]
-    fn defined_len(&self) -> usize {
-        len_of!(
-            RawInt::<u8>::new(COM_STMT_CLOSE),
-            RawInt::<LeU32>::new(self.stmt_id)
-        )
-    }
-
-    fn append(&self, out: &mut Vec<u8>) {
-        append_all!(out; RawInt::<u8>::new(COM_STMT_CLOSE), RawInt::<LeU32>::new(self.stmt_id));
+    #[inline(always)]
+    fn put<S: Sink>(&self, sink: &mut S) {
+        let header: ConstU8<(), COM_STMT_CLOSE> = ConstU8::new();
+        let stmt_id: RawInt<LeU32> = RawInt::new(self.stmt_id);
+        sink.part(&parts!(header, stmt_id));
     }
 }

@@ -1,4 +1,5 @@
 //! One execution of a prepared statement.
+#![tactic(auto, using(crate::proofs::ParamLengths::whole))]
 
 ghost use Rattle.std.specs.Prelude.{◌≡◌, ◌≤◌, ◌<◌, ◌↔◌, IsTrue, IfOk, length};
 ghost use Rattle.mysql_stmt.specs.ExecuteParams.{MarksNulls, whole_size, max_payload};
@@ -7,8 +8,8 @@ ghost use Rattle.mysql_stmt.specs.Execute as request;
 use crate::execute_params::ExecuteParams;
 use mysql_values::Value;
 use mysql_wire::{
-    Const, ConstFault, ConstU8, ConstU32, CursorType, LeU32, MySerialize, RawInt,
-    StmtExecuteParamsFlags, append_all, len_of,
+    Const, ConstFault, ConstU8, ConstU32, CursorType, LeU32, Parts, RawInt, Sink,
+    StmtExecuteParamsFlags, parts,
 };
 use std::alloc::{AllocError, Global};
 use thiserror::Error;
@@ -159,23 +160,12 @@ impl<'a> ComStmtExecuteRequest<'a> {
     }
 }
 
-impl MySerialize for ComStmtExecuteRequest<'_> {
+impl Parts for ComStmtExecuteRequest<'_> {
     ghost bytes = { request.execute_bytes };
 
-    #[tactic(auto, using(mysql_wire::specs::Writing::lengths), unfolding(mysql_wire::specs::Writing::le_bytes))]
-    fn defined_len(&self) -> usize {
-        len_of!(
-            self.header,
-            self.stmt_id,
-            self.flags,
-            self.iteration_count,
-            self.params
-        )
-    }
-
-    fn append(&self, out: &mut Vec<u8>) {
-        append_all!(out;
-            self.header, self.stmt_id, self.flags, self.iteration_count, self.params,
-        );
+    #[inline(always)]
+    fn put<S: Sink>(&self, sink: &mut S) {
+        let head = parts!(self.header, self.stmt_id, self.flags, self.iteration_count);
+        sink.part(&parts!(head, self.params));
     }
 }

@@ -9,10 +9,10 @@ use crate::param_type::ParamTypes;
 use crate::sent_values::SentValues;
 use mysql_values::{ClientSide, Value};
 use mysql_wire::{
-    BareBytes, BytesRepr, Const, MySerialize, StmtExecuteParamsFlags, append_all, items_len,
-    total_len,
+    BareBytes, Const, End, Parts, RawBytes, Sink, StmtExecuteParamsFlags, items_len, parts,
 };
 use std::alloc::{AllocError, Global};
+use std::borrow::CowSlice;
 
 /// How a bitmap is written: 8,192 bytes hold the bits of as many parameters as a statement can have.
 type WrittenBitmap = BareBytes<8192>;
@@ -86,28 +86,22 @@ impl<'a> ExecuteParams<'a> {
     }
 }
 
-impl MySerialize for ExecuteParams<'_> {
+impl Parts for ExecuteParams<'_> {
     ghost bytes = { params_bytes };
 
-    #[tactic(auto, using(mysql_wire::specs::Writing::lengths, crate::proofs::ParamLengths::where_known), unfolding(mysql_wire::specs::Writing::le_bytes))]
-    fn defined_len(&self) -> usize {
+    #[tactic(auto, using(crate::proofs::ParamLengths::whole))]
+    fn put<S: Sink>(&self, sink: &mut S) {
         if self.values.is_empty() {
-            return 0;
+            sink.part(&End);
+        } else {
+            let bitmap: RawBytes<'_, WrittenBitmap> =
+                RawBytes::new(CowSlice::Borrowed(self.bitmap.as_bytes()));
+            sink.part(&parts!(
+                bitmap,
+                self.flags,
+                ParamTypes(self.values),
+                self.sent_values()
+            ));
         }
-        total_len(&[
-            WrittenBitmap::written_len(self.bitmap.as_bytes()),
-            self.flags.defined_len(),
-            ParamTypes(self.values).defined_len(),
-            self.sent_values().defined_len(),
-        ])
-    }
-
-    #[tactic(auto, using(mysql_wire::specs::Writing::lengths, crate::proofs::ParamLengths::where_known))]
-    fn append(&self, out: &mut Vec<u8>) {
-        if self.values.is_empty() {
-            return;
-        }
-        WrittenBitmap::append(self.bitmap.as_bytes(), out);
-        append_all!(out; self.flags, ParamTypes(self.values), self.sent_values());
     }
 }

@@ -1,26 +1,41 @@
 //! Laws over the grammars and the defined bytes of this crate's packets.
 //!
 //! Each law is a function with nothing in it, whose contract holds for all values.
+#![tactic(auto, using(mysql_wire::proofs::Packets::packets))]
 
 ghost use Rattle.std.specs.Prelude.{◌≡◌, ◌+◌, ◌<◌, ◌^◌, ◌++◌, ℕ, List, Ok, Option, length};
 ghost use Rattle.mysql_stmt.specs.Bitmap.{bytes_for};
 ghost use Rattle.mysql_stmt.specs.NullBitmap.{null_bitmap, borrowed};
 ghost use Rattle.mysql_stmt.specs.declared.stmt.StmtPacket.{StmtPacket};
-ghost use Rattle.mysql_stmt.specs.Stmt.{stmt, stmt_bytes, StmtFits};
+ghost use Rattle.mysql_stmt.specs.Stmt.{stmt};
+ghost use Rattle.mysql_stmt.specs.declared.close.ComStmtClose.{ComStmtClose};
+ghost use Rattle.mysql_stmt.specs.Close.{close};
+ghost use Rattle.mysql_stmt.specs.declared.long_data.ComStmtSendLongData.{ComStmtSendLongData};
+ghost use Rattle.mysql_stmt.specs.LongData.{long_data};
 ghost use Rattle.mysql_replies.specs.declared.column.Column.{Column};
 ghost use Rattle.mysql_values.specs.Value.{Content};
 ghost use Rattle.mysql_stmt.specs.RowForm.{text_row, bin_row};
 
 /// What is written of a statement packet is read again, whatever follows.
 pub fn stmt_packet_again()
-    ensures spelled { (p : StmtPacket) (rest : List ℕ) → StmtFits p → stmt.Spells p (stmt_bytes p ++ rest) rest }
-    ensures read { (p : StmtPacket) (rest : List ℕ) → StmtFits p → stmt.reads (stmt_bytes p ++ rest) ≡ Ok (p, rest) }
+    ensures spelled { (p : StmtPacket) (rest : List ℕ) → stmt.fits tt p rest → (stmt.form tt).Spells p (stmt.bytes p ++ rest) rest }
+    ensures read { (p : StmtPacket) (rest : List ℕ) → stmt.fits tt p rest → (stmt.form tt).reads (stmt.bytes p ++ rest) ≡ Ok (p, rest) }
 {}
 
 /// Bytes spell at most one statement packet, with one rest behind it.
 pub fn stmt_packet_once()
-    ensures value { (p q : StmtPacket) (bytes rest left : List ℕ) → stmt.Spells p bytes rest → stmt.Spells q bytes left → p ≡ q }
-    ensures rest { (p q : StmtPacket) (bytes rest left : List ℕ) → stmt.Spells p bytes rest → stmt.Spells q bytes left → rest ≡ left }
+    ensures value { (p q : StmtPacket) (bytes rest left : List ℕ) → (stmt.form tt).Spells p bytes rest → (stmt.form tt).Spells q bytes left → p ≡ q }
+    ensures rest { (p q : StmtPacket) (bytes rest left : List ℕ) → (stmt.form tt).Spells p bytes rest → (stmt.form tt).Spells q bytes left → rest ≡ left }
+{}
+
+/// What is written of the data of one parameter spells it, where nothing follows.
+pub fn long_data_again()
+    ensures spelled { (p : ComStmtSendLongData) (rest : List ℕ) → long_data.fits tt p rest → (long_data.form tt).Spells p (long_data.bytes p ++ rest) rest }
+{}
+
+/// What is written of the end of a statement spells it, whatever follows.
+pub fn close_again()
+    ensures spelled { (p : ComStmtClose) (rest : List ℕ) → close.fits tt p rest → (close.form tt).Spells p (close.bytes p ++ rest) rest }
 {}
 
 /// What is written of a bitmap of NULLs is read again for the count of its values, whatever follows.

@@ -1,11 +1,12 @@
 //! The data of one parameter, sent ahead of an execution.
+#![tactic(auto, using(mysql_wire::proofs::Packets::packets), unfolding(crate::specs::LongData::long_data))]
 
 ghost use Rattle.std.specs.Prelude.{◌≡◌, IfOk};
 ghost use Rattle.std.specs.Cow.{cow_slice_items};
-ghost use Rattle.mysql_stmt.specs.LongData.{long_data};
+ghost use Rattle.mysql_stmt.specs.LongData.{long_data_of};
 
 use mysql_wire::{
-    ConstFault, ConstU8, EofBytes, LeU16, LeU32, MySerialize, RawBytes, RawInt, append_all, len_of,
+    ConstFault, ConstU8, EofBytes, LeU16, LeU32, Parts, RawBytes, RawInt, Sink, parts,
 };
 use std::alloc::{AllocError, Global};
 use std::borrow::CowSlice;
@@ -45,7 +46,7 @@ pub struct ComStmtSendLongData<'a> {
 impl<'a> ComStmtSendLongData<'a> {
     /// These bytes, for that parameter of that statement.
     pub fn new(stmt_id: u32, param_index: u16, content: CowSlice<'a, u8>) -> Self
-        ensures value { result ≡ long_data stmt_id param_index (cow_slice_items content.entry) }
+        ensures value { result ≡ long_data_of stmt_id param_index (cow_slice_items content.entry) }
     {
         ComStmtSendLongData {
             header: ConstU8::new(),
@@ -70,17 +71,18 @@ impl<'a> ComStmtSendLongData<'a> {
     }
 }
 
-impl MySerialize for ComStmtSendLongData<'_> {
-    ghost use Rattle.mysql_stmt.specs.LongData.{long_data_bytes};
+impl Parts for ComStmtSendLongData<'_> {
+    ghost use Rattle.mysql_stmt.specs.LongData.{long_data};
 
-    ghost bytes = { long_data_bytes };
+    ghost bytes = { long_data.bytes };
 
-    #[tactic(auto, using(mysql_wire::specs::Writing::lengths), unfolding(mysql_wire::specs::Writing::le_bytes))]
-    fn defined_len(&self) -> usize {
-        len_of!(self.header, self.stmt_id, self.param_index, self.content)
-    }
-
-    fn append(&self, out: &mut Vec<u8>) {
-        append_all!(out; self.header, self.stmt_id, self.param_index, self.content);
+    #[inline(always)]
+    fn put<S: Sink>(&self, sink: &mut S) {
+        sink.part(&parts!(
+            self.header,
+            self.stmt_id,
+            self.param_index,
+            self.content
+        ));
     }
 }

@@ -5,7 +5,7 @@ ghost use Rattle.mysql_values.specs.Value.{content_of};
 
 use mysql_values::Value;
 use mysql_wire::{
-    ColumnType, Const, Flags, MySerialize, StmtExecuteParamFlags, append_all, len_of,
+    ColumnType, Const, Flags, MySerialize, Parts, Sink, StmtExecuteParamFlags, parts,
 };
 
 /// The type that a value is sent as, in two bytes: the code of a column type, and what holds of it.
@@ -34,19 +34,15 @@ impl ParamType {
     }
 }
 
-impl MySerialize for ParamType {
+impl Parts for ParamType {
     ghost use Rattle.mysql_stmt.specs.ParamType.{type_bytes};
 
     ghost bytes = { type_bytes };
 
-    #[tactic(auto, using(mysql_wire::specs::Writing::lengths), unfolding(mysql_wire::specs::Writing::le_bytes))]
-    fn defined_len(&self) -> usize {
-        len_of!(self.column_type, self.flags)
-    }
-
-    #[tactic(auto, using(mysql_wire::specs::Writing::lengths))]
-    fn append(&self, out: &mut Vec<u8>) {
-        append_all!(out; self.column_type, self.flags);
+    #[inline(always)]
+    #[tactic(auto, using(crate::proofs::ParamLengths::whole))]
+    fn put<S: Sink>(&self, sink: &mut S) {
+        sink.part(&parts!(self.column_type, self.flags));
     }
 }
 

@@ -1,10 +1,11 @@
 //! The answer to a prepared statement.
+#![tactic(auto, using(mysql_wire::proofs::Packets::packets), unfolding(crate::specs::Stmt::stmt))]
 
 ghost use Rattle.std.specs.Prelude.{false, ◌≡◌, Some, refl};
 
 use mysql_wire::{
-    ConstFault, ConstU8, FaultOf, Fixed, LeU16, LeU32, MyDeserialize, MySerialize, ParseBuf,
-    RawInt, Skip, append_all, len_of,
+    ConstFault, ConstU8, FaultOf, Fixed, LeU16, LeU32, MyDeserialize, ParseBuf, Parts, RawInt,
+    Sink, Skip, parts,
 };
 use thiserror::Error;
 
@@ -52,9 +53,8 @@ impl<'de> MyDeserialize<'de> for StmtPacket {
 
     ghost use Rattle.mysql_stmt.specs.Stmt.{stmt};
 
-    ghost form = { λ _. stmt };
+    ghost form = { stmt.form };
 
-    #[tactic(auto, using(mysql_wire::proofs::Blocks::blocks))]
     fn deserialize<'s>(_ctx: (), buf: &mut ParseBuf<'de>) -> Result<Self, FaultOf<'s>> {
         let mut fields: ParseBuf<'de> = buf.parse(12)?;
         Ok(StmtPacket {
@@ -67,9 +67,9 @@ impl<'de> MyDeserialize<'de> for StmtPacket {
         })
     }
 
-    ghost use Rattle.mysql_wire.specs.Form.{size-bytes};
+    ghost use Rattle.mysql_stmt.specs.Stmt.{size-stmt};
 
-    ghost size_is = { λ _. size-bytes 12 };
+    ghost size_is = { λ _. size-stmt };
 }
 
 impl StmtPacket {
@@ -104,27 +104,20 @@ impl StmtPacket {
     }
 }
 
-impl MySerialize for StmtPacket {
-    ghost use Rattle.mysql_stmt.specs.Stmt.{stmt_bytes};
+impl Parts for StmtPacket {
+    ghost use Rattle.mysql_stmt.specs.Stmt.{stmt};
 
-    ghost bytes = { stmt_bytes };
+    ghost bytes = { stmt.bytes };
 
-    #[tactic(auto, using(mysql_wire::specs::Writing::lengths), unfolding(mysql_wire::specs::Writing::le_bytes))]
-    fn defined_len(&self) -> usize {
-        len_of!(
+    #[inline(always)]
+    fn put<S: Sink>(&self, sink: &mut S) {
+        sink.part(&parts!(
             self.status,
             self.statement_id,
             self.num_columns,
             self.num_params,
             self.skipped,
             self.warning_count
-        )
-    }
-
-    fn append(&self, out: &mut Vec<u8>) {
-        append_all!(out;
-            self.status, self.statement_id, self.num_columns, self.num_params,
-            self.skipped, self.warning_count,
-        );
+        ));
     }
 }

@@ -1,5 +1,5 @@
 -- The codecs of the wire forms, and how a packet's codec is put together.
-use Rattle.std.specs.Prelude.{◌≡◌, ℕ, ◌+◌, ◌<◌, ◌≤◌, ◌^◌, List, [], ◌∷◌, length, replicate, take, Option, Some, Bool, true, refl}
+use Rattle.std.specs.Prelude.{◌≡◌, ℕ, ◌+◌, ◌<◌, ◌≤◌, ◌^◌, List, [], ◌∷◌, length, replicate, take, Option, Bool, refl}
 use Rattle.std.proofs.Common.{◌⊎◌}
 use Rattle.std.specs.List.{flat_map}
 use Rattle.std.proofs.lemmas.List.{length-replicate}
@@ -25,7 +25,6 @@ use Rattle.mysql_wire.specs.Many.{many}
 use Rattle.mysql_wire.specs.Optional.{optional_bytes}
 use Rattle.mysql_wire.specs.Bare as bare_form
 use Rattle.mysql_wire.specs.ConstBytes as const_form
-use Rattle.mysql_wire.specs.Codes.{with_code, are_bytes, code-again}
 use Rattle.mysql_wire.specs.ConstantValue as value_form
 use Rattle.mysql_wire.specs.CountedBytes.{u8_string, u8_string_bytes, u32_string, u32_string_bytes}
 use Rattle.mysql_wire.specs.declared.const_bytes.ConstBytes.{ConstBytes}
@@ -260,10 +259,11 @@ abbrev pub const_bytes : {C T : Type 0} (n : ℕ) (value : List ℕ) → Codec C
 const_bytes n value = leaf (const_form.const_bytes n value) (λ v. value) (λ v. n) (λ v. length value ≡ n)
     (λ v h. h) (λ v h. const_bytes-again n value v h)
 
--- a byte that stands for the value with that code
-abbrev pub coded : {C X U : Type 0} (code : X → ℕ) (xs : List X) → are_bytes code xs ≡ true → ((x : X) → with_code code xs (code x) ≡ Some x) → Codec C (Const X U)
-coded code xs small back = leaf (value_form.coded (with_code code xs) (form.number 1)) (λ v. le_bytes 1 (code v.0)) (λ v. 1) (λ v. Unit {0})
-    (λ v h. length-le_bytes 1 (code v.0)) (λ v h. code-again code xs small back v)
+-- a byte that is the code of a value
+abbrev pub coded : {C X U : Type 0} (code : X → ℕ) (of_code : ℕ → Option X)
+    → ((v : Const X U) → IsSpelling (value_form.coded of_code (form.number 1)) v (le_bytes 1 (code v.0))) → Codec C (Const X U)
+coded code of_code again = leaf (value_form.coded of_code (form.number 1)) (λ v. le_bytes 1 (code v.0)) (λ v. 1) (λ v. Unit {0})
+    (λ v h. length-le_bytes 1 (code v.0)) (λ v h. again v)
 
 -- a length-encoded number
 abbrev pub int_lenenc : {C : Type 0} → Codec C (RawInt LenEnc ℕ)
