@@ -19,6 +19,7 @@ expect() {
 
 expect 'HANDLES holds another line' cmp -s HANDLES <(printf 'Handles allowed: none.\n')
 expect 'a table of captured packets is stale' tools/captured_tables.py --check
+expect 'a page quotes other lines than the crate has' tools/quoted_lines.py
 
 printf '%d passed, %d failed\n' "$passed" "$failed"
 ((failed == 0))
