@@ -9,22 +9,22 @@ use Rattle.std.proofs.lemmas.List.{length-drop, nil_from_length}
 use Rattle.mysql_values.specs.Value.{Content}
 use Rattle.mysql_values.specs.ContentEq.{content_eq}
 use Rattle.mysql_wire.specs.contracts.codes.mariadb_bulk_indicator.MariadbBulkIndicatorPartialEq.TheImpl as indicator
-use Rattle.mysql_bulk.specs.ParamValue.{ParamValue, given, plain}
+use Rattle.mysql_bulk.specs.ParamValue.{ParamValue, with_indicator, contents}
 use Rattle.mysql_bulk.specs.ParamValueEq.{param_value_eq}
-use Rattle.mysql_bulk.specs.Flat.{rows_of}
-use Rattle.mysql_bulk.specs.Builder.{BuilderState, Keeps}
+use Rattle.mysql_bulk.specs.WaitingRows.{rows_of}
+use Rattle.mysql_bulk.specs.Builder.{BuilderState, IsStoredAs}
 use Rattle.mysql_bulk.specs.BuilderEq.{rows_eq}
-use Rattle.mysql_bulk.specs.declared.param_type.StmtBulkExecuteParamType.{StmtBulkExecuteParamType}
-use Rattle.mysql_bulk.proofs.FlatRows.{length-rows_of}
+use Rattle.mysql_values.specs.declared.param_type.ParamType.{ParamType}
+use Rattle.mysql_bulk.proofs.WaitingRows.{length-rows_of}
 
 abbrev value_eq : ParamValue → ParamValue → Bool
 value_eq = param_value_eq indicator.ghosts.eq
 
 -- values that are sent are equal where they hold the same
-given_eq : (a b : Content) → value_eq (given a) (given b) ≡ content_eq a b
+given_eq : (a b : Content) → value_eq (with_indicator a) (with_indicator b) ≡ content_eq a b
 given_eq a b = search rules
 
-all_given : (xs ys : List Content) → pointwise value_eq (map given xs) (map given ys) ≡ pointwise content_eq xs ys
+all_given : (xs ys : List Content) → pointwise value_eq (map with_indicator xs) (map with_indicator ys) ≡ pointwise content_eq xs ys
 all_given [] [] = refl
 all_given [] (y ∷ ys) = refl
 all_given (x ∷ xs) [] = refl
@@ -48,27 +48,27 @@ rows_flat a (suc n) xs ys p q =
     let others = rows_flat a n (drop a xs) (drop a ys) (omega (arith, p, more, length-drop a xs)) (omega (arith, q, more, length-drop a ys)) in
     ap (λ b. pointwise content_eq (take a xs) (take a ys) && b) others ∙ parts_eq content_eq a xs ys (omega (arith, p, more)) (omega (arith, q, more))
 
-module _ {s t : BuilderState} {n m size other : ℕ} {xs ys : List ParamValue} {types further : List StmtBulkExecuteParamType} (k : Keeps s n size xs types) (l : Keeps t m other ys further) (same : s.arity ≡ t.arity) where
-  as_given : pointwise value_eq xs ys ≡ pointwise content_eq (plain xs) (plain ys)
-  as_given = (λ i. pointwise value_eq (k.given_is i) (l.given_is i)) ∙ all_given (plain xs) (plain ys)
+module _ {s t : BuilderState} {n m size other : ℕ} {xs ys : List ParamValue} {types further : List ParamType} (k : IsStoredAs s n size xs types) (l : IsStoredAs t m other ys further) (same : s.arity ≡ t.arity) where
+  as_given : pointwise value_eq xs ys ≡ pointwise content_eq (contents xs) (contents ys)
+  as_given = (λ i. pointwise value_eq (k.indicators i) (l.indicators i)) ∙ all_given (contents xs) (contents ys)
 
   abbrev rows : List (List Content)
-  rows = rows_of (unwrap_or s.arity 0) n (plain xs)
+  rows = rows_of (unwrap_or s.arity 0) n (contents xs)
 
-  others : t.waiting ≡ rows_of (unwrap_or s.arity 0) m (plain ys)
-  others = l.rows_is ∙ ap (λ a. rows_of (unwrap_or a 0) m (plain ys)) (sym same)
+  others : t.waiting ≡ rows_of (unwrap_or s.arity 0) m (contents ys)
+  others = l.rows_is ∙ ap (λ a. rows_of (unwrap_or a 0) m (contents ys)) (sym same)
 
-  both : rows_eq s.waiting t.waiting ≡ rows_eq rows (rows_of (unwrap_or s.arity 0) m (plain ys))
+  both : rows_eq s.waiting t.waiting ≡ rows_eq rows (rows_of (unwrap_or s.arity 0) m (contents ys))
   both = λ i. rows_eq (k.rows_is i) (others i)
 
-  as_many : n ≡ m → rows_eq rows (rows_of (unwrap_or s.arity 0) m (plain ys)) ≡ pointwise content_eq (plain xs) (plain ys)
+  as_many : n ≡ m → rows_eq rows (rows_of (unwrap_or s.arity 0) m (contents ys)) ≡ pointwise content_eq (contents xs) (contents ys)
   as_many e =
-      let long : length (plain ys) ≡ n * unwrap_or s.arity 0 = l.flat.lengths ∙ (λ i. sym e i * unwrap_or (sym same i) 0) in
-      ap (λ c. rows_eq rows (rows_of (unwrap_or s.arity 0) c (plain ys))) (sym e) ∙ rows_flat (unwrap_or s.arity 0) n (plain xs) (plain ys) k.flat.lengths long
+      let long : length (contents ys) ≡ n * unwrap_or s.arity 0 = l.flat.lengths ∙ (λ i. sym e i * unwrap_or (sym same i) 0) in
+      ap (λ c. rows_eq rows (rows_of (unwrap_or s.arity 0) c (contents ys))) (sym e) ∙ rows_flat (unwrap_or s.arity 0) n (contents xs) (contents ys) k.flat.lengths long
 
-  not_as_many : n ≢ m → rows_eq rows (rows_of (unwrap_or s.arity 0) m (plain ys)) ≡ false
+  not_as_many : n ≢ m → rows_eq rows (rows_of (unwrap_or s.arity 0) m (contents ys)) ≡ false
   not_as_many d =
-      unequal (pointwise content_eq) rows (rows_of (unwrap_or s.arity 0) m (plain ys)) (λ e. d (sym (length-rows_of (unwrap_or s.arity 0) n (plain xs)) ∙ e ∙ length-rows_of (unwrap_or s.arity 0) m (plain ys)))
+      unequal (pointwise content_eq) rows (rows_of (unwrap_or s.arity 0) m (contents ys)) (λ e. d (sym (length-rows_of (unwrap_or s.arity 0) n (contents xs)) ∙ e ∙ length-rows_of (unwrap_or s.arity 0) m (contents ys)))
 
   pub same_count : n ≡ m → pointwise value_eq xs ys ≡ rows_eq s.waiting t.waiting
   same_count e = as_given ∙ sym (both ∙ as_many e)

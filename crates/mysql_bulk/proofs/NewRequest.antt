@@ -2,49 +2,49 @@
 use Rattle.std.proofs.Common.{◌≡◌, ◌≢◌, ◌⊎◌, inl, inr, ℕ, Bool, true, false, if◌then◌else◌, List, [], ◌∷◌, ◌++◌, length, map, refl, sym, ◌∙◌, ap, subst, append_assoc}
 use Rattle.std.proofs.lemmas.List.{map-append}
 use Rattle.std.specs.Prelude.{fold}
-use Rattle.mysql_cuts.specs.Cut.{joined}
+use Rattle.mysql_cuts.specs.Cut.{rows_in}
 use Rattle.mysql_values.specs.Value.{Content}
-use Rattle.mysql_bulk.specs.declared.param_type.StmtBulkExecuteParamType.{StmtBulkExecuteParamType}
-use Rattle.mysql_bulk.specs.ParamType.{declared_types, joined_types}
-use Rattle.mysql_bulk.specs.ParamValue.{ParamValue, given}
+use Rattle.mysql_values.specs.declared.param_type.ParamType.{ParamType}
+use Rattle.mysql_bulk.specs.DeclaredTypes.{declared_types, types_with_row}
+use Rattle.mysql_bulk.specs.ParamValue.{ParamValue, with_indicator}
 use Rattle.std.specs.Global.{Vec}
 use Rattle.mysql_values.specs.declared.value.Value.{Value}
-use Rattle.mysql_bulk.specs.Builder.{values_of}
-use Rattle.mysql_bulk.specs.NewRequest.{OneLength}
-use Rattle.mysql_bulk.specs.Flat.{EqualLengths}
-use Rattle.mysql_bulk.proofs.ParamTypes.{length-types, length-first, types_all}
-use Rattle.mysql_bulk.proofs.Kept.{if_same}
+use Rattle.mysql_bulk.specs.Row.{contents_of_rows}
+use Rattle.mysql_bulk.specs.Row.{OneLength}
+use Rattle.mysql_bulk.specs.Row.{EqualLengths}
+use Rattle.mysql_bulk.proofs.DeclaredTypes.{length-types, length-first, types_all}
+use Rattle.mysql_bulk.proofs.BuilderSteps.{if_same}
 
 -- the types after one more row
-pub next_types : (sent : Bool) (types more : List StmtBulkExecuteParamType) (row : List Content) (rest : List (List Content)) (all : List StmtBulkExecuteParamType) → more ≡ (if sent then joined_types types row else types)
-    → (if sent then fold joined_types types (row ∷ rest) else types) ≡ all → (if sent then fold joined_types more rest else more) ≡ all
-next_types true types more row rest all e h = ap (λ (t : List StmtBulkExecuteParamType). fold joined_types t rest) e ∙ h
+pub next_types : (sent : Bool) (types more : List ParamType) (row : List Content) (rest : List (List Content)) (all : List ParamType) → more ≡ (if sent then types_with_row types row else types)
+    → (if sent then fold types_with_row types (row ∷ rest) else types) ≡ all → (if sent then fold types_with_row more rest else more) ≡ all
+next_types true types more row rest all e h = ap (λ (t : List ParamType). fold types_with_row t rest) e ∙ h
 next_types false types more row rest all e h = e ∙ h
 
-pub next_before : (sent : Bool) (a : ℕ) (types more : List StmtBulkExecuteParamType) (row : List Content) → more ≡ (if sent then joined_types types row else types) → length row ≡ a
+pub next_before : (sent : Bool) (a : ℕ) (types more : List ParamType) (row : List Content) → more ≡ (if sent then types_with_row types row else types) → length row ≡ a
     → (sent ≡ true → (length types ≡ a) ⊎ (types ≡ [])) → sent ≡ true → (length more ≡ a) ⊎ (more ≡ [])
 next_before false a types more row e r b s = let f : false ≡ true = s in cc
 next_before true a types more row e r b s = elim (b refl) [
   | inl same ↦ inl (ap length e ∙ length-types a types row same r)
-  | inr none ↦ inl (ap length e ∙ ap (λ (t : List StmtBulkExecuteParamType). length (joined_types t row)) none ∙ length-first row ∙ r)
+  | inr none ↦ inl (ap length e ∙ ap (λ (t : List ParamType). length (types_with_row t row)) none ∙ length-first row ∙ r)
 ]
 
 -- the values after one more row
-pub next_values : (values more : List ParamValue) (row : List Content) (rest : List (List Content)) (all : List ParamValue) → more ≡ values ++ map given row
-    → values ++ map given (joined (row ∷ rest)) ≡ all → more ++ map given (joined rest) ≡ all
+pub next_values : (values more : List ParamValue) (row : List Content) (rest : List (List Content)) (all : List ParamValue) → more ≡ values ++ map with_indicator row
+    → values ++ map with_indicator (rows_in (row ∷ rest)) ≡ all → more ++ map with_indicator (rows_in rest) ≡ all
 next_values values more row rest all e h =
-    ap (λ (l : List ParamValue). l ++ map given (joined rest)) e
-    ∙ append_assoc values (map given row) (map given (joined rest))
-    ∙ ap (λ (l : List ParamValue). values ++ l) (sym (map-append given row (joined rest)))
+    ap (λ (l : List ParamValue). l ++ map with_indicator (rows_in rest)) e
+    ∙ append_assoc values (map with_indicator row) (map with_indicator (rows_in rest))
+    ∙ ap (λ (l : List ParamValue). values ++ l) (sym (map-append with_indicator row (rows_in rest)))
     ∙ h
 
 -- the types of all rows are the declared ones
 pub all_types : (sent flag : Bool) (a : ℕ) (rows : List (List Content)) → sent ≡ flag → rows ≢ [] → EqualLengths a rows
-    → (if sent then fold joined_types [] rows else []) ≡ (if flag then declared_types rows else [])
+    → (if sent then fold types_with_row [] rows else []) ≡ (if flag then declared_types rows else [])
 all_types sent flag a rows e n r =
-    ap (λ (b : Bool). if b then fold joined_types [] rows else []) e ∙ if_same flag (fold joined_types [] rows) (declared_types rows) [] (types_all a rows n r)
+    ap (λ (b : Bool). if b then fold types_with_row [] rows else []) e ∙ if_same flag (fold types_with_row [] rows) (declared_types rows) [] (types_all a rows n r)
 
-pub some_rows : (rows : List (Vec Value)) → rows ≢ [] → values_of rows ≢ []
+pub some_rows : (rows : List (Vec Value)) → rows ≢ [] → contents_of_rows rows ≢ []
 some_rows [] n = absurd (n refl)
 some_rows (row ∷ rows) n = λ e. cc
 

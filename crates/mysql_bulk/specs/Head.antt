@@ -1,41 +1,56 @@
 -- What stands before the values of a bulk request.
-use Rattle.std.specs.Prelude.{ℕ, Bool, if◌then◌else◌, List, [], map}
-use Rattle.mysql_wire.specs.declared.constant.ConstU8.{ConstU8}
-use Rattle.mysql_wire.specs.Flags.{has}
-use Rattle.mysql_wire.specs.Form.{Form, ◌>>=◌, give, either}
-use Rattle.mysql_wire.specs.Int.{le_u16, le_u32}
-use Rattle.mysql_wire.specs.Constant.{const_byte}
+use Rattle.std.specs.Prelude.{◌≡◌, ℕ, ◌*◌, ◌<◌, ◌^◌, Bool, true, false, if◌then◌else◌, List, [], length, map, refl}
+use Rattle.std.specs.List.{All, flat_map}
+use Rattle.mysql_wire.specs.declared.little_endian.LeU16.{LeU16}
+use Rattle.mysql_wire.specs.Flags.{StmtBulkExecuteFlags, has}
+use Rattle.mysql_wire.specs.Form as form
+use Rattle.mysql_wire.specs.Form.{Form}
 use Rattle.mysql_wire.specs.Seq.{seq}
+use Rattle.mysql_wire.specs.Codec.{Codec, Fields}
+use Rattle.mysql_wire.specs.Codecs.{◌>>=◌, give, field, packet, const_u8, u32, flags}
+use Rattle.mysql_values.specs.declared.param_type.ParamType.{ParamType}
+use Rattle.mysql_values.specs.ParamType.{param_type, typed}
 use Rattle.mysql_bulk.specs.declared.head.InvalidComStmtBulkExecuteHeader.{InvalidComStmtBulkExecuteHeader}
-use Rattle.mysql_bulk.specs.declared.param_type.StmtBulkExecuteParamType.{StmtBulkExecuteParamType}
-use Rattle.mysql_bulk.specs.ParamType.{param_type}
+use Rattle.mysql_bulk.specs.ParamTypes.{TypesFor, types_block, types_bytes, types-again}
 use Rattle.mysql_bulk.specs.ParamValues.{BulkColumn}
 
 pub record BulkHead : Type 0 where
   pub stmt_id : ℕ
-  pub bulk_flags : ℕ
-  pub types : List StmtBulkExecuteParamType
+  pub bulk_flags : StmtBulkExecuteFlags
+  -- a type for each column, if they are sent
+  pub types : List ParamType
 
-abbrev pub header : Form (ConstU8 InvalidComStmtBulkExecuteHeader 0xfa)
-header = const_byte 0xfa
+-- types are sent with these flags
+abbrev pub sends_types : StmtBulkExecuteFlags → Bool
+sends_types flags = has flags.0 128
 
--- so many types, where they are sent
-abbrev pub types_sent : Bool → ℕ → Form (List StmtBulkExecuteParamType)
-types_sent sent count = either sent (seq (give count) param_type) (give [])
+-- the types of so many columns, where they are sent
+abbrev pub column_types : Bool → Codec ℕ (List ParamType)
+column_types sent = record {
+  form = λ count. types_block sent count;
+  bytes = types_bytes;
+  len = λ types. length (types_bytes types);
+  fits = λ count types rest. TypesFor sent count types;
+  exact = λ count types rest h. refl;
+  again = types-again sent;
+}
 
--- fa, the statement's number, the flags, and with the flag 128 so many types
-abbrev pub head : ℕ → Form BulkHead
-head count = do
-  first ← header
-  stmt_id ← le_u32
-  bulk_flags ← le_u16
-  types ← types_sent (has bulk_flags.0 128) count
+abbrev pub head_fields : Fields ℕ BulkHead BulkHead
+head_fields = do
+  header ← field (λ h. record { 0 = record {} }) (const_u8 {T = InvalidComStmtBulkExecuteHeader} 0xfa)
+  stmt_id ← field (λ h. record { 0 = h.stmt_id; 1 = record {} }) u32
+  bulk_flags ← field (λ h. record { 0 = h.bulk_flags; 1 = record {} }) (flags {U = LeU16} 2)
+  types ← field (λ h. h.types) (column_types (sends_types bulk_flags.0))
   give (record { stmt_id = stmt_id.0; bulk_flags = bulk_flags.0; types = types })
 
--- the column that a type tells of: it has no flag but the one for unsigned numbers
-abbrev pub column_of : StmtBulkExecuteParamType → BulkColumn
-column_of t = (t.column_type, record { 0 = if has t.flags 128 then 32 else 0; 1 = record {} })
+-- fa, the statement's number, the flags, and with SEND_TYPES_TO_SERVER the type of each column; the reader is told how many there are
+unfoldable pub head : Codec ℕ BulkHead
+head = packet head_fields (λ h. refl)
 
--- the columns: those that the types tell of where they are sent, else those handed in
-abbrev pub told : List BulkColumn → BulkHead → List BulkColumn
-told columns h = if has h.bulk_flags 128 then map column_of h.types else columns
+-- the column that a type tells of: it has no flag but the one for unsigned numbers
+abbrev pub column_of_type : ParamType → BulkColumn
+column_of_type t = (t.column_type, record { 0 = if has t.flags.0 128 then 32 else 0; 1 = record {} })
+
+-- the columns of the values: those that the types tell of where they are sent, else those handed in
+abbrev pub value_columns : List BulkColumn → BulkHead → List BulkColumn
+value_columns columns h = if sends_types h.bulk_flags then map column_of_type h.types else columns

@@ -1,5 +1,5 @@
--- Values in bulk requests, and their sizes.
-use Rattle.std.specs.Prelude.{ℕ, ◌+◌, ◌++◌, Bool, true, false, List, map, sum_by}
+-- Values in bulk requests.
+use Rattle.std.specs.Prelude.{ℕ, ◌++◌, Bool, true, false, List, map}
 use Rattle.std.specs.List.{flat_map}
 use Rattle.mysql_wire.specs.declared.codes.column_type.ColumnType.{ColumnType}
 use Rattle.mysql_wire.specs.declared.codes.mariadb_bulk_indicator.MariadbBulkIndicator.{MariadbBulkIndicator}
@@ -7,8 +7,7 @@ use Rattle.mysql_wire.specs.declared.codes.mariadb_bulk_indicator.MariadbBulkInd
 use Rattle.mysql_wire.specs.MariadbBulkIndicator.{mariadb_bulk_indicator, mariadb_bulk_indicator_code}
 use Rattle.mysql_wire.specs.Writing.{le_bytes}
 use Rattle.mysql_wire.specs.Form.{Form, ◌>>=◌, give, either}
-use Rattle.mysql_values.specs.declared.value.Value.{Value}
-use Rattle.mysql_values.specs.Value.{Content, NULL, bin, bin_size, size_of}
+use Rattle.mysql_values.specs.Value.{Content, NULL, bin}
 use Rattle.mysql_values.specs.ValueDeserializer.{bin_value}
 
 -- a value as it is sent
@@ -16,41 +15,30 @@ pub record ParamValue : Type 0 where
   pub indicator : MariadbBulkIndicator
   pub content : Content
 
--- what a value is sent with
+-- how a value is given: NULL needs no value behind its indicator
 abbrev pub indicator_of : Content → MariadbBulkIndicator
 indicator_of NULL = BULK_INDICATOR_NULL
 indicator_of _ = BULK_INDICATOR_NONE
 
-abbrev pub given : Content → ParamValue
-given value = record { indicator = indicator_of value; content = value }
+abbrev pub with_indicator : Content → ParamValue
+with_indicator value = record { indicator = indicator_of value; content = value }
 
--- the values alone
-abbrev pub plain : List ParamValue → List Content
-plain values = map (λ v. v.content) values
-
--- the bytes of a value in a request: its indicator, and its own
-abbrev pub param_size : Content → ℕ
-param_size value = 1 + bin_size value
-
--- the bytes of a row in a request: of each value one, and its own
-abbrev pub row_size : List Content → ℕ
-row_size row = sum_by param_size row
-
-abbrev pub values_size : List Value → ℕ
-values_size row = sum_by (λ value. 1 + size_of value) row
+-- the values without their indicators
+abbrev pub contents : List ParamValue → List Content
+contents values = map (λ v. v.content) values
 
 -- ---- in the bytes
 
--- a value follows the indicator
-abbrev pub follows : MariadbBulkIndicator → Bool
-follows BULK_INDICATOR_NONE = true
-follows _ = false
+-- a value stands behind the indicator
+abbrev pub value_follows : MariadbBulkIndicator → Bool
+value_follows BULK_INDICATOR_NONE = true
+value_follows _ = false
 
--- the indicator, and where a value follows, that of the column's type
+-- the indicator, and where a value stands behind it, that of the column's type
 abbrev pub param_value : ColumnType → Bool → Form ParamValue
 param_value column is_unsigned = do
   indicator ← mariadb_bulk_indicator
-  content ← either (follows indicator.0) (bin_value column is_unsigned) (give NULL)
+  content ← either (value_follows indicator.0) (bin_value column is_unsigned) (give NULL)
   give (record { indicator = indicator.0; content = content })
 
 -- the indicator's byte, and the value's binary form

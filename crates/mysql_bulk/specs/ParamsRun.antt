@@ -10,8 +10,9 @@ use Rattle.mysql_bulk.specs.declared.error.BulkExecuteRequestBuilderError.{BulkE
 use Rattle.mysql_bulk.specs.declared.error.BulkExecuteRequestBuilderError.TheVariants as refused
 use Rattle.mysql_bulk.specs.declared.params_run.BulkParamsRequests.{BulkParamsRequests}
 use Rattle.mysql_bulk.specs.Request.{BulkRequest}
-use Rattle.mysql_bulk.specs.Builder.{BuilderState, row_of, values_of}
-use Rattle.mysql_bulk.specs.Run.{Accepts, Comes, Fills, RunState, NextRequest}
+use Rattle.mysql_bulk.specs.Builder.{BuilderState}
+use Rattle.mysql_bulk.specs.Row.{contents_of_row, contents_of_rows}
+use Rattle.mysql_bulk.specs.Run.{Accepts, NextRow, AcceptsUntilFull, RunState, NextRequest}
 
 -- the names of the parameters of a statement, if it has any
 abbrev pub Names : Type 0
@@ -19,39 +20,40 @@ Names = Option (List (Vec ℕ))
 
 module _ {S : Type 0} (steps : S → Option Params → S → Type 0) (names : Names) where
   -- a call of the input gives parameters, whose values are the row, or its end
-  abbrev pub GivesRow : S → Option (Vec Value) → S → Type 0
-  GivesRow s None t = steps s None t
-  GivesRow s (Some row) t = (params : Params) × steps s (Some params) t × (given_by.values_of params names ≡ Ok (row_of row))
+  abbrev pub GivesRowOfParams : S → Option (Vec Value) → S → Type 0
+  GivesRowOfParams s None t = steps s None t
+  GivesRowOfParams s (Some row) t = (params : Params) × steps s (Some params) t × (given_by.values_of params names ≡ Ok (contents_of_row row))
 
   -- rows to come were accepted, so that t holds them, up to parameters that give none
-  pub record NoRow (s : BuilderState) (carried : Option (Vec Value)) (rows : S) (e : ParamsError) (t : BuilderState) (left : S) : Type 0 where
+  pub record StopsAtParams (s : BuilderState) (carried : Option (Vec Value)) (rows : S) (e : ParamsError) (t : BuilderState) (left : S) : Type 0 where
     pub taken : List (Vec Value)
     -- the input, before it gives those parameters
     pub before : S
-    pub came : Yields (Comes GivesRow) (carried, rows) taken (None, before)
+    pub came : Yields (NextRow GivesRowOfParams) (carried, rows) taken (None, before)
     pub params : Params
     pub given : steps before (Some params) left
     pub refused : given_by.Refuses params names e
-    pub accepts : Accepts s (values_of taken) t
+    pub accepts : Accepts s (contents_of_rows taken) t
 
   -- rows to come are accepted up to one that does not fit with those that wait, or to the end, or to one that is refused, or to parameters that give none
-  abbrev pub FillsParams : BuilderState → Option (Vec Value) → S → Result (Option (Vec Value)) BulkExecuteRequestBuilderError → BuilderState → S → Type 0
-  FillsParams s carried rows (Ok last) t left = Fills GivesRow s carried rows (Ok last) t left
-  FillsParams s carried rows (Err (refused.Request e)) t left = Fills GivesRow s carried rows (Err e) t left
-  FillsParams s carried rows (Err (refused.Params e)) t left = NoRow s carried rows e t left
+  abbrev pub AcceptsParamsUntilFull : BuilderState → Option (Vec Value) → S → Result (Option (Vec Value)) BulkExecuteRequestBuilderError → BuilderState → S → Type 0
+  AcceptsParamsUntilFull s carried rows (Ok last) t left = AcceptsUntilFull GivesRowOfParams s carried rows (Ok last) t left
+  AcceptsParamsUntilFull s carried rows (Err (refused.Request e)) t left = AcceptsUntilFull GivesRowOfParams s carried rows (Err e) t left
+  AcceptsParamsUntilFull s carried rows (Err (refused.Params e)) t left = StopsAtParams s carried rows e t left
 
   -- rows to come were accepted, up to parameters that give none
   pub record RefusesParams (s : RunState S) (e : ParamsError) (t : RunState S) : Type 0 where
     pub going : s.ended ≡ false
-    pub no_row : NoRow s.builder s.carried s.rows e t.builder t.rows
+    pub no_row : StopsAtParams s.builder s.carried s.rows e t.builder t.rows
     pub carried : t.carried ≡ None
+    pub ended : t.ended ≡ true
 
   -- what a call for the next request leads to: what it does over the rows, unless parameters give none
-  abbrev pub NextOfParams : RunState S → Option (Result BulkRequest BulkExecuteRequestBuilderError) → RunState S → Type 0
-  NextOfParams s None t = NextRequest GivesRow s None t
-  NextOfParams s (Some (Ok request)) t = NextRequest GivesRow s (Some (Ok request)) t
-  NextOfParams s (Some (Err (refused.Request e))) t = NextRequest GivesRow s (Some (Err (refused.Request e))) t
-  NextOfParams s (Some (Err (refused.Params e))) t = RefusesParams s e t × (t.ended ≡ true)
+  abbrev pub NextRequestOfParams : RunState S → Option (Result BulkRequest BulkExecuteRequestBuilderError) → RunState S → Type 0
+  NextRequestOfParams s None t = NextRequest GivesRowOfParams s None t
+  NextRequestOfParams s (Some (Ok request)) t = NextRequest GivesRowOfParams s (Some (Ok request)) t
+  NextRequestOfParams s (Some (Err (refused.Request e))) t = NextRequest GivesRowOfParams s (Some (Err (refused.Request e))) t
+  NextRequestOfParams s (Some (Err (refused.Params e))) t = RefusesParams s e t
 
 -- ---- what a run over an input with states I is in the midst of
 

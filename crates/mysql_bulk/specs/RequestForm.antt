@@ -3,7 +3,7 @@ use Rattle.std.specs.Prelude.{List, length}
 use Rattle.mysql_wire.specs.Form.{Form, ◌>>=◌, give}
 use Rattle.mysql_bulk.specs.ParamValue.{ParamValue}
 use Rattle.mysql_bulk.specs.ParamValues.{BulkColumn, values_of_columns}
-use Rattle.mysql_bulk.specs.Head.{BulkHead, head, told}
+use Rattle.mysql_bulk.specs.Head.{BulkHead, head, value_columns}
 use Rattle.mysql_bulk.specs.Request.{BulkRequest}
 
 -- the request of a head and its values
@@ -13,6 +13,6 @@ with_head h values = record { stmt_id = h.stmt_id; bulk_flags = h.bulk_flags; ty
 -- the head, and one row of values
 abbrev pub bulk_request : List BulkColumn → Form BulkRequest
 bulk_request columns = do
-  h ← head (length columns)
-  values ← values_of_columns (told columns h)
+  h ← head.form (length columns)
+  values ← values_of_columns (value_columns columns h)
   give (with_head h values)

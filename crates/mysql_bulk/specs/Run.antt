@@ -5,35 +5,34 @@ use Rattle.std.specs.Iterator.{YieldsThen, Count, count_unless, count_map}
 use Rattle.mysql_values.specs.declared.value.Value.{Value}
 use Rattle.mysql_values.specs.Value.{Content}
 use Rattle.mysql_bulk.specs.declared.error.BulkExecuteRequestError.{BulkExecuteRequestError}
-use Rattle.mysql_bulk.specs.declared.error.BulkExecuteRequestError.TheVariants.{Memory}
 use Rattle.mysql_bulk.specs.declared.error.BulkExecuteRequestBuilderError.{BulkExecuteRequestBuilderError}
 use Rattle.mysql_bulk.specs.declared.error.BulkExecuteRequestBuilderError.TheVariants.{Request, Params}
 use Rattle.mysql_bulk.specs.declared.run.BulkRequests.{BulkRequests}
+use Rattle.mysql_bulk.specs.Builder.{BuilderState, TakesArity, RowFits, after_row, Adds, BuildsRequest}
 use Rattle.mysql_bulk.specs.Request.{BulkRequest}
-use Rattle.mysql_bulk.specs.Builder.{row_of, BuilderState, values_of}
-use Rattle.mysql_bulk.specs.Builder.{TakesArity, RowFits, accepted, Adds, Builds}
+use Rattle.mysql_bulk.specs.Row.{contents_of_row, contents_of_rows}
 
 -- the rows are accepted one after another
 abbrev pub Accepts : BuilderState → List (List Content) → BuilderState → Type 0
 Accepts s [] t = t ≡ s
-Accepts s (row ∷ rows) t = TakesArity s.arity (length row) × RowFits s row × Accepts (accepted s row) rows t
+Accepts s (row ∷ rows) t = TakesArity s.arity (length row) × RowFits s row × Accepts (after_row s row) rows t
 
 module _ {S : Type 0} (steps : S → Option (Vec Value) → S → Type 0) where
   -- the next row to come: the carried one, if there is one, else what a call of the input gives
-  abbrev pub ComesAfter : Option (Vec Value) → S → Option (Vec Value) → Option (Vec Value) × S → Type 0
-  ComesAfter None s r t = (t.0 ≡ None) × steps s r t.1
-  ComesAfter (Some row) s None t = ⊥
-  ComesAfter (Some row) s (Some x) t = (x ≡ row) × (t.0 ≡ None) × (t.1 ≡ s)
+  abbrev pub NextRowAfter : Option (Vec Value) → S → Option (Vec Value) → Option (Vec Value) × S → Type 0
+  NextRowAfter None s r t = (t.0 ≡ None) × steps s r t.1
+  NextRowAfter (Some row) s None t = ⊥
+  NextRowAfter (Some row) s (Some x) t = (x ≡ row) × (t.0 ≡ None) × (t.1 ≡ s)
 
-  abbrev pub Comes : Option (Vec Value) × S → Option (Vec Value) → Option (Vec Value) × S → Type 0
-  Comes s r t = ComesAfter s.0 s.1 r t
+  abbrev pub NextRow : Option (Vec Value) × S → Option (Vec Value) → Option (Vec Value) × S → Type 0
+  NextRow s r t = NextRowAfter s.0 s.1 r t
 
   -- rows to come are accepted up to one that does not fit with those that wait, or to the end, or to one that is refused
-  abbrev pub Fills : BuilderState → Option (Vec Value) → S → Result (Option (Vec Value)) BulkExecuteRequestError → BuilderState → S → Type 0
-  Fills s carried rows (Ok last) t left =
-      (taken : List (Vec Value)) × YieldsThen Comes (carried, rows) taken last (None, left) × Accepts s (values_of taken) t × IfSome last (λ row. Adds t row (Ok (Some row)) t)
-  Fills s carried rows (Err e) t left =
-      (taken : List (Vec Value)) × (row : Vec Value) × YieldsThen Comes (carried, rows) taken (Some row) (None, left) × Accepts s (values_of taken) t × Adds t row (Err e) t
+  abbrev pub AcceptsUntilFull : BuilderState → Option (Vec Value) → S → Result (Option (Vec Value)) BulkExecuteRequestError → BuilderState → S → Type 0
+  AcceptsUntilFull s carried rows (Ok last) t left =
+      (taken : List (Vec Value)) × YieldsThen NextRow (carried, rows) taken last (None, left) × Accepts s (contents_of_rows taken) t × IfSome last (λ row. Adds t row (Ok (Some row)) t)
+  AcceptsUntilFull s carried rows (Err e) t left =
+      (taken : List (Vec Value)) × (row : Vec Value) × YieldsThen NextRow (carried, rows) taken (Some row) (None, left) × Accepts s (contents_of_rows taken) t × Adds t row (Err e) t
 
 -- what a run over an input with states S is in the midst of
 pub record RunState (S : Type 0) : Type 0 where
@@ -60,49 +59,47 @@ state_of run = record { builder = run.builder.now; carried = run.carried; rows =
 
 module _ {S : Type 0} (steps : S → Option (Vec Value) → S → Type 0) where
   -- rows to come were accepted, so that m holds them, up to one that does not fit with those that wait and is carried now, or up to the end of the input
-  pub record Filled (s : RunState S) (m : BuilderState) (t : RunState S) : Type 0 where
+  pub record AcceptedUntilFull (s : RunState S) (m : BuilderState) (t : RunState S) : Type 0 where
     pub going : s.ended ≡ false
     pub taken : List (Vec Value)
-    pub came : YieldsThen (Comes steps) (s.carried, s.rows) taken t.carried (None, t.rows)
-    pub accepts : Accepts s.builder (values_of taken) m
-    pub full : IfSome t.carried (λ row. TakesArity m.arity (length (row_of row)) × (RowFits m (row_of row) → ⊥))
+    pub came : YieldsThen (NextRow steps) (s.carried, s.rows) taken t.carried (None, t.rows)
+    pub accepts : Accepts s.builder (contents_of_rows taken) m
+    pub full : IfSome t.carried (λ row. TakesArity m.arity (length (contents_of_row row)) × (RowFits m (contents_of_row row) → ⊥))
 
   -- rows to come were accepted, up to one that was refused
   pub record RefusesRow (s : RunState S) (e : BulkExecuteRequestError) (t : RunState S) : Type 0 where
     pub going : s.ended ≡ false
     pub taken : List (Vec Value)
     pub row : Vec Value
-    pub came : YieldsThen (Comes steps) (s.carried, s.rows) taken (Some row) (None, t.rows)
-    pub accepts : Accepts s.builder (values_of taken) t.builder
+    pub came : YieldsThen (NextRow steps) (s.carried, s.rows) taken (Some row) (None, t.rows)
+    pub accepts : Accepts s.builder (contents_of_rows taken) t.builder
     pub refused : Adds t.builder row (Err e) t.builder
     pub carried : t.carried ≡ None
+    pub ended : t.ended ≡ true
 
-  -- the run has ended before, or ends now without a request
+  -- the input ends now, and no row waits for a request
   pub record EndsEmpty (s t : RunState S) : Type 0 where
-    pub filled : Filled s t.builder t
+    pub accepted : AcceptedUntilFull s t.builder t
     pub carried : t.carried ≡ None
     pub waiting : t.builder.waiting ≡ []
+    pub ended : t.ended ≡ true
+
+  -- rows to come were accepted, and then the request of those that waited was built
+  pub record SendsRequest (s : RunState S) (request : BulkRequest) (t : RunState S) : Type 0 where
+    -- the builder, before it built the request
+    pub full : BuilderState
+    pub accepted : AcceptedUntilFull s full t
+    pub builds : BuildsRequest full request t.builder
+    -- where no row is carried, the input has ended
+    pub ended : t.ended ≡ is_none t.carried
 
   -- what a call for the next request leads to
   abbrev pub NextRequest : RunState S → Option (Result BulkRequest BulkExecuteRequestBuilderError) → RunState S → Type 0
-  NextRequest s None t = ((s.ended ≡ true) × (t ≡ s)) ⊎ (EndsEmpty s t × (t.ended ≡ true))
-  NextRequest s (Some (Ok request)) t = (m : BuilderState) × Filled s m t × Builds m (Ok request) t.builder × (t.ended ≡ is_none t.carried)
+  NextRequest s None t = ((s.ended ≡ true) × (t ≡ s)) ⊎ EndsEmpty s t
+  NextRequest s (Some (Ok request)) t = SendsRequest s request t
+  NextRequest s (Some (Err (Request e))) t = RefusesRow s e t
   NextRequest s (Some (Err (Params e))) t = ⊥
-  NextRequest s (Some (Err (Request e))) t = (RefusesRow s e t ⊎ (Filled s t.builder t × (t.builder.waiting ≢ []) × (e ≡ Memory))) × (t.ended ≡ true)
-
--- the waiting rows are asked for as a request, in a run that has ended or not
-abbrev pub AsksWaiting : BuilderState → Bool → Option (Result BulkRequest BulkExecuteRequestBuilderError) → BuilderState → Bool → Type 0
-AsksWaiting s ended None t done = (s.waiting ≡ []) × (t ≡ s) × (done ≡ ended)
-AsksWaiting s ended (Some (Ok request)) t done = Builds s (Ok request) t × (done ≡ ended)
-AsksWaiting s ended (Some (Err (Request e))) t done = (s.waiting ≢ []) × Builds s (Err e) t × (done ≡ true)
-AsksWaiting s ended (Some (Err (Params e))) t done = ⊥
 
 -- how many results are left at most, of an input that has `left` rows at most
 abbrev pub results_left : {S : Type 0} → (S → Count) → RunState S → Count
 results_left left s = count_unless s.ended (count_map (λ n. length s.builder.waiting + length (option_to_list s.carried) + n + 1) (left s.rows))
-
-module _ {S : Type 0} (steps : S → Option (Vec Value) → S → Type 0) where
-  -- calls gave these requests
-  abbrev pub RunsTo : RunState S → List BulkRequest → RunState S → Type 0
-  RunsTo s [] t = s ≡ t
-  RunsTo s (q ∷ qs) t = (u : RunState S) × NextRequest steps s (Some (Ok q)) u × RunsTo u qs t

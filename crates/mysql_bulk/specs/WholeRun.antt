@@ -1,30 +1,19 @@
--- What a whole run gives.
-use Rattle.std.specs.Prelude.{◌≡◌, ℕ, true, false, List, [], ◌∷◌, ◌++◌, length, Option, Some, None}
+-- What a whole run gives: all its requests, why it ended, and what it leaves.
+use Rattle.std.specs.Prelude.{◌≡◌, ◌≢◌, ℕ, true, List, [], ◌∷◌, ◌++◌, Option, Some, None, Result, Ok, Err, Bool}
 use Rattle.std.specs.Global.{Vec}
-use Rattle.std.specs.Iterator.{YieldsThen}
-use Rattle.mysql_cuts.specs.Cut.{joined, NoneEmpty, IsFewest, IsFullFromFront, ends_after}
+use Rattle.mysql_cuts.specs.Cut.{rows_in, NoneEmpty, FullFrom, IsFewest, IsFullFromFront, ends_after}
 use Rattle.mysql_values.specs.declared.value.Value.{Value}
 use Rattle.mysql_values.specs.Value.{Content}
 use Rattle.mysql_bulk.specs.declared.error.BulkExecuteRequestError.{BulkExecuteRequestError}
 use Rattle.mysql_bulk.specs.declared.error.BulkExecuteRequestError.TheVariants.{MixedArity, RowTooLarge, MemoryRow, NoParams, Memory}
 use Rattle.mysql_bulk.specs.declared.error.BulkExecuteRequestBuilderError.{BulkExecuteRequestBuilderError}
 use Rattle.mysql_bulk.specs.declared.error.BulkExecuteRequestBuilderError.TheVariants.{Request, Params}
+use Rattle.mysql_bulk.specs.Builder.{BuilderState, IsRequest, Adds, BuildsRequest, after_request, arity_after}
+use Rattle.mysql_bulk.specs.Refusal.{RefusalOfRows, equal_front, measure}
 use Rattle.mysql_bulk.specs.Request.{BulkRequest}
-use Rattle.mysql_bulk.specs.Builder.{row_of, BuilderState, values_of, TakesArity, IsRequest, sent}
-use Rattle.mysql_bulk.specs.Run.{RunState, Comes, NextRequest, RunsTo}
-use Rattle.mysql_bulk.specs.Refusal.{equal_front, measure}
+use Rattle.mysql_bulk.specs.Row.{contents_of_row}
 
--- no growth was refused
-abbrev pub HadMemory : Option BulkExecuteRequestError → Type 0
-HadMemory (Some (MemoryRow row)) = ⊥
-HadMemory (Some Memory) = ⊥
-HadMemory _ = Unit {0}
-
--- what holds of a refusal of rows, if there is one. Parameters are not asked for
-abbrev pub OfRows : (Option BulkExecuteRequestError → Type 0) → Option BulkExecuteRequestBuilderError → Type 0
-OfRows P None = P None
-OfRows P (Some (Request e)) = P (Some e)
-OfRows P (Some (Params e)) = ⊥
+-- ---- the builder, before and after
 
 -- a builder that was only made and set up
 pub record IsNew (s : BuilderState) : Type 0 where
@@ -32,64 +21,97 @@ pub record IsNew (s : BuilderState) : Type 0 where
   pub types_due : s.types_due ≡ true
   pub waiting : s.waiting ≡ []
 
--- the requests of these parts, the first of which a builder in this state builds
+-- whether types are due behind the requests of these parts
+abbrev pub due_after : BuilderState → List (List (List Content)) → Bool
+due_after s [] = s.types_due
+due_after s (part ∷ parts) = s.rule.types_always
+
+-- the builder that is left where these parts were sent and these rows wait: its settings stay
+abbrev pub left_by : BuilderState → List (List (List Content)) → List (List Content) → BuilderState
+left_by s cut waiting = record s {
+  arity = arity_after s.arity (rows_in cut ++ waiting);
+  types_due = due_after s cut;
+  waiting = waiting;
+}
+
+-- ---- why a run ended
+
+-- the builder refuses the next row, and for this reason
+pub record RefusesNextRow (t : BuilderState) (e : BulkExecuteRequestError) (dropped : List (List Content)) : Type 0 where
+  pub row : Vec Value
+  pub behind : List (List Content)
+  pub is_next : dropped ≡ contents_of_row row ∷ behind
+  pub refused : Adds t row (Err e) t
+
+-- why a run ended that left this builder, and before these rows
+abbrev pub EndsBy : Option BulkExecuteRequestBuilderError → BuilderState → List (List Content) → Type 0
+-- all rows were sent
+EndsBy None t dropped = (t.waiting ≡ []) × (dropped ≡ [])
+-- no memory was had for the answer, and the rows of the request that would have been next wait
+EndsBy (Some (Request Memory)) t dropped = t.waiting ≢ []
+EndsBy (Some (Request e)) t dropped = RefusesNextRow t e dropped
+-- parameters gave no row
+EndsBy (Some (Params e)) t dropped = dropped ≡ []
+
+-- no growth was refused
+abbrev pub HadMemory : Option BulkExecuteRequestBuilderError → Type 0
+HadMemory (Some (Request (MemoryRow row))) = ⊥
+HadMemory (Some (Request Memory)) = ⊥
+HadMemory _ = Unit {0}
+
+-- rows were refused, and no parameters
+abbrev pub OfRows : Option BulkExecuteRequestBuilderError → Type 0
+OfRows (Some (Params e)) = ⊥
+OfRows _ = Unit {0}
+
+-- this is why these rows are refused, if they are; where parameters behind them gave no row, they are not
+abbrev pub RefusalOfList : BuilderState → List (List Content) → Option BulkExecuteRequestBuilderError → Type 0
+RefusalOfList s rows None = RefusalOfRows s rows None
+RefusalOfList s rows (Some (Request e)) = RefusalOfRows s rows (Some e)
+RefusalOfList s rows (Some (Params e)) = RefusalOfRows s rows None
+
+-- ---- what it gives
+
+-- each request is the one that the builder builds of its part
 abbrev pub AreRequests : BuilderState → List (List (List Content)) → List BulkRequest → Type 0
 AreRequests s [] [] = Unit {0}
-AreRequests s (part ∷ parts) (request ∷ requests) = IsRequest s part request × AreRequests (sent s) parts requests
+AreRequests s (part ∷ parts) (request ∷ requests) = IsRequest s part request × AreRequests (after_request s) parts requests
 AreRequests s [] (request ∷ requests) = ⊥
 AreRequests s (part ∷ parts) [] = ⊥
 
--- a run gave the requests of the parts of a cut, which the ends name
-pub record GivesCut (s : BuilderState) (requests : List BulkRequest) (ends : List ℕ) (cut : List (List (List Content))) : Type 0 where
-  pub none_empty : NoneEmpty cut
-  pub named : ends ≡ ends_after 0 cut
-  pub requests_are : AreRequests s cut requests
-
--- the settings stay
-pub record SameSettings (s t : BuilderState) : Type 0 where
-  pub stmt_id : t.stmt_id ≡ s.stmt_id
-  pub limit : t.limit ≡ s.limit
-  pub results : t.results ≡ s.results
-  pub rule : t.rule ≡ s.rule
-  pub names : t.names ≡ s.names
-
--- where a run stopped that left a builder so and dropped these rows: behind all rows, or at the one that was refused
-abbrev pub StopsAt : Option BulkExecuteRequestError → BuilderState → List (List Content) → Type 0
-StopsAt None t dropped = (t.waiting ≡ []) × (dropped ≡ [])
--- its length is not that of the rows before it
-StopsAt (Some MixedArity) t dropped = (row : List Content) × (rest : List (List Content)) × (dropped ≡ row ∷ rest) × (TakesArity t.arity (length row) → ⊥)
--- all rows before it were sent
-StopsAt (Some (RowTooLarge row)) t dropped = (rest : List (List Content)) × (dropped ≡ row_of row ∷ rest) × (t.waiting ≡ [])
-StopsAt (Some (MemoryRow row)) t dropped = (rest : List (List Content)) × (dropped ≡ row_of row ∷ rest)
-StopsAt (Some NoParams) t dropped = ⊥
-StopsAt (Some Memory) t dropped = Unit {0}
-
--- a run from s to t over these rows gave a cut of a beginning of them; further rows wait, and others were dropped
-pub record GivesFront (s : BuilderState) (rows : List (List Content)) (requests : List BulkRequest) (ends : List ℕ) (refusal : Option BulkExecuteRequestError) (t : BuilderState) : Type 0 where
+-- A run of a builder over rows, those that waited before it first, gave these requests, ended by this refusal if by one, and left the builder so.
+pub record RunGives (s : BuilderState) (rows : List (List Content)) (requests : List BulkRequest) (ends : List ℕ) (refusal : Option BulkExecuteRequestBuilderError) (t : BuilderState) : Type 0 where
+  -- the rows that were sent, in a part for each request, none of them empty
   pub cut : List (List (List Content))
-  pub gives : GivesCut s requests ends cut
+  pub none_empty : NoneEmpty cut
+  -- the rows that were not accepted: the refused one, and those behind it
   pub dropped : List (List Content)
-  pub whole : (joined cut ++ t.waiting) ++ dropped ≡ rows
-  pub stops : StopsAt refusal t dropped
-  pub same : SameSettings s t
+  -- no row is lost: each was sent, waits, or was dropped, in this order
+  pub all_rows : (rows_in cut ++ t.waiting) ++ dropped ≡ rows
+  -- each request is the one that the builder builds of its part
+  pub requests_are : AreRequests s cut requests
+  -- how many rows were sent up to and with each request
+  pub ends_are : ends ≡ ends_after 0 cut
+  -- each part fits, and would not with the row behind it
+  pub full_parts : FullFrom (measure s rows) s.types_due cut (t.waiting ++ dropped)
+  -- the settings stay, and the arity and whether types are due are those behind what was sent and waits
+  pub left : t ≡ left_by s cut t.waiting
+  -- why it ended
+  pub ended : EndsBy refusal t dropped
+  -- on a new builder no fitting cut of a beginning of the rows of one length is ahead of these requests, however the run ends
+  pub full_from_front : IsNew s → IsFullFromFront (measure s rows) (equal_front rows) cut
+  -- with memory it is refused exactly where two rows differ in length or no cut of them fits
+  pub refused : IsNew s → HadMemory refusal → RefusalOfList s rows refusal
+  -- and else no fitting cut has fewer parts
+  pub fewest : IsNew s → refusal ≡ None → IsFewest (measure s rows) rows cut
 
--- a fewest cut of the rows was given
-abbrev pub GivesFewest : BuilderState → List BulkRequest → List ℕ → List (List Content) → Type 0
-GivesFewest s requests ends rows = (cut : List (List (List Content))) × GivesCut s requests ends cut × IsFewest (measure s rows) rows cut
+-- ---- parts of a run
 
--- the given cut is full from the front
-abbrev pub GivesFull : BuilderState → List BulkRequest → List ℕ → List (List Content) → Type 0
-GivesFull s requests ends rows = (cut : List (List (List Content))) × GivesCut s requests ends cut × IsFullFromFront (measure s rows) (equal_front rows) cut
+-- the refusal of a part of a run that answers nothing else
+abbrev pub refusal_of : Result (Unit {0}) BulkExecuteRequestError → Option BulkExecuteRequestBuilderError
+refusal_of (Ok done) = None
+refusal_of (Err e) = Some (Request e)
 
--- a run of calls for requests up to one that answers that there is no more, on a new builder
-pub record WholeRun {S : Type 0} (steps : S → Option (Vec Value) → S → Type 0) (s t u : RunState S) (requests : List BulkRequest) : Type 0 where
-  pub new : IsNew s.builder
-  pub carried : s.carried ≡ None
-  pub going : s.ended ≡ false
-  pub runs : RunsTo steps s requests t
-  pub ends : NextRequest steps t None u
-
--- its requests are a fewest cut of the rows that the input gave up to its end
-abbrev pub GaveFewest : {S : Type 0} → (S → Option (Vec Value) → S → Type 0) → RunState S → RunState S → List BulkRequest → Type 0
-GaveFewest steps s u requests =
-    (rows : List (Vec Value)) × YieldsThen (Comes steps) (None, s.rows) rows None (None, u.rows) × ((ends : List ℕ) × GivesFewest s.builder requests ends (values_of rows))
+-- the request of the waiting rows is put behind these requests
+abbrev pub PutsRequest : BuilderState → List BulkRequest → List BulkRequest → BuilderState → Type 0
+PutsRequest s requests more t = (request : BulkRequest) × (more ≡ requests ++ request ∷ []) × BuildsRequest s request t

@@ -1,22 +1,23 @@
 //! A builder of bulk requests.
 
-ghost use Rattle.std.specs.Prelude.{◌≡◌, ◌≢◌, ◌+◌, ◌≤◌, ◌-◌, ◌↔◌, ◌++◌, ◌∷◌, [], length, IsTrue, IfOk, OnOk, OnErr, MatchOption, Some, None, true, false, sum_by, map, vec_len, vec_capacity, List, ℕ};
+ghost use Rattle.std.specs.Prelude.{◌≡◌, ◌≢◌, ◌+◌, ◌≤◌, ◌-◌, ◌↔◌, ◌++◌, ◌∷◌, [], length, IsTrue, MatchOption, Some, None, true, false, sum_by, List, ℕ};
 ghost use Rattle.std.specs.Option.{option_copied};
 ghost use Rattle.mysql_cuts.specs.Cut.{PartFits};
 ghost use Rattle.mysql_values.specs.Value.{Content, contents_of};
-ghost use Rattle.mysql_bulk.specs.ParamValue.{given, row_size};
-ghost use Rattle.mysql_bulk.specs.Request.{written_size, request_flags};
+ghost use Rattle.mysql_bulk.specs.Builder.{TakesArity, RowFits, Adds, AddsRow, AddsParams, Builds, IsConsistent};
 ghost use Rattle.mysql_bulk.specs.BuilderEq.{rows_eq};
-ghost use Rattle.mysql_bulk.specs.Builder.{TakesArity, RowFits, Adds, AddsRow, AddsParams, Builds, WaitingFits, waiting_size, rows_packing};
+ghost use Rattle.mysql_bulk.specs.Request.{request_flags};
+ghost use Rattle.mysql_bulk.specs.Row.{row_size, rows_packing};
 
+use crate::declared_types::join_row;
 use crate::error::{BulkExecuteRequestBuilderError, BulkExecuteRequestError};
-use crate::param_type::StmtBulkExecuteParamType;
 use crate::param_value::StmtBulkExecuteParamValue;
 use crate::request::ComStmtBulkExecuteRequest;
-use crate::row_type::join_row;
-use crate::size::{request_len, row_len};
+use crate::row::{append_row, bulk_row_size, find_room};
+use crate::size::request_len;
 use mysql_cuts::BulkRule;
-use mysql_values::{Params, Value};
+use mysql_values::{ParamType, Params, Value};
+use mysql_wire::{Flags, StmtBulkExecuteFlags};
 use std::alloc::{AllocError, Global};
 use std::marker::Model;
 use std::mem;
@@ -41,14 +42,14 @@ pub struct ComStmtBulkExecuteRequestBuilder<'a> {
     /// The values of the waiting rows, row after row.
     values: Vec<StmtBulkExecuteParamValue>,
     /// The types of the columns so far, while types are to be sent.
-    types: Vec<StmtBulkExecuteParamType>,
+    types: Vec<ParamType>,
 }
 
 impl<'a> Model for ComStmtBulkExecuteRequestBuilder<'a> {
     ghost use Rattle.std.specs.Option.{option_copied};
-    ghost use Rattle.mysql_bulk.specs.Builder.{BuilderState, Keeps};
-    ghost use Rattle.mysql_bulk.specs.Flat.{waiting_rows};
-    ghost use Rattle.mysql_bulk.specs.ParamValue.{plain};
+    ghost use Rattle.mysql_bulk.specs.Builder.{BuilderState, IsStoredAs};
+    ghost use Rattle.mysql_bulk.specs.WaitingRows.{waiting_rows};
+    ghost use Rattle.mysql_bulk.specs.ParamValue.{contents};
 
     ghost Value = { BuilderState };
 
@@ -60,10 +61,10 @@ impl<'a> Model for ComStmtBulkExecuteRequestBuilder<'a> {
       names = option_copied a.names;
       arity = a.arity;
       types_due = a.types_due;
-      waiting = waiting_rows a.arity a.count (plain a.values.items);
+      waiting = waiting_rows a.arity a.count (contents a.values.items);
     } };
 
-    ghost invariant = { λ a. Keeps (record {
+    ghost invariant = { λ a. IsStoredAs (record {
       stmt_id = a.stmt_id;
       limit = a.limit;
       results = a.results;
@@ -71,7 +72,7 @@ impl<'a> Model for ComStmtBulkExecuteRequestBuilder<'a> {
       names = option_copied a.names;
       arity = a.arity;
       types_due = a.types_due;
-      waiting = waiting_rows a.arity a.count (plain a.values.items);
+      waiting = waiting_rows a.arity a.count (contents a.values.items);
     }) a.count a.size a.values.items a.types.items };
 }
 
@@ -133,7 +134,7 @@ fn size_with(
     if rule.max_rows.is_some_and(|most| most <= count) {
         return None;
     }
-    let rows = size.checked_add(row_len(row)?)?;
+    let rows = size.checked_add(bulk_row_size(row)?)?;
     if request_len(row.len(), types, rows)? <= limit {
         Some(rows)
     } else {
@@ -141,49 +142,25 @@ fn size_with(
     }
 }
 
-/// Finds room for a row, and for the types of its columns where they are to be kept.
-pub(crate) fn find_room(
-    values: &mut Vec<StmtBulkExecuteParamValue>,
-    types: &mut Vec<StmtBulkExecuteParamType>,
-    types_due: bool,
-    arity: usize,
-) -> Result<(), AllocError>
-    ensures values { values.new.items ≡ values.old.items }
-    ensures types { types.new.items ≡ types.old.items }
-    ensures values_room { OnOk result (vec_len values.new + arity ≤ vec_capacity values.new) }
-    ensures types_room { OnOk result (types_due ≡ true → arity ≤ vec_capacity types.new) }
-{
-    values.reserve(arity)?;
-    if types_due {
-        types.reserve(arity.saturating_sub(types.len()))?;
-    }
-    Ok(())
-}
-
-/// Moves the values of a row to the end, where there is room.
-pub(crate) fn append_row(values: &mut Vec<StmtBulkExecuteParamValue>, row: Vec<Value>)
-    requires { vec_len values.old + length row.items ≤ vec_capacity values.old }
-    ensures { values.new.items ≡ values.old.items ++ map given (contents_of row.items) }
-{
-    for value in row {
-        values.push_reserved(StmtBulkExecuteParamValue::new(value));
-    }
-}
-
-/// The word of flags.
-fn flags_of(types: bool, results: bool) -> u16
+/// The flags of a request.
+fn flags_of(types: bool, results: bool) -> StmtBulkExecuteFlags
     ensures { result ≡ request_flags types results }
 {
-    let types = if types { 128 } else { 0 };
-    let results = if results { 64 } else { 0 };
-    types + results
+    match (types, results) {
+        (true, true) => {
+            StmtBulkExecuteFlags::SEND_TYPES_TO_SERVER | StmtBulkExecuteFlags::SEND_UNIT_RESULTS
+        }
+        (true, false) => StmtBulkExecuteFlags::SEND_TYPES_TO_SERVER,
+        (false, true) => StmtBulkExecuteFlags::SEND_UNIT_RESULTS,
+        (false, false) => StmtBulkExecuteFlags::from_bits_retain(0),
+    }
 }
 
 impl<'a> ComStmtBulkExecuteRequestBuilder<'a> {
     /// A builder without rows. A request has at most as many bytes as a packet may, less four. It takes no memory.
     pub fn new(alloc: Global, stmt_id: u32, max_allowed_packet: usize) -> Self
         requires { 4 ≤ max_allowed_packet }
-        ensures { result ≡ record { stmt_id = stmt_id; limit = max_allowed_packet - 4; results = false; rule = BulkRule.PLAIN; names = None; arity = None; types_due = true; waiting = [] } }
+        ensures { result ≡ record { stmt_id = stmt_id; limit = max_allowed_packet - 4; results = false; rule = record { types_always = false; max_rows = None }; names = None; arity = None; types_due = true; waiting = [] } }
     {
         ComStmtBulkExecuteRequestBuilder {
             names: None,
@@ -268,6 +245,14 @@ impl<'a> ComStmtBulkExecuteRequestBuilder<'a> {
         self.count == other.count && self.values == other.values
     }
 
+    /// What holds of every builder, for the proof of a run. It does nothing.
+    #[inline(always)]
+    pub(crate) fn is_consistent(&self)
+        ensures { IsConsistent self.now }
+    {
+        let _names = &self.names;
+    }
+
     /// How many rows wait.
     pub(crate) fn rows_waiting(&self) -> usize
         ensures { result ≡ length self.now.waiting }
@@ -334,7 +319,7 @@ impl<'a> ComStmtBulkExecuteRequestBuilder<'a> {
 
     /// Offers a row. Where it fits with the rows that wait, it waits too, and the answer is `Ok(None)`.
     ///
-    /// A row that does not fit with those that wait is given back as `Ok(Some(row))`; a request is built then. Of the
+    /// A row that does not fit with those that wait is with_indicator back as `Ok(Some(row))`; a request is built then. Of the
     /// refusals, `MixedArity` drops the row; `RowTooLarge` (it does not fit where nothing waits) and `MemoryRow` hand
     /// it back. Where the row does not wait, the builder stays as it was.
     pub fn add_row(
@@ -364,13 +349,12 @@ impl<'a> ComStmtBulkExecuteRequestBuilder<'a> {
         }
     }
 
-    /// The request of the waiting rows, which wait no longer. `NoParams` where none waits; the builder stays then.
+    /// The request of the waiting rows, which wait no longer. It writes exactly the bytes of rows of their sizes, which are
+    /// within the limit, and it takes no memory.
+    ///
+    /// `NoParams` where no row waits, and only there: the builder stays as it was then.
     pub fn build(&mut self) -> Result<ComStmtBulkExecuteRequest, BulkExecuteRequestError>
-        ensures builds { Builds self.old result self.new }
-
-        // the request has the bytes that its rows have, and is not past the limit
-        ensures size { IfOk result (λ request. written_size request ≡ waiting_size self.old) }
-        ensures fits { OnOk result (WaitingFits self.old) }
+        ensures { Builds self.old result self.new }
     {
         if self.count == 0 {
             return Err(BulkExecuteRequestError::NoParams);

@@ -1,17 +1,16 @@
 //! What stands before the values of a bulk request.
+#![tactic(auto, using(mysql_wire::proofs::Packets::packets), unfolding(crate::specs::Head::head))]
 
-ghost use Rattle.std.specs.Prelude.{true, ◌≡◌, ◌≤◌, length, List, ℕ, IfOk, OnErr, [], map};
-ghost use Rattle.mysql_wire.specs.Reading.{Answers, IsTail};
-ghost use Rattle.mysql_wire.specs.Seq.{seq, items_of};
-ghost use Rattle.mysql_wire.specs.Form.{give, either};
-ghost use Rattle.mysql_bulk.specs.ParamType.{param_type};
-ghost use Rattle.mysql_bulk.specs.Head.{head, told, column_of, types_sent};
-ghost use Rattle.mysql_wire.specs.Flags.{has};
+ghost use Rattle.std.specs.Prelude.{true, ◌≡◌, length, IfOk, OnErr, map};
+ghost use Rattle.mysql_wire.specs.Reading.{Answers};
+ghost use Rattle.mysql_wire.specs.Seq.{items_of};
+ghost use Rattle.mysql_bulk.specs.Head.{head, value_columns, column_of_type, sends_types};
+ghost use Rattle.mysql_bulk.specs.ParamTypes.{types_block};
 
-use crate::param_type::StmtBulkExecuteParamType;
+use mysql_values::ParamType;
 use mysql_wire::{
-    ColumnFlags, ColumnType, ConstFault, ConstU8, FaultOf, Flags, LeU16, LeU32, ParseBuf, RawInt,
-    Seq, StmtBulkExecuteFlags, Unknown,
+    ColumnFlags, ColumnType, Const, ConstFault, ConstU8, FaultOf, Flags, LeU16, LeU32, ParseBuf, RawInt,
+    Seq, StmtBulkExecuteFlags, StmtExecuteParamFlags, Unknown,
 };
 use std::alloc::{AllocError, Global};
 use std::borrow::CowSlice;
@@ -34,8 +33,8 @@ pub type ComStmtBulkExecuteHeader = ConstU8<InvalidComStmtBulkExecuteHeader, 0xf
 #[derive(Drop)]
 pub(crate) struct Head {
     pub(crate) stmt_id: u32,
-    pub(crate) bulk_flags: u16,
-    pub(crate) types: Vec<StmtBulkExecuteParamType>,
+    pub(crate) bulk_flags: StmtBulkExecuteFlags,
+    pub(crate) types: Vec<ParamType>,
 }
 
 impl Model for Head {
@@ -47,44 +46,62 @@ impl Model for Head {
 }
 
 /// Whether types are sent.
-pub(crate) fn sends_types(bulk_flags: u16) -> bool
-    ensures { result ≡ has bulk_flags 128 }
+pub(crate) fn sends_types(bulk_flags: StmtBulkExecuteFlags) -> bool
+    ensures { result ≡ sends_types bulk_flags }
 {
-    StmtBulkExecuteFlags::from_bits_retain(bulk_flags).contains(
-        StmtBulkExecuteFlags::SEND_TYPES_TO_SERVER,
-    )
+    bulk_flags.contains(StmtBulkExecuteFlags::SEND_TYPES_TO_SERVER)
 }
 
-/// Reads so many types, where they are sent.
-#[tactic(auto, using(mysql_wire::proofs::Tails::tails))]
-fn read_types<'s>(
+/// The types of a list, which owns them or not.
+fn owned_types(
+    alloc: Global,
+    types: Seq<'_, ParamType, Unknown>,
+) -> Result<Vec<ParamType>, AllocError>
+    ensures { IfOk result (λ owned. owned.items ≡ types.entry) }
+{
+    match types.into_inner() {
+        CowSlice::Owned(types) => Ok(types),
+        CowSlice::Borrowed(types) => Vec::from_slice(alloc, types),
+    }
+}
+
+/// Reads so many types in a block of two bytes each.
+fn read_types<'s>(count: usize, buf: &mut ParseBuf<'_>) -> Result<Vec<ParamType>, FaultOf<'s>>
+    ensures value { Answers true (items_of result) buf.new ((types_block true count).reads buf.old) }
+{
+    if buf.len() / 2 < count {
+        return Err(FaultOf::UnexpectedEof);
+    }
+    let mut block: ParseBuf = buf.parse(2 * count)?;
+    let types: Seq<ParamType, Unknown> = block.parse(count)?;
+    Ok(owned_types(buf.alloc(), types)?)
+}
+
+/// Reads the types of so many columns, where they are sent.
+fn read_types_sent<'s>(
     sent: bool,
     count: usize,
     buf: &mut ParseBuf<'_>,
-) -> Result<Vec<StmtBulkExecuteParamType>, FaultOf<'s>>
-    ensures value { Answers true (items_of result) buf.new ((types_sent sent count).reads buf.old) }
+) -> Result<Vec<ParamType>, FaultOf<'s>>
+    ensures value { Answers true (items_of result) buf.new ((types_block sent count).reads buf.old) }
 {
-    if !sent {
-        return Ok(Vec::new(buf.alloc()));
-    }
-    let types: Seq<StmtBulkExecuteParamType, Unknown> = buf.parse(count)?;
-    match types.into_inner() {
-        CowSlice::Owned(types) => Ok(types),
-        CowSlice::Borrowed(types) => Ok(Vec::from_slice(buf.alloc(), types)?),
+    if sent {
+        read_types(count, buf)
+    } else {
+        Ok(Vec::new(buf.alloc()))
     }
 }
 
 /// Reads the head of a request of so many columns. After a refusal the buffer is as it was.
-#[tactic(auto, using(mysql_wire::proofs::Tails::tails))]
 pub(crate) fn read_head<'s>(count: usize, buf: &mut ParseBuf<'_>) -> Result<Head, FaultOf<'s>>
-    ensures value { Answers true result buf.new ((head count).reads buf.old) }
+    ensures value { Answers true result buf.new ((head.form count).reads buf.old) }
     ensures err { OnErr result (buf.new ≡ buf.old) }
 {
     let mut rest = buf.rest();
     let _header: ComStmtBulkExecuteHeader = rest.parse(())?;
     let stmt_id: RawInt<LeU32> = rest.parse(())?;
-    let bulk_flags: RawInt<LeU16> = rest.parse(())?;
-    let types = read_types(sends_types(bulk_flags.0), count, &mut rest)?;
+    let bulk_flags: Const<StmtBulkExecuteFlags, LeU16> = rest.parse(())?;
+    let types = read_types_sent(sends_types(bulk_flags.0), count, &mut rest)?;
     *buf = rest;
     Ok(Head {
         stmt_id: stmt_id.0,
@@ -95,12 +112,12 @@ pub(crate) fn read_head<'s>(count: usize, buf: &mut ParseBuf<'_>) -> Result<Head
 
 impl Head {
     /// The columns that the values have: those that the types tell of, where they are sent, else those handed in.
-    pub(crate) fn told(
+    pub(crate) fn value_columns(
         &self,
         alloc: Global,
         columns: &[(ColumnType, ColumnFlags)],
     ) -> Result<Vec<(ColumnType, ColumnFlags)>, AllocError>
-        ensures { IfOk result (λ all. all.items ≡ told columns.now self.now) }
+        ensures { IfOk result (λ all. all.items ≡ value_columns columns.now self.now) }
     {
         if sends_types(self.bulk_flags) {
             columns_of(alloc, self.types.as_slice())
@@ -113,13 +130,25 @@ impl Head {
 /// The columns that the types tell of.
 fn columns_of(
     alloc: Global,
-    types: &[StmtBulkExecuteParamType],
+    types: &[ParamType],
 ) -> Result<Vec<(ColumnType, ColumnFlags)>, AllocError>
-    ensures { IfOk result (λ all. all.items ≡ map column_of types.now) }
+    ensures { IfOk result (λ all. all.items ≡ map column_of_type types.now) }
 {
     let mut columns = Vec::with_capacity(alloc, types.len())?;
     for t in types {
-        columns.push(t.column())?;
+        columns.push(column_of_type(*t))?;
     }
     Ok(columns)
+}
+
+/// The column that a type tells of.
+fn column_of_type(t: ParamType) -> (ColumnType, ColumnFlags)
+    ensures { result ≡ column_of_type t }
+{
+    let flags = if t.flags().contains(StmtExecuteParamFlags::UNSIGNED) {
+        ColumnFlags::UNSIGNED_FLAG
+    } else {
+        ColumnFlags::from_bits_retain(0)
+    };
+    (t.column_type(), flags)
 }

@@ -1,22 +1,44 @@
 //! Laws over requests and runs of the builder, each a function that does nothing.
 
-ghost use Rattle.std.specs.Prelude.{◌≡◌, ℕ, List, [], Ok, length, map};
+ghost use Rattle.std.specs.Prelude.{◌≡◌, ◌++◌, ℕ, List, [], Ok, Some, None, length, map};
+ghost use Rattle.std.specs.List.{AllZip};
 ghost use Rattle.mysql_cuts.specs.declared.rule.BulkRule.{BulkRule};
-ghost use Rattle.mysql_cuts.specs.Cut.{IsFewest, ends_after};
+ghost use Rattle.mysql_cuts.specs.Cut.{IsFewest, ends_after, request_size};
 ghost use Rattle.mysql_cuts.specs.Fewest.{weights, NamesFewest};
-ghost use Rattle.mysql_values.specs.Value.{Content, contents_of};
-ghost use Rattle.mysql_bulk.specs.ParamType.{first_length};
-ghost use Rattle.mysql_bulk.specs.ParamValue.{row_size};
-ghost use Rattle.mysql_bulk.specs.ParamValues.{BulkColumn};
+ghost use Rattle.mysql_wire.specs.Flags.{has};
+ghost use Rattle.mysql_values.specs.declared.params.ParamsError.{ParamsError};
+ghost use Rattle.mysql_values.specs.ReadingBack.{Agrees};
+ghost use Rattle.mysql_values.specs.Value.{Content};
+ghost use Rattle.mysql_bulk.specs.declared.error.BulkExecuteRequestBuilderError.TheVariants as refused;
+ghost use Rattle.mysql_bulk.specs.declared.error.BulkExecuteRequestError.{BulkExecuteRequestError};
+ghost use Rattle.mysql_bulk.specs.Builder.{BuilderState, IsConsistent, IsRequest, packing};
+ghost use Rattle.mysql_bulk.specs.Loop.{WholeLoop, SentAllRows, RefusedRow, RefusedParams};
+ghost use Rattle.mysql_bulk.specs.ParamValue.{ParamValue, with_indicator, param_value, param_value_bytes, values_bytes};
+ghost use Rattle.mysql_bulk.specs.ParamValues.{BulkColumn, values_of_columns};
+ghost use Rattle.mysql_bulk.specs.ParamsRun.{Names, GivesRowOfParams, NextRequestOfParams};
+ghost use Rattle.mysql_bulk.specs.ReadRows.{bulk_rows};
+ghost use Rattle.mysql_bulk.specs.ReadingBack.{ParamValueAgrees, RequestFits, RowsFit, PartAgrees};
 ghost use Rattle.mysql_bulk.specs.Request.{BulkRequest, request_bytes, written_size};
-ghost use Rattle.mysql_bulk.specs.Rows.{bulk_rows};
-ghost use Rattle.mysql_bulk.specs.ReadingBack.{RowsFit, PartAgrees};
-ghost use Rattle.mysql_bulk.specs.Builder.{BuilderState, IsRequest, rows_packing};
-ghost use Rattle.mysql_bulk.specs.Run.{RunState};
-ghost use Rattle.mysql_bulk.specs.ParamsRun.{Names, GivesRow};
-ghost use Rattle.mysql_bulk.specs.WholeRun.{WholeRun, GaveFewest};
+ghost use Rattle.mysql_bulk.specs.RequestForm.{bulk_request};
+ghost use Rattle.mysql_bulk.specs.Row.{first_length, row_size, rows_packing};
+ghost use Rattle.mysql_bulk.specs.Run.{RunState, NextRequest};
+ghost use Rattle.mysql_bulk.specs.WholeRun.{IsNew};
 
 use mysql_values::{Params, Value};
+
+// ---- sizes
+
+/// A request is as long as its size says.
+pub fn request_has_its_size()
+    ensures { (request : BulkRequest) → length (request_bytes request) ≡ written_size request }
+{}
+
+/// The request that a builder builds of rows writes the bytes of a head, of their types where these are due, and of
+/// rows of their sizes.
+pub fn request_has_the_size_of_its_rows()
+    ensures { (s : BuilderState) (rows : List (List Content)) (request : BulkRequest) → IsRequest s rows request →
+        length (request_bytes request) ≡ request_size (packing s (first_length rows)) s.types_due rows }
+{}
 
 /// A fewest cut of rows is judged a fewest one by the sizes of the rows, so that `cut_is_fewest` is true of the ends
 /// that `build_all` gives without a refusal on a new builder.
@@ -25,15 +47,69 @@ pub fn fewest_cut_is_named_by_its_ends()
         IsFewest (rows_packing rule limit (first_length rows)) rows cut → NamesFewest (weights rule limit (first_length rows)) (map row_size rows) (ends_after 0 cut) }
 {}
 
-/// Over any input, the requests of a whole run of `next` on a new builder are a fewest cut of the rows that the input
-/// gave.
-pub fn whole_run_is_fewest<I: Iterator<Item = Vec<Value>>>()
-    ensures { (s t u : RunState I) (requests : List BulkRequest) → WholeRun I.next_gives s t u requests → GaveFewest I.next_gives s u requests }
+// ---- a caller's own loop of `next`
+
+/// A new builder is as every builder is.
+pub fn new_builder_is_consistent()
+    ensures { (s : BuilderState) → IsNew s → IsConsistent s }
 {}
 
-/// The same, over an input of parameters, whose values by these names are the rows.
-pub fn whole_params_run_is_fewest<I: Iterator<Item = Params>>()
-    ensures { (names : Names) (s t u : RunState I) (requests : List BulkRequest) → WholeRun (GivesRow I.next_gives names) s t u requests → GaveFewest (GivesRow I.next_gives names) s u requests }
+/// Over any input, a loop of `next` that ends by `None` gives what `build_all` gives of the rows of the input.
+pub fn loop_that_ends_sent_all_rows<I: Iterator<Item = Vec<Value>>>()
+    ensures { (s u : RunState I) (requests : List BulkRequest) → WholeLoop (NextRequest I.next_gives) s requests None u → SentAllRows I.next_gives s requests u }
+{}
+
+/// One that ends by an `Err` gives what `build_all` gives of the rows of the input and any others behind them.
+pub fn loop_that_refuses_a_row<I: Iterator<Item = Vec<Value>>>()
+    ensures { (s u : RunState I) (requests : List BulkRequest) (e : BulkExecuteRequestError) →
+        WholeLoop (NextRequest I.next_gives) s requests (Some (refused.Request e)) u → RefusedRow I.next_gives s requests e u }
+{}
+
+/// The same over an input of parameters, whose values by these names are the rows: a loop that ends by `None`.
+pub fn params_loop_that_ends_sent_all_rows<I: Iterator<Item = Params>>()
+    ensures { (names : Names) (s u : RunState I) (requests : List BulkRequest) →
+        WholeLoop (NextRequestOfParams I.next_gives names) s requests None u → SentAllRows (GivesRowOfParams I.next_gives names) s requests u }
+{}
+
+/// One that ends by the refusal of a row.
+pub fn params_loop_that_refuses_a_row<I: Iterator<Item = Params>>()
+    ensures { (names : Names) (s u : RunState I) (requests : List BulkRequest) (e : BulkExecuteRequestError) →
+        WholeLoop (NextRequestOfParams I.next_gives names) s requests (Some (refused.Request e)) u → RefusedRow (GivesRowOfParams I.next_gives names) s requests e u }
+{}
+
+/// One that ends by `Params`: that is the error of the first parameters of the input that give no row, and no row before
+/// them was refused.
+pub fn params_loop_that_refuses_params<I: Iterator<Item = Params>>()
+    ensures { (names : Names) (s u : RunState I) (requests : List BulkRequest) (e : ParamsError) →
+        WholeLoop (NextRequestOfParams I.next_gives names) s requests (Some (refused.Params e)) u → RefusedParams I.next_gives names s requests e u }
+{}
+
+// ---- what is written is read again
+
+/// What is written of a value is read again, whatever follows, where it agrees with its column's type.
+pub fn param_value_again()
+    ensures agrees { (column : BulkColumn) (value : Content) → Agrees column.0 (has column.1.0 32) value → ParamValueAgrees column (with_indicator value) }
+    ensures spelled { (column : BulkColumn) (value : ParamValue) (rest : List ℕ) → ParamValueAgrees column value →
+        (param_value column.0 (has column.1.0 32)).Spells value (param_value_bytes value ++ rest) rest }
+    ensures read { (column : BulkColumn) (value : ParamValue) (rest : List ℕ) → ParamValueAgrees column value →
+        (param_value column.0 (has column.1.0 32)).reads (param_value_bytes value ++ rest) ≡ Ok (value, rest) }
+{}
+
+/// What is written of the values of a row is read again, whatever follows, where there is one for each column and each
+/// agrees with its column's type.
+pub fn param_values_again()
+    ensures spelled { (columns : List BulkColumn) (values : List ParamValue) (rest : List ℕ) → AllZip ParamValueAgrees columns values →
+        (values_of_columns columns).Spells values (values_bytes values ++ rest) rest }
+    ensures read { (columns : List BulkColumn) (values : List ParamValue) (rest : List ℕ) → AllZip ParamValueAgrees columns values →
+        (values_of_columns columns).reads (values_bytes values ++ rest) ≡ Ok (values, rest) }
+{}
+
+/// What is written of a request of one row is read again, whatever follows.
+pub fn request_of_one_row_again()
+    ensures spelled { (columns : List BulkColumn) (request : BulkRequest) (rest : List ℕ) → RequestFits columns request →
+        (bulk_request columns).Spells request (request_bytes request ++ rest) rest }
+    ensures read { (columns : List BulkColumn) (request : BulkRequest) (rest : List ℕ) → RequestFits columns request →
+        (bulk_request columns).reads (request_bytes request ++ rest) ≡ Ok (request, rest) }
 {}
 
 /// What is written of a request of rows is read again as these rows, where each has as many values as there are
@@ -47,9 +123,4 @@ pub fn request_rows_again()
 pub fn built_rows_again()
     ensures { (s : BuilderState) (columns : List BulkColumn) (rows : List (List Content)) (request : BulkRequest) →
         IsRequest s rows request → PartAgrees s columns rows → (bulk_rows columns).reads (request_bytes request) ≡ Ok (rows, []) }
-{}
-
-/// A request is as long as its size says.
-pub fn request_has_its_size()
-    ensures { (request : BulkRequest) → length (request_bytes request) ≡ written_size request }
 {}

@@ -3,16 +3,16 @@
 #![tactic(auto)]
 
 mod builder;
+mod declared_types;
 mod error;
 mod head;
 pub mod laws;
-mod param_type;
 mod param_value;
 mod param_values;
 mod params_run;
+mod read_rows;
 mod request;
-mod row_type;
-mod rows;
+mod row;
 mod run;
 mod size;
 mod whole_run;
@@ -20,11 +20,12 @@ mod whole_run;
 pub use builder::ComStmtBulkExecuteRequestBuilder;
 pub use error::{BulkExecuteRequestBuilderError, BulkExecuteRequestError};
 pub use head::{ComStmtBulkExecuteHeader, InvalidComStmtBulkExecuteHeader};
-pub use param_type::StmtBulkExecuteParamType;
+pub use mysql_values::ParamType as StmtBulkExecuteParamType;
 pub use param_value::StmtBulkExecuteParamValue;
 pub use param_values::StmtBulkExecuteParamValues;
 pub use params_run::BulkParamsRequests;
+pub use read_rows::read_bulk_rows;
 pub use request::ComStmtBulkExecuteRequest;
-pub use rows::read_bulk_rows;
+pub use row::bulk_row_size;
 pub use run::BulkRequests;
 pub use whole_run::BulkRun;

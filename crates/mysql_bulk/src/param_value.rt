@@ -5,7 +5,7 @@ ghost use Rattle.std.specs.Prelude.{true, ◌≡◌, ◌≤◌, ◌+◌, ◌++�
 use mysql_values::{BinValue, Value, ValueDeserializer};
 use mysql_wire::{
     AnyWidth, ColumnFlags, ColumnType, Const, FaultOf, Flags, MariadbBulkIndicator, MyDeserialize,
-    MySerialize, ParseBuf, append_all, len_of,
+    ParseBuf, Parts, Sink, parts,
 };
 use std::alloc::AllocError;
 use std::marker::Model;
@@ -27,13 +27,13 @@ impl Model for StmtBulkExecuteParamValue {
 }
 
 impl StmtBulkExecuteParamValue {
-    ghost use Rattle.mysql_bulk.specs.ParamValue.{given};
+    ghost use Rattle.mysql_bulk.specs.ParamValue.{with_indicator};
     ghost use Rattle.mysql_values.specs.Value.{content_of};
 
     /// The value with its indicator: `BULK_INDICATOR_NULL` for `NULL`, else `BULK_INDICATOR_NONE`.
     #[inline]
     pub fn new(value: Value) -> Self
-        ensures { result ≡ given (content_of value) }
+        ensures { result ≡ with_indicator (content_of value) }
     {
         let indicator = match &value {
             Value::NULL => MariadbBulkIndicator::BULK_INDICATOR_NULL,
@@ -42,7 +42,7 @@ impl StmtBulkExecuteParamValue {
         StmtBulkExecuteParamValue { indicator, value }
     }
 
-    /// How the value is given.
+    /// How the value is with_indicator.
     pub fn indicator(&self) -> MariadbBulkIndicator
         ensures value { result ≡ self.now.indicator }
     {
@@ -127,24 +127,14 @@ impl<'de> MyDeserialize<'de> for StmtBulkExecuteParamValue {
     ghost size_is = { λ _. refl };
 }
 
-impl MySerialize for StmtBulkExecuteParamValue {
+impl Parts for StmtBulkExecuteParamValue {
     ghost use Rattle.mysql_bulk.specs.ParamValue.{param_value_bytes};
 
     ghost bytes = { param_value_bytes };
 
-    #[tactic(auto, using(mysql_wire::specs::Writing::lengths), unfolding(mysql_wire::specs::Writing::le_bytes))]
-    fn defined_len(&self) -> usize {
-        len_of!(
-            Const::<MariadbBulkIndicator, u8>::new(self.indicator),
-            self.value,
-        )
-    }
-
-    #[tactic(auto, using(mysql_wire::specs::Writing::lengths))]
-    fn append(&self, out: &mut Vec<u8>) {
-        append_all!(out;
-            Const::<MariadbBulkIndicator, u8>::new(self.indicator),
-            self.value,
-        );
+    #[inline(always)]
+    fn put<S: Sink>(&self, sink: &mut S) {
+        let indicator = Const::<MariadbBulkIndicator, u8>::new(self.indicator);
+        sink.part(&parts!(indicator, self.value));
     }
 }

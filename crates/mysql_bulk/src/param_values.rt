@@ -4,11 +4,12 @@ ghost use Rattle.std.specs.Prelude.{true, ◌≡◌, ◌≤◌, ◌+◌, ◌++�
 ghost use Rattle.mysql_wire.specs.Reading.{Answers, IsTail};
 ghost use Rattle.mysql_wire.specs.Seq.{items_of};
 ghost use Rattle.mysql_values.specs.Value.{contents_of};
-ghost use Rattle.mysql_bulk.specs.ParamValue.{given};
+ghost use Rattle.mysql_bulk.specs.ParamValue.{with_indicator};
 ghost use Rattle.mysql_bulk.specs.ParamValues.{values_of_columns};
 
-use crate::builder::append_row;
+
 use crate::param_value::StmtBulkExecuteParamValue;
+use crate::row::append_row;
 use mysql_values::Value;
 use mysql_wire::{
     AnyWidth, ColumnFlags, ColumnType, FaultOf, MyDeserialize, MySerialize, ParseBuf, append_items,
@@ -54,7 +55,7 @@ impl Model for StmtBulkExecuteParamValues {
 impl StmtBulkExecuteParamValues {
     /// The values, each with its indicator.
     pub fn new(alloc: Global, values: Vec<Value>) -> Result<Self, AllocError>
-        ensures value { IfOk result (λ row. row ≡ map given (contents_of values.items)) }
+        ensures value { IfOk result (λ row. row ≡ map with_indicator (contents_of values.items)) }
     {
         let mut row = Vec::with_capacity(alloc, values.len())?;
         append_row(&mut row, values);

@@ -4,7 +4,7 @@ ghost use Rattle.std.specs.Prelude.{◌≡◌, ◌+◌, ◌≤◌, length, IfOk,
 ghost use Rattle.std.specs.Iterator.{IsFinite, size};
 ghost use Rattle.std.specs.Bool.{OnFalse};
 ghost use Rattle.mysql_bulk.specs.Run.{results_left};
-ghost use Rattle.mysql_bulk.specs.ParamsRun.{FillsParams, NextOfParams, names_of, carried_of, builder_of, state_of, SameBuilder};
+ghost use Rattle.mysql_bulk.specs.ParamsRun.{AcceptsParamsUntilFull, NextRequestOfParams, names_of, carried_of, builder_of, state_of, SameBuilder};
 
 use crate::builder::ComStmtBulkExecuteRequestBuilder;
 use crate::error::BulkExecuteRequestBuilderError;
@@ -19,8 +19,8 @@ fn take_params<I: Iterator<Item = Params>>(
 ) -> Result<Option<Vec<Value>>, BulkExecuteRequestBuilderError>
     requires can { I.can_next params.old }
     requires ends { IsFinite (I.remaining params.old) }
-    ensures fills { FillsParams I.next_gives builder.old.names builder.old None params.old result builder.new params.new }
-    ensures goes { IfOk result (λ last. IfSome last (λ _. I.can_next params.new × IsFinite (I.remaining params.new)
+    ensures accepts { AcceptsParamsUntilFull I.next_gives builder.old.names builder.old None params.old result builder.new params.new }
+    ensures progress { IfOk result (λ last. IfSome last (λ _. I.can_next params.new × IsFinite (I.remaining params.new)
         × (length builder.new.waiting + 1 + size (I.remaining params.new) ≤ length builder.old.waiting + size (I.remaining params.old)))) }
 {
     while let Some(entry) = params.next() {
@@ -39,8 +39,8 @@ fn fill_params<I: Iterator<Item = Params>>(
 ) -> Result<Option<Vec<Value>>, BulkExecuteRequestBuilderError>
     requires can { I.can_next params.old }
     requires ends { IsFinite (I.remaining params.old) }
-    ensures fills { FillsParams I.next_gives builder.old.names builder.old carried params.old result builder.new params.new }
-    ensures goes { IfOk result (λ last. IfSome last (λ _. I.can_next params.new × IsFinite (I.remaining params.new)
+    ensures accepts { AcceptsParamsUntilFull I.next_gives builder.old.names builder.old carried params.old result builder.new params.new }
+    ensures progress { IfOk result (λ last. IfSome last (λ _. I.can_next params.new × IsFinite (I.remaining params.new)
         × (length builder.new.waiting + 1 + size (I.remaining params.new) ≤ length builder.old.waiting + length (option_to_list carried) + size (I.remaining params.old)))) }
 {
     if let Some(row) = carried {
@@ -67,7 +67,7 @@ impl<'b, 'a, I: Iterator<Item = Params>> Iterator for BulkParamsRequests<'b, 'a,
 
     ghost can_next = { λ s. OnFalse (state_of s).ended (I.can_next (state_of s).rows × IsFinite (I.remaining (state_of s).rows)) };
 
-    ghost next_gives = { λ s r t. SameBuilder s t × NextOfParams I.next_gives (names_of s) (state_of s) r (state_of t) };
+    ghost next_gives = { λ s r t. SameBuilder s t × NextRequestOfParams I.next_gives (names_of s) (state_of s) r (state_of t) };
 
     ghost remaining = { λ s. results_left I.remaining (state_of s) };
 
@@ -81,7 +81,10 @@ impl<'b, 'a, I: Iterator<Item = Params>> Iterator for BulkParamsRequests<'b, 'a,
             Ok(last) => {
                 self.ended = last.is_none();
                 self.carried = last;
-                build_waiting(self.builder, &mut self.ended)
+                match build_waiting(self.builder) {
+                    Some(request) => Some(Ok(request)),
+                    None => None,
+                }
             }
             Err(e) => {
                 self.ended = true;

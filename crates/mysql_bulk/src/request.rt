@@ -1,35 +1,30 @@
 //! A bulk request.
 
-ghost use Rattle.std.specs.Prelude.{true, ◌≡◌, ◌≤◌, ◌+◌, ◌++◌, length, List, ℕ, None, refl};
+ghost use Rattle.std.specs.Prelude.{true, ◌≡◌, ◌≤◌, ◌+◌, ◌*◌, ◌++◌, length, List, ℕ, None, refl, IfOk, if◌then◌else◌, fold, map, []};
 ghost use Rattle.mysql_wire.specs.Writing.{saturated};
-ghost use Rattle.std.specs.Prelude.{◌*◌};
-ghost use Rattle.mysql_bulk.specs.ParamValue.{row_size, plain};
-ghost use Rattle.mysql_bulk.specs.RequestForm.{with_head};
-ghost use Rattle.std.specs.Prelude.{IfOk, IsTrue, ◌↔◌, if◌then◌else◌, fold, map, []};
-ghost use Rattle.mysql_cuts.specs.Cut.{joined};
-ghost use Rattle.mysql_bulk.specs.Flat.{EqualLengths};
-ghost use Rattle.mysql_bulk.specs.ParamType.{joined_types};
-ghost use Rattle.mysql_bulk.specs.ParamValue.{given};
-ghost use Rattle.mysql_bulk.specs.Builder.{values_of};
+ghost use Rattle.mysql_cuts.specs.Cut.{rows_in};
+ghost use Rattle.mysql_bulk.specs.DeclaredTypes.{types_with_row};
 ghost use Rattle.mysql_bulk.specs.NewRequest.{MakesRequest};
+ghost use Rattle.mysql_bulk.specs.ParamValue.{with_indicator, contents};
+ghost use Rattle.mysql_bulk.specs.RequestForm.{with_head};
+ghost use Rattle.mysql_bulk.specs.Row.{row_size, contents_of_rows, EqualLengths};
 
-use crate::builder::{append_row, find_room};
+use crate::declared_types::join_row;
 use crate::error::BulkExecuteRequestError;
 use crate::head::{ComStmtBulkExecuteHeader, Head, read_head, sends_types};
-use crate::param_type::StmtBulkExecuteParamType;
 use crate::param_value::StmtBulkExecuteParamValue;
 use crate::param_values::read_values;
-use crate::row_type::join_row;
-use mysql_values::Value;
+use crate::row::{append_row, equally_long, find_room};
+use mysql_values::{ParamType, Value};
 use mysql_wire::{
-    AnyWidth, ColumnFlags, ColumnType, FaultOf, Flags, LeU16, LeU32, MyDeserialize, MySerialize,
-    ParseBuf, RawInt, StmtBulkExecuteFlags, append_all, append_items, items_len,
+    AnyWidth, ColumnFlags, ColumnType, Const, FaultOf, LeU16, LeU32, MyDeserialize, MySerialize, ParseBuf,
+    RawInt, Seq, StmtBulkExecuteFlags, Unknown, items_len, parts,
 };
 use std::alloc::{AllocError, Global};
 use std::marker::Model;
 
 /// The request of a head and its values.
-fn made(head: Head, values: Vec<StmtBulkExecuteParamValue>) -> ComStmtBulkExecuteRequest
+fn with_head(head: Head, values: Vec<StmtBulkExecuteParamValue>) -> ComStmtBulkExecuteRequest
     ensures { result ≡ with_head head values.items }
 {
     let size = written_len(head.types.as_slice(), values.as_slice());
@@ -43,31 +38,19 @@ fn made(head: Head, values: Vec<StmtBulkExecuteParamValue>) -> ComStmtBulkExecut
 }
 
 /// How many bytes a request is written as, or `usize::MAX` where that is less.
-#[tactic(auto, using(crate::proofs::Kept::request_lengths), unfolding(mysql_wire::specs::Writing::saturated))]
-fn written_len(types: &[StmtBulkExecuteParamType], values: &[StmtBulkExecuteParamValue]) -> usize
-    ensures { result ≡ saturated (7 + 2 * length types.now + row_size (plain values.now)) }
+#[tactic(auto, using(crate::proofs::RequestBytes::request_lengths), unfolding(mysql_wire::specs::Writing::saturated))]
+fn written_len(types: &[ParamType], values: &[StmtBulkExecuteParamValue]) -> usize
+    ensures { result ≡ saturated (7 + 2 * length types.now + row_size (contents values.now)) }
 {
     items_len(types)
         .saturating_add(items_len(values))
         .saturating_add(7)
 }
 
-/// Whether each row has so many values.
-fn equally_long(rows: &[Vec<Value>], arity: usize) -> bool
-    ensures { IsTrue result ↔ EqualLengths arity (values_of rows.now) }
-{
-    for row in rows {
-        if row.len() != arity {
-            return false;
-        }
-    }
-    true
-}
-
 /// The types of the columns of some rows, and their values one after another.
 #[derive(Drop)]
 struct Parts {
-    types: Vec<StmtBulkExecuteParamType>,
+    types: Vec<ParamType>,
     values: Vec<StmtBulkExecuteParamValue>,
 }
 
@@ -78,9 +61,9 @@ fn gather(
     arity: usize,
     rows: Vec<Vec<Value>>,
 ) -> Result<Parts, AllocError>
-    requires { EqualLengths arity (values_of rows.items) }
-    ensures types { IfOk result (λ parts. parts.types.items ≡ (if sent then fold joined_types [] (values_of rows.items) else [])) }
-    ensures values { IfOk result (λ parts. parts.values.items ≡ map given (joined (values_of rows.items))) }
+    requires { EqualLengths arity (contents_of_rows rows.items) }
+    ensures types { IfOk result (λ parts. parts.types.items ≡ (if sent then fold types_with_row [] (contents_of_rows rows.items) else [])) }
+    ensures values { IfOk result (λ parts. parts.values.items ≡ map with_indicator (rows_in (contents_of_rows rows.items))) }
 {
     let mut types = Vec::new(alloc);
     let mut values = Vec::new(alloc);
@@ -96,8 +79,8 @@ fn gather(
 #[derive(Debug, Drop)]
 pub struct ComStmtBulkExecuteRequest {
     pub(crate) stmt_id: u32,
-    pub(crate) bulk_flags: u16,
-    pub(crate) types: Vec<StmtBulkExecuteParamType>,
+    pub(crate) bulk_flags: StmtBulkExecuteFlags,
+    pub(crate) types: Vec<ParamType>,
     pub(crate) values: Vec<StmtBulkExecuteParamValue>,
     /// How many bytes the request is written as, or `usize::MAX` where that is less.
     pub(crate) size: usize,
@@ -129,14 +112,14 @@ impl ComStmtBulkExecuteRequest {
     /// The request of some rows, with the types of their columns where the flags say that types are sent.
     ///
     /// `NoParams` where there is no row, else `MixedArity` where two rows differ in length; else `Memory` where a growth
-    /// was refused. The rows are given up in each case.
+    /// was refused. The rows are with_indicator up in each case.
     pub fn new(
         alloc: Global,
         stmt_id: u32,
         bulk_flags: StmtBulkExecuteFlags,
         rows: Vec<Vec<Value>>,
     ) -> Result<Self, BulkExecuteRequestError>
-        ensures { MakesRequest stmt_id bulk_flags.0 (values_of rows.items) result }
+        ensures { MakesRequest stmt_id bulk_flags (contents_of_rows rows.items) result }
     {
         if rows.is_empty() {
             return Err(BulkExecuteRequestError::NoParams);
@@ -145,11 +128,11 @@ impl ComStmtBulkExecuteRequest {
         if !equally_long(rows.as_slice(), arity) {
             return Err(BulkExecuteRequestError::MixedArity);
         }
-        match gather(alloc, sends_types(bulk_flags.0), arity, rows) {
-            Ok(parts) => Ok(made(
+        match gather(alloc, sends_types(bulk_flags), arity, rows) {
+            Ok(parts) => Ok(with_head(
                 Head {
                     stmt_id,
-                    bulk_flags: bulk_flags.0,
+                    bulk_flags,
                     types: parts.types,
                 },
                 parts.values,
@@ -167,13 +150,13 @@ impl ComStmtBulkExecuteRequest {
 
     /// Whether types are sent, and whether the results of each row are asked for.
     pub fn bulk_flags(&self) -> StmtBulkExecuteFlags
-        ensures value { result.0 ≡ self.now.bulk_flags }
+        ensures value { result ≡ self.now.bulk_flags }
     {
-        StmtBulkExecuteFlags::from_bits_retain(self.bulk_flags)
+        self.bulk_flags
     }
 
     /// The types of the columns, or none where they are not sent.
-    pub fn types(&self) -> &[StmtBulkExecuteParamType]
+    pub fn types(&self) -> &[ParamType]
         ensures value { result.now ≡ self.now.types }
     {
         self.types.as_slice()
@@ -203,12 +186,12 @@ impl Clone for ComStmtBulkExecuteRequest {
 
 impl PartialEq for ComStmtBulkExecuteRequest {
     ghost use Rattle.mysql_bulk.specs.RequestEq.{request_eq, request_per};
-    ghost use Rattle.mysql_bulk.specs.contracts.param_type.StmtBulkExecuteParamTypePartialEq.TheImpl.Laws as of_types;
+    ghost use Rattle.mysql_values.specs.contracts.param_type.ParamTypePartialEq.TheImpl.Laws as of_types;
     ghost use Rattle.mysql_bulk.specs.contracts.param_value.StmtBulkExecuteParamValuePartialEq.TheImpl.Laws as of_values;
 
-    ghost eq = { request_eq ⟦<StmtBulkExecuteParamType as PartialEq>⟧.eq ⟦<StmtBulkExecuteParamValue as PartialEq>⟧.eq };
+    ghost eq = { request_eq ⟦<ParamType as PartialEq>⟧.eq ⟦<StmtBulkExecuteParamValue as PartialEq>⟧.eq };
 
-    ghost laws = { request_per ⟦<StmtBulkExecuteParamType as PartialEq>⟧.eq ⟦<StmtBulkExecuteParamValue as PartialEq>⟧.eq of_types.laws-law of_values.laws-law };
+    ghost laws = { request_per ⟦<ParamType as PartialEq>⟧.eq ⟦<StmtBulkExecuteParamValue as PartialEq>⟧.eq of_types.laws-law of_values.laws-law };
 
     fn eq(&self, other: &Self) -> bool {
         self.stmt_id == other.stmt_id
@@ -242,10 +225,10 @@ impl<'de> MyDeserialize<'de> for ComStmtBulkExecuteRequest {
     ) -> Result<Self, FaultOf<'s>> {
         let mut rest = buf.rest();
         let head = read_head(columns.len(), &mut rest)?;
-        let told = head.told(buf.alloc(), columns.as_slice())?;
-        let values = read_values(told.as_slice(), &mut rest)?;
+        let columns = head.value_columns(buf.alloc(), columns.as_slice())?;
+        let values = read_values(columns.as_slice(), &mut rest)?;
         *buf = rest;
-        Ok(made(head, values))
+        Ok(with_head(head, values))
     }
 
     ghost size_is = { λ _. refl };
@@ -260,14 +243,13 @@ impl MySerialize for ComStmtBulkExecuteRequest {
         self.size
     }
 
-    #[tactic(auto, using(mysql_wire::specs::Writing::lengths))]
+    #[tactic(auto, unfolding(crate::specs::Head::head))]
     fn append(&self, out: &mut Vec<u8>) {
-        append_all!(out;
-            ComStmtBulkExecuteHeader::new(),
-            RawInt::<LeU32>::new(self.stmt_id),
-            RawInt::<LeU16>::new(self.bulk_flags),
-        );
-        append_items(&self.types, out);
-        append_items(&self.values, out);
+        let header = ComStmtBulkExecuteHeader::new();
+        let stmt_id = RawInt::<LeU32>::new(self.stmt_id);
+        let bulk_flags = Const::<StmtBulkExecuteFlags, LeU16>::new(self.bulk_flags);
+        let types = Seq::<ParamType, Unknown>::borrowed(self.types.as_slice());
+        let values = Seq::<StmtBulkExecuteParamValue, Unknown>::borrowed(self.values.as_slice());
+        parts!(parts!(header, stmt_id, bulk_flags, types), values).append(out);
     }
 }

@@ -1,9 +1,10 @@
 //! A run of a builder over rows that an iterator gives.
 
-ghost use Rattle.std.specs.Prelude.{◌≡◌, ◌+◌, ◌≤◌, length, IfOk, IfSome, None, false, option_to_list};
+ghost use Rattle.std.specs.Prelude.{◌≡◌, ◌+◌, ◌≤◌, [], length, IfOk, IfSome, MatchOption, None, false, option_to_list};
 ghost use Rattle.std.specs.Iterator.{IsFinite, size};
 ghost use Rattle.std.specs.Bool.{OnFalse};
-ghost use Rattle.mysql_bulk.specs.Run.{Fills, AsksWaiting, NextRequest, results_left, carried_of, builder_of, state_of, SameBuilder};
+ghost use Rattle.mysql_bulk.specs.Builder.{BuildsRequest};
+ghost use Rattle.mysql_bulk.specs.Run.{AcceptsUntilFull, NextRequest, results_left, carried_of, builder_of, state_of, SameBuilder};
 
 use crate::builder::ComStmtBulkExecuteRequestBuilder;
 use crate::error::{BulkExecuteRequestBuilderError, BulkExecuteRequestError};
@@ -17,8 +18,8 @@ fn take_rows<I: Iterator<Item = Vec<Value>>>(
 ) -> Result<Option<Vec<Value>>, BulkExecuteRequestError>
     requires can { I.can_next rows.old }
     requires ends { IsFinite (I.remaining rows.old) }
-    ensures fills { Fills I.next_gives builder.old None rows.old result builder.new rows.new }
-    ensures goes { IfOk result (λ last. IfSome last (λ _. I.can_next rows.new × IsFinite (I.remaining rows.new)
+    ensures accepts { AcceptsUntilFull I.next_gives builder.old None rows.old result builder.new rows.new }
+    ensures progress { IfOk result (λ last. IfSome last (λ _. I.can_next rows.new × IsFinite (I.remaining rows.new)
         × (length builder.new.waiting + 1 + size (I.remaining rows.new) ≤ length builder.old.waiting + size (I.remaining rows.old)))) }
 {
     while let Some(row) = rows.next() {
@@ -37,8 +38,8 @@ pub(crate) fn fill<I: Iterator<Item = Vec<Value>>>(
 ) -> Result<Option<Vec<Value>>, BulkExecuteRequestError>
     requires can { I.can_next rows.old }
     requires ends { IsFinite (I.remaining rows.old) }
-    ensures fills { Fills I.next_gives builder.old carried rows.old result builder.new rows.new }
-    ensures goes { IfOk result (λ last. IfSome last (λ _. I.can_next rows.new × IsFinite (I.remaining rows.new)
+    ensures accepts { AcceptsUntilFull I.next_gives builder.old carried rows.old result builder.new rows.new }
+    ensures progress { IfOk result (λ last. IfSome last (λ _. I.can_next rows.new × IsFinite (I.remaining rows.new)
         × (length builder.new.waiting + 1 + size (I.remaining rows.new) ≤ length builder.old.waiting + length (option_to_list carried) + size (I.remaining rows.old)))) }
 {
     if let Some(row) = carried {
@@ -49,22 +50,15 @@ pub(crate) fn fill<I: Iterator<Item = Vec<Value>>>(
     take_rows(builder, rows)
 }
 
-/// The request of the rows that wait, if any wait. A run in which it is refused has ended.
+/// The request of the rows that wait, if any wait.
 pub(crate) fn build_waiting(
     builder: &mut ComStmtBulkExecuteRequestBuilder<'_>,
-    ended: &mut bool,
-) -> Option<Result<ComStmtBulkExecuteRequest, BulkExecuteRequestBuilderError>>
-    ensures asks { AsksWaiting builder.old ended.old result builder.new ended.new }
+) -> Option<ComStmtBulkExecuteRequest>
+    ensures { MatchOption result ((builder.old.waiting ≡ []) × (builder.new ≡ builder.old)) (λ request. BuildsRequest builder.old request builder.new) }
 {
-    if !builder.has_rows() {
-        return None;
-    }
     match builder.build() {
-        Ok(request) => Some(Ok(request)),
-        Err(e) => {
-            *ended = true;
-            Some(Err(BulkExecuteRequestBuilderError::Request(e)))
-        }
+        Ok(request) => Some(request),
+        Err(_) => None,
     }
 }
 
@@ -99,7 +93,10 @@ impl<'b, 'a, I: Iterator<Item = Vec<Value>>> Iterator for BulkRequests<'b, 'a, I
             Ok(last) => {
                 self.ended = last.is_none();
                 self.carried = last;
-                build_waiting(self.builder, &mut self.ended)
+                match build_waiting(self.builder) {
+                    Some(request) => Some(Ok(request)),
+                    None => None,
+                }
             }
             Err(e) => {
                 self.ended = true;

@@ -1,20 +1,6 @@
-//! The bytes of rows and requests.
+//! The bytes of requests.
 
 ghost use Rattle.std.specs.Prelude.{◌≡◌, ◌+◌, ◌*◌, ◌^◌, ◌≤◌, MatchOption, if◌then◌else◌};
-ghost use Rattle.mysql_bulk.specs.ParamValue.{values_size};
-
-use mysql_values::Value;
-
-/// How many bytes a row has in a request, if that fits a number.
-pub(crate) fn row_len(row: &[Value]) -> Option<u64>
-    ensures { MatchOption result (2 ^ 64 ≤ values_size row.now) (λ n. n ≡ values_size row.now) }
-{
-    let mut len = 0u64;
-    for value in row {
-        len = len.checked_add(1)?.checked_add(value.bin_len())?;
-    }
-    Some(len)
-}
 
 /// How many bytes a request has, of so many values a row and so many bytes of rows, if that fits a number.
 pub(crate) fn request_len(arity: usize, types: bool, rows: u64) -> Option<u64>

@@ -1,15 +1,15 @@
 //! A whole run over a list of rows.
 
-ghost use Rattle.std.specs.Prelude.{◌≡◌, ◌≢◌, ◌+◌, ◌++◌, ◌∷◌, [], length, OnOk, OnErr, IfOk, IfErr, None};
-ghost use Rattle.mysql_bulk.specs.Builder.{SendsRequest, values_of};
-ghost use Rattle.mysql_bulk.specs.Refusal.{IsRefusal};
-ghost use Rattle.mysql_bulk.specs.WholeRun.{IsNew, HadMemory, OfRows, GivesFront, GivesFull, GivesFewest};
+ghost use Rattle.std.specs.Prelude.{◌≡◌, ◌≢◌, ◌+◌, ◌++◌, ◌∷◌, [], length, IfOk, OnOk, OnErr};
+ghost use Rattle.mysql_bulk.specs.Row.{contents_of_rows};
+ghost use Rattle.mysql_bulk.specs.WholeRun.{OfRows, RunGives, PutsRequest, refusal_of};
 
 use crate::builder::ComStmtBulkExecuteRequestBuilder;
 use crate::error::{BulkExecuteRequestBuilderError, BulkExecuteRequestError};
 use crate::request::ComStmtBulkExecuteRequest;
 use crate::run::fill;
 use mysql_values::Value;
+use std::alloc::AllocError;
 
 /// What a whole run gave.
 #[derive(Debug, Drop)]
@@ -22,126 +22,93 @@ pub struct BulkRun {
     pub refusal: Option<BulkExecuteRequestBuilderError>,
 }
 
-/// The same, where only rows are refused.
-#[derive(Drop)]
-struct RowsRun {
-    requests: Vec<ComStmtBulkExecuteRequest>,
-    ends: Vec<usize>,
-    refusal: Option<BulkExecuteRequestError>,
-}
-
-/// Builds the next request of a run, and says how many rows are sent with it.
+/// Builds the next request of a run, and says how many rows are sent with it. Room is found before anything changes.
 fn send(
     builder: &mut ComStmtBulkExecuteRequestBuilder<'_>,
     requests: &mut Vec<ComStmtBulkExecuteRequest>,
     ends: &mut Vec<usize>,
     sent: usize,
-) -> Result<usize, BulkExecuteRequestError>
+) -> Result<usize, AllocError>
     requires { builder.old.waiting ≢ [] }
-    ensures ok { IfOk result (λ end. end ≡ sent + length builder.old.waiting) }
-    ensures sends { IfOk result (λ end. ends.new.items ≡ ends.old.items ++ end ∷ []) }
-    ensures builds { OnOk result (SendsRequest builder.old requests.old.items requests.new.items builder.new) }
-    ensures memory { IfErr result (λ e. e ≡ BulkExecuteRequestError.Memory) }
+    ensures end { IfOk result (λ end. end ≡ sent + length builder.old.waiting) }
+    ensures ends { IfOk result (λ end. ends.new.items ≡ ends.old.items ++ end ∷ []) }
+    ensures requests { OnOk result (PutsRequest builder.old requests.old.items requests.new.items builder.new) }
     ensures unchanged { OnErr result ((builder.new ≡ builder.old) × (requests.new.items ≡ requests.old.items) × (ends.new.items ≡ ends.old.items)) }
 {
-    let Some(end) = sent.checked_add(builder.rows_waiting()) else {
-        return Err(BulkExecuteRequestError::Memory);
-    };
-    if requests.reserve(1).is_err() {
-        return Err(BulkExecuteRequestError::Memory);
-    }
-    if ends.reserve(1).is_err() {
-        return Err(BulkExecuteRequestError::Memory);
-    }
+    let end = sent
+        .checked_add(builder.rows_waiting())
+        .ok_or(AllocError)?;
+    requests.reserve(1)?;
+    ends.reserve(1)?;
     match builder.build() {
         Ok(request) => {
             requests.push_reserved(request);
             ends.push_reserved(end);
             Ok(end)
         }
-        Err(e) => Err(e),
+        Err(_) => unreachable!(),
     }
 }
 
 impl<'a> ComStmtBulkExecuteRequestBuilder<'a> {
-    /// Runs over all the rows.
-    fn run_rows(&mut self, rows: Vec<Vec<Value>>) -> RowsRun
-        ensures front { GivesFront self.old (self.old.waiting ++ values_of rows.items) result.requests.items result.ends.items result.refusal self.new }
-        ensures full { IsNew self.old → GivesFull self.old result.requests.items result.ends.items (values_of rows.items) }
-        ensures refusal { IsNew self.old → HadMemory result.refusal → IsRefusal self.old (values_of rows.items) result.refusal }
-        ensures fewest { IsNew self.old → result.refusal ≡ None → GivesFewest self.old result.requests.items result.ends.items (values_of rows.items) }
+    /// Sends the rows that wait and these, request by request.
+    fn send_rows(
+        &mut self,
+        rows: Vec<Vec<Value>>,
+        requests: &mut Vec<ComStmtBulkExecuteRequest>,
+        ends: &mut Vec<usize>,
+    ) -> Result<(), BulkExecuteRequestError>
+        requires no_requests { requests.old.items ≡ [] }
+        requires no_ends { ends.old.items ≡ [] }
+        ensures { RunGives self.old (self.old.waiting ++ contents_of_rows rows.items) requests.new.items ends.new.items (refusal_of result) self.new }
     {
-        let alloc = *rows.allocator();
-        let mut requests = Vec::new(alloc);
-        let mut ends = Vec::new(alloc);
+        self.is_consistent();
         let mut input = rows.into_iter();
         let mut carried = None;
         let mut sent = 0;
         'rows: loop {
             match fill(self, carried, &mut input) {
                 Ok(last) => carried = last,
-                Err(e) => {
-                    return RowsRun {
-                        requests,
-                        ends,
-                        refusal: Some(e),
-                    };
-                }
+                Err(e) => return Err(e),
             }
             if !self.has_rows() {
-                return RowsRun {
-                    requests,
-                    ends,
-                    refusal: None,
-                };
+                return Ok(());
             }
-            match send(self, &mut requests, &mut ends, sent) {
+            match send(self, requests, ends, sent) {
                 Ok(end) => sent = end,
-                Err(e) => {
-                    return RowsRun {
-                        requests,
-                        ends,
-                        refusal: Some(e),
-                    };
-                }
+                Err(_) => return Err(BulkExecuteRequestError::Memory),
             }
             if carried.is_none() {
-                return RowsRun {
-                    requests,
-                    ends,
-                    refusal: None,
-                };
+                return Ok(());
             }
         }
     }
 
-    /// Runs over all the rows, as `build_iter` does: the requests of the rows that wait and of these, and where each ends.
+    /// Runs over all the rows, as `build_iter` does to its end: the requests of the rows that wait and of these, where each
+    /// ends among the rows, and why the run ended before the rows did, if so.
+    ///
+    /// No row is lost: the rows that were sent, those that wait now, and those that were refused or not reached are all the
+    /// rows that waited or were handed in, in this order. Each request fits the limit and would not with the next row. The
+    /// arity, and whether types are due, are those behind the rows that were sent and wait.
     ///
     /// On a new builder it refuses exactly where two rows differ in length (`MixedArity`) or no cut of the rows into
     /// requests fits the limit (`RowTooLarge`, with the first row that no fitting cut takes), and else no cut that fits
     /// has fewer requests. Where a growth was refused it ends with `Memory` or `MemoryRow`; what was given stands.
     pub fn build_all(&mut self, rows: Vec<Vec<Value>>) -> BulkRun
-        // the requests are those of a cut of a beginning of the rows that waited and came; behind these come the rows that
-        // wait now, and then the row that was refused, if one was
-        ensures front { OfRows (λ refusal. GivesFront self.old (self.old.waiting ++ values_of rows.items) result.requests.items result.ends.items refusal self.new) result.refusal }
-
-        // on a new builder no fitting cut of the rows of one length is ahead of the requests, however the run ends
-        ensures full { IsNew self.old → GivesFull self.old result.requests.items result.ends.items (values_of rows.items) }
-
-        // with memory, it refuses exactly where two rows differ in length or no cut fits
-        ensures refusal { IsNew self.old → OfRows HadMemory result.refusal → OfRows (IsRefusal self.old (values_of rows.items)) result.refusal }
-
-        // and else its requests are a fewest cut
-        ensures fewest { IsNew self.old → result.refusal ≡ None → GivesFewest self.old result.requests.items result.ends.items (values_of rows.items) }
+        ensures gives { RunGives self.old (self.old.waiting ++ contents_of_rows rows.items) result.requests.items result.ends.items result.refusal self.new }
+        ensures of_rows { OfRows result.refusal }
     {
-        let run = self.run_rows(rows);
+        let alloc = *rows.allocator();
+        let mut requests = Vec::new(alloc);
+        let mut ends = Vec::new(alloc);
+        let refusal = match self.send_rows(rows, &mut requests, &mut ends) {
+            Ok(()) => None,
+            Err(e) => Some(BulkExecuteRequestBuilderError::Request(e)),
+        };
         BulkRun {
-            requests: run.requests,
-            ends: run.ends,
-            refusal: match run.refusal {
-                Some(e) => Some(BulkExecuteRequestBuilderError::Request(e)),
-                None => None,
-            },
+            requests,
+            ends,
+            refusal,
         }
     }
 }

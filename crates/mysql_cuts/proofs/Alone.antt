@@ -1,6 +1,6 @@
 -- A fitting cut exists exactly where each row fits alone in its place.
 use Rattle.std.proofs.Common.{◌≡◌, ◌↔◌, Bool, true, false, List, [], ◌∷◌, ◌++◌, refl, sym, ap, subst, arith}
-use Rattle.mysql_cuts.specs.Cut.{Packing, PartFits, FitsFrom, joined, NoneEmpty, HasFittingCut, RowsFitAlone}
+use Rattle.mysql_cuts.specs.Cut.{Packing, PartFits, FitsFrom, rows_in, NoneEmpty, HasFittingCut, RowsFitAlone}
 use Rattle.mysql_cuts.proofs.Packed.{PartFits-back, PartFits-front}
 
 module _ {X : Type 0} (k : Packing X) where
@@ -15,19 +15,19 @@ module _ {X : Type 0} (k : Packing X) where
   alone_later (x ∷ part) rest f r =
       (PartFits-back k k.types_always (x ∷ []) part f, alone_later part rest (PartFits-front k k.types_always (x ∷ []) part f) r)
 
-  alone_parts : (parts : List (List X)) → FitsFrom k k.types_always parts → RowsFitAlone k k.types_always (joined parts)
+  alone_parts : (parts : List (List X)) → FitsFrom k k.types_always parts → RowsFitAlone k k.types_always (rows_in parts)
   alone_parts [] f = tt
-  alone_parts (part ∷ parts) f = alone_later part (joined parts) f.0 (alone_parts parts f.1)
+  alone_parts (part ∷ parts) f = alone_later part (rows_in parts) f.0 (alone_parts parts f.1)
 
-  alone_cut : (parts : List (List X)) → NoneEmpty parts → FitsFrom k true parts → RowsFitAlone k true (joined parts)
+  alone_cut : (parts : List (List X)) → NoneEmpty parts → FitsFrom k true parts → RowsFitAlone k true (rows_in parts)
   alone_cut [] m f = tt
   alone_cut ([] ∷ parts) m f = absurd (m.0 refl)
   alone_cut ((x ∷ part) ∷ parts) m f = (
     PartFits-back k true (x ∷ []) part f.0,
-    alone_later part (joined parts) (later_fits k.types_always part refl (PartFits-front k true (x ∷ []) part f.0)) (alone_parts parts f.1),
+    alone_later part (rows_in parts) (later_fits k.types_always part refl (PartFits-front k true (x ∷ []) part f.0)) (alone_parts parts f.1),
   )
 
-  singles_fit : (types : Bool) (rows : List X) → RowsFitAlone k types rows → (parts : List (List X)) × NoneEmpty parts × (joined parts ≡ rows) × FitsFrom k types parts
+  singles_fit : (types : Bool) (rows : List X) → RowsFitAlone k types rows → (parts : List (List X)) × NoneEmpty parts × (rows_in parts ≡ rows) × FitsFrom k types parts
   singles_fit types [] r = ([], tt, refl, tt)
   singles_fit types (x ∷ rows) r =
       let more = singles_fit k.types_always rows r.1 in

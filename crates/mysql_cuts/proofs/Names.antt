@@ -3,16 +3,16 @@ use Rattle.std.proofs.Common.{◌≡◌, ◌≢◌, ℕ, suc, ◌+◌, ◌-◌, 
 use Rattle.std.proofs.lemmas.List.{take_at, drop_at, take-append-drop, length-take-le, length-drop, drop-drop, drop_more, drop_all, take_more, take_all, nil_from_length}
 use Rattle.std.proofs.lemmas.List.Sums.{sum_by_push}
 use Rattle.std.specs.Prelude.{IfSome}
-use Rattle.mysql_cuts.specs.Cut.{Packing, request_size, WithinRows, PartFits, FitsFrom, joined, NoneEmpty, HasFittingCut, IsFewest, ends_after}
+use Rattle.mysql_cuts.specs.Cut.{Packing, request_size, WithinRows, PartFits, FitsFrom, rows_in, NoneEmpty, HasFittingCut, IsFewest, ends_after, types_after}
 use Rattle.mysql_cuts.specs.Fewest.{NamesFitting, NamesFewest, RoomIs}
-use Rattle.mysql_cuts.proofs.Packed.{types_after, types_after_push, IsPacked, packed_none, packed_more, packed_close, packed_stuck, packed_fewest, fits_front, length-parts}
+use Rattle.mysql_cuts.proofs.Packed.{types_after_push, IsPacked, packed_none, packed_more, packed_close, packed_stuck, packed_fewest, fits_front, length-parts}
 
 -- these ends name a fitting cut of the rows that come after `start` others
 pub record Names (k : Packing ℕ) (types : Bool) (start : ℕ) (rows : List ℕ) (ends : List ℕ) : Type 0 where
   pub parts : List (List ℕ)
   pub named : ends ≡ ends_after start parts
   pub none_empty : NoneEmpty parts
-  pub whole : joined parts ≡ rows
+  pub whole : rows_in parts ≡ rows
   pub fits : FitsFrom k types parts
 
 -- a packer has come to place i of the rows: so many parts are closed, and so many rows are in the open one, which has this room
@@ -41,7 +41,7 @@ module _ (k : Packing ℕ) where
     pub others : Names k k.types_always e (drop (e - start) rows) es
 
   begins-parts : (types : Bool) (start : ℕ) (rows : List ℕ) (e : ℕ) (es : List ℕ) (parts : List (List ℕ)) → e ∷ es ≡ ends_after start parts → NoneEmpty parts
-      → joined parts ≡ rows → FitsFrom k types parts → Begins types start rows e es
+      → rows_in parts ≡ rows → FitsFrom k types parts → Begins types start rows e es
   begins-parts types start rows e es [] n m w f = cc
   begins-parts types start rows e es (p ∷ ps) n m w f =
       let head : e ≡ start + length p = cc in
@@ -49,12 +49,12 @@ module _ (k : Packing ℕ) where
       let more = nonempty p m.0 in
       let width : length p ≡ e - start = omega arith in
       let P : List ℕ → Type 0 = PartFits k types in
-      let front : take (e - start) rows ≡ p = ap (take (e - start)) (sym w) ∙ take_at p (joined ps) (e - start) width in
-      let back : joined ps ≡ drop (e - start) rows = sym (ap (drop (e - start)) (sym w) ∙ drop_at p (joined ps) (e - start) width) in
-      let lengths : length (p ++ joined ps) ≡ length rows = ap length w in
+      let front : take (e - start) rows ≡ p = ap (take (e - start)) (sym w) ∙ take_at p (rows_in ps) (e - start) width in
+      let back : rows_in ps ≡ drop (e - start) rows = sym (ap (drop (e - start)) (sym w) ∙ drop_at p (rows_in ps) (e - start) width) in
+      let lengths : length (p ++ rows_in ps) ≡ length rows = ap length w in
       record {
         after = omega arith;
-        within = omega (arith, lengths, length-append p (joined ps));
+        within = omega (arith, lengths, length-append p (rows_in ps));
         first_fits = subst P (sym front) f.0;
         others = record { parts = ps; named = tail ∙ ap (λ s. ends_after s ps) (sym head); none_empty = m.1; whole = back; fits = f.1 };
       }
@@ -76,7 +76,7 @@ module _ (k : Packing ℕ) where
         fits = (b.first_fits, b.others.fits);
       }
 
-  ends_none : (start : ℕ) (parts : List (List ℕ)) → [] ≡ ends_after start parts → joined parts ≡ []
+  ends_none : (start : ℕ) (parts : List (List ℕ)) → [] ≡ ends_after start parts → rows_in parts ≡ []
   ends_none start [] n = refl
   ends_none start (p ∷ ps) n = cc
 
@@ -141,11 +141,11 @@ module _ (k : Packing ℕ) where
   -- the numbers are within the rows passed
   pub counts_bound : (rows : List ℕ) (i closed inside : ℕ) (room : Option ℕ) → i ≤ length rows → Counts k rows i closed inside room → closed + inside ≤ i
   counts_bound rows i closed inside room h c =
-      let whole : length (joined c.full ++ c.part) ≡ length (take i rows) = ap length c.packed.same in
+      let whole : length (rows_in c.full ++ c.part) ≡ length (take i rows) = ap length c.packed.same in
       let few = length-parts k c.full c.packed.none_empty in
       let a = c.closed_is in
       let b = c.inside_is in
-      omega (arith, whole, length-append (joined c.full) c.part, length-take-le i rows h)
+      omega (arith, whole, length-append (rows_in c.full) c.part, length-take-le i rows h)
 
   -- the next row has room in the open part
   pub counts_more : (rows : List ℕ) (i closed inside left : ℕ) (room : Option ℕ) → i < length rows → Counts k rows i closed inside room

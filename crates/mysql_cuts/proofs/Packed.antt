@@ -5,7 +5,7 @@ use Rattle.std.proofs.lemmas.List.Sums.{sum_by-append}
 use Rattle.std.proofs.lemmas.List.Concat.{flat_map-append}
 use Rattle.std.proofs.lemmas.List.{append-nil, take-append-le, take-append-drop}
 use Rattle.std.proofs.Math.Seq.{take-append-add}
-use Rattle.mysql_cuts.specs.Cut.{Packing, WithinRows, PartFits, FitsFrom, joined, NoneEmpty, HasFittingCut, IsFewest, rows_in_first, IsFullFromFront}
+use Rattle.mysql_cuts.specs.Cut.{Packing, WithinRows, PartFits, FitsFrom, rows_in, NoneEmpty, HasFittingCut, IsFewest, rows_in_first, IsFullFromFront, NextDoesNotFit, FullFrom, types_after}
 
 -- ---- lists
 
@@ -39,17 +39,6 @@ PartFits-front k types p q f =
 -- ---- a cut that is full from the front
 
 module _ {X : Type 0} (k : Packing X) where
-  -- the next of the rows to come, if there is one, does not fit with this part
-  abbrev pub NextDoesNotFit : Bool → List X → List X → Type 0
-  NextDoesNotFit types part [] = Unit {0}
-  NextDoesNotFit types part (x ∷ xs) = PartFits k types (part ++ x ∷ []) → ⊥
-
-  -- each part fits, and no part could take the next row too; these are the rows to come after the last part
-  abbrev pub FullFrom : Bool → List (List X) → List X → Type 0
-  FullFrom types [] rest = Unit {0}
-  FullFrom types (part ∷ parts) rest =
-      PartFits k types part × NextDoesNotFit types part (joined parts ++ rest) × FullFrom k.types_always parts rest
-
   -- what goes on past a part that the next row does not fit with, does not fit
   too_long : (types : Bool) (q extra p : List X) (x : X) (ts : List X) → PartFits k types q → (PartFits k types (p ++ x ∷ []) → ⊥) → q ≡ (extra ++ p) ++ x ∷ ts → ⊥
   too_long types q extra p x ts f n e =
@@ -67,7 +56,7 @@ module _ {X : Type 0} (k : Packing X) where
       too_long types q extra p x ts f n (e ∙ ap (λ z. (extra ++ p) ++ z ∷ ts) (sym heads))
 
   -- a part that begins no later than a full one ends no later
-  pub ends_no_later : (types : Bool) (q extra p s r : List X) → PartFits k types q → NextDoesNotFit types p r → q ++ s ≡ extra ++ (p ++ r)
+  pub ends_no_later : (types : Bool) (q extra p s r : List X) → PartFits k types q → NextDoesNotFit k types p r → q ++ s ≡ extra ++ (p ++ r)
       → (t : List X) × (extra ++ p ≡ q ++ t) × (s ≡ t ++ r)
   ends_no_later types q extra p s [] f n e =
       let whole : (extra ++ p) ++ [] ≡ q ++ s = append_assoc extra p [] ∙ sym e in
@@ -81,91 +70,86 @@ module _ {X : Type 0} (k : Packing X) where
       ]
 
   -- the first n parts of another cut hold no more rows, where its parts begin `extra` earlier
-  pub not_ahead : (types : Bool) (full others : List (List X)) (extra rest tail : List X) (n : ℕ) → FullFrom types full rest → FitsFrom k types others
-      → joined others ++ tail ≡ extra ++ (joined full ++ rest) → n ≤ length full → rows_in_first n others ≤ length extra + rows_in_first n full
+  pub not_ahead : (types : Bool) (full others : List (List X)) (extra rest tail : List X) (n : ℕ) → FullFrom k types full rest → FitsFrom k types others
+      → rows_in others ++ tail ≡ extra ++ (rows_in full ++ rest) → n ≤ length full → rows_in_first n others ≤ length extra + rows_in_first n full
   not_ahead types full others extra rest tail zero c f e h = omega arith
   not_ahead types full [] extra rest tail (suc n) c f e h = omega arith
   not_ahead types [] (q ∷ others) extra rest tail (suc n) c f e h = absurd (omega arith)
   not_ahead types (p ∷ full) (q ∷ others) extra rest tail (suc n) c f e h =
-      let whole : q ++ (joined others ++ tail) ≡ extra ++ (p ++ (joined full ++ rest)) =
-      sym (append_assoc q (joined others) tail) ∙ e ∙ ap (λ (l : List X). extra ++ l) (append_assoc p (joined full) rest) in
-      let t = ends_no_later types q extra p (joined others ++ tail) (joined full ++ rest) f.0 c.1 whole in
+      let whole : q ++ (rows_in others ++ tail) ≡ extra ++ (p ++ (rows_in full ++ rest)) =
+      sym (append_assoc q (rows_in others) tail) ∙ e ∙ ap (λ (l : List X). extra ++ l) (append_assoc p (rows_in full) rest) in
+      let t = ends_no_later types q extra p (rows_in others ++ tail) (rows_in full ++ rest) f.0 c.1 whole in
       let lengths : length (extra ++ p) ≡ length (q ++ t.0) = ap length t.1 in
       let less = not_ahead k.types_always full others t.0 rest tail n c.2 f.1 t.2 (omega arith) in
-      omega (arith, less, lengths, length-append extra p, length-append q t.0, length-append q (joined (take n others)), length-append p (joined (take n full)))
+      omega (arith, less, lengths, length-append extra p, length-append q t.0, length-append q (rows_in (take n others)), length-append p (rows_in (take n full)))
 
   -- a cut of as many rows, and of those `extra` before them, has at least as many parts
-  pub not_fewer : (types : Bool) (full others : List (List X)) (extra rest : List X) → FullFrom types full rest → NoneEmpty full → FitsFrom k types others
-      → joined others ≡ extra ++ (joined full ++ rest) → length full ≤ length others
+  pub not_fewer : (types : Bool) (full others : List (List X)) (extra rest : List X) → FullFrom k types full rest → NoneEmpty full → FitsFrom k types others
+      → rows_in others ≡ extra ++ (rows_in full ++ rest) → length full ≤ length others
   not_fewer types [] others extra rest c m f e = omega arith
   not_fewer types ([] ∷ full) others extra rest c m f e = absurd (m.0 refl)
   not_fewer types ((x ∷ p) ∷ full) [] extra rest c m f e =
-      let lengths : 0 ≡ length (extra ++ x ∷ (p ++ joined full ++ rest)) = ap length e in
-      omega (arith, lengths, length-append extra (x ∷ (p ++ joined full ++ rest)))
+      let lengths : 0 ≡ length (extra ++ x ∷ (p ++ rows_in full ++ rest)) = ap length e in
+      omega (arith, lengths, length-append extra (x ∷ (p ++ rows_in full ++ rest)))
   not_fewer types ((x ∷ p) ∷ full) (q ∷ others) extra rest c m f e =
-      let whole : q ++ joined others ≡ extra ++ ((x ∷ p) ++ (joined full ++ rest)) = e ∙ ap (λ (l : List X). extra ++ l) (append_assoc (x ∷ p) (joined full) rest) in
-      let t = ends_no_later types q extra (x ∷ p) (joined others) (joined full ++ rest) f.0 c.1 whole in
+      let whole : q ++ rows_in others ≡ extra ++ ((x ∷ p) ++ (rows_in full ++ rest)) = e ∙ ap (λ (l : List X). extra ++ l) (append_assoc (x ∷ p) (rows_in full) rest) in
+      let t = ends_no_later types q extra (x ∷ p) (rows_in others) (rows_in full ++ rest) f.0 c.1 whole in
       let less = not_fewer k.types_always full others t.0 rest c.2 m.1 f.1 t.2 in
       omega (arith, less)
 
-  -- whether the request after these sends types
-  abbrev pub types_after : Bool → List (List X) → Bool
-  types_after types [] = types
-  types_after types (part ∷ parts) = k.types_always
-
-  later : (full : List (List X)) → types_after k.types_always full ≡ k.types_always
+  later : (full : List (List X)) → types_after k k.types_always full ≡ k.types_always
   later [] = refl
   later (part ∷ parts) = refl
 
-  pub joined_push : (parts : List (List X)) (part : List X) → joined (parts ++ part ∷ []) ≡ joined parts ++ part
-  joined_push parts part = flat_map-append (λ p. p) parts (part ∷ []) ∙ ap (λ (l : List X). joined parts ++ l) (append-nil part)
+  pub joined_push : (parts : List (List X)) (part : List X) → rows_in (parts ++ part ∷ []) ≡ rows_in parts ++ part
+  joined_push parts part = flat_map-append (λ p. p) parts (part ∷ []) ∙ ap (λ (l : List X). rows_in parts ++ l) (append-nil part)
 
-  joined_seam : (parts : List (List X)) (part rest : List X) → joined parts ++ (part ++ rest) ≡ joined (parts ++ part ∷ []) ++ rest
-  joined_seam parts part rest = sym (append_assoc (joined parts) part rest) ∙ ap (λ (l : List X). l ++ rest) (sym (joined_push parts part))
+  joined_seam : (parts : List (List X)) (part rest : List X) → rows_in parts ++ (part ++ rest) ≡ rows_in (parts ++ part ∷ []) ++ rest
+  joined_seam parts part rest = sym (append_assoc (rows_in parts) part rest) ∙ ap (λ (l : List X). l ++ rest) (sym (joined_push parts part))
 
   pub NoneEmpty-push : (parts : List (List X)) (part : List X) → NoneEmpty parts → part ≢ [] → NoneEmpty (parts ++ part ∷ [])
   NoneEmpty-push [] part m n = (n, tt)
   NoneEmpty-push (p ∷ parts) part m n = (m.0, NoneEmpty-push parts part m.1 n)
 
-  pub FitsFrom-full : (types : Bool) (full : List (List X)) (rest : List X) → FullFrom types full rest → FitsFrom k types full
+  pub FitsFrom-full : (types : Bool) (full : List (List X)) (rest : List X) → FullFrom k types full rest → FitsFrom k types full
   FitsFrom-full types [] rest c = tt
   FitsFrom-full types (part ∷ parts) rest c = (c.0, FitsFrom-full k.types_always parts rest c.2)
 
-  pub FitsFrom-push : (types : Bool) (parts : List (List X)) (part : List X) → FitsFrom k types parts → PartFits k (types_after types parts) part → FitsFrom k types (parts ++ part ∷ [])
+  pub FitsFrom-push : (types : Bool) (parts : List (List X)) (part : List X) → FitsFrom k types parts → PartFits k (types_after k types parts) part → FitsFrom k types (parts ++ part ∷ [])
   FitsFrom-push types [] part f p = (p, tt)
   FitsFrom-push types (q ∷ parts) part f p =
       let P : Bool → Type 0 = λ b. PartFits k b part in
       (f.0, FitsFrom-push k.types_always parts part f.1 (subst P (sym (later parts)) p))
 
-  pub FullFrom-push : (types : Bool) (full : List (List X)) (part rest : List X) → FullFrom types full (part ++ rest) → PartFits k (types_after types full) part
-      → NextDoesNotFit (types_after types full) part rest → FullFrom types (full ++ part ∷ []) rest
+  pub FullFrom-push : (types : Bool) (full : List (List X)) (part rest : List X) → FullFrom k types full (part ++ rest) → PartFits k (types_after k types full) part
+      → NextDoesNotFit k (types_after k types full) part rest → FullFrom k types (full ++ part ∷ []) rest
   FullFrom-push types [] part rest c p n = (p, n, tt)
   FullFrom-push types (q ∷ full) part rest c p n =
       let P : Bool → Type 0 = λ b. PartFits k b part in
-      let N : Bool → Type 0 = λ b. NextDoesNotFit b part rest in
-      let Q : List X → Type 0 = NextDoesNotFit types q in
+      let N : Bool → Type 0 = λ b. NextDoesNotFit k b part rest in
+      let Q : List X → Type 0 = NextDoesNotFit k types q in
       (c.0, subst Q (joined_seam full part rest) c.1, FullFrom-push k.types_always full part rest c.2 (subst P (sym (later full)) p) (subst N (sym (later full)) n))
 
   -- from a request on that does not send types first, no cut takes a row that does not fit alone
-  stuck_later : (full others : List (List X)) (extra : List X) (x : X) (rest tail : List X) → FullFrom k.types_always full (x ∷ rest) → FitsFrom k k.types_always others
-      → (PartFits k k.types_always (x ∷ []) → ⊥) → joined others ++ tail ≡ extra ++ (joined full ++ x ∷ rest) → length (joined others) ≤ length extra + length (joined full)
+  stuck_later : (full others : List (List X)) (extra : List X) (x : X) (rest tail : List X) → FullFrom k k.types_always full (x ∷ rest) → FitsFrom k k.types_always others
+      → (PartFits k k.types_always (x ∷ []) → ⊥) → rows_in others ++ tail ≡ extra ++ (rows_in full ++ x ∷ rest) → length (rows_in others) ≤ length extra + length (rows_in full)
   stuck_later full [] extra x rest tail c f n e = omega arith
   stuck_later [] (q ∷ others) extra x rest tail c f n e =
-      let t = ends_no_later k.types_always q extra [] (joined others ++ tail) (x ∷ rest) f.0 n (sym (append_assoc q (joined others) tail) ∙ e) in
+      let t = ends_no_later k.types_always q extra [] (rows_in others ++ tail) (x ∷ rest) f.0 n (sym (append_assoc q (rows_in others) tail) ∙ e) in
       let lengths : length (extra ++ []) ≡ length (q ++ t.0) = ap length t.1 in
       let less = stuck_later [] others t.0 x rest tail tt f.1 n t.2 in
-      omega (arith, less, lengths, length-append extra [], length-append q t.0, length-append q (joined others))
+      omega (arith, less, lengths, length-append extra [], length-append q t.0, length-append q (rows_in others))
   stuck_later (p ∷ full) (q ∷ others) extra x rest tail c f n e =
-      let whole : q ++ (joined others ++ tail) ≡ extra ++ (p ++ (joined full ++ x ∷ rest)) =
-      sym (append_assoc q (joined others) tail) ∙ e ∙ ap (λ (l : List X). extra ++ l) (append_assoc p (joined full) (x ∷ rest)) in
-      let t = ends_no_later k.types_always q extra p (joined others ++ tail) (joined full ++ x ∷ rest) f.0 c.1 whole in
+      let whole : q ++ (rows_in others ++ tail) ≡ extra ++ (p ++ (rows_in full ++ x ∷ rest)) =
+      sym (append_assoc q (rows_in others) tail) ∙ e ∙ ap (λ (l : List X). extra ++ l) (append_assoc p (rows_in full) (x ∷ rest)) in
+      let t = ends_no_later k.types_always q extra p (rows_in others ++ tail) (rows_in full ++ x ∷ rest) f.0 c.1 whole in
       let lengths : length (extra ++ p) ≡ length (q ++ t.0) = ap length t.1 in
       let less = stuck_later full others t.0 x rest tail c.2 f.1 n t.2 in
-      omega (arith, less, lengths, length-append extra p, length-append q t.0, length-append q (joined others), length-append p (joined full))
+      omega (arith, less, lengths, length-append extra p, length-append q t.0, length-append q (rows_in others), length-append p (rows_in full))
 
   -- no fitting cut takes a row that does not fit alone where the full parts before it end
-  pub stuck : (types : Bool) (full others : List (List X)) (x : X) (rest tail : List X) → FullFrom types full (x ∷ rest) → NoneEmpty others → FitsFrom k types others
-      → (PartFits k (types_after types full) (x ∷ []) → ⊥) → joined others ++ tail ≡ joined full ++ x ∷ rest → length (joined others) ≤ length (joined full)
+  pub stuck : (types : Bool) (full others : List (List X)) (x : X) (rest tail : List X) → FullFrom k types full (x ∷ rest) → NoneEmpty others → FitsFrom k types others
+      → (PartFits k (types_after k types full) (x ∷ []) → ⊥) → rows_in others ++ tail ≡ rows_in full ++ x ∷ rest → length (rows_in others) ≤ length (rows_in full)
   stuck types full [] x rest tail c m f n e = omega arith
   stuck types [] ([] ∷ others) x rest tail c m f n e = absurd (m.0 refl)
   stuck types [] ((y ∷ q) ∷ others) x rest tail c m f n e =
@@ -173,16 +157,16 @@ module _ {X : Type 0} (k : Packing X) where
       let P : X → Type 0 = λ z. PartFits k types (z ∷ []) in
       absurd (n (subst P heads (PartFits-back k types (y ∷ []) q f.0)))
   stuck types (p ∷ full) (q ∷ others) x rest tail c m f n e =
-      let whole : q ++ (joined others ++ tail) ≡ [] ++ (p ++ (joined full ++ x ∷ rest)) =
-      sym (append_assoc q (joined others) tail) ∙ e ∙ append_assoc p (joined full) (x ∷ rest) in
-      let t = ends_no_later types q [] p (joined others ++ tail) (joined full ++ x ∷ rest) f.0 c.1 whole in
+      let whole : q ++ (rows_in others ++ tail) ≡ [] ++ (p ++ (rows_in full ++ x ∷ rest)) =
+      sym (append_assoc q (rows_in others) tail) ∙ e ∙ append_assoc p (rows_in full) (x ∷ rest) in
+      let t = ends_no_later types q [] p (rows_in others ++ tail) (rows_in full ++ x ∷ rest) f.0 c.1 whole in
       let lengths : length p ≡ length (q ++ t.0) = ap length t.1 in
       let less = stuck_later full others t.0 x rest tail c.2 f.1 n t.2 in
-      omega (arith, less, lengths, length-append q t.0, length-append q (joined others), length-append p (joined full))
+      omega (arith, less, lengths, length-append q t.0, length-append q (rows_in others), length-append p (rows_in full))
 
   -- a beginning of rows that are cut has a cut
   pub cut_front : (types : Bool) (parts : List (List X)) (n : ℕ) → NoneEmpty parts → FitsFrom k types parts
-      → (others : List (List X)) × NoneEmpty others × (joined others ≡ take n (joined parts)) × FitsFrom k types others
+      → (others : List (List X)) × NoneEmpty others × (rows_in others ≡ take n (rows_in parts)) × FitsFrom k types others
   cut_front types parts zero m f = ([], tt, refl, tt)
   cut_front types [] (suc n) m f = ([], tt, refl, tt)
   cut_front types ([] ∷ parts) (suc n) m f = absurd (m.0 refl)
@@ -193,13 +177,13 @@ module _ {X : Type 0} (k : Packing X) where
             let P : List X → Type 0 = λ l. PartFits k types (x ∷ l) in (
               (x ∷ take n p) ∷ [],
               ((λ e. cc), tt),
-              (let e = append-nil (take n p) in let g = take-append-le n p (joined parts) (omega arith) in cc),
+              (let e = append-nil (take n p) in let g = take-append-le n p (rows_in parts) (omega arith) in cc),
               (PartFits-back k types (x ∷ take n p) (drop n p) (subst P front f.0), tt),
             )
         | inr more ↦
             let others = cut_front k.types_always parts (n - length p) m.1 f.1 in
             let at : n ≡ length p + (n - length p) = omega arith in
-            let g : take n (p ++ joined parts) ≡ p ++ take (n - length p) (joined parts) = ap (λ i. take i (p ++ joined parts)) at ∙ take-append-add p (joined parts) (n - length p) in
+            let g : take n (p ++ rows_in parts) ≡ p ++ take (n - length p) (rows_in parts) = ap (λ i. take i (p ++ rows_in parts)) at ∙ take-append-add p (rows_in parts) (n - length p) in
             ((x ∷ p) ∷ others.0, (m.0, others.1), ap (λ (l : List X). x ∷ (p ++ l)) others.2 ∙ ap (λ (l : List X). x ∷ l) (sym g), (f.0, others.3))
       ]
 
@@ -212,10 +196,10 @@ module _ {X : Type 0} (k : Packing X) where
 
   -- the rows before the ones to come are packed: in full parts, and an open part
   pub record IsPacked (types : Bool) (full : List (List X)) (part before rest : List X) : Type 0 where
-    pub same : joined full ++ part ≡ before
+    pub same : rows_in full ++ part ≡ before
     pub none_empty : NoneEmpty full
-    pub full_so_far : FullFrom types full (part ++ rest)
-    pub open_fits : OpenFits (types_after types full) part
+    pub full_so_far : FullFrom k types full (part ++ rest)
+    pub open_fits : OpenFits (types_after k types full) part
 
   pub packed_none : (types : Bool) (rest : List X) → IsPacked types [] [] [] rest
   packed_none types rest = record { same = refl; none_empty = tt; full_so_far = tt; open_fits = tt }
@@ -224,27 +208,35 @@ module _ {X : Type 0} (k : Packing X) where
   OpenFits-from types [] f = tt
   OpenFits-from types (x ∷ xs) f = f
 
+  -- an open part alone
+  pub open_packed : (types : Bool) (part rest : List X) → (part ≢ [] → PartFits k types part) → IsPacked types [] part part rest
+  open_packed types part rest f = record { same = refl; none_empty = tt; full_so_far = tt; open_fits = opens part f }
+    where
+      opens : (part : List X) → (part ≢ [] → PartFits k types part) → OpenFits types part
+      opens [] f = tt
+      opens (x ∷ xs) f = f (λ e. cc)
+
   OpenFits-to : (types : Bool) (part : List X) → OpenFits types part → part ≢ [] → PartFits k types part
   OpenFits-to types [] f n = absurd (n refl)
   OpenFits-to types (x ∷ xs) f n = f
 
   -- the next row fits with the open part
   pub packed_more : (types : Bool) (full : List (List X)) (part before : List X) (x : X) (rest : List X) → IsPacked types full part before (x ∷ rest)
-      → PartFits k (types_after types full) (part ++ x ∷ []) → IsPacked types full (part ++ x ∷ []) (before ++ x ∷ []) rest
+      → PartFits k (types_after k types full) (part ++ x ∷ []) → IsPacked types full (part ++ x ∷ []) (before ++ x ∷ []) rest
   packed_more types full part before x rest p f = record {
-    same = sym (append_assoc (joined full) part (x ∷ [])) ∙ ap (λ (l : List X). l ++ x ∷ []) p.same;
+    same = sym (append_assoc (rows_in full) part (x ∷ [])) ∙ ap (λ (l : List X). l ++ x ∷ []) p.same;
     none_empty = p.none_empty;
-    full_so_far = (let P : List X → Type 0 = FullFrom types full in subst P (sym (append_assoc part (x ∷ []) rest)) p.full_so_far);
-    open_fits = OpenFits-from (types_after types full) (part ++ x ∷ []) f;
+    full_so_far = (let P : List X → Type 0 = FullFrom k types full in subst P (sym (append_assoc part (x ∷ []) rest)) p.full_so_far);
+    open_fits = OpenFits-from (types_after k types full) (part ++ x ∷ []) f;
   }
 
   -- the open part is closed, since the next row, if there is one, does not fit with it
   pub packed_close : (types : Bool) (full : List (List X)) (part before rest : List X) → IsPacked types full part before rest → part ≢ []
-      → NextDoesNotFit (types_after types full) part rest → IsPacked types (full ++ part ∷ []) [] before rest
+      → NextDoesNotFit k (types_after k types full) part rest → IsPacked types (full ++ part ∷ []) [] before rest
   packed_close types full part before rest p m n = record {
-    same = append-nil (joined (full ++ part ∷ [])) ∙ joined_push full part ∙ p.same;
+    same = append-nil (rows_in (full ++ part ∷ [])) ∙ joined_push full part ∙ p.same;
     none_empty = NoneEmpty-push full part p.none_empty m;
-    full_so_far = FullFrom-push types full part rest p.full_so_far (OpenFits-to (types_after types full) part p.open_fits m) n;
+    full_so_far = FullFrom-push types full part rest p.full_so_far (OpenFits-to (types_after k types full) part p.open_fits m) n;
     open_fits = tt;
   }
 
@@ -253,23 +245,23 @@ module _ {X : Type 0} (k : Packing X) where
   -- all rows are in full parts: the cut is a fewest one
   pub packed_fewest : (full : List (List X)) (rows : List X) → IsPacked true full [] rows [] → IsFewest k rows full
   packed_fewest full rows p =
-      let whole : joined full ≡ rows = sym (append-nil (joined full)) ∙ p.same in (
+      let whole : rows_in full ≡ rows = sym (append-nil (rows_in full)) ∙ p.same in (
         ((p.none_empty, whole), FitsFrom-full true full [] p.full_so_far),
-        λ others c. not_fewer true full others [] [] p.full_so_far p.none_empty c.1 (c.0.1 ∙ sym whole ∙ sym (append-nil (joined full))),
+        λ others c. not_fewer true full others [] [] p.full_so_far p.none_empty c.1 (c.0.1 ∙ sym whole ∙ sym (append-nil (rows_in full))),
       )
 
   -- the closed parts are full from the front, whatever comes after them
   pub packed_full : (types : Bool) (full : List (List X)) (part before rest : List X) → IsPacked types full part before rest → types ≡ true → IsFullFromFront k (before ++ rest) full
   packed_full types full part before rest p first n h b others c =
-      let whole : before ++ rest ≡ joined full ++ (part ++ rest) = ap (λ (l : List X). l ++ rest) (sym p.same) ∙ append_assoc (joined full) part rest in
+      let whole : before ++ rest ≡ rows_in full ++ (part ++ rest) = ap (λ (l : List X). l ++ rest) (sym p.same) ∙ append_assoc (rows_in full) part rest in
       let P : Bool → Type 0 = λ t. FitsFrom k t others in
-      let cut : joined others ++ drop b (before ++ rest) ≡ before ++ rest = ap (λ (l : List X). l ++ drop b (before ++ rest)) c.0.1 ∙ take-append-drop b (before ++ rest) in
+      let cut : rows_in others ++ drop b (before ++ rest) ≡ before ++ rest = ap (λ (l : List X). l ++ drop b (before ++ rest)) c.0.1 ∙ take-append-drop b (before ++ rest) in
       let less = not_ahead types full others [] (part ++ rest) (drop b (before ++ rest)) n p.full_so_far (subst P (sym first) c.1) (cut ∙ whole) h in
       omega (arith, less)
 
   -- the rows before have a fitting cut
   pub packed_fits : (full : List (List X)) (part before rest : List X) → IsPacked true full part before rest → HasFittingCut k before
-  packed_fits full [] before rest p = (full, ((p.none_empty, sym (append-nil (joined full)) ∙ p.same), FitsFrom-full true full ([] ++ rest) p.full_so_far))
+  packed_fits full [] before rest p = (full, ((p.none_empty, sym (append-nil (rows_in full)) ∙ p.same), FitsFrom-full true full ([] ++ rest) p.full_so_far))
   packed_fits full (x ∷ part) before rest p = (
     full ++ (x ∷ part) ∷ [],
     (
@@ -286,39 +278,39 @@ module _ {X : Type 0} (k : Packing X) where
 
   -- a row that does not fit alone, where a request begins: no fitting cut takes it
   pub packed_stuck : (full : List (List X)) (before : List X) (x : X) (rest : List X) → IsPacked true full [] before (x ∷ rest)
-      → (PartFits k (types_after true full) (x ∷ []) → ⊥) → HasFittingCut k (before ++ x ∷ []) → ⊥
+      → (PartFits k (types_after k true full) (x ∷ []) → ⊥) → HasFittingCut k (before ++ x ∷ []) → ⊥
   packed_stuck full before x rest p n c =
-      let whole : joined full ≡ before = sym (append-nil (joined full)) ∙ p.same in
-      let cut : joined c.0 ++ rest ≡ joined full ++ x ∷ rest = ap (λ (l : List X). l ++ rest) c.1.0.1 ∙ append_assoc before (x ∷ []) rest ∙ ap (λ (l : List X). l ++ x ∷ rest) (sym whole) in
+      let whole : rows_in full ≡ before = sym (append-nil (rows_in full)) ∙ p.same in
+      let cut : rows_in c.0 ++ rest ≡ rows_in full ++ x ∷ rest = ap (λ (l : List X). l ++ rest) c.1.0.1 ∙ append_assoc before (x ∷ []) rest ∙ ap (λ (l : List X). l ++ x ∷ rest) (sym whole) in
       let less = stuck true full c.0 x rest rest p.full_so_far c.1.0.0 c.1.1 n cut in
-      let lengths : length (joined c.0) ≡ length (before ++ x ∷ []) = ap length c.1.0.1 in
+      let lengths : length (rows_in c.0) ≡ length (before ++ x ∷ []) = ap length c.1.0.1 in
       omega (arith, less, lengths, length-append before (x ∷ []), ap length whole)
 
-  pub types_after_push : (types : Bool) (parts : List (List X)) (part : List X) → types_after types (parts ++ part ∷ []) ≡ k.types_always
+  pub types_after_push : (types : Bool) (parts : List (List X)) (part : List X) → types_after k types (parts ++ part ∷ []) ≡ k.types_always
   types_after_push types [] part = refl
   types_after_push types (p ∷ parts) part = refl
 
   -- there are no more parts than rows in them
-  pub length-parts : (parts : List (List X)) → NoneEmpty parts → length parts ≤ length (joined parts)
+  pub length-parts : (parts : List (List X)) → NoneEmpty parts → length parts ≤ length (rows_in parts)
   length-parts [] m = omega arith
   length-parts ([] ∷ parts) m = absurd (m.0 refl)
-  length-parts ((x ∷ p) ∷ parts) m = omega (arith, length-parts parts m.1, length-append p (joined parts))
+  length-parts ((x ∷ p) ∷ parts) m = omega (arith, length-parts parts m.1, length-append p (rows_in parts))
 
   -- a front of the rows to come
-  NextDoesNotFit-front : (types : Bool) (part rest more : List X) → NextDoesNotFit types part (rest ++ more) → NextDoesNotFit types part rest
+  NextDoesNotFit-front : (types : Bool) (part rest more : List X) → NextDoesNotFit k types part (rest ++ more) → NextDoesNotFit k types part rest
   NextDoesNotFit-front types part [] more n = tt
   NextDoesNotFit-front types part (x ∷ rest) more n = n
 
-  pub FullFrom-front : (types : Bool) (full : List (List X)) (rest more : List X) → FullFrom types full (rest ++ more) → FullFrom types full rest
+  pub FullFrom-front : (types : Bool) (full : List (List X)) (rest more : List X) → FullFrom k types full (rest ++ more) → FullFrom k types full rest
   FullFrom-front types [] rest more c = tt
   FullFrom-front types (part ∷ full) rest more c =
-      let P : List X → Type 0 = NextDoesNotFit types part in
-      (c.0, NextDoesNotFit-front types part (joined full ++ rest) more (subst P (sym (append_assoc (joined full) rest more)) c.1), FullFrom-front k.types_always full rest more c.2)
+      let P : List X → Type 0 = NextDoesNotFit k types part in
+      (c.0, NextDoesNotFit-front types part (rows_in full ++ rest) more (subst P (sym (append_assoc (rows_in full) rest more)) c.1), FullFrom-front k.types_always full rest more c.2)
 
   pub packed_front : (types : Bool) (full : List (List X)) (part before rest more : List X) → IsPacked types full part before (rest ++ more) → IsPacked types full part before rest
   packed_front types full part before rest more p = record {
     same = p.same;
     none_empty = p.none_empty;
-    full_so_far = (let P : List X → Type 0 = FullFrom types full in FullFrom-front types full (part ++ rest) more (subst P (sym (append_assoc part rest more)) p.full_so_far));
+    full_so_far = (let P : List X → Type 0 = FullFrom k types full in FullFrom-front types full (part ++ rest) more (subst P (sym (append_assoc part rest more)) p.full_so_far));
     open_fits = p.open_fits;
   }

@@ -3,7 +3,7 @@ use Rattle.std.proofs.Common.{◌≡◌, ℕ, ◌+◌, Bool, true, List, [], ◌
 use Rattle.std.proofs.lemmas.List.{map-append, length-map, take-map, drop-map, take-append-drop, take_at, drop_at}
 use Rattle.std.proofs.lemmas.List.Sums.{sum-map}
 use Rattle.mysql_cuts.specs.Fewest.{weighed}
-use Rattle.mysql_cuts.specs.Cut.{Packing, WithinRows, PartFits, FitsFrom, joined, NoneEmpty, IsFewest, ends_after}
+use Rattle.mysql_cuts.specs.Cut.{Packing, WithinRows, PartFits, FitsFrom, rows_in, NoneEmpty, IsFewest, ends_after}
 
 module _ {X : Type 0} (k : Packing X) where
   fits_to : (types : Bool) (part : List X) → PartFits k types part → PartFits (weighed k) types (map k.weight part)
@@ -37,17 +37,17 @@ module _ {X : Type 0} (k : Packing X) where
   none_from ([] ∷ parts) m = absurd (m.0 refl)
   none_from ((x ∷ part) ∷ parts) m = (λ e. cc, none_from parts m.1)
 
-  joined_to : (parts : List (List X)) → joined (weigh parts) ≡ map k.weight (joined parts)
+  joined_to : (parts : List (List X)) → rows_in (weigh parts) ≡ map k.weight (rows_in parts)
   joined_to [] = refl
-  joined_to (part ∷ parts) = ap (λ (l : List ℕ). map k.weight part ++ l) (joined_to parts) ∙ sym (map-append k.weight part (joined parts))
+  joined_to (part ∷ parts) = ap (λ (l : List ℕ). map k.weight part ++ l) (joined_to parts) ∙ sym (map-append k.weight part (rows_in parts))
 
   -- a cut of the weights is that of a cut of the rows
-  lift : (others : List (List ℕ)) (rows : List X) → joined others ≡ map k.weight rows → (parts : List (List X)) × (weigh parts ≡ others) × (joined parts ≡ rows)
+  lift : (others : List (List ℕ)) (rows : List X) → rows_in others ≡ map k.weight rows → (parts : List (List X)) × (weigh parts ≡ others) × (rows_in parts ≡ rows)
   lift [] [] e = ([], refl, refl)
   lift [] (x ∷ rows) e = cc
   lift (part ∷ others) rows e =
-      let front : map k.weight (take (length part) rows) ≡ part = sym (take-map k.weight (length part) rows) ∙ ap (take (length part)) (sym e) ∙ take_at part (joined others) (length part) refl in
-      let back : joined others ≡ map k.weight (drop (length part) rows) = sym (drop_at part (joined others) (length part) refl) ∙ ap (drop (length part)) e ∙ drop-map k.weight (length part) rows in
+      let front : map k.weight (take (length part) rows) ≡ part = sym (take-map k.weight (length part) rows) ∙ ap (take (length part)) (sym e) ∙ take_at part (rows_in others) (length part) refl in
+      let back : rows_in others ≡ map k.weight (drop (length part) rows) = sym (drop_at part (rows_in others) (length part) refl) ∙ ap (drop (length part)) e ∙ drop-map k.weight (length part) rows in
       let more = lift others (drop (length part) rows) back in (
         take (length part) rows ∷ more.0,
         ap (λ (l : List ℕ). l ∷ weigh more.0) front ∙ ap (λ (l : List (List ℕ)). part ∷ l) more.1,

@@ -3,14 +3,12 @@ use Rattle.std.specs.Prelude.{◌≡◌, ℕ, ◌-◌, true, false, List, [], �
 use Rattle.std.specs.List.{concat, flat_map}
 use Rattle.hex.specs.Hex.{encode_lower}
 use Rattle.mysql_values.specs.Value.{Content}
-use Rattle.mysql_bulk.specs.declared.error.BulkExecuteRequestError.{BulkExecuteRequestError}
 use Rattle.mysql_bulk.specs.declared.error.BulkExecuteRequestError.TheVariants as error
 use Rattle.mysql_bulk.specs.declared.error.BulkExecuteRequestBuilderError.{BulkExecuteRequestBuilderError}
 use Rattle.mysql_bulk.specs.declared.error.BulkExecuteRequestBuilderError.TheVariants as refused
 use Rattle.mysql_bulk.specs.Request.{BulkRequest, request_bytes}
 use Rattle.mysql_bulk.specs.Builder.{BuilderState}
-use Rattle.mysql_bulk.specs.Refusal.{IsRefusal}
-use Rattle.mysql_bulk.specs.WholeRun.{HadMemory, OfRows, GivesFront, GivesFull, GivesFewest}
+use Rattle.mysql_bulk.specs.WholeRun.{OfRows, RunGives}
 use Rattle.mysql_packets.specs.Lines.{line}
 use Rattle.mysql_packets.specs.Answer.{Answer, done, refused_by, usage}
 use Rattle.mysql_packets.specs.BulkCall.{BulkCall}
@@ -45,19 +43,15 @@ last_lines requests rows fewest =
     ∷ []
     )
 
-abbrev pub name_of : BulkExecuteRequestError → List ℕ
-name_of error.MixedArity = codes "MixedArity"
-name_of (error.RowTooLarge row) = codes "RowTooLarge"
-name_of (error.MemoryRow row) = codes "MemoryRow"
-name_of error.NoParams = codes "NoParams"
-name_of error.Memory = codes "Memory"
+abbrev pub name_of : BulkExecuteRequestBuilderError → List ℕ
+name_of (refused.Request error.MixedArity) = codes "MixedArity"
+name_of (refused.Request (error.RowTooLarge row)) = codes "RowTooLarge"
+name_of (refused.Request (error.MemoryRow row)) = codes "MemoryRow"
+name_of (refused.Request error.NoParams) = codes "NoParams"
+name_of (refused.Request error.Memory) = codes "Memory"
+name_of (refused.Params e) = codes "Params"
 
--- what holds of a refusal of rows. Parameters are not offered
-abbrev pub OfRequest : (BulkExecuteRequestError → Type 0) → BulkExecuteRequestBuilderError → Type 0
-OfRequest P (refused.Request e) = P e
-OfRequest P (refused.Params e) = Unit {0}
-
-abbrev pub run_answer : List BulkRequest → ℕ → Option BulkExecuteRequestError → Answer
+abbrev pub run_answer : List BulkRequest → ℕ → Option BulkExecuteRequestBuilderError → Answer
 run_answer requests rows None = done (request_lines requests ++ last_lines (length requests) rows true)
 run_answer requests rows (Some e) = refused_by (request_lines requests) (name_of e)
 
@@ -67,15 +61,9 @@ pub record AnswersRows (call : BulkCall) (rows : List (List Content)) (answer : 
   pub ends : List ℕ
   pub refusal : Option BulkExecuteRequestBuilderError
   pub left : BuilderState
-  -- the requests are those of a cut of a beginning of the rows, or of all of them
-  pub front : OfRows (λ e. GivesFront (builder_of call) rows requests ends e left) refusal
-  -- no fitting cut is ahead of them
-  pub full : GivesFull (builder_of call) requests ends rows
-  -- with memory, it is refused exactly where two rows differ in length or no cut fits
-  pub refused : OfRows HadMemory refusal → OfRows (IsRefusal (builder_of call) rows) refusal
-  -- and else no cut that fits has fewer requests
-  pub fewest : refusal ≡ None → GivesFewest (builder_of call) requests ends rows
-  pub shown : OfRows (λ e. answer ≡ run_answer requests (length rows) e) refusal
+  pub gives : RunGives (builder_of call) rows requests ends refusal left
+  pub of_rows : OfRows refusal
+  pub shown : answer ≡ run_answer requests (length rows) refusal
 
 -- a text that spells no rows is a bad call
 abbrev pub AnswersText : BulkCall → Option (List (List Content)) → Answer → Type 0

@@ -6,7 +6,7 @@ pub use mysql_bulk::{
     BulkExecuteRequestBuilderError, BulkExecuteRequestError, BulkParamsRequests, BulkRequests,
     BulkRun, ComStmtBulkExecuteHeader, ComStmtBulkExecuteRequest, ComStmtBulkExecuteRequestBuilder,
     InvalidComStmtBulkExecuteHeader, StmtBulkExecuteParamType, StmtBulkExecuteParamValue,
-    StmtBulkExecuteParamValues, read_bulk_rows,
+    StmtBulkExecuteParamValues, bulk_row_size, read_bulk_rows,
 };
 pub use mysql_cuts::{BulkRule, cut_is_fewest};
 pub use mysql_replies::{

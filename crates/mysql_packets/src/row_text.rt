@@ -2,7 +2,7 @@
 
 ghost use Rattle.std.specs.Prelude.{◌≡◌, IfOk, map, option_map};
 ghost use Rattle.mysql_values.specs.Value.{content_of, contents_of};
-ghost use Rattle.mysql_bulk.specs.Builder.{row_of, values_of};
+ghost use Rattle.mysql_bulk.specs.Row.{contents_of_row, contents_of_rows};
 ghost use Rattle.mysql_packets.specs.RowText as spec;
 
 use crate::decimal::{i64_of, u64_of};
@@ -14,7 +14,7 @@ use std::alloc::{AllocError, Global};
 /// The rows that the lines of a text spell, unless one of them spells no row.
 #[tactic(auto, using(crate::proofs::Rows::prepended_none))]
 pub fn read_rows(alloc: Global, text: &[u8]) -> Result<Option<Vec<Vec<Value>>>, AllocError>
-    ensures value { IfOk result (λ rows. option_map (λ rows. values_of rows.items) rows ≡ spec.rows_of text.now) }
+    ensures value { IfOk result (λ rows. option_map (λ rows. contents_of_rows rows.items) rows ≡ spec.rows_of text.now) }
 {
     let mut rows = Vec::new(alloc);
     for line in lines_of(alloc, text)?.as_slice() {
@@ -29,7 +29,7 @@ pub fn read_rows(alloc: Global, text: &[u8]) -> Result<Option<Vec<Vec<Value>>>, 
 /// The row that a line spells, if it spells one.
 #[tactic(auto, using(crate::proofs::Rows::prepended_none))]
 fn read_row(alloc: Global, line: &[u8]) -> Result<Option<Vec<Value>>, AllocError>
-    ensures value { IfOk result (λ row. option_map row_of row ≡ spec.row_of_line line.now) }
+    ensures value { IfOk result (λ row. option_map contents_of_row row ≡ spec.row_of_line line.now) }
 {
     let mut row = Vec::new(alloc);
     for word in words_of(alloc, line)?.as_slice() {

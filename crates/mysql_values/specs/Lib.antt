@@ -4,6 +4,7 @@ pub mod ValueDeserializer
 pub mod Numeral
 pub mod FromValue
 pub mod ReadingBack
+pub mod ParamType
 pub mod Params
 pub mod ParamsEq
 pub mod ContentEq

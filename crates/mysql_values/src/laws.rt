@@ -1,6 +1,6 @@
 //! Laws over the forms of values.
 
-ghost use Rattle.std.specs.Prelude.{◌≡◌, ◌++◌, ℕ, List, Bool, Ok, length};
+ghost use Rattle.std.specs.Prelude.{◌≡◌, ◌<◌, ◌^◌, ◌++◌, ℕ, List, Bool, Ok, Some, length};
 ghost use Rattle.mysql_wire.specs.declared.codes.column_type.ColumnType.{ColumnType};
 ghost use Rattle.mysql_values.specs.Value.{Content, bin, bin_size, content_of};
 ghost use Rattle.mysql_values.specs.ValueDeserializer.{bin_value};
@@ -8,6 +8,10 @@ ghost use Rattle.mysql_values.specs.ReadingBack.{Agrees, IsInRange, ReadsBack};
 ghost use Rattle.mysql_values.specs.SentType.{sent_type, is_uint};
 ghost use Rattle.mysql_values.specs.declared.value.Value.{Value};
 ghost use Rattle.mysql_values.specs.ContentEq.{content_eq};
+ghost use Rattle.mysql_values.specs.ParamType.{param_type, type_flags};
+
+use crate::param_type::ParamType;
+use mysql_wire::MyDeserialize;
 
 use crate::value_deserializer::{BinValue, TextValue, ValueDeserializer};
 use mysql_wire::MyDeserialize;
@@ -50,4 +54,18 @@ pub fn no_value_has_a_constant_size() -> (Option<usize>, Option<usize>)
 /// Values are equal where they hold the same: the same kind, with the same bytes or numbers.
 pub fn equal_values_hold_the_same()
     ensures { (a b : Value) → ⟦<crate::value::Value as PartialEq>⟧.eq a b ≡ content_eq (content_of a) (content_of b) }
+{}
+
+/// A parameter type takes two bytes.
+pub fn param_type_size() -> Option<usize>
+    ensures { result ≡ Some 2 }
+{
+    <ParamType as MyDeserialize>::SIZE
+}
+
+/// What is written of a parameter type is read again, whatever follows.
+#[tactic(auto, using(mysql_wire::proofs::Packets::packets), unfolding(crate::specs::ParamType::param_type))]
+pub fn param_type_again()
+    ensures spelled { (t : ParamType) (rest : List ℕ) → (type_flags t).0 < 2 ^ 8 → (param_type.form tt).Spells t (param_type.bytes t ++ rest) rest }
+    ensures read { (t : ParamType) (rest : List ℕ) → (type_flags t).0 < 2 ^ 8 → (param_type.form tt).reads (param_type.bytes t ++ rest) ≡ Ok (t, rest) }
 {}

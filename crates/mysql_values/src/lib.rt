@@ -3,6 +3,7 @@
 
 mod from_value;
 pub mod laws;
+mod param_type;
 mod params;
 mod sent_type;
 mod side;
@@ -11,6 +12,7 @@ mod value;
 mod value_deserializer;
 
 pub use from_value::{FromValue, FromValueError};
+pub use param_type::ParamType;
 pub use params::{Params, ParamsError};
 pub use side::{Binary, ClientSide, SerializationSide, ServerSide, Text};
 pub use value::Value;

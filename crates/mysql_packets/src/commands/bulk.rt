@@ -2,9 +2,9 @@
 
 ghost use Rattle.std.specs.Prelude.{◌≡◌, ◌++◌, IfOk, OnOk, map, string_bytes};
 ghost use Rattle.mysql_values.specs.Value.{contents_of};
-ghost use Rattle.mysql_bulk.specs.Builder.{values_of};
-ghost use Rattle.mysql_bulk.specs.ParamType.{first_length};
-ghost use Rattle.mysql_bulk.specs.ParamValue.{row_size};
+ghost use Rattle.mysql_bulk.specs.Row.{contents_of_rows};
+ghost use Rattle.mysql_bulk.specs.Row.{first_length};
+ghost use Rattle.mysql_bulk.specs.Row.{row_size};
 ghost use Rattle.mysql_packets.specs.Answer.{done};
 ghost use Rattle.mysql_packets.specs.Bulk as spec;
 
@@ -15,6 +15,7 @@ use crate::row_text::read_rows;
 use mysql_bulk::laws::fewest_cut_is_named_by_its_ends;
 use mysql_bulk::{
     BulkExecuteRequestBuilderError, BulkExecuteRequestError, BulkRun, ComStmtBulkExecuteRequest,
+    bulk_row_size,
 };
 use mysql_cuts::cut_is_fewest;
 use mysql_values::Value;
@@ -33,7 +34,7 @@ pub fn answer(alloc: Global, call: &BulkCall, input: &[u8]) -> Result<Answer, Al
 
 /// The requests of the rows; with all of them sent, also that they are the fewest, which their sizes alone tell.
 fn send(alloc: Global, call: &BulkCall, rows: Vec<Vec<Value>>) -> Result<Answer, AllocError>
-    ensures value { IfOk result (λ answer. spec.AnswersRows call.now (values_of rows.items) answer) }
+    ensures value { IfOk result (λ answer. spec.AnswersRows call.now (contents_of_rows rows.items) answer) }
 {
     let arity = first_length(rows.as_slice());
     let sizes = row_sizes(alloc, rows.as_slice())?;
@@ -57,7 +58,7 @@ fn send(alloc: Global, call: &BulkCall, rows: Vec<Vec<Value>>) -> Result<Answer,
 
 /// The number of values of the first row.
 fn first_length(rows: &[Vec<Value>]) -> usize
-    ensures value { result ≡ first_length (values_of rows.now) }
+    ensures value { result ≡ first_length (contents_of_rows rows.now) }
 {
     match rows.first() {
         Some(row) => row.len(),
@@ -67,7 +68,7 @@ fn first_length(rows: &[Vec<Value>]) -> usize
 
 /// The bytes of each row in a request. A sum past 64 bits counts as a refused growth.
 fn row_sizes(alloc: Global, rows: &[Vec<Value>]) -> Result<Vec<u64>, AllocError>
-    ensures value { IfOk result (λ sizes. sizes.items ≡ map row_size (values_of rows.now)) }
+    ensures value { IfOk result (λ sizes. sizes.items ≡ map row_size (contents_of_rows rows.now)) }
 {
     let mut sizes = Vec::with_capacity(alloc, rows.len())?;
     for row in rows {
@@ -76,16 +77,11 @@ fn row_sizes(alloc: Global, rows: &[Vec<Value>]) -> Result<Vec<u64>, AllocError>
     Ok(sizes)
 }
 
-/// The bytes of a row in a request: of each value one, and its own.
+/// The bytes of a row in a request. A sum past 64 bits counts as a refused growth.
 fn row_size(row: &[Value]) -> Result<u64, AllocError>
     ensures value { IfOk result (λ size. size ≡ row_size (contents_of row.now)) }
 {
-    let mut size = 0u64;
-    for value in row {
-        let more = value.bin_len().checked_add(1).ok_or(AllocError)?;
-        size = size.checked_add(more).ok_or(AllocError)?;
-    }
-    Ok(size)
+    bulk_row_size(row).ok_or(AllocError)
 }
 
 fn request_lines(
@@ -136,7 +132,7 @@ fn sent(
 }
 
 fn name_of(refusal: &BulkExecuteRequestBuilderError) -> &'static str
-    ensures value { spec.OfRequest (λ e. result.now ≡ spec.name_of e) refusal.now }
+    ensures value { result.now ≡ spec.name_of refusal.now }
 {
     match refusal {
         BulkExecuteRequestBuilderError::Request(error) => match error {

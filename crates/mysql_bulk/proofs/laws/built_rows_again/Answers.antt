@@ -1,7 +1,7 @@
 use Rattle.std.proofs.Common.{[]}
 use Rattle.mysql_bulk.specs.Request.{request_bytes}
-use Rattle.mysql_bulk.specs.Rows.{bulk_rows}
-use Rattle.mysql_bulk.proofs.RowsAgain.{request_again, part_fits}
+use Rattle.mysql_bulk.specs.ReadRows.{bulk_rows}
+use Rattle.mysql_bulk.proofs.ReadingBack.{request_again, part_fits}
 use Rattle.mysql_bulk.proofs.laws.built_rows_again.Goals as goal
 
 pub returns : goal.returns

@@ -1,6 +1,6 @@
 use Rattle.mysql_cuts.proofs.Weighed.{weigh, ends_to, fewest_weighed}
-use Rattle.mysql_bulk.specs.ParamType.{first_length}
-use Rattle.mysql_bulk.specs.Builder.{rows_packing}
+use Rattle.mysql_bulk.specs.Row.{first_length}
+use Rattle.mysql_bulk.specs.Row.{rows_packing}
 use Rattle.mysql_bulk.proofs.laws.fewest_cut_is_named_by_its_ends.Goals as goal
 
 pub returns : goal.returns

@@ -1,7 +1,7 @@
 use Rattle.std.proofs.Common.{[]}
 use Rattle.mysql_bulk.specs.Request.{request_bytes}
-use Rattle.mysql_bulk.specs.Rows.{bulk_rows}
-use Rattle.mysql_bulk.proofs.RowsAgain.{request_again}
+use Rattle.mysql_bulk.specs.ReadRows.{bulk_rows}
+use Rattle.mysql_bulk.proofs.ReadingBack.{request_again}
 use Rattle.mysql_bulk.proofs.laws.request_rows_again.Goals as goal
 
 pub returns : goal.returns

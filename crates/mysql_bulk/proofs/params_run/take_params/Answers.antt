@@ -2,20 +2,21 @@ use Rattle.std.proofs.Common.{◌≡◌, ◌++◌, ◌∷◌, [], length, Option
 use Rattle.std.proofs.lemmas.Result.{err_from_is_err_and}
 use Rattle.std.specs.Global.{Vec}
 use Rattle.mysql_values.specs.declared.value.Value.{Value}
-use Rattle.mysql_bulk.specs.Builder.{row_of, BuilderState, AddsParams}
-use Rattle.mysql_bulk.specs.ParamsRun.{GivesRow}
-use Rattle.mysql_bulk.proofs.Runs.{taken_end}
-use Rattle.mysql_bulk.proofs.ParamsRuns.{params_more, params_full, params_refused}
+use Rattle.mysql_bulk.specs.Row.{contents_of_row}
+use Rattle.mysql_bulk.specs.Builder.{BuilderState, AddsParams}
+use Rattle.mysql_bulk.specs.ParamsRun.{GivesRowOfParams}
+use Rattle.mysql_bulk.proofs.RunSteps.{taken_end}
+use Rattle.mysql_bulk.proofs.ParamsRunSteps.{params_more, params_full, params_refused}
 use Rattle.mysql_bulk.proofs.params_run.take_params.Goals as goal
 
-pub returns-in_err-row-clause-fills : goal.returns-in_err-row-clause-fills
-returns-in_err-row-clause-fills g c =
+pub returns-in_err-row-clause-accepts : goal.returns-in_err-row-clause-accepts
+returns-in_err-row-clause-accepts g c =
     let p = err_from_is_err_and c.from_residual.result c.from_residual.ensures.1 in
     rw (p.1, p.2) (params_refused g.I.Iterator.next_gives c.args.builder.now c.loop-entry.builder c.add_params.new.self c.args.params.now c.loop-entry.params c.next.new.self c.in-Some.entry c.in_err-row.field-0.0
     c.loop-entry.invariant.so_far c.in-Some.ensures.steps c.in_err-row.ensures)
 
-pub returns-in-Some-2-clause-fills : goal.returns-in-Some-2-clause-fills
-returns-in-Some-2-clause-fills g c =
+pub returns-in-Some-2-clause-accepts : goal.returns-in-Some-2-clause-accepts
+returns-in-Some-2-clause-accepts g c =
     let A : Option (Vec Value) → Type 0 = λ o. AddsParams c.loop-entry.builder c.in-Some.entry (Ok o) c.add_params.new.self in
     params_full g.I.Iterator.next_gives c.args.builder.now c.loop-entry.builder c.add_params.new.self c.args.params.now c.loop-entry.params c.next.new.self c.in-Some.entry c.in-Some-2.row
     c.loop-entry.invariant.so_far c.in-Some.ensures.steps (subst A c.in-Some-2.is c.in_ok-row.ensures)
@@ -25,16 +26,16 @@ loop-entry-preserved g c =
     let A : Option (Vec Value) → Type 0 = λ o. AddsParams c.loop-entry.builder c.in-Some.entry (Ok o) c.add_params.new.self in
     let a = subst A c.in_default-2.is c.in_ok-row.ensures in
     let goes = c.in-Some.ensures.goes.on c.loop-entry.invariant.ends in
-    let lengths : length c.add_params.new.self.waiting ≡ length (c.loop-entry.builder.waiting ++ (row_of a.0) ∷ []) = ap (λ (s : BuilderState). length s.waiting) a.2.2 in
+    let lengths : length c.add_params.new.self.waiting ≡ length (c.loop-entry.builder.waiting ++ (contents_of_row a.0) ∷ []) = ap (λ (s : BuilderState). length s.waiting) a.2.2 in
     let less = c.loop-entry.invariant.less in
     record {
       can = goes.0;
       ends = goes.1;
       so_far = params_more g.I.Iterator.next_gives c.args.builder.now c.loop-entry.builder c.add_params.new.self c.args.params.now c.loop-entry.params c.next.new.self c.in-Some.entry
           c.loop-entry.invariant.so_far c.in-Some.ensures.steps a;
-      less = omega (arith, less, lengths, goes.2, length-append c.loop-entry.builder.waiting ((row_of a.0) ∷ []));
+      less = omega (arith, less, lengths, goes.2, length-append c.loop-entry.builder.waiting ((contents_of_row a.0) ∷ []));
     }
 
-pub returns-clause-fills : goal.returns-clause-fills
-returns-clause-fills g c =
-    taken_end (GivesRow g.I.Iterator.next_gives c.args.builder.now.names) c.args.builder.now c.loop-entry.builder c.args.params.now c.loop-entry.params c.next.new.self c.loop-entry.invariant.so_far c.in_default.ensures.steps
+pub returns-clause-accepts : goal.returns-clause-accepts
+returns-clause-accepts g c =
+    taken_end (GivesRowOfParams g.I.Iterator.next_gives c.args.builder.now.names) c.args.builder.now c.loop-entry.builder c.args.params.now c.loop-entry.params c.next.new.self c.loop-entry.invariant.so_far c.in_default.ensures.steps

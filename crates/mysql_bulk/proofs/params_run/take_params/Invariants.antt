@@ -1,13 +1,13 @@
 use Rattle.std.proofs.Common.{◌+◌, ◌≤◌, length}
 use Rattle.std.specs.Iterator.{size}
-use Rattle.mysql_bulk.specs.ParamsRun.{GivesRow}
-use Rattle.mysql_bulk.proofs.Runs.{Taken}
+use Rattle.mysql_bulk.specs.ParamsRun.{GivesRowOfParams}
+use Rattle.mysql_bulk.proofs.RunSteps.{Taken}
 use Rattle.mysql_bulk.proofs.params_run.take_params.Given as goal
 
 abbrev pub invariant-loop-entry : goal.invariant-loop-entry
 invariant-loop-entry g l = record {
   can : (goal.iterator-loop-entry g).can_next l.params;
   ends : (goal.iterator-loop-entry g).is_finite l.params;
-  so_far : Taken (GivesRow g.I.Iterator.next_gives l.fn.builder.names) l.fn.builder l.fn.params l.builder l.params;
+  so_far : Taken (GivesRowOfParams g.I.Iterator.next_gives l.fn.builder.names) l.fn.builder l.fn.params l.builder l.params;
   less : length l.builder.waiting + size (g.I.Iterator.remaining l.params) ≤ length l.fn.builder.waiting + size (g.I.Iterator.remaining l.fn.params);
 }

@@ -2,19 +2,20 @@ use Rattle.std.proofs.Common.{◌≡◌, ◌++◌, ◌∷◌, [], length, Option
 use Rattle.std.proofs.lemmas.Result.{err_from_is_err_and}
 use Rattle.std.specs.Global.{Vec}
 use Rattle.mysql_values.specs.declared.value.Value.{Value}
-use Rattle.mysql_bulk.specs.Builder.{row_of, BuilderState}
+use Rattle.mysql_bulk.specs.Row.{contents_of_row}
+use Rattle.mysql_bulk.specs.Builder.{BuilderState}
 use Rattle.mysql_bulk.specs.Builder.{Adds}
-use Rattle.mysql_bulk.proofs.Runs.{taken_more, taken_full, taken_refused, taken_end}
+use Rattle.mysql_bulk.proofs.RunSteps.{taken_more, taken_full, taken_refused, taken_end}
 use Rattle.mysql_bulk.proofs.run.take_rows.Goals as goal
 
-pub returns-in_err-row-clause-fills : goal.returns-in_err-row-clause-fills
-returns-in_err-row-clause-fills g c =
+pub returns-in_err-row-clause-accepts : goal.returns-in_err-row-clause-accepts
+returns-in_err-row-clause-accepts g c =
     let p = err_from_is_err_and c.from_residual.result c.from_residual.ensures.1 in
     rw (p.1, p.2) (taken_refused g.I.Iterator.next_gives c.args.builder.now c.loop-row.builder c.add.new.self c.args.rows.now c.loop-row.rows c.next.new.self c.in-Some.row c.in_err-row.field-0.0
     c.loop-row.invariant.so_far c.in-Some.ensures.steps c.in_err-row.ensures)
 
-pub returns-in-Some-2-clause-fills : goal.returns-in-Some-2-clause-fills
-returns-in-Some-2-clause-fills g c =
+pub returns-in-Some-2-clause-accepts : goal.returns-in-Some-2-clause-accepts
+returns-in-Some-2-clause-accepts g c =
     let A : Option (Vec Value) → Type 0 = λ o. Adds c.loop-row.builder c.in-Some.row (Ok o) c.add.new.self in
     taken_full g.I.Iterator.next_gives c.args.builder.now c.loop-row.builder c.add.new.self c.args.rows.now c.loop-row.rows c.next.new.self c.in-Some.row c.in-Some-2.row
     c.loop-row.invariant.so_far c.in-Some.ensures.steps (subst A c.in-Some-2.is c.in_ok-row.ensures)
@@ -24,15 +25,15 @@ loop-row-preserved g c =
     let A : Option (Vec Value) → Type 0 = λ o. Adds c.loop-row.builder c.in-Some.row (Ok o) c.add.new.self in
     let a = subst A c.in_default-2.is c.in_ok-row.ensures in
     let goes = c.in-Some.ensures.goes.on c.loop-row.invariant.ends in
-    let lengths : length c.add.new.self.waiting ≡ length (c.loop-row.builder.waiting ++ (row_of c.in-Some.row) ∷ []) = ap (λ (s : BuilderState). length s.waiting) a.2 in
+    let lengths : length c.add.new.self.waiting ≡ length (c.loop-row.builder.waiting ++ (contents_of_row c.in-Some.row) ∷ []) = ap (λ (s : BuilderState). length s.waiting) a.2 in
     let less = c.loop-row.invariant.less in
     record {
       can = goes.0;
       ends = goes.1;
       so_far = taken_more g.I.Iterator.next_gives c.args.builder.now c.loop-row.builder c.add.new.self c.args.rows.now c.loop-row.rows c.next.new.self c.in-Some.row
           c.loop-row.invariant.so_far c.in-Some.ensures.steps a;
-      less = omega (arith, less, lengths, goes.2, length-append c.loop-row.builder.waiting ((row_of c.in-Some.row) ∷ []));
+      less = omega (arith, less, lengths, goes.2, length-append c.loop-row.builder.waiting ((contents_of_row c.in-Some.row) ∷ []));
     }
 
-pub returns-clause-fills : goal.returns-clause-fills
-returns-clause-fills g c = taken_end g.I.Iterator.next_gives c.args.builder.now c.loop-row.builder c.args.rows.now c.loop-row.rows c.next.new.self c.loop-row.invariant.so_far c.in_default.ensures.steps
+pub returns-clause-accepts : goal.returns-clause-accepts
+returns-clause-accepts g c = taken_end g.I.Iterator.next_gives c.args.builder.now c.loop-row.builder c.args.rows.now c.loop-row.rows c.next.new.self c.loop-row.invariant.so_far c.in_default.ensures.steps

@@ -1,6 +1,6 @@
 use Rattle.std.proofs.Common.{◌+◌, ◌≤◌, length}
 use Rattle.std.specs.Iterator.{size}
-use Rattle.mysql_bulk.proofs.Runs.{Taken}
+use Rattle.mysql_bulk.proofs.RunSteps.{Taken}
 use Rattle.mysql_bulk.proofs.run.take_rows.Given as goal
 
 abbrev pub invariant-loop-row : goal.invariant-loop-row

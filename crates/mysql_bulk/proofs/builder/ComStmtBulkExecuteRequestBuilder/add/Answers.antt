@@ -2,54 +2,56 @@ use Rattle.std.proofs.Common.{◌≡◌, ◌++◌, ◌∷◌, ℕ, List, [], len
 use Rattle.std.proofs.lemmas.List.{length-map}
 use Rattle.mysql_values.specs.declared.value.Value.{Value}
 use Rattle.mysql_values.specs.Value.{content_of, contents_of}
-use Rattle.mysql_bulk.specs.declared.param_type.StmtBulkExecuteParamType.{StmtBulkExecuteParamType}
+use Rattle.mysql_values.specs.declared.param_type.ParamType.{ParamType}
 use Rattle.mysql_bulk.specs.ParamValue.{ParamValue}
-use Rattle.mysql_bulk.specs.ParamType.{joined_types}
-use Rattle.mysql_bulk.specs.ParamValue.{given, row_size}
-use Rattle.mysql_bulk.specs.Builder.{row_of, BuilderState, TakesArity, RowFits, accepted}
-use Rattle.mysql_bulk.proofs.Runs.{none_waits}
-use Rattle.mysql_bulk.proofs.Kept.{keeps_before, keeps_next, state_next}
+use Rattle.mysql_bulk.specs.DeclaredTypes.{types_with_row}
+use Rattle.mysql_bulk.specs.ParamValue.{with_indicator}
+use Rattle.mysql_bulk.specs.Row.{row_size}
+use Rattle.mysql_bulk.specs.Row.{contents_of_row}
+use Rattle.mysql_bulk.specs.Builder.{BuilderState, TakesArity, RowFits, after_row}
+use Rattle.mysql_bulk.proofs.RunSteps.{none_waits}
+use Rattle.mysql_bulk.proofs.BuilderSteps.{keeps_before, keeps_next, state_next}
 use Rattle.mysql_bulk.proofs.builder.ComStmtBulkExecuteRequestBuilder.add.Goals as goal
 
 pub join_row-requires-clause-lengths : goal.join_row-requires-clause-lengths
 join_row-requires-clause-lengths c = λ due.
     let A : ℕ → Type 0 = TakesArity c.args.self.now.arity in
-    let B : BuilderState → Type 0 = λ s. TakesArity s.arity (length (row_of c.args.row)) in
+    let B : BuilderState → Type 0 = λ s. TakesArity s.arity (length (contents_of_row c.args.row)) in
     let taken = subst B (sym c.self.view_is) (subst A (c.len.ensures ∙ c.args.row.ok.0 ∙ sym (length-map c.args.row.items content_of)) (c.takes_arity.ensures.0 c.if-not-takes_arity.false)) in
-    rw (c.find_room.ensures.types, c.as_slice-2.ensures.value, ← length-map c.args.row.items content_of) (keeps_before c.self.invariant (row_of c.args.row) taken due)
+    rw (c.find_room.ensures.types, c.as_slice-2.ensures.value, ← length-map c.args.row.items content_of) (keeps_before c.self.invariant (contents_of_row c.args.row) taken due)
 
 pub invariant_of-self-2 : goal.invariant_of-self-2
 invariant_of-self-2 c =
     let A : ℕ → Type 0 = TakesArity c.args.self.now.arity in
-    let B : BuilderState → Type 0 = λ s. TakesArity s.arity (length (row_of c.args.row)) in
+    let B : BuilderState → Type 0 = λ s. TakesArity s.arity (length (contents_of_row c.args.row)) in
     let F : List Value → Type 0 = λ r. RowFits c.args.self.now (contents_of r) in
-    let G : BuilderState → Type 0 = λ s. RowFits s (row_of c.args.row) in
+    let G : BuilderState → Type 0 = λ s. RowFits s (contents_of_row c.args.row) in
     let S : List Value → Type 0 = λ r. c.in-Some.size ≡ sum_by row_size (c.args.self.now.waiting ++ contents_of r ∷ []) in
-    let T : BuilderState → Type 0 = λ s. c.in-Some.size ≡ sum_by row_size (s.waiting ++ (row_of c.args.row) ∷ []) in
+    let T : BuilderState → Type 0 = λ s. c.in-Some.size ≡ sum_by row_size (s.waiting ++ (contents_of_row c.args.row) ∷ []) in
     let back = sym c.self.view_is in
     let taken = subst B back (subst A (c.len.ensures ∙ c.args.row.ok.0 ∙ sym (length-map c.args.row.items content_of)) (c.takes_arity.ensures.0 c.if-not-takes_arity.false)) in
     let fits = subst G back (subst F c.as_slice.ensures.value c.in-Some.ensures.0) in
     let total = subst T back (subst S c.as_slice.ensures.value c.in-Some.ensures.1) in
-    let joined : c.join_row.new.types.items ≡ (if c.self.inside.types_due then joined_types c.self.inside.types.items (row_of c.args.row) else c.self.inside.types.items) =
+    let joined : c.join_row.new.types.items ≡ (if c.self.inside.types_due then types_with_row c.self.inside.types.items (contents_of_row c.args.row) else c.self.inside.types.items) =
     c.join_row.ensures
-    ∙ ap (λ (l : List StmtBulkExecuteParamType). if c.self.inside.types_due then joined_types l (contents_of c.as_slice-2.result.now) else l) c.find_room.ensures.types
-    ∙ ap (λ (r : List Value). if c.self.inside.types_due then joined_types c.self.inside.types.items (contents_of r) else c.self.inside.types.items) c.as_slice-2.ensures.value in
-    keeps_next c.self.invariant c.in-Some.size c.len-arity.result c.in-Some-checked_add.count (row_of c.args.row) c.append_row.new.values.items c.join_row.new.types.items taken fits total
+    ∙ ap (λ (l : List ParamType). if c.self.inside.types_due then types_with_row l (contents_of c.as_slice-2.result.now) else l) c.find_room.ensures.types
+    ∙ ap (λ (r : List Value). if c.self.inside.types_due then types_with_row c.self.inside.types.items (contents_of r) else c.self.inside.types.items) c.as_slice-2.ensures.value in
+    keeps_next c.self.invariant c.in-Some.size c.len-arity.result c.in-Some-checked_add.count (contents_of_row c.args.row) c.append_row.new.values.items c.join_row.new.types.items taken fits total
     (c.len-arity.ensures ∙ c.args.row.ok.0 ∙ sym (length-map c.args.row.items content_of)) c.in-Some-checked_add.ensures.1
-    (c.append_row.ensures ∙ ap (λ (l : List ParamValue). l ++ map given (row_of c.args.row)) c.find_room.ensures.values) joined
+    (c.append_row.ensures ∙ ap (λ (l : List ParamValue). l ++ map with_indicator (contents_of_row c.args.row)) c.find_room.ensures.values) joined
 
 pub returns : goal.returns
 returns c =
     let A : ℕ → Type 0 = TakesArity c.args.self.now.arity in
-    let B : BuilderState → Type 0 = λ s. TakesArity s.arity (length (row_of c.args.row)) in
+    let B : BuilderState → Type 0 = λ s. TakesArity s.arity (length (contents_of_row c.args.row)) in
     let F : List Value → Type 0 = λ r. RowFits c.args.self.now (contents_of r) in
     let taken_now = subst A (c.len.ensures ∙ c.args.row.ok.0 ∙ sym (length-map c.args.row.items content_of)) (c.takes_arity.ensures.0 c.if-not-takes_arity.false) in
     let taken = subst B (sym c.self.view_is) taken_now in (
       taken_now,
       subst F c.as_slice.ensures.value c.in-Some.ensures.0,
-      state_next c.self.invariant c.len-arity.result c.in-Some-checked_add.count (row_of c.args.row) c.append_row.new.values.items taken (c.len-arity.ensures ∙ c.args.row.ok.0 ∙ sym (length-map c.args.row.items content_of)) c.in-Some-checked_add.ensures.1
-          (c.append_row.ensures ∙ ap (λ (l : List ParamValue). l ++ map given (row_of c.args.row)) c.find_room.ensures.values)
-          ∙ ap (λ (s : BuilderState). accepted s (row_of c.args.row)) c.self.view_is,
+      state_next c.self.invariant c.len-arity.result c.in-Some-checked_add.count (contents_of_row c.args.row) c.append_row.new.values.items taken (c.len-arity.ensures ∙ c.args.row.ok.0 ∙ sym (length-map c.args.row.items content_of)) c.in-Some-checked_add.ensures.1
+          (c.append_row.ensures ∙ ap (λ (l : List ParamValue). l ++ map with_indicator (contents_of_row c.args.row)) c.find_room.ensures.values)
+          ∙ ap (λ (s : BuilderState). after_row s (contents_of_row c.args.row)) c.self.view_is,
     )
 
 pub returns-else-has_rows : goal.returns-else-has_rows

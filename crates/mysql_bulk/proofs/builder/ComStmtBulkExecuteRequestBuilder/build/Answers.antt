@@ -1,6 +1,8 @@
 use Rattle.std.proofs.Common.{◌≡◌, ◌+◌, ◌*◌, length, refl, sym, ◌∙◌, ap, arith}
-use Rattle.mysql_bulk.specs.ParamValue.{plain, row_size}
-use Rattle.mysql_bulk.proofs.Kept.{saturated_small, keeps_rows, keeps_types, keeps_values, keeps_size, keeps_bytes, keeps_fits}
+use Rattle.mysql_bulk.specs.ParamValue.{contents}
+use Rattle.mysql_bulk.specs.Row.{row_size}
+use Rattle.mysql_bulk.proofs.BuilderSteps.{saturated_small, keeps_rows, keeps_types, keeps_values, keeps_size, keeps_bytes, keeps_fits, keeps_allowed}
+use Rattle.mysql_bulk.proofs.RequestBytes.{length-request}
 use Rattle.mysql_bulk.proofs.builder.ComStmtBulkExecuteRequestBuilder.build.Goals as goal
 
 pub overflow_add-size-2 : goal.overflow_add-size-2
@@ -14,33 +16,32 @@ invariant_of-result c =
     let k = c.self.invariant in
     let fits = keeps_fits k c.if-self-eq0.false in
     let long : c.len.result ≡ length c.replace-types.result.items = c.len.ensures ∙ c.replace-types.result.ok.0 in
-    let same : 7 + 2 * length c.replace-types.result.items + row_size (plain c.replace-values.result.items) ≡ 7 + 2 * length c.self.inside.types.items + row_size (plain c.self.inside.values.items) =
-    ap (λ v. 7 + 2 * length v.items + row_size (plain c.replace-values.result.items)) c.replace-types.ensures.value
-    ∙ ap (λ v. 7 + 2 * length c.self.inside.types.items + row_size (plain v.items)) c.replace-values.ensures.value in
+    let same : 7 + 2 * length c.replace-types.result.items + row_size (contents c.replace-values.result.items) ≡ 7 + 2 * length c.self.inside.types.items + row_size (contents c.self.inside.values.items) =
+    ap (λ v. 7 + 2 * length v.items + row_size (contents c.replace-values.result.items)) c.replace-types.ensures.value
+    ∙ ap (λ v. 7 + 2 * length c.self.inside.types.items + row_size (contents v.items)) c.replace-values.ensures.value in
     let bytes = keeps_bytes k c.if-self-eq0.false in
     let size = keeps_size k c.if-self-eq0.false in
-    let n : 7 + 2 * c.len.result + c.self.inside.size ≡ 7 + 2 * length c.replace-types.result.items + row_size (plain c.replace-values.result.items) =
+    let n : 7 + 2 * c.len.result + c.self.inside.size ≡ 7 + 2 * length c.replace-types.result.items + row_size (contents c.replace-values.result.items) =
     ap (λ m. 7 + 2 * m + c.self.inside.size) (long ∙ ap (λ v. length v.items) c.replace-types.ensures.value) ∙ size ∙ sym bytes ∙ sym same in
-    n ∙ saturated_small (7 + 2 * length c.replace-types.result.items + row_size (plain c.replace-values.result.items)) (omega (arith, fits, size, bytes, same))
+    n ∙ saturated_small (7 + 2 * length c.replace-types.result.items + row_size (contents c.replace-values.result.items)) (omega (arith, fits, size, bytes, same))
 
-pub returns-clause-builds : goal.returns-clause-builds
-returns-clause-builds c =
+pub returns : goal.returns
+returns c =
     let k = c.self.invariant in
-    rw (← c.self.view_is) (
-      keeps_rows k c.if-self-eq0.false,
-      record {
+    let some = c.if-self-eq0.false in
+    let size =
+    ap (λ v. 7 + 2 * length v.items + row_size (contents c.replace-values.result.items)) c.replace-types.ensures.value
+    ∙ ap (λ v. 7 + 2 * length c.self.inside.types.items + row_size (contents v.items)) c.replace-values.ensures.value
+    ∙ keeps_bytes k some in
+    rw (← c.self.view_is) (record {
+      some = keeps_rows k some;
+      is_theirs = record {
         id = refl;
         flags = c.flags_of-bulk_flags.ensures;
-        types = ap (λ v. v.items) c.replace-types.ensures.value ∙ keeps_types k c.if-self-eq0.false;
+        types = ap (λ v. v.items) c.replace-types.ensures.value ∙ keeps_types k some;
         values = ap (λ v. v.items) c.replace-values.ensures.value ∙ keeps_values k;
-      },
-      refl,
-    )
-
-pub returns-clause-size : goal.returns-clause-size
-returns-clause-size c =
-    let k = c.self.invariant in
-    rw (← c.self.view_is)
-    (ap (λ v. 7 + 2 * length v.items + row_size (plain c.replace-values.result.items)) c.replace-types.ensures.value
-    ∙ ap (λ v. 7 + 2 * length c.self.inside.types.items + row_size (plain v.items)) c.replace-values.ensures.value
-    ∙ keeps_bytes k c.if-self-eq0.false)
+      };
+      size = length-request _ ∙ size;
+      fits = keeps_allowed k some;
+      left = refl;
+    })

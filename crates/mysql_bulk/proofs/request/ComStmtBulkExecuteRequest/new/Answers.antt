@@ -1,29 +1,29 @@
 use Rattle.std.proofs.Common.{◌≢◌, [], List, rules, if◌then◌else◌, ◌∙◌, ap, subst}
 use Rattle.std.specs.Global.{Vec}
 use Rattle.mysql_values.specs.declared.value.Value.{Value}
-use Rattle.mysql_bulk.specs.declared.param_type.StmtBulkExecuteParamType.{StmtBulkExecuteParamType}
+use Rattle.mysql_values.specs.declared.param_type.ParamType.{ParamType}
 use Rattle.mysql_wire.specs.Flags.{has}
-use Rattle.mysql_bulk.specs.ParamType.{declared_types}
+use Rattle.mysql_bulk.specs.DeclaredTypes.{declared_types}
 use Rattle.mysql_bulk.specs.ParamValue.{ParamValue}
-use Rattle.mysql_bulk.specs.Flat.{EqualLengths}
+use Rattle.mysql_bulk.specs.Row.{EqualLengths}
 use Rattle.mysql_bulk.specs.Request.{BulkRequest}
-use Rattle.mysql_bulk.specs.Builder.{values_of}
-use Rattle.mysql_bulk.specs.NewRequest.{OneLength}
+use Rattle.mysql_bulk.specs.Row.{contents_of_rows}
+use Rattle.mysql_bulk.specs.Row.{OneLength}
 use Rattle.mysql_bulk.proofs.NewRequest.{all_types, some_rows, one_length}
 use Rattle.mysql_bulk.proofs.request.ComStmtBulkExecuteRequest.new.Goals as goal
 
 pub returns-in-Ok : goal.returns-in-Ok
 returns-in-Ok c =
-    let rows = values_of c.args.rows.items in
-    let E : List (Vec Value) → Type 0 = λ l. EqualLengths c.len-arity.result (values_of l) in
+    let rows = contents_of_rows c.args.rows.items in
+    let E : List (Vec Value) → Type 0 = λ l. EqualLengths c.len-arity.result (contents_of_rows l) in
     let equal = subst E c.as_slice.ensures.value (c.equally_long.ensures.0 c.if-not-equally_long.false) in
     let any : c.args.rows.items ≢ [] = search rules in
     let some = some_rows c.args.rows.items any in
     let one : OneLength rows = one_length c.len-arity.result rows some equal in
-    let R : List StmtBulkExecuteParamType → List ParamValue → BulkRequest = λ t v. record { stmt_id = c.args.stmt_id; bulk_flags = c.args.bulk_flags.0; types = t; values = v } in (
+    let R : List ParamType → List ParamValue → BulkRequest = λ t v. record { stmt_id = c.args.stmt_id; bulk_flags = c.args.bulk_flags; types = t; values = v } in (
       some,
       one,
-      c.made.ensures
-          ∙ ap (λ (t : List StmtBulkExecuteParamType). R t c.in-Ok.parts.values.items) (c.in-Ok.ensures.types ∙ all_types c.sends_types.result (has c.args.bulk_flags.0 128) c.len-arity.result rows c.sends_types.ensures some equal)
+      c.with_head.ensures
+          ∙ ap (λ (t : List ParamType). R t c.in-Ok.parts.values.items) (c.in-Ok.ensures.types ∙ all_types c.sends_types.result (has c.args.bulk_flags.0 128) c.len-arity.result rows c.sends_types.ensures some equal)
           ∙ ap (λ (v : List ParamValue). R (if has c.args.bulk_flags.0 128 then declared_types rows else []) v) c.in-Ok.ensures.values,
     )

@@ -1,7 +1,7 @@
 use Rattle.std.proofs.Common.{length, sym, ◌∙◌, ap}
 use Rattle.mysql_wire.specs.Writing.{saturated}
 use Rattle.mysql_bulk.specs.Request.{BulkRequest, request_bytes}
-use Rattle.mysql_bulk.proofs.Kept.{length-request}
+use Rattle.mysql_bulk.proofs.RequestBytes.{length-request}
 use Rattle.mysql_bulk.proofs.request.ComStmtBulkExecuteRequestMySerialize.defined_len.Goals as goal
 
 pub returns : goal.returns

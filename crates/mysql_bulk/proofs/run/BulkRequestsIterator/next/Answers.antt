@@ -1,26 +1,35 @@
-use Rattle.std.proofs.Common.{Option, Some, Ok, Err, true, refl, subst, sym}
+use Rattle.std.proofs.Common.{Option, None, Some, Ok, Err, true, refl, subst, sym}
 use Rattle.std.specs.Global.{Vec}
 use Rattle.mysql_values.specs.declared.value.Value.{Value}
 use Rattle.mysql_bulk.specs.declared.error.BulkExecuteRequestBuilderError.TheVariants.{Request}
-use Rattle.mysql_bulk.specs.Run.{Fills, NextRequest}
-use Rattle.mysql_bulk.proofs.Runs.{state, is_none_from, steps_refused, steps_asked}
+use Rattle.mysql_bulk.specs.Run.{AcceptsUntilFull, NextRequest}
+use Rattle.mysql_bulk.proofs.RunSteps.{state, is_none_from, next_refuses, next_builds}
 use Rattle.mysql_bulk.proofs.run.BulkRequestsIterator.next.Goals as goal
 
 pub returns-in-Err-clause-steps : goal.returns-in-Err-clause-steps
 returns-in-Err-clause-steps g c =
-    let F : Option (Vec Value) → Type 0 = λ o. Fills g.I.Iterator.next_gives c.args.self.now.builder.now o c.args.self.now.rows (Err c.in-Err.e) c.fill.new.builder c.fill.new.rows in
+    let F : Option (Vec Value) → Type 0 = λ o. AcceptsUntilFull g.I.Iterator.next_gives c.args.self.now.builder.now o c.args.self.now.rows (Err c.in-Err.e) c.fill.new.builder c.fill.new.rows in
     let N : Option (Vec Value) → Type 0 = λ o. NextRequest g.I.Iterator.next_gives (state c.args.self.now.builder.now c.args.self.now.carried c.args.self.now.rows c.args.self.now.ended) (Some (Err (Request c.in-Err.e))) (state c.fill.new.builder o c.fill.new.rows true) in (
       refl,
       subst N (sym c.take.ensures.after)
-          (steps_refused g.I.Iterator.next_gives c.args.self.now.builder.now c.fill.new.builder c.args.self.now.carried c.args.self.now.rows c.fill.new.rows c.args.self.now.ended c.in-Err.e
-          c.if-self.false (subst F c.take.ensures.value c.in-Err.ensures.fills)),
+          (next_refuses g.I.Iterator.next_gives c.args.self.now.builder.now c.fill.new.builder c.args.self.now.carried c.args.self.now.rows c.fill.new.rows c.args.self.now.ended c.in-Err.e
+          c.if-self.false (subst F c.take.ensures.value c.in-Err.ensures.accepts)),
     )
 
-pub returns-in-Ok-clause-steps : goal.returns-in-Ok-clause-steps
-returns-in-Ok-clause-steps g c =
-    let F : Option (Vec Value) → Type 0 = λ o. Fills g.I.Iterator.next_gives c.args.self.now.builder.now o c.args.self.now.rows (Ok c.in-Ok.last) c.fill.new.builder c.fill.new.rows in (
+pub returns-in-Some-clause-steps : goal.returns-in-Some-clause-steps
+returns-in-Some-clause-steps g c =
+    let F : Option (Vec Value) → Type 0 = λ o. AcceptsUntilFull g.I.Iterator.next_gives c.args.self.now.builder.now o c.args.self.now.rows (Ok c.in-Ok.last) c.fill.new.builder c.fill.new.rows in (
       refl,
-      steps_asked g.I.Iterator.next_gives c.args.self.now.builder.now c.fill.new.builder c.build_waiting.new.builder c.args.self.now.carried c.in-Ok.last c.args.self.now.rows c.fill.new.rows c.args.self.now.ended
-          c.is_none-self.result c.build_waiting.new.ended c.build_waiting.result c.if-self.false (subst F c.take.ensures.value c.in-Ok.ensures.fills)
-          (is_none_from c.in-Ok.last c.is_none-self.result c.is_none-self.ensures) c.build_waiting.ensures.asks,
+      next_builds g.I.Iterator.next_gives c.args.self.now.builder.now c.fill.new.builder c.build_waiting.new.builder c.args.self.now.carried c.in-Ok.last c.args.self.now.rows c.fill.new.rows c.args.self.now.ended
+          c.is_none-self.result (Some c.in-Some.request) c.if-self.false (subst F c.take.ensures.value c.in-Ok.ensures.accepts)
+          (is_none_from c.in-Ok.last c.is_none-self.result c.is_none-self.ensures) c.in-Some.ensures,
+    )
+
+pub returns-in-None-clause-steps : goal.returns-in-None-clause-steps
+returns-in-None-clause-steps g c =
+    let F : Option (Vec Value) → Type 0 = λ o. AcceptsUntilFull g.I.Iterator.next_gives c.args.self.now.builder.now o c.args.self.now.rows (Ok c.in-Ok.last) c.fill.new.builder c.fill.new.rows in (
+      refl,
+      next_builds g.I.Iterator.next_gives c.args.self.now.builder.now c.fill.new.builder c.build_waiting.new.builder c.args.self.now.carried c.in-Ok.last c.args.self.now.rows c.fill.new.rows c.args.self.now.ended
+          c.is_none-self.result None c.if-self.false (subst F c.take.ensures.value c.in-Ok.ensures.accepts)
+          (is_none_from c.in-Ok.last c.is_none-self.result c.is_none-self.ensures) c.in-None.ensures,
     )

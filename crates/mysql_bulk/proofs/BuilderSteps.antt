@@ -1,0 +1,174 @@
+-- How a builder stores the rows that wait, and the request that it makes of them.
+use Rattle.std.proofs.Common.{◌≡◌, ◌≢◌, ℕ, zero, suc, ◌+◌, ◌*◌, ◌<◌, ◌≤◌, ◌^◌, Bool, true, false, if◌then◌else◌, List, [], ◌∷◌, ◌++◌, length, drop, map, Option, Some, None, unwrap_or, refl, sym, ◌∙◌, ap, subst, ◌⊎◌, inl, inr, arith, length-append, sum_by}
+use Rattle.std.specs.Prelude.{fold}
+use Rattle.std.proofs.Math.Nat.{suc-mul}
+use Rattle.std.proofs.lemmas.List.{length-drop, length-take-le, map-append, nil_from_length}
+use Rattle.std.proofs.lemmas.List.Sums.{sum_by-append, fold-append}
+use Rattle.std.proofs.lemmas.List.FromFn.{length-map-range_with_len}
+use Rattle.mysql_wire.specs.Writing.{saturated}
+use Rattle.mysql_cuts.specs.Cut.{PartFits, rows_in, request_size}
+use Rattle.mysql_values.specs.declared.param_type.ParamType.{ParamType}
+use Rattle.mysql_values.specs.Value.{Content}
+use Rattle.mysql_bulk.specs.Builder.{BuilderState, packing, IsStoredAs, waiting_size, WaitingFits, TakesArity, RowFits, after_row, arity_after, IsConsistent}
+use Rattle.mysql_bulk.specs.DeclaredTypes.{declared_type, column_values, declared_types, types_with_row}
+use Rattle.mysql_bulk.specs.ParamValue.{ParamValue, with_indicator, contents}
+use Rattle.mysql_bulk.specs.Row.{param_size, row_size, first_length, EqualLengths}
+use Rattle.mysql_bulk.specs.WaitingRows.{rows_of, waiting_rows, IsFlat}
+use Rattle.mysql_bulk.proofs.DeclaredTypes.{types_all, types_before}
+use Rattle.mysql_bulk.proofs.RequestBytes.{size_joined, contents_indicators}
+use Rattle.mysql_bulk.proofs.WaitingRows.{flat_values, flat_none, flat_rows, flat_more, length-rows_of}
+
+pub saturated_small : (n : ℕ) → n < 2 ^ 64 → n ≡ saturated n
+unfolding saturated
+saturated_small n h = omega arith
+
+equal_rows : (a n : ℕ) (values : List Content) → length values ≡ n * a → EqualLengths a (rows_of a n values)
+equal_rows a zero values h = tt
+equal_rows a (suc n) values h =
+    let more : suc n * a ≡ n * a + a = suc-mul n a in
+    (length-take-le a values (omega (arith, h, more)), equal_rows a n (drop a values) (omega (arith, h, more, length-drop a values)))
+
+pub if_same : {X : Type 0} (b : Bool) (x y z : X) → x ≡ y → (if b then x else z) ≡ (if b then y else z)
+if_same true x y z e = e
+if_same false x y z e = refl
+
+length-if : (b : Bool) (a : ℕ) (types : List ParamType) → length types ≡ a → 2 * length (if b then types else []) ≡ (if b then 2 * a else 0)
+length-if true a types e = ap (λ n. 2 * n) e
+length-if false a types e = refl
+
+first_long : (a : ℕ) (rows : List (List Content)) → rows ≢ [] → EqualLengths a rows → first_length rows ≡ a
+first_long a [] n e = absurd (n refl)
+first_long a (row ∷ rows) n e = e.0
+
+as_many : (arity : Option ℕ) (n l : ℕ) → TakesArity arity n → l ≡ unwrap_or arity 0 → (l ≡ n) ⊎ (l ≡ 0)
+as_many None n l t e = inr e
+as_many (Some a) n l t e = inl (e ∙ sym t)
+
+types_step : (b : Bool) (types : List ParamType) (rows : List (List Content)) (row : List Content) → types ≡ (if b then fold types_with_row [] rows else [])
+    → (if b then types_with_row types row else types) ≡ (if b then fold types_with_row [] (rows ++ row ∷ []) else [])
+types_step true types rows row e = ap (λ (l : List ParamType). types_with_row l row) e ∙ sym (fold-append types_with_row [] rows (row ∷ []))
+types_step false types rows row e = e
+
+if_true : {X : Type 0} (b : Bool) (x y : X) → b ≡ true → (if b then x else y) ≡ x
+if_true true x y e = refl
+if_true false x y e = cc
+
+pub contents_more : (values : List ParamValue) (row : List Content) → contents (values ++ map with_indicator row) ≡ contents values ++ row
+contents_more values row = map-append (λ v. v.content) values (map with_indicator row) ∙ ap (λ (l : List Content). contents values ++ l) (contents_indicators row)
+
+module _ {s : BuilderState} {count size : ℕ} {values : List ParamValue} {types : List ParamType} (k : IsStoredAs s count size values types) where
+  pub keeps_rows : count ≢ 0 → s.waiting ≢ []
+  keeps_rows n e = n (flat_none s.arity count (contents values) (sym k.rows_is ∙ e))
+
+  pub keeps_equal : EqualLengths (unwrap_or s.arity 0) s.waiting
+  keeps_equal = subst (EqualLengths (unwrap_or s.arity 0)) (sym k.rows_is) (equal_rows (unwrap_or s.arity 0) count (contents values) k.flat.lengths)
+
+  -- the types are the declared ones
+  pub keeps_types : count ≢ 0 → types ≡ (if s.types_due then declared_types s.waiting else [])
+  keeps_types n =
+      k.types_is
+      ∙ if_same s.types_due (fold types_with_row [] s.waiting) (declared_types s.waiting) [] (types_all (unwrap_or s.arity 0) s.waiting (keeps_rows n) keeps_equal)
+
+  -- the values are those of the rows
+  pub keeps_values : values ≡ map with_indicator (rows_in s.waiting)
+  keeps_values = k.indicators ∙ ap (map with_indicator) (flat_values s.arity count size (contents values) k.flat ∙ ap rows_in (sym k.rows_is))
+
+  types_size : count ≢ 0 → 2 * length types ≡ (if s.types_due then 2 * unwrap_or s.arity 0 else 0)
+  types_size n =
+      let a = unwrap_or s.arity 0 in
+      ap (λ (l : List ParamType). 2 * length l) (keeps_types n)
+      ∙ length-if s.types_due a (declared_types s.waiting) (length-map-range_with_len (λ i. declared_type (column_values s.waiting i)) 0 (first_length s.waiting) ∙ first_long a s.waiting (keeps_rows n) keeps_equal)
+
+  rows_size : size ≡ sum_by row_size s.waiting
+  rows_size = k.flat.size_is ∙ ap (sum_by row_size) (sym k.rows_is)
+
+  -- the arity is the length of the rows that wait
+  pub keeps_arity : count ≢ 0 → unwrap_or s.arity 0 ≡ first_length s.waiting
+  keeps_arity n = sym (first_long (unwrap_or s.arity 0) s.waiting (keeps_rows n) keeps_equal)
+
+  -- the bytes are those of the request
+  pub keeps_size : count ≢ 0 → 7 + 2 * length types + size ≡ waiting_size s
+  keeps_size n =
+      let here : 7 + 2 * length types + size ≡ request_size (packing s (unwrap_or s.arity 0)) s.types_due s.waiting = omega (arith, types_size n, rows_size) in
+      here ∙ ap (λ a. request_size (packing s a) s.types_due s.waiting) (keeps_arity n)
+
+  values_size : row_size (contents values) ≡ size
+  values_size = ap row_size (flat_values s.arity count size (contents values) k.flat) ∙ size_joined (waiting_rows s.arity count (contents values)) ∙ sym k.flat.size_is
+
+  pub keeps_bytes : count ≢ 0 → 7 + 2 * length types + row_size (contents values) ≡ waiting_size s
+  keeps_bytes n = omega (arith, keeps_size n, values_size)
+
+  -- and allowed
+  pub keeps_allowed : count ≢ 0 → WaitingFits s
+  keeps_allowed n = let F : ℕ → Type 0 = λ a. PartFits (packing s a) s.types_due s.waiting in subst F (keeps_arity n) (k.fits (keeps_rows n))
+
+  pub keeps_bound : count ≢ 0 → waiting_size s ≤ s.limit
+  keeps_bound n = (keeps_allowed n).0
+
+  -- before a row of the right length: there are as many types, or none
+  pub keeps_before : (row : List Content) → TakesArity s.arity (length row) → s.types_due ≡ true → (length types ≡ length row) ⊎ (types ≡ [])
+  keeps_before row t due =
+      let is : types ≡ fold types_with_row [] s.waiting = k.types_is ∙ if_true s.types_due (fold types_with_row [] s.waiting) [] due in
+      let N : List (List Content) → Type 0 = λ l. types ≡ fold types_with_row [] l in
+      elim (types_before (unwrap_or s.arity 0) s.waiting keeps_equal) [
+        | inl long ↦ elim (as_many s.arity (length row) (length types) t (ap length is ∙ long)) [ inl same ↦ inl same | inr none ↦ inr (nil_from_length types none) ]
+        | inr none ↦ inr (subst N none is)
+      ]
+
+  -- one more row waits
+  pub keeps_more : (total : ℕ) (row : List Content) → TakesArity s.arity (length row) → RowFits s row → total ≡ sum_by row_size (s.waiting ++ row ∷ [])
+      → IsStoredAs (after_row s row) (count + 1) total (values ++ map with_indicator row) (if s.types_due then types_with_row types row else types)
+  keeps_more total row t f e =
+      let rows = flat_rows s.arity count size (contents values) row k.flat t in
+      let flat = flat_more s.arity count size total (contents values) row k.flat t (e ∙ ap (λ (l : List (List Content)). sum_by row_size (l ++ row ∷ [])) k.rows_is) in
+      let I : List Content → Type 0 = IsFlat (Some (length row)) (count + 1) total in
+      let p = sym (contents_more values row) in
+      record {
+        limit_is = k.limit_is;
+        rows_is = ap (λ (l : List (List Content)). l ++ row ∷ []) k.rows_is ∙ sym rows ∙ ap (waiting_rows (Some (length row)) (count + 1)) p;
+        flat = subst I p flat;
+        indicators = ap (λ (l : List ParamValue). l ++ map with_indicator row) k.indicators ∙ sym (map-append with_indicator (contents values) row) ∙ ap (map with_indicator) p;
+        fits = λ n. f;
+        types_is = types_step s.types_due types s.waiting row k.types_is;
+      }
+
+  pub rows_more : (row : List Content) → TakesArity s.arity (length row) → waiting_rows (Some (length row)) (count + 1) (contents (values ++ map with_indicator row)) ≡ s.waiting ++ row ∷ []
+  rows_more row t =
+      ap (waiting_rows (Some (length row)) (count + 1)) (contents_more values row)
+      ∙ flat_rows s.arity count size (contents values) row k.flat t
+      ∙ ap (λ (l : List (List Content)). l ++ row ∷ []) (sym k.rows_is)
+
+  abbrev pub with_row : ℕ → ℕ → List ParamValue → BuilderState
+  with_row a n more = record s { arity = Some a; waiting = waiting_rows (Some a) n (contents more) }
+
+  pub keeps_next : (total a n : ℕ) (row : List Content) (more : List ParamValue) (further : List ParamType) → TakesArity s.arity (length row) → RowFits s row
+      → total ≡ sum_by row_size (s.waiting ++ row ∷ []) → a ≡ length row → n ≡ count + 1 → more ≡ values ++ map with_indicator row → further ≡ (if s.types_due then types_with_row types row else types)
+      → IsStoredAs (with_row a n more) n total more further
+  keeps_next total a n row more further t f e la ln lm lf =
+      let P : List (List Content) → Type 0 = λ w.
+      IsStoredAs (record s { arity = Some (length row); waiting = w }) (count + 1) total (values ++ map with_indicator row) (if s.types_due then types_with_row types row else types) in
+      rw (la, ln, lm, lf) (subst P (sym (rows_more row t)) (keeps_more total row t f e))
+
+  pub state_next : (a n : ℕ) (row : List Content) (more : List ParamValue) → TakesArity s.arity (length row) → a ≡ length row → n ≡ count + 1 → more ≡ values ++ map with_indicator row
+      → with_row a n more ≡ after_row s row
+  state_next a n row more t la ln lm = rw (la, ln, lm) (ap (λ (w : List (List Content)). record s { arity = Some (length row); waiting = w }) (rows_more row t))
+
+  pub keeps_fits : count ≢ 0 → 7 + 2 * length types + size < 2 ^ 64
+  keeps_fits n = omega (arith, keeps_size n, keeps_bound n, k.limit_is)
+
+  -- what holds of every builder
+  pub consistent : IsConsistent s
+  consistent = record {
+    one_length = one (unwrap_or s.arity 0) s.waiting keeps_equal;
+    arity = known s.arity s.waiting k.flat.none (λ c. k.rows_is ∙ ap (λ n. rows_of (unwrap_or s.arity 0) n (contents values)) c) keeps_equal;
+    fits = λ n. keeps_allowed (λ c. n (k.rows_is ∙ ap (λ m. rows_of (unwrap_or s.arity 0) m (contents values)) c));
+  }
+    where
+      one : (a : ℕ) (rows : List (List Content)) → EqualLengths a rows → EqualLengths (first_length rows) rows
+      one a [] e = tt
+      one a (row ∷ rows) e = let P : ℕ → Type 0 = λ n. EqualLengths n (row ∷ rows) in subst P (sym e.0) e
+
+      known : (o : Option ℕ) (rows : List (List Content)) → (o ≡ None → count ≡ 0) → (count ≡ 0 → rows ≡ []) → EqualLengths (unwrap_or o 0) rows → o ≡ arity_after o rows
+      known o [] none nil e = refl
+      known None (row ∷ rows) none nil e = let f : row ∷ rows ≡ [] = nil (none refl) in cc
+      known (Some a) (row ∷ rows) none nil e = ap Some (sym e.0)

@@ -1,0 +1,105 @@
+-- Runs of a builder over parameters, whose values are the rows.
+use Rattle.std.proofs.Common.{◌≡◌, Bool, true, false, List, [], ◌∷◌, Option, Some, None, Result, Ok, Err, refl, sym, ap, subst}
+use Rattle.std.specs.Prelude.{MatchOption, is_none}
+use Rattle.std.specs.Global.{Vec}
+use Rattle.mysql_values.specs.declared.params.Params.{Params}
+use Rattle.mysql_values.specs.declared.value.Value.{Value}
+use Rattle.mysql_values.specs.Value.{Content}
+use Rattle.mysql_values.specs.Params as given_by
+use Rattle.mysql_bulk.specs.declared.error.BulkExecuteRequestBuilderError.{BulkExecuteRequestBuilderError}
+use Rattle.mysql_bulk.specs.declared.error.BulkExecuteRequestBuilderError.TheVariants as refused
+use Rattle.mysql_bulk.specs.Request.{BulkRequest}
+use Rattle.mysql_bulk.specs.Builder.{BuilderState, after_row, Adds, AddsRow, AddsParams, BuildsRequest}
+use Rattle.mysql_bulk.specs.Row.{contents_of_row, contents_of_rows}
+use Rattle.mysql_bulk.specs.Run.{Accepts, AcceptsUntilFull, RunState, NextRequest}
+use Rattle.mysql_bulk.specs.ParamsRun.{Names, GivesRowOfParams, StopsAtParams, AcceptsParamsUntilFull, NextRequestOfParams}
+use Rattle.mysql_bulk.proofs.RunSteps.{state, Taken, taken_more, taken_full, taken_refused, carried_more, carried_full, carried_refused, next_refuses, answers, next_builds}
+
+-- the names stay
+names_stay : (s t : BuilderState) (rows : List (List Content)) → Accepts s rows t → t.names ≡ s.names
+names_stay s t [] a = ap (λ (b : BuilderState). b.names) a
+names_stay s t (row ∷ rows) a = names_stay (after_row s row) t rows a.2
+
+module _ {S : Type 0} (steps : S → Option Params → S → Type 0) where
+  by_names : (s m : BuilderState) (rows left : S) → Taken (GivesRowOfParams steps s.names) s rows m left → m.names ≡ s.names
+  by_names s m rows left k = names_stay s m _ k.accepts
+
+  gives_row : (s m : BuilderState) (rows left rest : S) (params : Params) (row : Vec Value) → Taken (GivesRowOfParams steps s.names) s rows m left → steps left (Some params) rest
+      → given_by.values_of params m.names ≡ Ok (contents_of_row row) → GivesRowOfParams steps s.names left (Some row) rest
+  gives_row s m rows left rest params row k came v =
+      let V : Names → Type 0 = λ n. given_by.values_of params n ≡ Ok (contents_of_row row) in
+      (params, came, subst V (by_names s m rows left k) v)
+
+  pub params_more : (s m t : BuilderState) (rows left rest : S) (params : Params) → Taken (GivesRowOfParams steps s.names) s rows m left → steps left (Some params) rest → AddsParams m params (Ok None) t
+      → Taken (GivesRowOfParams steps s.names) s rows t rest
+  params_more s m t rows left rest params k came a = taken_more (GivesRowOfParams steps s.names) s m t rows left rest a.0 k (gives_row s m rows left rest params a.0 k came a.1) a.2
+
+  -- the next row does not fit with those that wait
+  pub params_full : (s m t : BuilderState) (rows left rest : S) (params : Params) (back : Vec Value) → Taken (GivesRowOfParams steps s.names) s rows m left → steps left (Some params) rest
+      → AddsParams m params (Ok (Some back)) t → AcceptsParamsUntilFull steps s.names s None rows (Ok (Some back)) t rest
+  params_full s m t rows left rest params back k came a = taken_full (GivesRowOfParams steps s.names) s m t rows left rest a.0 back k (gives_row s m rows left rest params a.0 k came a.1) a.2
+
+  -- the next parameters are refused, or their row is
+  pub params_refused : (s m t : BuilderState) (rows left rest : S) (params : Params) (e : BulkExecuteRequestBuilderError) → Taken (GivesRowOfParams steps s.names) s rows m left → steps left (Some params) rest
+      → AddsParams m params (Err e) t → AcceptsParamsUntilFull steps s.names s None rows (Err e) t rest
+  params_refused s m t rows left rest params (refused.Request e) k came a =
+      taken_refused (GivesRowOfParams steps s.names) s m t rows left rest a.0 e k (gives_row s m rows left rest params a.0 k came a.1) a.2
+  params_refused s m t rows left rest params (refused.Params e) k came a =
+      let R : Names → Type 0 = λ n. given_by.Refuses params n e in
+      record {
+        taken = k.taken;
+        before = left;
+        came = k.came;
+        params = params;
+        given = came;
+        refused = subst R (by_names s m rows left k) a.0;
+        accepts = subst (Accepts s _) (sym a.1) k.accepts;
+      }
+
+  -- a carried row is after_row first
+  pub params_carried : (s m t : BuilderState) (row : Vec Value) (rows left : S) (r : Result (Option (Vec Value)) BulkExecuteRequestBuilderError) → Adds s row (Ok None) m
+      → AcceptsParamsUntilFull steps m.names m None rows r t left → AcceptsParamsUntilFull steps s.names s (Some row) rows r t left
+  params_carried s m t row rows left (Ok last) a f =
+      let F : Names → Type 0 = λ n. AcceptsUntilFull (GivesRowOfParams steps n) m None rows (Ok last) t left in
+      carried_more (GivesRowOfParams steps s.names) s m t row rows left (Ok last) a (subst F (ap (λ (b : BuilderState). b.names) a.2) f)
+  params_carried s m t row rows left (Err (refused.Request e)) a f =
+      let F : Names → Type 0 = λ n. AcceptsUntilFull (GivesRowOfParams steps n) m None rows (Err e) t left in
+      carried_more (GivesRowOfParams steps s.names) s m t row rows left (Err e) a (subst F (ap (λ (b : BuilderState). b.names) a.2) f)
+  params_carried s m t row rows left (Err (refused.Params e)) a f =
+      let F : Names → Type 0 = λ n. StopsAtParams steps n m None rows e t left in
+      let k = subst F (ap (λ (b : BuilderState). b.names) a.2) f in
+      let A : BuilderState → Type 0 = λ u. Accepts u (contents_of_rows k.taken) t in
+      record {
+        taken = row ∷ k.taken;
+        before = k.before;
+        came = ((None, rows), (refl, refl, refl), k.came);
+        params = k.params;
+        given = k.given;
+        refused = k.refused;
+        accepts = (a.0, a.1, subst A a.2 k.accepts);
+      }
+
+  -- it does not fit, or is refused
+  pub params_carried_full : (s t : BuilderState) (row back : Vec Value) (rows : S) → AddsRow s row (Ok (Some back)) t → AcceptsParamsUntilFull steps s.names s (Some row) rows (Ok (Some back)) t rows
+  params_carried_full s t row back rows a = carried_full (GivesRowOfParams steps s.names) s t row back rows a
+
+  pub params_carried_refused : (s t : BuilderState) (row : Vec Value) (e : BulkExecuteRequestBuilderError) (rows : S) → AddsRow s row (Err e) t → AcceptsParamsUntilFull steps s.names s (Some row) rows (Err e) t rows
+  params_carried_refused s t row (refused.Request e) rows a = carried_refused (GivesRowOfParams steps s.names) s t row e rows a
+  params_carried_refused s t row (refused.Params e) rows a = absurd a
+
+  -- ---- what a call of `next` leads to
+
+  pub next_params_refuses : (names : Names) (s t : BuilderState) (carried : Option (Vec Value)) (rows left : S) (ended : Bool) (e : BulkExecuteRequestBuilderError) → ended ≡ false
+      → AcceptsParamsUntilFull steps names s carried rows (Err e) t left → NextRequestOfParams steps names (state s carried rows ended) (Some (Err e)) (state t None left true)
+  next_params_refuses names s t carried rows left ended (refused.Request e) g a = next_refuses (GivesRowOfParams steps names) s t carried rows left ended e g a
+  next_params_refuses names s t carried rows left ended (refused.Params e) g a = record { going = g; no_row = a; carried = refl; ended = refl }
+
+  over_rows : (names : Names) (s t : RunState S) (built : Option BulkRequest) → NextRequest (GivesRowOfParams steps names) s (answers built) t → NextRequestOfParams steps names s (answers built) t
+  over_rows names s t None n = n
+  over_rows names s t (Some request) n = n
+
+  pub next_params_builds : (names : Names) (s m t : BuilderState) (carried last : Option (Vec Value)) (rows left : S) (e ended : Bool) (built : Option BulkRequest) → e ≡ false
+      → AcceptsParamsUntilFull steps names s carried rows (Ok last) m left → is_none last ≡ ended → MatchOption built ((m.waiting ≡ []) × (t ≡ m)) (λ request. BuildsRequest m request t)
+      → NextRequestOfParams steps names (state s carried rows e) (answers built) (state t last left ended)
+  next_params_builds names s m t carried last rows left e ended built g a l w =
+      over_rows names (state s carried rows e) (state t last left ended) built (next_builds (GivesRowOfParams steps names) s m t carried last rows left e ended built g a l w)

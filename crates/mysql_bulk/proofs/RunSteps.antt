@@ -1,0 +1,163 @@
+-- Runs of a builder over rows.
+use Rattle.std.proofs.Common.{◌≡◌, ◌≢◌, Bool, true, false, List, [], ◌∷◌, ◌++◌, length, Option, Some, None, Result, Ok, Err, refl, sym, ◌∙◌, ap, subst, inl, inr, append_assoc}
+use Rattle.std.proofs.lemmas.List.{append-nil, map_push}
+use Rattle.std.proofs.iter.Next.{Yields-more}
+use Rattle.std.specs.Iterator.{Yields}
+use Rattle.std.specs.Global.{Vec}
+use Rattle.mysql_values.specs.declared.value.Value.{Value}
+use Rattle.mysql_values.specs.Value.{Content}
+use Rattle.mysql_bulk.specs.declared.error.BulkExecuteRequestError.{BulkExecuteRequestError}
+use Rattle.mysql_bulk.specs.declared.error.BulkExecuteRequestError.TheVariants.{MixedArity, RowTooLarge, MemoryRow, NoParams, Memory}
+use Rattle.mysql_bulk.specs.Row.{contents_of_row, contents_of_rows}
+use Rattle.mysql_bulk.specs.Builder.{BuilderState}
+use Rattle.mysql_bulk.specs.Builder.{TakesArity, RowFits, after_row, Adds, Builds, BuildsRequest}
+use Rattle.mysql_bulk.specs.declared.error.BulkExecuteRequestBuilderError.{BulkExecuteRequestBuilderError}
+use Rattle.mysql_bulk.specs.declared.error.BulkExecuteRequestBuilderError.TheVariants.{Request, Params}
+use Rattle.mysql_bulk.specs.Request.{BulkRequest}
+use Rattle.mysql_bulk.specs.Run.{Accepts, NextRow, AcceptsUntilFull, RunState, AcceptedUntilFull, NextRequest}
+use Rattle.std.specs.Prelude.{IfSome, MatchOption, is_none, is_some, not}
+
+-- one more row is accepted
+pub Accepts-more : (s m t : BuilderState) (rows : List (List Content)) (row : List Content) → Accepts s rows m → TakesArity m.arity (length row) → RowFits m row → t ≡ after_row m row → Accepts s (rows ++ row ∷ []) t
+Accepts-more s m t [] row a n f e =
+    let P : BuilderState → Type 0 = λ s. TakesArity s.arity (length row) × RowFits s row × (t ≡ after_row s row) in
+    subst P a (n, f, e)
+Accepts-more s m t (r ∷ rows) row a n f e = (a.0, a.1, Accepts-more (after_row s r) m t rows row a.2 n f e)
+
+pub Accepts-append : (s m t : BuilderState) (rows others : List (List Content)) → Accepts s rows m → Accepts m others t → Accepts s (rows ++ others) t
+Accepts-append s m t [] others a b = subst (λ s. Accepts s others t) a b
+Accepts-append s m t (r ∷ rows) others a b = (a.0, a.1, Accepts-append (after_row s r) m t rows others a.2 b)
+
+-- a refusal leaves the state
+pub Adds-refused : (s t : BuilderState) (row : Vec Value) (e : BulkExecuteRequestError) → Adds s row (Err e) t → t ≡ s
+Adds-refused s t row MixedArity a = a.1
+Adds-refused s t row (RowTooLarge back) a = a.4
+Adds-refused s t row (MemoryRow back) a = a.3
+Adds-refused s t row NoParams a = absurd a
+Adds-refused s t row Memory a = absurd a
+
+abbrev pub state : {S : Type 0} → BuilderState → Option (Vec Value) → S → Bool → RunState S
+state s carried rows ended = record { builder = s; carried = carried; rows = rows; ended = ended }
+
+-- a list that cannot have elements has none
+pub none_waits : {X : Type 0} (xs : List X) → (xs ≢ [] → false ≡ true) → xs ≡ []
+none_waits [] h = refl
+none_waits (x ∷ xs) h = let e : false ≡ true = h (λ e. cc) in cc
+
+pub none_from : {X : Type 0} (o : Option X) → is_some o ≡ false → o ≡ None
+none_from None h = refl
+none_from (Some x) h = cc
+
+pub is_none_from : {X : Type 0} (o : Option X) (b : Bool) → is_some o ≡ not b → is_none o ≡ b
+is_none_from None true h = refl
+is_none_from None false h = let e : false ≡ true = h in cc
+is_none_from (Some x) true h = let e : true ≡ false = h in cc
+is_none_from (Some x) false h = refl
+
+-- what is answered where a request was built or not
+abbrev pub answers : Option BulkRequest → Option (Result BulkRequest BulkExecuteRequestBuilderError)
+answers None = None
+answers (Some request) = Some (Ok request)
+
+-- where no request is built, no row waited
+pub none_built : (s t : BuilderState) (e : BulkExecuteRequestError) → Builds s (Err e) t → (s.waiting ≡ []) × (t ≡ s)
+none_built s t MixedArity b = absurd b
+none_built s t (RowTooLarge row) b = absurd b
+none_built s t (MemoryRow row) b = absurd b
+none_built s t NoParams b = b
+none_built s t Memory b = absurd b
+
+module _ {S : Type 0} (steps : S → Option (Vec Value) → S → Type 0) where
+  -- the input has given some rows, which were accepted
+  pub record Taken (s : BuilderState) (rows : S) (t : BuilderState) (left : S) : Type 0 where
+    pub taken : List (Vec Value)
+    pub came : Yields (NextRow steps) (None, rows) taken (None, left)
+    pub accepts : Accepts s (contents_of_rows taken) t
+
+  pub taken_none : (s : BuilderState) (rows : S) → Taken s rows s rows
+  taken_none s rows = record { taken = []; came = refl; accepts = refl }
+
+  pub taken_more : (s m t : BuilderState) (rows left rest : S) (row : Vec Value) → Taken s rows m left → steps left (Some row) rest → Adds m row (Ok None) t → Taken s rows t rest
+  taken_more s m t rows left rest row k came a = record {
+    taken = k.taken ++ row ∷ [];
+    came = Yields-more (NextRow steps) (None, rows) k.taken (None, left) row (None, rest) k.came (refl, came);
+    accepts = subst (λ l. Accepts s l t) (sym (map_push contents_of_row k.taken row)) (Accepts-more s m t (contents_of_rows k.taken) (contents_of_row row) k.accepts a.0 a.1 a.2);
+  }
+
+  -- the next row does not fit with those that wait
+  pub taken_full : (s m t : BuilderState) (rows left rest : S) (row back : Vec Value) → Taken s rows m left → steps left (Some row) rest → Adds m row (Ok (Some back)) t → AcceptsUntilFull steps s None rows (Ok (Some back)) t rest
+  taken_full s m t rows left rest row back k came a =
+      let P : BuilderState → Type 0 = λ u. AcceptsUntilFull steps s None rows (Ok (Some back)) u rest in
+      let C : Vec Value → Type 0 = λ r. NextRow steps (None, left) (Some r) (None, rest) in
+      let first : AcceptsUntilFull steps s None rows (Ok (Some back)) m rest = (
+        k.taken,
+        ((None, left), k.came, subst C (sym a.3) (refl, came)),
+        k.accepts,
+        (let A : Vec Value → Type 0 = λ r. Adds m r (Ok (Some r)) m in subst A (sym a.3) (a.0, a.1, a.2, refl, refl)),
+      ) in
+      subst P (sym a.4) first
+
+  -- the next row is refused
+  pub taken_refused : (s m t : BuilderState) (rows left rest : S) (row : Vec Value) (e : BulkExecuteRequestError) → Taken s rows m left → steps left (Some row) rest → Adds m row (Err e) t → AcceptsUntilFull steps s None rows (Err e) t rest
+  taken_refused s m t rows left rest row e k came a =
+      let same = Adds-refused m t row e a in
+      let P : BuilderState → Type 0 = λ u. AcceptsUntilFull steps s None rows (Err e) u rest in
+      let A : BuilderState → Type 0 = λ u. Adds m row (Err e) u in
+      subst P (sym same) (k.taken, row, ((None, left), k.came, (refl, came)), k.accepts, subst A same a)
+
+  -- no row is left
+  pub taken_end : (s m : BuilderState) (rows left rest : S) → Taken s rows m left → steps left None rest → AcceptsUntilFull steps s None rows (Ok None) m rest
+  taken_end s m rows left rest k came = (k.taken, ((None, left), k.came, (refl, came)), k.accepts, tt)
+
+  -- a carried row is accepted first
+  pub carried_more : (s m t : BuilderState) (row : Vec Value) (rows left : S) (r : Result (Option (Vec Value)) BulkExecuteRequestError) → Adds s row (Ok None) m → AcceptsUntilFull steps m None rows r t left → AcceptsUntilFull steps s (Some row) rows r t left
+  carried_more s m t row rows left (Ok last) a f =
+      let A : BuilderState → Type 0 = λ u. Accepts u (contents_of_rows f.0) t in
+      (row ∷ f.0, (f.1.0, ((None, rows), (refl, refl, refl), f.1.1), f.1.2), (a.0, a.1, subst A a.2 f.2), f.3)
+  carried_more s m t row rows left (Err e) a f =
+      let A : BuilderState → Type 0 = λ u. Accepts u (contents_of_rows f.0) t in
+      (row ∷ f.0, f.1, (f.2.0, ((None, rows), (refl, refl, refl), f.2.1), f.2.2), (a.0, a.1, subst A a.2 f.3), f.4)
+
+  pub carried_full : (s t : BuilderState) (row back : Vec Value) (rows : S) → Adds s row (Ok (Some back)) t → AcceptsUntilFull steps s (Some row) rows (Ok (Some back)) t rows
+  carried_full s t row back rows a =
+      let P : BuilderState → Type 0 = λ u. AcceptsUntilFull steps s (Some row) rows (Ok (Some back)) u rows in
+      let A : Vec Value → Type 0 = λ r. Adds s r (Ok (Some r)) s in
+      subst P (sym a.4) ([], ((Some row, rows), refl, (a.3, refl, refl)), refl, subst A (sym a.3) (a.0, a.1, a.2, refl, refl))
+
+  pub carried_refused : (s t : BuilderState) (row : Vec Value) (e : BulkExecuteRequestError) (rows : S) → Adds s row (Err e) t → AcceptsUntilFull steps s (Some row) rows (Err e) t rows
+  carried_refused s t row e rows a =
+      let same = Adds-refused s t row e a in
+      let P : BuilderState → Type 0 = λ u. AcceptsUntilFull steps s (Some row) rows (Err e) u rows in
+      let A : BuilderState → Type 0 = λ u. Adds s row (Err e) u in
+      subst P (sym same) ([], row, ((Some row, rows), refl, (refl, refl, refl)), refl, subst A same a)
+
+  -- ---- what a call of `next` leads to
+
+  full_from : (m : BuilderState) (last : Option (Vec Value)) → IfSome last (λ row. Adds m row (Ok (Some row)) m) → IfSome last (λ row. TakesArity m.arity (length (contents_of_row row)) × (RowFits m (contents_of_row row) → ⊥))
+  full_from m None a = tt
+  full_from m (Some row) a = (a.0, a.1)
+
+  accepted_until : (s m t : BuilderState) (carried last : Option (Vec Value)) (rows left : S) (e f : Bool) → e ≡ false → AcceptsUntilFull steps s carried rows (Ok last) m left
+      → AcceptedUntilFull steps (state s carried rows e) m (state t last left f)
+  accepted_until s m t carried last rows left e f g a = record { going = g; taken = a.0; came = a.1; accepts = a.2; full = full_from m last a.3 }
+
+  pub next_refuses : (s t : BuilderState) (carried : Option (Vec Value)) (rows left : S) (e : Bool) (err : BulkExecuteRequestError) → e ≡ false → AcceptsUntilFull steps s carried rows (Err err) t left
+      → NextRequest steps (state s carried rows e) (Some (Err (Request err))) (state t None left true)
+  next_refuses s t carried rows left e err g a = record { going = g; taken = a.0; row = a.1; came = a.2; accepts = a.3; refused = a.4; carried = refl; ended = refl }
+
+  next_empty : (s m : BuilderState) (carried last : Option (Vec Value)) (rows left : S) (e : Bool) → e ≡ false → AcceptsUntilFull steps s carried rows (Ok last) m left → m.waiting ≡ []
+      → NextRequest steps (state s carried rows e) None (state m last left (is_none last))
+  next_empty s m carried None rows left e g a w =
+      inr (record { accepted = accepted_until s m m carried None rows left e (is_none {T = Vec Value} None) g a; carried = refl; waiting = w; ended = refl })
+  next_empty s m carried (Some row) rows left e g a w = absurd (a.3.2 w)
+
+  -- rows were added, and then the request of those that wait was built, if any wait
+  pub next_builds : (s m t : BuilderState) (carried last : Option (Vec Value)) (rows left : S) (e ended : Bool) (built : Option BulkRequest) → e ≡ false → AcceptsUntilFull steps s carried rows (Ok last) m left
+      → is_none last ≡ ended → MatchOption built ((m.waiting ≡ []) × (t ≡ m)) (λ request. BuildsRequest m request t)
+      → NextRequest steps (state s carried rows e) (answers built) (state t last left ended)
+  next_builds s m t carried last rows left e ended None g a l w =
+      let N : BuilderState → Bool → Type 0 = λ u b. NextRequest steps (state s carried rows e) None (state u last left b) in
+      subst (λ u. N u ended) (sym w.1) (subst (N m) l (next_empty s m carried last rows left e g a w.0))
+  next_builds s m t carried last rows left e ended (Some request) g a l w =
+      let N : Bool → Type 0 = λ b. NextRequest steps (state s carried rows e) (Some (Ok request)) (state t last left b) in
+      subst N l (record { full = m; accepted = accepted_until s m t carried last rows left e (is_none last) g a; builds = w; ended = refl })

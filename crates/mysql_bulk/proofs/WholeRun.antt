@@ -1,0 +1,335 @@
+-- A run over a list of rows: what was sent, what waits and what is still to come.
+use Rattle.std.proofs.Common.{◌≡◌, ◌≢◌, ℕ, ◌+◌, Bool, true, false, cond, if◌then◌else◌, map, List, [], ◌∷◌, ◌++◌, length, take, drop, Option, Some, None, Ok, Err, refl, sym, ◌∙◌, ap, subst, arith, length-append, append_assoc}
+use Rattle.std.proofs.lemmas.List.{append-nil, take-append-le, take-append-drop, take_at}
+use Rattle.std.proofs.lemmas.List.Sums.{take_while-cons}
+use Rattle.std.proofs.lemmas.Bool.{eqb-true, eq-eqb}
+use Rattle.std.specs.Prelude.{take_while, nat_eq, slice_get}
+use Rattle.std.specs.List.{prefix_len}
+use Rattle.std.specs.Global.{Vec}
+use Rattle.mysql_cuts.specs.Cut.{Packing, PartFits, rows_in, HasFittingCut, IsFewest, IsFullFromFront, NextDoesNotFit, types_after, ends_after}
+use Rattle.mysql_cuts.proofs.Packed.{IsPacked, packed_more, packed_close, packed_front, packed_fewest, packed_full, packed_fits, packed_stuck, fits_front, joined_push, open_packed}
+use Rattle.mysql_values.specs.declared.params.ParamsError.{ParamsError}
+use Rattle.mysql_values.specs.declared.value.Value.{Value}
+use Rattle.mysql_values.specs.Value.{Content}
+use Rattle.mysql_bulk.specs.declared.error.BulkExecuteRequestBuilderError.{BulkExecuteRequestBuilderError}
+use Rattle.mysql_bulk.specs.declared.error.BulkExecuteRequestBuilderError.TheVariants.{Request, Params}
+use Rattle.mysql_bulk.specs.declared.error.BulkExecuteRequestError.{BulkExecuteRequestError}
+use Rattle.mysql_bulk.specs.declared.error.BulkExecuteRequestError.TheVariants.{MixedArity, RowTooLarge, MemoryRow, NoParams, Memory}
+use Rattle.mysql_bulk.specs.Builder.{BuilderState, packing, TakesArity, RowFits, after_row, Adds, IsRequest, BuildsRequest, after_request, arity_after, IsConsistent}
+use Rattle.mysql_bulk.specs.DeclaredTypes.{declared_types}
+use Rattle.mysql_bulk.specs.ParamValue.{with_indicator}
+use Rattle.mysql_bulk.specs.Refusal.{equal_front, measure, EachFrontFits, RefusalOfRows}
+use Rattle.mysql_bulk.specs.Request.{BulkRequest, request_flags}
+use Rattle.mysql_bulk.specs.Row.{contents_of_row, rows_packing, first_length, EqualLengths}
+use Rattle.mysql_bulk.specs.Run.{Accepts}
+use Rattle.mysql_bulk.specs.WholeRun.{IsNew, HadMemory, AreRequests, due_after, left_by, EndsBy, RefusalOfList, RunGives}
+
+EqualLengths-push : (a : ℕ) (rows : List (List Content)) (row : List Content) → EqualLengths a rows → length row ≡ a → EqualLengths a (rows ++ row ∷ [])
+EqualLengths-push a [] row e h = (h, tt)
+EqualLengths-push a (r ∷ rows) row e h = (e.0, EqualLengths-push a rows row e.1 h)
+
+-- a row that may come next is as long as the first
+as_long : (known o : Option ℕ) (before : List (List Content)) (row : List Content) (rest all : List (List Content)) → o ≡ arity_after known before → TakesArity o (length row) → before ++ row ∷ rest ≡ all
+    → length row ≡ first_length all
+as_long known o [] row rest all a t e = ap first_length e
+as_long known o (r ∷ before) row rest all a t e = let T : Option ℕ → Type 0 = λ p. TakesArity p (length row) in subst T a t ∙ ap first_length e
+
+-- on a new builder a row that is as long as the first may come next
+takes_as_long : (o : Option ℕ) (before : List (List Content)) (row : List Content) (rest all : List (List Content)) → o ≡ arity_after None before → before ++ row ∷ rest ≡ all → length row ≡ first_length all → TakesArity o (length row)
+takes_as_long o [] row rest all a e h = let T : Option ℕ → Type 0 = λ p. TakesArity p (length row) in subst T (sym a) tt
+takes_as_long o (r ∷ before) row rest all a e h = let T : Option ℕ → Type 0 = λ p. TakesArity p (length row) in subst T (sym a) (h ∙ sym (ap first_length e))
+
+arity_more : (known : Option ℕ) (before : List (List Content)) (row : List Content) (rest all : List (List Content)) → before ++ row ∷ rest ≡ all → length row ≡ first_length all → Some (length row) ≡ arity_after known (before ++ row ∷ [])
+arity_more known [] row rest all e h = refl
+arity_more known (r ∷ before) row rest all e h = ap Some (h ∙ sym (ap first_length e))
+
+due_is : (s : BuilderState) (all : List (List Content)) (cut : List (List (List Content))) → due_after s cut ≡ types_after (measure s all) s.types_due cut
+due_is s all [] = refl
+due_is s all (part ∷ cut) = refl
+
+due_after-push : (s : BuilderState) (cut : List (List (List Content))) (part : List (List Content)) → due_after s (cut ++ part ∷ []) ≡ s.rule.types_always
+due_after-push s [] part = refl
+due_after-push s (p ∷ cut) part = refl
+
+ends_after-push : (n : ℕ) (parts : List (List (List Content))) (part : List (List Content)) → ends_after n (parts ++ part ∷ []) ≡ ends_after n parts ++ (n + length (rows_in parts ++ part)) ∷ []
+ends_after-push n [] part = refl
+ends_after-push n (p ∷ parts) part =
+    let more = ends_after-push (n + length p) parts part in
+    let count : n + length p + length (rows_in parts ++ part) ≡ n + length ((p ++ rows_in parts) ++ part) =
+    omega (arith, length-append (p ++ rows_in parts) part, length-append p (rows_in parts), length-append (rows_in parts) part) in
+    ap (λ (l : List ℕ). (n + length p) ∷ l) (more ∙ ap (λ m. ends_after (n + length p) parts ++ m ∷ []) count)
+
+AreRequests-push : (s : BuilderState) (cut : List (List (List Content))) (requests : List BulkRequest) (part waiting : List (List Content)) (request : BulkRequest) → AreRequests s cut requests
+    → IsRequest (left_by s cut waiting) part request → AreRequests s (cut ++ part ∷ []) (requests ++ request ∷ [])
+AreRequests-push s [] [] part waiting request a i = (record { id = i.id; flags = i.flags; types = i.types; values = i.values }, tt)
+AreRequests-push s [] (q ∷ requests) part waiting request a i = absurd a
+AreRequests-push s (p ∷ cut) [] part waiting request a i = absurd a
+AreRequests-push s (p ∷ cut) (q ∷ requests) part waiting request a i =
+    let due = due_sent s cut in (
+      a.0,
+      AreRequests-push (after_request s) cut requests part waiting request a.1 (record {
+        id = i.id;
+        flags = i.flags ∙ ap (λ t. request_flags t s.results) (sym due);
+        types = i.types ∙ ap (λ t. if t then declared_types part else []) (sym due);
+        values = i.values;
+      }),
+    )
+  where
+    due_sent : (s : BuilderState) (cut : List (List (List Content))) → due_after (after_request s) cut ≡ s.rule.types_always
+    due_sent s [] = refl
+    due_sent s (p ∷ cut) = refl
+
+abbrev pub Long : ℕ → List Content → Bool
+Long n row = nat_eq (length row) n
+
+front_from : (n : ℕ) (before rest : List (List Content)) → EqualLengths n before → take_while (Long n) (before ++ rest) ≡ before ++ take_while (Long n) rest
+front_from n [] rest e = refl
+front_from n (row ∷ before) rest e =
+    let yes : Long n row ≡ true = eq-eqb (length row) n e.0 in
+    take_while-cons (Long n) row (before ++ rest) ∙ ap (λ b. cond b (row ∷ take_while (Long n) (before ++ rest)) []) yes ∙ ap (λ (l : List (List Content)). row ∷ l) (front_from n before rest e.1)
+
+slice_get_at : {X : Type 0} (xs : List X) (x : X) (ys : List X) → slice_get (xs ++ x ∷ ys) (length xs) ≡ Some x
+slice_get_at [] x ys = refl
+slice_get_at (y ∷ xs) x ys = slice_get_at xs x ys
+
+not_true : (b : Bool) → (b ≡ true → ⊥) → b ≡ false
+not_true true h = absurd (h refl)
+not_true false h = refl
+
+-- a run from s over all these rows has come so far: b is the builder, and the rest is still to come
+pub record Running (s : BuilderState) (all : List (List Content)) (requests : List BulkRequest) (ends : List ℕ) (sent : ℕ) (b : BuilderState) (rest : List (List Content)) : Type 0 where
+  pub cut : List (List (List Content))
+  pub requests_are : AreRequests s cut requests
+  pub ends_are : ends ≡ ends_after 0 cut
+  pub count : sent ≡ length (rows_in cut)
+  pub whole : (rows_in cut ++ b.waiting) ++ rest ≡ all
+  pub left : b ≡ left_by s cut b.waiting
+  pub lengths : EqualLengths (first_length all) (rows_in cut ++ b.waiting)
+  pub packed : IsPacked (measure s all) s.types_due cut b.waiting (rows_in cut ++ b.waiting) rest
+
+-- before the run
+pub running_none : (s : BuilderState) (rows : List (List Content)) → IsConsistent s → Running s (s.waiting ++ rows) [] [] 0 s rows
+running_none s rows c = record {
+  cut = [];
+  requests_are = tt;
+  ends_are = refl;
+  count = refl;
+  whole = refl;
+  left = ap (λ a. record s { arity = a }) c.arity;
+  lengths = lengths s.waiting c.one_length;
+  packed = open_packed (measure s (s.waiting ++ rows)) s.types_due s.waiting rows (λ n. fits s.waiting n (c.fits n));
+}
+  where
+    lengths : (waiting : List (List Content)) → EqualLengths (first_length waiting) waiting → EqualLengths (first_length (waiting ++ rows)) waiting
+    lengths [] e = tt
+    lengths (row ∷ waiting) e = e
+
+    fits : (waiting : List (List Content)) → waiting ≢ [] → PartFits (packing s (first_length waiting)) s.types_due waiting → PartFits (packing s (first_length (waiting ++ rows))) s.types_due waiting
+    fits [] n f = absurd (n refl)
+    fits (row ∷ waiting) n f = f
+
+module _ {s : BuilderState} {all : List (List Content)} {requests : List BulkRequest} {ends : List ℕ} {sent : ℕ} {b : BuilderState} where
+  arity_is : {rest : List (List Content)} (r : Running s all requests ends sent b rest) → b.arity ≡ arity_after s.arity (rows_in r.cut ++ b.waiting)
+  arity_is r = ap (λ (u : BuilderState). u.arity) r.left
+
+  -- a row that may come next is as long as the first of all
+  pub next_long : (row : List Content) (rest : List (List Content)) (r : Running s all requests ends sent b (row ∷ rest)) → TakesArity b.arity (length row) → length row ≡ first_length all
+  next_long row rest r t = as_long s.arity b.arity (rows_in r.cut ++ b.waiting) row rest all (arity_is r) t r.whole
+
+  -- the next row fits with those that wait where it fits in the open part, and the other way round
+  fits_to : (row : List Content) (rest : List (List Content)) (r : Running s all requests ends sent b (row ∷ rest)) → length row ≡ first_length all → RowFits b row
+      → PartFits (measure s all) (types_after (measure s all) s.types_due r.cut) (b.waiting ++ row ∷ [])
+  fits_to row rest r h f =
+      let F : BuilderState → Type 0 = λ u. PartFits (packing u (length row)) u.types_due (b.waiting ++ row ∷ []) in
+      let A : ℕ → Type 0 = λ n. PartFits (packing s n) (due_after s r.cut) (b.waiting ++ row ∷ []) in
+      let T : Bool → Type 0 = λ t. PartFits (measure s all) t (b.waiting ++ row ∷ []) in
+      subst T (due_is s all r.cut) (subst A h (subst F r.left f))
+
+  pub fits_from : (row : List Content) (rest : List (List Content)) (r : Running s all requests ends sent b (row ∷ rest)) → length row ≡ first_length all
+      → PartFits (measure s all) (types_after (measure s all) s.types_due r.cut) (b.waiting ++ row ∷ []) → RowFits b row
+  fits_from row rest r h f =
+      let F : BuilderState → Type 0 = λ u. PartFits (packing u (length row)) u.types_due (b.waiting ++ row ∷ []) in
+      let A : ℕ → Type 0 = λ n. PartFits (packing s n) (due_after s r.cut) (b.waiting ++ row ∷ []) in
+      let T : Bool → Type 0 = λ t. PartFits (measure s all) t (b.waiting ++ row ∷ []) in
+      subst F (sym r.left) (subst A (sym h) (subst T (sym (due_is s all r.cut)) f))
+
+  -- the next row is accepted
+  pub running_more : (row : List Content) (rest : List (List Content)) → Running s all requests ends sent b (row ∷ rest) → TakesArity b.arity (length row) → RowFits b row → Running s all requests ends sent (after_row b row) rest
+  running_more row rest r t f =
+      let before = rows_in r.cut ++ b.waiting in
+      let h = next_long row rest r t in
+      let seam : before ++ row ∷ [] ≡ rows_in r.cut ++ (b.waiting ++ row ∷ []) = append_assoc (rows_in r.cut) b.waiting (row ∷ []) in
+      let P : List (List Content) → Type 0 = λ l. IsPacked (measure s all) s.types_due r.cut (b.waiting ++ row ∷ []) l rest in
+      let L : List (List Content) → Type 0 = EqualLengths (first_length all) in
+      let arity : Some (length row) ≡ arity_after s.arity (rows_in r.cut ++ (b.waiting ++ row ∷ [])) = arity_more s.arity before row rest all r.whole h ∙ ap (arity_after s.arity) seam in
+      record {
+        cut = r.cut;
+        requests_are = r.requests_are;
+        ends_are = r.ends_are;
+        count = r.count;
+        whole = ap (λ (l : List (List Content)). l ++ rest) (sym seam) ∙ append_assoc before (row ∷ []) rest ∙ r.whole;
+        left =
+            ap (λ (u : BuilderState). record u { arity = Some (length row); waiting = b.waiting ++ row ∷ [] }) r.left
+            ∙ ap (λ a. record s { arity = a; types_due = due_after s r.cut; waiting = b.waiting ++ row ∷ [] }) arity;
+        lengths = subst L seam (EqualLengths-push (first_length all) before row r.lengths h);
+        packed = subst P seam (packed_more (measure s all) s.types_due r.cut b.waiting before row rest r.packed (fits_to row rest r h f));
+      }
+
+  -- the waiting rows are sent, since the next row, if there is one, does not fit with them
+  pub running_sends : (t : BuilderState) (rest : List (List Content)) (request : BulkRequest) (r : Running s all requests ends sent b rest) → BuildsRequest b request t
+      → NextDoesNotFit (measure s all) (types_after (measure s all) s.types_due r.cut) b.waiting rest
+      → Running s all (requests ++ request ∷ []) (ends ++ length (rows_in r.cut ++ b.waiting) ∷ []) (length (rows_in r.cut ++ b.waiting)) t rest
+  running_sends t rest request r a n =
+      let before = rows_in r.cut ++ b.waiting in
+      let cut = r.cut ++ b.waiting ∷ [] in
+      let joined : rows_in cut ≡ before = joined_push (measure s all) r.cut b.waiting in
+      let same : rows_in cut ++ [] ≡ before = append-nil (rows_in cut) ∙ joined in
+      let P : List (List Content) → Type 0 = λ l. IsPacked (measure s all) s.types_due cut [] l rest in
+      let L : List (List Content) → Type 0 = EqualLengths (first_length all) in
+      let R : BuilderState → Type 0 = λ u. Running s all (requests ++ request ∷ []) (ends ++ length before ∷ []) (length before) u rest in
+      let I : BuilderState → Type 0 = λ u. IsRequest u b.waiting request in
+      subst R (sym a.left) (record {
+        cut = cut;
+        requests_are = AreRequests-push s r.cut requests b.waiting b.waiting request r.requests_are (subst I r.left a.is_theirs);
+        ends_are = ap (λ (l : List ℕ). l ++ length before ∷ []) r.ends_are ∙ sym (ends_after-push 0 r.cut b.waiting ∙ ap (λ m. ends_after 0 r.cut ++ m ∷ []) (omega arith));
+        count = ap length (sym joined);
+        whole = ap (λ (l : List (List Content)). l ++ rest) same ∙ r.whole;
+        left =
+            ap (λ (u : BuilderState). record u { types_due = u.rule.types_always; waiting = [] }) r.left
+            ∙ ap (λ (l : List (List Content)). record s { arity = arity_after s.arity l; types_due = s.rule.types_always; waiting = [] }) (sym same)
+            ∙ ap (λ t. record s { arity = arity_after s.arity (rows_in cut ++ []); types_due = t; waiting = [] }) (sym (due_after-push s r.cut b.waiting));
+        lengths = subst L (sym same) r.lengths;
+        packed = subst P (sym same) (packed_close (measure s all) s.types_due r.cut b.waiting before rest r.packed a.some n);
+      })
+
+  -- ---- what a run has given, wherever it stands
+
+  -- the rows so far, and those to come that are as long, are the beginning in which all rows are
+  front_is : (rest : List (List Content)) (r : Running s all requests ends sent b rest) → equal_front all ≡ (rows_in r.cut ++ b.waiting) ++ take_while (Long (first_length all)) rest
+  front_is rest r = ap (take_while (Long (first_length all))) (sym r.whole) ∙ front_from (first_length all) (rows_in r.cut ++ b.waiting) rest r.lengths
+
+  -- the cut is full from the front
+  full : (rest : List (List Content)) (r : Running s all requests ends sent b rest) → IsNew s → IsFullFromFront (measure s all) (equal_front all) r.cut
+  full rest r n =
+      let front = take_while (Long (first_length all)) rest in
+      let before = rows_in r.cut ++ b.waiting in
+      let P : List (List Content) → Type 0 = IsPacked (measure s all) s.types_due r.cut b.waiting before in
+      let F : List (List Content) → Type 0 = λ e. IsFullFromFront (measure s all) e r.cut in
+      let split : rest ≡ front ++ drop (prefix_len (Long (first_length all)) rest) rest = sym (take-append-drop (prefix_len (Long (first_length all)) rest) rest) in
+      let here = packed_front (measure s all) s.types_due r.cut b.waiting before front (drop (prefix_len (Long (first_length all)) rest) rest) (subst P split r.packed) in
+      subst F (sym (front_is rest r)) (packed_full (measure s all) s.types_due r.cut b.waiting before front here n.types_due)
+
+  -- on a new builder the first request sends types
+  packed_new : (rest : List (List Content)) (r : Running s all requests ends sent b rest) → IsNew s → IsPacked (measure s all) true r.cut b.waiting (rows_in r.cut ++ b.waiting) rest
+  packed_new rest r n = let P : Bool → Type 0 = λ t. IsPacked (measure s all) t r.cut b.waiting (rows_in r.cut ++ b.waiting) rest in subst P n.types_due r.packed
+
+  -- the rows so far have a fitting cut
+  so_far_fits : (rest : List (List Content)) (r : Running s all requests ends sent b rest) → IsNew s → HasFittingCut (measure s all) (rows_in r.cut ++ b.waiting)
+  so_far_fits rest r n = packed_fits (measure s all) r.cut b.waiting (rows_in r.cut ++ b.waiting) rest (packed_new rest r n)
+
+  gives : (rest : List (List Content)) (refusal : Option BulkExecuteRequestBuilderError) (r : Running s all requests ends sent b rest) → EndsBy refusal b rest
+      → (IsNew s → HadMemory refusal → RefusalOfList s all refusal) → (IsNew s → refusal ≡ None → IsFewest (measure s all) all r.cut) → RunGives s all requests ends refusal b
+  gives rest refusal r e refused fewest = record {
+    cut = r.cut;
+    none_empty = r.packed.none_empty;
+    dropped = rest;
+    all_rows = r.whole;
+    requests_are = r.requests_are;
+    ends_are = r.ends_are;
+    full_parts = r.packed.full_so_far;
+    left = r.left;
+    ended = e;
+    full_from_front = full rest r;
+    refused = refused;
+    fewest = fewest;
+  }
+
+  -- ---- the end of a run
+
+  none_refused : (r : Running s all requests ends sent b []) → IsNew s → RefusalOfRows s all None
+  none_refused r n =
+      let F : List (List Content) → Type 0 = HasFittingCut (measure s all) in
+      let before = rows_in r.cut ++ b.waiting in
+      let front : equal_front all ≡ before = front_is [] r ∙ append-nil before in
+      (λ m. fits_front (measure s all) (equal_front all) m (subst F (sym front) (so_far_fits [] r n)), front ∙ sym (append-nil before) ∙ r.whole)
+
+  -- all rows are in the cut
+  pub gives_all : Running s all requests ends sent b [] → b.waiting ≡ [] → RunGives s all requests ends None b
+  gives_all r w =
+      let P : List (List Content) → Type 0 = λ before. IsPacked (measure s all) true r.cut b.waiting before [] in
+      let Q : List (List Content) → Type 0 = λ part. IsPacked (measure s all) true r.cut part all [] in
+      gives [] None r (w, refl) (λ n h. none_refused r n)
+      (λ n h. packed_fewest (measure s all) r.cut all (subst Q w (subst P (sym (append-nil (rows_in r.cut ++ b.waiting)) ∙ r.whole) (packed_new [] r n))))
+
+  -- there was no memory for the next request
+  pub gives_memory : (rest : List (List Content)) → Running s all requests ends sent b rest → b.waiting ≢ [] → RunGives s all requests ends (Some (Request Memory)) b
+  gives_memory rest r w = gives rest (Some (Request Memory)) r w (λ n h. absurd h) (λ n h. cc)
+
+  -- parameters gave no row
+  pub gives_params : (e : ParamsError) → Running s all requests ends sent b [] → RunGives s all requests ends (Some (Params e)) b
+  gives_params e r = gives [] (Some (Params e)) r refl (λ n h. none_refused r n) (λ n h. cc)
+
+  mixed : (row : List Content) (rest : List (List Content)) → Running s all requests ends sent b (row ∷ rest) → (TakesArity b.arity (length row) → ⊥) → IsNew s → RefusalOfRows s all (Some MixedArity)
+  mixed row rest r t n =
+      let before = rows_in r.cut ++ b.waiting in
+      let F : List (List Content) → Type 0 = HasFittingCut (measure s all) in
+      let known : b.arity ≡ arity_after None before = arity_is r ∙ ap (λ o. arity_after o before) n.arity in
+      let no : Long (first_length all) row ≡ false = not_true (Long (first_length all) row) (λ e. t (takes_as_long b.arity before row rest all known r.whole (eqb-true (length row) (first_length all) e))) in
+      let none : take_while (Long (first_length all)) (row ∷ rest) ≡ [] =
+      take_while-cons (Long (first_length all)) row rest ∙ ap (λ c. cond c (row ∷ take_while (Long (first_length all)) rest) []) no in
+      let front : equal_front all ≡ before = front_is (row ∷ rest) r ∙ ap (λ (l : List (List Content)). before ++ l) none ∙ append-nil before in (
+        λ m. fits_front (measure s all) (equal_front all) m (subst F (sym front) (so_far_fits (row ∷ rest) r n)),
+        λ e. let lengths : length before ≡ length (before ++ row ∷ rest) = ap length (sym front ∙ e ∙ sym r.whole) in omega (arith, lengths, length-append before (row ∷ rest)),
+      )
+
+  too_large : (row : Vec Value) (rest : List (List Content)) → Running s all requests ends sent b (contents_of_row row ∷ rest) → TakesArity b.arity (length (contents_of_row row)) → (RowFits b (contents_of_row row) → ⊥)
+      → b.waiting ≡ [] → IsNew s → RefusalOfRows s all (Some (RowTooLarge row))
+  too_large row rest r t f w n =
+      let values = contents_of_row row in
+      let before = rows_in r.cut ++ b.waiting in
+      let F : List (List Content) → Type 0 = HasFittingCut (measure s all) in
+      let h = next_long values rest r t in
+      let yes : Long (first_length all) values ≡ true = eq-eqb (length values) (first_length all) h in
+      let more = take_while (Long (first_length all)) rest in
+      let some : take_while (Long (first_length all)) (values ∷ rest) ≡ values ∷ more =
+      take_while-cons (Long (first_length all)) values rest ∙ ap (λ c. cond c (values ∷ more) []) yes in
+      let front : equal_front all ≡ before ++ values ∷ more = front_is (values ∷ rest) r ∙ ap (λ (l : List (List Content)). before ++ l) some in
+      let P : List (List Content) → Type 0 = λ part. IsPacked (measure s all) true r.cut part before (values ∷ rest) in
+      let Q : List (List Content) → Type 0 = λ part. PartFits (measure s all) (types_after (measure s all) s.types_due r.cut) (part ++ values ∷ []) in
+      let T : Bool → Type 0 = λ t. PartFits (measure s all) (types_after (measure s all) t r.cut) (values ∷ []) in
+      let alone : PartFits (measure s all) (types_after (measure s all) true r.cut) (values ∷ []) → ⊥ = λ g. f (fits_from values rest r h (subst Q (sym w) (subst T (sym n.types_due) g))) in
+      let upto : take (length before + 1) (equal_front all) ≡ before ++ values ∷ [] =
+      ap (take (length before + 1)) (front ∙ sym (append_assoc before (values ∷ []) more))
+      ∙ take_at (before ++ values ∷ []) more (length before + 1) (length-append before (values ∷ [])) in (
+        length before,
+        ap (λ (l : List (List Content)). slice_get l (length before)) front ∙ slice_get_at before values more,
+        λ c. packed_stuck (measure s all) r.cut before values rest (subst P w (packed_new (values ∷ rest) r n)) alone (subst F upto c),
+        λ m le. subst F (sym (ap (take m) front ∙ take-append-le m before (values ∷ more) le)) (fits_front (measure s all) before m (so_far_fits (values ∷ rest) r n)),
+      )
+
+  -- the next row is refused
+  pub gives_refused : (row : Vec Value) (rest : List (List Content)) (e : BulkExecuteRequestError) → Running s all requests ends sent b (contents_of_row row ∷ rest) → Adds b row (Err e) b → RunGives s all requests ends (Some (Request e)) b
+  gives_refused row rest MixedArity r a =
+      gives (contents_of_row row ∷ rest) (Some (Request MixedArity)) r (record { row = row; behind = rest; is_next = refl; refused = a })
+      (λ n h. mixed (contents_of_row row) rest r a.0 n) (λ n h. cc)
+  gives_refused row rest (RowTooLarge back) r a =
+      let P : Vec Value → Type 0 = λ x. RefusalOfRows s all (Some (RowTooLarge x)) in
+      gives (contents_of_row row ∷ rest) (Some (Request (RowTooLarge back))) r (record { row = row; behind = rest; is_next = refl; refused = a })
+      (λ n h. subst P (sym a.3) (too_large row rest r a.0 a.1 a.2 n)) (λ n h. cc)
+  gives_refused row rest (MemoryRow back) r a =
+      gives (contents_of_row row ∷ rest) (Some (Request (MemoryRow back))) r (record { row = row; behind = rest; is_next = refl; refused = a }) (λ n h. absurd h) (λ n h. cc)
+  gives_refused row rest NoParams r a = absurd a
+  gives_refused row rest Memory r a = absurd a
+
+-- some of the next rows are accepted
+pub running_accepts : {s : BuilderState} {all : List (List Content)} {requests : List BulkRequest} {ends : List ℕ} {sent : ℕ} {b : BuilderState} (m : BuilderState) (rows rest : List (List Content))
+    → Running s all requests ends sent b (rows ++ rest) → Accepts b rows m → Running s all requests ends sent m rest
+running_accepts {s} {all} {requests} {ends} {sent} m [] rest r a = let P : BuilderState → Type 0 = λ u. Running s all requests ends sent u rest in subst P (sym a) r
+running_accepts m (row ∷ rows) rest r a = running_accepts m rows rest (running_more row (rows ++ rest) r a.0 a.1) a.2
+
+-- a new builder is as every builder is
+pub new_consistent : (s : BuilderState) → IsNew s → IsConsistent s
+new_consistent s n =
+    let one : List (List Content) → Type 0 = λ rows. EqualLengths (first_length rows) rows in
+    let arity : List (List Content) → Type 0 = λ rows. s.arity ≡ arity_after s.arity rows in
+    record { one_length = subst one (sym n.waiting) tt; arity = subst arity (sym n.waiting) refl; fits = λ some. absurd (some n.waiting) }

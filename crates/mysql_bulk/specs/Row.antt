@@ -1,0 +1,55 @@
+-- Rows of a bulk request: what their values hold, their lengths and their sizes.
+use Rattle.std.specs.Prelude.{◌≡◌, ℕ, ◌+◌, List, [], ◌∷◌, length, map, sum_by}
+use Rattle.std.specs.Global.{Vec}
+use Rattle.mysql_cuts.specs.declared.rule.BulkRule.{BulkRule}
+use Rattle.mysql_cuts.specs.Cut.{Packing}
+use Rattle.mysql_values.specs.declared.value.Value.{Value}
+use Rattle.mysql_values.specs.Value.{Content, contents_of, bin_size, size_of}
+
+-- what the values of a row hold
+abbrev pub contents_of_row : Vec Value → List Content
+contents_of_row row = contents_of row.items
+
+-- of each row
+abbrev pub contents_of_rows : List (Vec Value) → List (List Content)
+contents_of_rows rows = map contents_of_row rows
+
+-- ---- lengths
+
+-- the length of the first row
+abbrev pub first_length : List (List Content) → ℕ
+first_length [] = 0
+first_length (row ∷ rows) = length row
+
+-- the rows have this length
+abbrev pub EqualLengths : ℕ → List (List Content) → Type 0
+EqualLengths a [] = Unit {0}
+EqualLengths a (row ∷ rows) = (length row ≡ a) × EqualLengths a rows
+
+-- each row is as long as the first
+abbrev pub OneLength : List (List Content) → Type 0
+OneLength rows = EqualLengths (first_length rows) rows
+
+-- ---- sizes
+
+-- the bytes of a value in a request: its indicator, and its own
+abbrev pub param_size : Content → ℕ
+param_size value = 1 + bin_size value
+
+-- the bytes of a row in a request: of each value one, and its own
+abbrev pub row_size : List Content → ℕ
+row_size row = sum_by param_size row
+
+-- the same, of values that are not looked into
+abbrev pub values_size : List Value → ℕ
+values_size row = sum_by (λ value. 1 + size_of value) row
+
+-- how requests of rows of a length are measured, under a rule and a limit
+abbrev pub rows_packing : BulkRule → ℕ → ℕ → Packing (List Content)
+rows_packing rule limit arity = record {
+  limit = limit;
+  arity = arity;
+  weight = row_size;
+  types_always = rule.types_always;
+  max_rows = rule.max_rows;
+}

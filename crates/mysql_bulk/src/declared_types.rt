@@ -1,0 +1,62 @@
+//! The types that a bulk request declares for its columns, while rows come one after another.
+
+ghost use Rattle.std.specs.Prelude.{◌≡◌, ◌+◌, ◌≤◌, ◌⊎◌, [], length, vec_capacity, true, if◌then◌else◌};
+ghost use Rattle.mysql_values.specs.Value.{content_of, contents_of};
+ghost use Rattle.mysql_bulk.specs.DeclaredTypes.{type_with, types_with_row};
+
+use mysql_values::{ParamType, Value};
+use mysql_wire::{ColumnType, StmtExecuteParamFlags};
+
+/// The type of a column so far, after one more value.
+#[inline]
+fn type_with(so_far: ParamType, value: &Value) -> ParamType
+    ensures { result ≡ type_with so_far (content_of value.now) }
+{
+    match so_far.column_type() {
+        ColumnType::MYSQL_TYPE_NULL => ParamType::from_value(value),
+        ColumnType::MYSQL_TYPE_LONGLONG if value.is_uint() => ParamType::new(
+            ColumnType::MYSQL_TYPE_LONGLONG,
+            StmtExecuteParamFlags::UNSIGNED,
+        ),
+        _ => so_far,
+    }
+}
+
+/// Writes down the types of the first row. There is room for them.
+#[tactic(auto, using(crate::proofs::DeclaredTypes::first_more))]
+fn first_types(types: &mut Vec<ParamType>, row: &[Value])
+    requires empty { types.old.items ≡ [] }
+    requires room { length row.now ≤ vec_capacity types.old }
+    ensures { types.new.items ≡ types_with_row [] (contents_of row.now) }
+{
+    for value in row {
+        types.push_reserved(ParamType::from_value(value));
+    }
+}
+
+/// Joins the values of a further row to the types of their columns so far.
+fn further_types(types: &mut [ParamType], row: &[Value])
+    requires { length types.old ≡ length row.now }
+    ensures { types.new ≡ types_with_row types.old (contents_of row.now) }
+{
+    for place in 0..row.len() {
+        types[place] = type_with(types[place], &row[place]);
+    }
+}
+
+/// Joins the values of a row to the types of their columns so far, where types are due. There are none before the first
+/// row.
+pub(crate) fn join_row(types: &mut Vec<ParamType>, types_due: bool, row: &[Value])
+    requires lengths { types_due ≡ true → (length types.old.items ≡ length row.now) ⊎ (types.old.items ≡ []) }
+    requires room { types_due ≡ true → length row.now ≤ vec_capacity types.old }
+    ensures { types.new.items ≡ (if types_due then types_with_row types.old.items (contents_of row.now) else types.old.items) }
+{
+    if !types_due {
+        return;
+    }
+    if types.is_empty() {
+        first_types(types, row);
+    } else {
+        further_types(types, row);
+    }
+}

@@ -1,0 +1,73 @@
+//! Rows read from a bulk request.
+
+ghost use Rattle.std.specs.Prelude.{true, ◌≡◌, ◌≤◌, length, List, ℕ, IfOk, OnErr};
+ghost use Rattle.mysql_wire.specs.Reading.{Answers, IsTail};
+ghost use Rattle.mysql_wire.specs.Many.{many};
+ghost use Rattle.mysql_bulk.specs.ReadRows.{row_of_columns, bulk_rows, row_read, rows_read};
+
+use crate::head::read_head;
+use crate::param_value::StmtBulkExecuteParamValue;
+use mysql_values::Value;
+use mysql_wire::{ColumnFlags, ColumnType, FaultOf, ParseBuf};
+
+/// Reads a value of each column. After a refusal the buffer is as it was.
+fn read_row<'s>(
+    columns: &[(ColumnType, ColumnFlags)],
+    buf: &mut ParseBuf<'_>,
+) -> Result<Vec<Value>, FaultOf<'s>>
+    ensures value { Answers true (row_read result) buf.new ((row_of_columns columns.now).reads buf.old) }
+    ensures err { OnErr result (buf.new ≡ buf.old) }
+{
+    let mut rest = buf.rest();
+    let mut row = Vec::new(buf.alloc());
+    for column in columns {
+        let value: StmtBulkExecuteParamValue = rest.parse(*column)?;
+        row.push(value.into_value())?;
+    }
+    *buf = rest;
+    Ok(row)
+}
+
+/// Reads rows until the buffer is empty. After a refusal the buffer is as it was.
+fn read_rows<'s>(
+    columns: &[(ColumnType, ColumnFlags)],
+    buf: &mut ParseBuf<'_>,
+) -> Result<Vec<Vec<Value>>, FaultOf<'s>>
+    ensures value { Answers true (rows_read result) buf.new ((many (row_of_columns columns.now)).reads buf.old) }
+    ensures err { OnErr result (buf.new ≡ buf.old) }
+{
+    let mut rest = buf.rest();
+    let mut rows = Vec::new(buf.alloc());
+    while !rest.is_empty() {
+        let before = rest.len();
+        let row = read_row(columns, &mut rest)?;
+        if rest.len() == before {
+            return Err(FaultOf::InvalidData("Row without values"));
+        }
+        rows.push(row)?;
+    }
+    *buf = rest;
+    Ok(rows)
+}
+
+/// Reads a bulk request (`COM_STMT_BULK_EXECUTE`) as rows: its header, the statement's number and the flags, the types
+/// where they are sent, and then rows until the bytes end.
+///
+/// `columns` are the types and flags of the columns, for a request that does not send types; where it does, those types
+/// stand in their place. A value that is the column's default, or is to be left as it is, is `NULL`. Bytes that are
+/// missing are `UnexpectedEof`, another header is `InvalidData`, and so are bytes behind the head where there is no
+/// column. After a refusal the buffer is as it was.
+pub fn read_bulk_rows<'s>(
+    columns: &[(ColumnType, ColumnFlags)],
+    buf: &mut ParseBuf<'_>,
+) -> Result<Vec<Vec<Value>>, FaultOf<'s>>
+    ensures value { Answers true (rows_read result) buf.new ((bulk_rows columns.now).reads buf.old) }
+    ensures err { OnErr result (buf.new ≡ buf.old) }
+{
+    let mut rest = buf.rest();
+    let head = read_head(columns.len(), &mut rest)?;
+    let columns = head.value_columns(buf.alloc(), columns)?;
+    let rows = read_rows(columns.as_slice(), &mut rest)?;
+    *buf = rest;
+    Ok(rows)
+}

@@ -1,0 +1,71 @@
+//! Rows of a bulk request: their sizes, their lengths and their values.
+
+ghost use Rattle.std.specs.Prelude.{◌≡◌, ◌+◌, ◌≤◌, ◌^◌, ◌++◌, ◌↔◌, length, map, true, IsTrue, OnOk, MatchOption, vec_len, vec_capacity};
+ghost use Rattle.mysql_values.specs.Value.{contents_of};
+ghost use Rattle.mysql_bulk.specs.ParamValue.{with_indicator};
+ghost use Rattle.mysql_bulk.specs.Row.{row_size, values_size, contents_of_rows, EqualLengths};
+
+use crate::param_value::StmtBulkExecuteParamValue;
+use mysql_values::{ParamType, Value};
+use std::alloc::AllocError;
+
+/// How many bytes a row has in a request: of each value its indicator, and its own. `None` where that is past
+/// `u64::MAX`, and so past the limit of every request. It takes no memory.
+///
+/// Such sizes are what `cut_is_fewest` judges a cut by.
+pub fn bulk_row_size(row: &[Value]) -> Option<u64>
+    ensures value { MatchOption result (2 ^ 64 ≤ row_size (contents_of row.now)) (λ n. n ≡ row_size (contents_of row.now)) }
+{
+    size_of_values(row)
+}
+
+fn size_of_values(row: &[Value]) -> Option<u64>
+    ensures { MatchOption result (2 ^ 64 ≤ values_size row.now) (λ n. n ≡ values_size row.now) }
+{
+    let mut size = 0u64;
+    for value in row {
+        size = size.checked_add(1)?.checked_add(value.bin_len())?;
+    }
+    Some(size)
+}
+
+/// Whether each row has so many values.
+pub(crate) fn equally_long(rows: &[Vec<Value>], arity: usize) -> bool
+    ensures { IsTrue result ↔ EqualLengths arity (contents_of_rows rows.now) }
+{
+    for row in rows {
+        if row.len() != arity {
+            return false;
+        }
+    }
+    true
+}
+
+/// Finds room for a row, and for the types of its columns where they are to be kept.
+pub(crate) fn find_room(
+    values: &mut Vec<StmtBulkExecuteParamValue>,
+    types: &mut Vec<ParamType>,
+    types_due: bool,
+    arity: usize,
+) -> Result<(), AllocError>
+    ensures values { values.new.items ≡ values.old.items }
+    ensures types { types.new.items ≡ types.old.items }
+    ensures values_room { OnOk result (vec_len values.new + arity ≤ vec_capacity values.new) }
+    ensures types_room { OnOk result (types_due ≡ true → arity ≤ vec_capacity types.new) }
+{
+    values.reserve(arity)?;
+    if types_due {
+        types.reserve(arity.saturating_sub(types.len()))?;
+    }
+    Ok(())
+}
+
+/// Moves the values of a row to the end, where there is room.
+pub(crate) fn append_row(values: &mut Vec<StmtBulkExecuteParamValue>, row: Vec<Value>)
+    requires { vec_len values.old + length row.items ≤ vec_capacity values.old }
+    ensures { values.new.items ≡ values.old.items ++ map with_indicator (contents_of row.items) }
+{
+    for value in row {
+        values.push_reserved(StmtBulkExecuteParamValue::new(value));
+    }
+}

@@ -1,0 +1,103 @@
+//! The type of a parameter.
+#![tactic(auto, using(mysql_wire::proofs::Packets::packets), unfolding(crate::specs::ParamType::param_type))]
+
+ghost use Rattle.std.specs.Prelude.{false, ◌≡◌};
+
+use crate::value::Value;
+use mysql_wire::{
+    ColumnType, Const, FaultOf, Fixed, Flags, MyDeserialize, ParseBuf, Parts, Sink,
+    StmtExecuteParamFlags, parts,
+};
+
+/// The type of a parameter, as executions and bulk requests send it: a column type, and whether it is `UNSIGNED`.
+///
+/// In the bytes it is the code of the column type, and a byte of flags.
+#[derive(Clone, Copy, Debug, PartialEq, Eq)]
+pub struct ParamType {
+    column_type: ColumnType,
+    flags: StmtExecuteParamFlags,
+}
+
+impl ParamType {
+    ghost use Rattle.mysql_values.specs.ParamType.{type_of, type_with_flags, type_column, type_flags};
+    ghost use Rattle.mysql_values.specs.Value.{content_of};
+
+    /// The type that a value is sent as.
+    #[inline]
+    pub fn from_value(value: &Value) -> Self
+        ensures value { result ≡ type_of (content_of value.now) }
+    {
+        let flags = if value.is_uint() {
+            StmtExecuteParamFlags::UNSIGNED
+        } else {
+            StmtExecuteParamFlags::from_bits_retain(0)
+        };
+        ParamType {
+            column_type: value.sent_type(),
+            flags,
+        }
+    }
+
+    /// The type with its flags.
+    pub fn new(column_type: ColumnType, flags: StmtExecuteParamFlags) -> Self
+        ensures value { result ≡ type_with_flags column_type flags }
+    {
+        ParamType { column_type, flags }
+    }
+
+    /// The column type.
+    #[inline]
+    pub fn column_type(&self) -> ColumnType
+        ensures value { result ≡ type_column self.now }
+    {
+        self.column_type
+    }
+
+    /// The flags.
+    #[inline]
+    pub fn flags(&self) -> StmtExecuteParamFlags
+        ensures value { result ≡ type_flags self.now }
+    {
+        self.flags
+    }
+}
+
+/// Two bytes: fewer are `UnexpectedEof`, and another code than a column type's is `InvalidData`.
+impl<'de> MyDeserialize<'de> for ParamType {
+    const SIZE: Option<usize> = Some(2);
+
+    type Size = Fixed<2>;
+
+    ghost takes_memory = { false };
+
+    type Ctx = ();
+
+    ghost use Rattle.mysql_values.specs.ParamType.{param_type, size-param_type};
+
+    ghost form = { param_type.form };
+
+    fn deserialize<'s>(_ctx: (), buf: &mut ParseBuf<'de>) -> Result<Self, FaultOf<'s>> {
+        let mut fields: ParseBuf<'de> = buf.parse(2)?;
+        let column_type: Const<ColumnType, u8> = fields.parse_unchecked(())?;
+        let flags: Const<StmtExecuteParamFlags, u8> = fields.parse_unchecked(())?;
+        Ok(ParamType {
+            column_type: column_type.0,
+            flags: flags.0,
+        })
+    }
+
+    ghost size_is = { λ _. size-param_type };
+}
+
+impl Parts for ParamType {
+    ghost use Rattle.mysql_values.specs.ParamType.{param_type};
+
+    ghost bytes = { param_type.bytes };
+
+    #[inline(always)]
+    fn put<S: Sink>(&self, sink: &mut S) {
+        let column_type = Const::<ColumnType, u8>::new(self.column_type);
+        let flags = Const::<StmtExecuteParamFlags, u8>::new(self.flags);
+        sink.part(&parts!(column_type, flags));
+    }
+}
