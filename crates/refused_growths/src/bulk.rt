@@ -1,7 +1,5 @@
 //! Bulk requests and their builder.
 
-use crate::bench::Bench;
-use crate::{counted, shown};
 use indexmap::IndexMap;
 use mysql_bulk::{
     BulkExecuteRequestBuilderError, BulkExecuteRequestError, BulkRun, ComStmtBulkExecuteRequest,
@@ -9,6 +7,7 @@ use mysql_bulk::{
 };
 use mysql_values::{Params, Value};
 use mysql_wire::{ColumnFlags, ColumnType, Fault, MySerialize, ParseBuf, StmtBulkExecuteFlags};
+use refused_growths_cases::{Cases, counted, shown};
 use std::alloc::{AllocError, Global};
 
 /// A builder's answer to a row.
@@ -20,25 +19,25 @@ type Asked = Option<Result<ComStmtBulkExecuteRequest, BulkExecuteRequestBuilderE
 /// The most bytes that a packet may have, where two rows of one number fit in a request and three don't.
 const TWO_ROWS: usize = 31;
 
-pub fn cases(bench: &mut Bench) -> Result<(), AllocError> {
-    bench.case("bulk_add_empty_rows", add_empty_rows)?;
-    bench.case("bulk_add_row", add_row)?;
-    bench.case("bulk_add_params_of_names", add_params_of_names)?;
-    bench.case("bulk_add_params_in_order", add_params_in_order)?;
-    bench.case("bulk_build", build)?;
-    bench.case("bulk_next", next)?;
-    bench.case("bulk_into_carried", into_carried)?;
-    bench.case("bulk_build_all", build_all)?;
-    bench.case("bulk_request_new", new_request)?;
-    bench.case(
+pub fn all(cases: &mut Cases) -> Result<(), AllocError> {
+    cases.case("bulk_add_empty_rows", add_empty_rows)?;
+    cases.case("bulk_add_row", add_row)?;
+    cases.case("bulk_add_params_of_names", add_params_of_names)?;
+    cases.case("bulk_add_params_in_order", add_params_in_order)?;
+    cases.case("bulk_build", build)?;
+    cases.case("bulk_next", next)?;
+    cases.case("bulk_into_carried", into_carried)?;
+    cases.case("bulk_build_all", build_all)?;
+    cases.case("bulk_request_new", new_request)?;
+    cases.case(
         "bulk_request_clone",
         |alloc| shown::cloned(alloc, &request(alloc)?),
     )?;
-    bench.case(
+    cases.case(
         "bulk_request_serialize",
         |alloc| shown::serialized(alloc, &request(alloc)?),
     )?;
-    bench.case("bulk_read_rows", read_rows)
+    cases.case("bulk_read_rows", read_rows)
 }
 
 /// A row of each of the numbers.

@@ -1,11 +1,10 @@
 //! Lists in a wire form.
 
-use crate::bench::Bench;
-use crate::counted;
-use crate::shown::written;
 use mysql_wire::{
     Fault, LeU64, LenEnc, MySerialize, ParseBuf, RawBytes, RawInt, Seq, Unknown, read_all,
 };
+use refused_growths_cases::shown::written;
+use refused_growths_cases::{Cases, counted};
 use std::alloc::{AllocError, Global};
 
 type Number = RawInt<LeU64>;
@@ -22,20 +21,20 @@ const FALSE_COUNT: [u8; 24] = [
     0, 0, 0, 0, 0, 0, 0, 0x10, 5, 0, 0, 0, 0, 0, 0, 0, 6, 0, 0, 0, 0, 0, 0, 0,
 ];
 
-pub fn cases(bench: &mut Bench) -> Result<(), AllocError> {
-    bench.case("seq_read", read)?;
-    bench.case("seq_read_of_a_false_count", read_of_a_false_count)?;
-    bench.case(
+pub fn all(cases: &mut Cases) -> Result<(), AllocError> {
+    cases.case("seq_read", read)?;
+    cases.case("seq_read_of_a_false_count", read_of_a_false_count)?;
+    cases.case(
         "seq_read_of_a_false_count_of_texts",
         read_of_a_false_count_of_texts,
     )?;
-    bench.case("seq_read_of_a_count_handed_in", read_of_a_count_handed_in)?;
-    bench.case("seq_read_all", read_to_the_end)?;
-    bench.case("seq_clone_of_borrowed", clone_of_borrowed)?;
-    bench.case("seq_clone_of_owned", clone_of_owned)?;
-    bench.case("seq_push_to_borrowed", push_to_borrowed)?;
-    bench.case("seq_push_to_owned", push_to_owned)?;
-    bench.case("seq_serialize", serialize)
+    cases.case("seq_read_of_a_count_handed_in", read_of_a_count_handed_in)?;
+    cases.case("seq_read_all", read_to_the_end)?;
+    cases.case("seq_clone_of_borrowed", clone_of_borrowed)?;
+    cases.case("seq_clone_of_owned", clone_of_owned)?;
+    cases.case("seq_push_to_borrowed", push_to_borrowed)?;
+    cases.case("seq_push_to_owned", push_to_owned)?;
+    cases.case("seq_serialize", serialize)
 }
 
 fn sum(numbers: &[Number]) -> u64 {

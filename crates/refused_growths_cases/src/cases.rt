@@ -13,17 +13,28 @@ pub enum Asked {
     One(String),
 }
 
+impl Asked {
+    /// What the program's word asks for: `--list`, `--all` or a name.
+    pub fn from_word(word: String) -> Self {
+        match word.as_str() {
+            "--list" => Asked::Names,
+            "--all" => Asked::All,
+            _ => Asked::One(word),
+        }
+    }
+}
+
 /// A line for each case that is asked for.
 #[derive(Drop)]
-pub struct Bench {
+pub struct Cases {
     alloc: Global,
     asked: Asked,
     lines: String,
 }
 
-impl Bench {
+impl Cases {
     pub fn new(alloc: Global, asked: Asked) -> Self {
-        Bench {
+        Cases {
             alloc,
             asked,
             lines: String::new(alloc),

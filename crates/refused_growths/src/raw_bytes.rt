@@ -1,9 +1,8 @@
 //! Byte strings in a wire form.
 
-use crate::bench::Bench;
-use crate::counted;
-use crate::shown::{made, written};
 use mysql_wire::{Fault, LenEnc, MySerialize, ParseBuf, RawBytes};
+use refused_growths_cases::shown::{made, written};
+use refused_growths_cases::{Cases, counted};
 use std::alloc::{AllocError, Global};
 use std::borrow::{CowSlice, CowStr};
 
@@ -11,16 +10,16 @@ type Text<'a> = RawBytes<'a, LenEnc>;
 
 const CONTENT: [u8; 2] = *b"ab";
 
-pub fn cases(bench: &mut Bench) -> Result<(), AllocError> {
-    bench.case("raw_bytes_read", read)?;
-    bench.case("raw_bytes_into_owned_of_borrowed", into_owned_of_borrowed)?;
-    bench.case("raw_bytes_into_owned_of_owned", into_owned_of_owned)?;
-    bench.case("raw_bytes_clone_of_borrowed", clone_of_borrowed)?;
-    bench.case("raw_bytes_clone_of_owned", clone_of_owned)?;
-    bench.case("raw_bytes_as_str_of_utf8", as_str_of_utf8)?;
-    bench.case("raw_bytes_as_str_of_other_bytes", as_str_of_other_bytes)?;
-    bench.case("raw_bytes_serialize", serialize)?;
-    bench.case("raw_bytes_serialize_with_room", serialize_with_room)
+pub fn all(cases: &mut Cases) -> Result<(), AllocError> {
+    cases.case("raw_bytes_read", read)?;
+    cases.case("raw_bytes_into_owned_of_borrowed", into_owned_of_borrowed)?;
+    cases.case("raw_bytes_into_owned_of_owned", into_owned_of_owned)?;
+    cases.case("raw_bytes_clone_of_borrowed", clone_of_borrowed)?;
+    cases.case("raw_bytes_clone_of_owned", clone_of_owned)?;
+    cases.case("raw_bytes_as_str_of_utf8", as_str_of_utf8)?;
+    cases.case("raw_bytes_as_str_of_other_bytes", as_str_of_other_bytes)?;
+    cases.case("raw_bytes_serialize", serialize)?;
+    cases.case("raw_bytes_serialize_with_room", serialize_with_room)
 }
 
 fn borrowed(content: &[u8]) -> Text<'_> {

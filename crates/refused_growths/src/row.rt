@@ -3,24 +3,23 @@
 ghost use Rattle.std.specs.Prelude.{IfOk};
 ghost use Rattle.mysql_stmt.specs.Row.{AllThere};
 
-use crate::bench::Bench;
-use crate::counted;
 use mysql_replies::Column;
 use mysql_stmt::{Row, RowDeserializer, new_row, new_row_raw};
 use mysql_values::{Binary, FromValueError, ServerSide, Text, Value};
 use mysql_wire::{ColumnType, Fault, ParseBuf};
+use refused_growths_cases::{Cases, counted};
 use std::alloc::{AllocError, Global};
 use std::rc::RcSlice;
 
-pub fn cases(bench: &mut Bench) -> Result<(), AllocError> {
-    bench.case("new_row", new)?;
-    bench.case("row_columns", columns)?;
-    bench.case("row_get", get)?;
-    bench.case("row_get_opt", get_opt)?;
-    bench.case("row_clone", clone)?;
-    bench.case("row_unwrap", unwrap)?;
-    bench.case("row_read_text", read_text)?;
-    bench.case("row_read_binary", read_binary)
+pub fn all(cases: &mut Cases) -> Result<(), AllocError> {
+    cases.case("new_row", new)?;
+    cases.case("row_columns", columns)?;
+    cases.case("row_get", get)?;
+    cases.case("row_get_opt", get_opt)?;
+    cases.case("row_clone", clone)?;
+    cases.case("row_unwrap", unwrap)?;
+    cases.case("row_read_text", read_text)?;
+    cases.case("row_read_binary", read_binary)
 }
 
 /// So many columns of strings.

@@ -1,21 +1,20 @@
 //! OK packets, and the entries of their state strings.
 
-use crate::bench::Bench;
-use crate::{counted, shown};
 use mysql_replies::{CommonOkPacket, OkPacket, OkPacketDeserializer, SessionStateInfo};
 use mysql_wire::{CapabilityFlags, Fault, ParseBuf};
+use refused_growths_cases::{Cases, counted, shown};
 use std::alloc::{AllocError, Global};
 
-pub fn cases(bench: &mut Bench) -> Result<(), AllocError> {
-    bench.case("ok_packet_read", read)?;
-    bench.case("ok_packet_into_owned", into_owned)?;
-    bench.case("ok_packet_clone", clone)?;
-    bench.case("ok_packet_info_str", info_str)?;
-    bench.case("ok_packet_session_state_info", session_state_info)?;
-    bench.case("session_state_info_decode", decode)?;
-    bench.case("session_state_info_into_owned", info_into_owned)?;
-    bench.case("session_state_info_clone", info_clone)?;
-    bench.case("session_state_info_serialize", info_serialize)
+pub fn all(cases: &mut Cases) -> Result<(), AllocError> {
+    cases.case("ok_packet_read", read)?;
+    cases.case("ok_packet_into_owned", into_owned)?;
+    cases.case("ok_packet_clone", clone)?;
+    cases.case("ok_packet_info_str", info_str)?;
+    cases.case("ok_packet_session_state_info", session_state_info)?;
+    cases.case("session_state_info_decode", decode)?;
+    cases.case("session_state_info_into_owned", info_into_owned)?;
+    cases.case("session_state_info_clone", info_clone)?;
+    cases.case("session_state_info_serialize", info_serialize)
 }
 
 /// One row, the info `a` and a byte that is no UTF-8, and two changes: a system variable and a schema.

@@ -1,8 +1,7 @@
 //! The program's commands.
 
-use crate::bench::Bench;
-use crate::counted;
 use mysql_packets::run;
+use refused_growths_cases::{Cases, counted};
 use std::alloc::{AllocError, Global};
 
 const COLUMN: &str =
@@ -11,26 +10,26 @@ const COLUMN: &str =
 const CHANGE: &str = "00000002400000001100\
     0f0a6175746f636f6d6d6974034f4646";
 
-pub fn cases(bench: &mut Bench) -> Result<(), AllocError> {
-    bench.case("run_bad_call", |alloc| shown(alloc, &["stmt", "0"]))?;
-    bench.case(
+pub fn all(cases: &mut Cases) -> Result<(), AllocError> {
+    cases.case("run_bad_call", |alloc| shown(alloc, &["stmt", "0"]))?;
+    cases.case(
         "run_stmt",
         |alloc| shown(alloc, &["stmt", "000100000001000200000000"]),
     )?;
-    bench.case(
+    cases.case(
         "run_infile",
         |alloc| shown(alloc, &["infile", "fb66696c655f6e616d65"]),
     )?;
-    bench.case("run_column", |alloc| shown(alloc, &["column", COLUMN]))?;
-    bench.case(
+    cases.case("run_column", |alloc| shown(alloc, &["column", COLUMN]))?;
+    cases.case(
         "run_ok",
         |alloc| shown(alloc, &["ok", "common", "800000", CHANGE]),
     )?;
-    bench.case(
+    cases.case(
         "run_err",
         |alloc| shown(alloc, &["err", "200", "ff48042348593030304e6f"]),
     )?;
-    bench.case(
+    cases.case(
         "run_bulk",
         |alloc| answered(alloc, &["bulk", "1", "31"], b"i1\ni2\ni3\n"),
     )

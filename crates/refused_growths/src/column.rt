@@ -1,26 +1,25 @@
 //! Columns.
 
-use crate::bench::Bench;
-use crate::{counted, shown};
 use mysql_replies::Column;
 use mysql_wire::{ColumnType, Fault, ParseBuf};
+use refused_growths_cases::{Cases, counted, shown};
 use std::alloc::{AllocError, Global};
 
-pub fn cases(bench: &mut Bench) -> Result<(), AllocError> {
-    bench.case("column_with_schema", with_schema)?;
-    bench.case("column_with_table", with_table)?;
-    bench.case("column_with_org_table", with_org_table)?;
-    bench.case("column_with_name", with_name)?;
-    bench.case("column_with_org_name", with_org_name)?;
-    bench.case("column_schema_str", schema_str)?;
-    bench.case("column_table_str", table_str)?;
-    bench.case("column_org_table_str", org_table_str)?;
-    bench.case("column_name_str", name_str)?;
-    bench.case("column_org_name_str", org_name_str)?;
-    bench.case("column_clone", clone)?;
-    bench.case("column_read", read)?;
-    bench.case("column_read_of_a_false_length", read_of_a_false_length)?;
-    bench.case("column_serialize", serialize)
+pub fn all(cases: &mut Cases) -> Result<(), AllocError> {
+    cases.case("column_with_schema", with_schema)?;
+    cases.case("column_with_table", with_table)?;
+    cases.case("column_with_org_table", with_org_table)?;
+    cases.case("column_with_name", with_name)?;
+    cases.case("column_with_org_name", with_org_name)?;
+    cases.case("column_schema_str", schema_str)?;
+    cases.case("column_table_str", table_str)?;
+    cases.case("column_org_table_str", org_table_str)?;
+    cases.case("column_name_str", name_str)?;
+    cases.case("column_org_name_str", org_name_str)?;
+    cases.case("column_clone", clone)?;
+    cases.case("column_read", read)?;
+    cases.case("column_read_of_a_false_length", read_of_a_false_length)?;
+    cases.case("column_serialize", serialize)
 }
 
 /// Two bytes, and one that is no UTF-8.

@@ -1,25 +1,24 @@
 //! Values, and the parameters that give them.
 
-use crate::bench::Bench;
-use crate::{counted, shown};
 use indexmap::IndexMap;
 use mysql_values::{BinValue, Params, ParamsError, TextValue, Value, ValueDeserializer};
 use mysql_wire::{ColumnFlags, ColumnType, Fault, ParseBuf};
+use refused_growths_cases::{Cases, counted, shown};
 use std::alloc::{AllocError, Global};
 
 /// A byte string that says that it is longer than any.
 const FALSE_LENGTH: [u8; 10] = [0xfe, 0xff, 0xff, 0xff, 0xff, 0xff, 0xff, 0xff, 0xff, b'a'];
 
-pub fn cases(bench: &mut Bench) -> Result<(), AllocError> {
-    bench.case("value_read_text", |alloc| read_text(alloc, b"\x02ab\x07"))?;
-    bench.case("value_read_text_of_a_false_length", |alloc| {
+pub fn all(cases: &mut Cases) -> Result<(), AllocError> {
+    cases.case("value_read_text", |alloc| read_text(alloc, b"\x02ab\x07"))?;
+    cases.case("value_read_text_of_a_false_length", |alloc| {
         read_text(alloc, &FALSE_LENGTH)
     })?;
-    bench.case("value_read_binary", read_binary)?;
-    bench.case("value_clone", clone)?;
-    bench.case("value_serialize", serialize)?;
-    bench.case("params_into_values_by_names", into_values)?;
-    bench.case("params_clone", clone_params)
+    cases.case("value_read_binary", read_binary)?;
+    cases.case("value_clone", clone)?;
+    cases.case("value_serialize", serialize)?;
+    cases.case("params_into_values_by_names", into_values)?;
+    cases.case("params_clone", clone_params)
 }
 
 /// The value `ab`.

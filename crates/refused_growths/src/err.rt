@@ -1,28 +1,27 @@
 //! Errors, progress reports, and requests for a local file.
 
-use crate::bench::Bench;
-use crate::{counted, shown};
 use mysql_replies::{ErrPacket, LocalInfilePacket, ProgressReport, ServerError, SqlState};
+use refused_growths_cases::{Cases, counted, shown};
 use std::alloc::{AllocError, Global};
 use std::borrow::CowSlice;
 
-pub fn cases(bench: &mut Bench) -> Result<(), AllocError> {
-    bench.case("server_error_into_owned", error_into_owned)?;
-    bench.case("server_error_message_str", error_message_str)?;
-    bench.case("server_error_clone", error_clone)?;
-    bench.case("server_error_serialize", error_serialize)?;
-    bench.case("sql_state_as_str", state_as_str)?;
-    bench.case("sql_state_serialize", state_serialize)?;
-    bench.case("progress_report_into_owned", report_into_owned)?;
-    bench.case("progress_report_stage_info_str", report_stage_info_str)?;
-    bench.case("progress_report_clone", report_clone)?;
-    bench.case("progress_report_serialize", report_serialize)?;
-    bench.case("err_packet_clone", packet_clone)?;
-    bench.case("err_packet_serialize", packet_serialize)?;
-    bench.case("local_infile_packet_into_owned", infile_into_owned)?;
-    bench.case("local_infile_packet_file_name_str", infile_file_name_str)?;
-    bench.case("local_infile_packet_clone", infile_clone)?;
-    bench.case("local_infile_packet_serialize", infile_serialize)
+pub fn all(cases: &mut Cases) -> Result<(), AllocError> {
+    cases.case("server_error_into_owned", error_into_owned)?;
+    cases.case("server_error_message_str", error_message_str)?;
+    cases.case("server_error_clone", error_clone)?;
+    cases.case("server_error_serialize", error_serialize)?;
+    cases.case("sql_state_as_str", state_as_str)?;
+    cases.case("sql_state_serialize", state_serialize)?;
+    cases.case("progress_report_into_owned", report_into_owned)?;
+    cases.case("progress_report_stage_info_str", report_stage_info_str)?;
+    cases.case("progress_report_clone", report_clone)?;
+    cases.case("progress_report_serialize", report_serialize)?;
+    cases.case("err_packet_clone", packet_clone)?;
+    cases.case("err_packet_serialize", packet_serialize)?;
+    cases.case("local_infile_packet_into_owned", infile_into_owned)?;
+    cases.case("local_infile_packet_file_name_str", infile_file_name_str)?;
+    cases.case("local_infile_packet_clone", infile_clone)?;
+    cases.case("local_infile_packet_serialize", infile_serialize)
 }
 
 /// Two bytes, and one that is no UTF-8.

@@ -1,29 +1,28 @@
 //! Session changes.
 
-use crate::bench::Bench;
-use crate::{counted, shown};
 use mysql_session::{Schema, SessionStateChange, SystemVariable, SystemVariables};
 use mysql_wire::{Fault, ParseBuf, SessionStateType};
+use refused_growths_cases::{Cases, counted, shown};
 use std::alloc::{AllocError, Global};
 use std::borrow::CowSlice;
 
 /// The types of byte strings are one type with `Schema`.
-pub fn cases(bench: &mut Bench) -> Result<(), AllocError> {
-    bench.case("schema_into_owned", schema_into_owned)?;
-    bench.case("schema_as_str", schema_as_str)?;
-    bench.case("schema_clone", schema_clone)?;
-    bench.case("schema_serialize", schema_serialize)?;
-    bench.case("system_variable_into_owned", variable_into_owned)?;
-    bench.case("system_variable_name_str", variable_name_str)?;
-    bench.case("system_variable_value_str", variable_value_str)?;
-    bench.case("system_variable_clone", variable_clone)?;
-    bench.case("system_variable_serialize", variable_serialize)?;
-    bench.case("system_variables_into_owned", variables_into_owned)?;
-    bench.case("system_variables_clone", variables_clone)?;
-    bench.case("session_state_change_read", change_read)?;
-    bench.case("session_state_change_into_owned", change_into_owned)?;
-    bench.case("session_state_change_clone", change_clone)?;
-    bench.case("session_state_change_serialize", change_serialize)
+pub fn all(cases: &mut Cases) -> Result<(), AllocError> {
+    cases.case("schema_into_owned", schema_into_owned)?;
+    cases.case("schema_as_str", schema_as_str)?;
+    cases.case("schema_clone", schema_clone)?;
+    cases.case("schema_serialize", schema_serialize)?;
+    cases.case("system_variable_into_owned", variable_into_owned)?;
+    cases.case("system_variable_name_str", variable_name_str)?;
+    cases.case("system_variable_value_str", variable_value_str)?;
+    cases.case("system_variable_clone", variable_clone)?;
+    cases.case("system_variable_serialize", variable_serialize)?;
+    cases.case("system_variables_into_owned", variables_into_owned)?;
+    cases.case("system_variables_clone", variables_clone)?;
+    cases.case("session_state_change_read", change_read)?;
+    cases.case("session_state_change_into_owned", change_into_owned)?;
+    cases.case("session_state_change_clone", change_clone)?;
+    cases.case("session_state_change_serialize", change_serialize)
 }
 
 /// Two bytes, and one that is no UTF-8.

@@ -1,11 +1,10 @@
 //! Bitmaps of NULLs.
 
-use crate::bench::Bench;
-use crate::counted;
-use crate::shown::made;
 use mysql_stmt::NullBitmap;
 use mysql_values::ClientSide;
 use mysql_wire::{Fault, ParseBuf};
+use refused_growths_cases::shown::made;
+use refused_growths_cases::{Cases, counted};
 use std::alloc::{AllocError, Global};
 use std::borrow::CowSlice;
 
@@ -16,13 +15,13 @@ const NINE: [u8; 3] = [0, 1, 7];
 
 const CLEAR: [u8; 2] = [0, 0];
 
-pub fn cases(bench: &mut Bench) -> Result<(), AllocError> {
-    bench.case("null_bitmap_new", new)?;
-    bench.case("null_bitmap_read", read)?;
-    bench.case("null_bitmap_deserialize", deserialize)?;
-    bench.case("null_bitmap_set_on_borrowed", set_on_borrowed)?;
-    bench.case("null_bitmap_set_on_owned", set_on_owned)?;
-    bench.case("null_bitmap_clone_of_owned", clone_of_owned)
+pub fn all(cases: &mut Cases) -> Result<(), AllocError> {
+    cases.case("null_bitmap_new", new)?;
+    cases.case("null_bitmap_read", read)?;
+    cases.case("null_bitmap_deserialize", deserialize)?;
+    cases.case("null_bitmap_set_on_borrowed", set_on_borrowed)?;
+    cases.case("null_bitmap_set_on_owned", set_on_owned)?;
+    cases.case("null_bitmap_clone_of_owned", clone_of_owned)
 }
 
 fn new(alloc: Global) -> Result<String, AllocError> {

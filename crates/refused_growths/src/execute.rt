@@ -1,24 +1,23 @@
 //! Executions, long data and closes of prepared statements.
 
-use crate::bench::Bench;
-use crate::counted;
-use crate::shown::{made, written};
 use mysql_stmt::{ComStmtClose, ComStmtExecuteRequestBuilder, ComStmtSendLongData};
 use mysql_values::Value;
 use mysql_wire::MySerialize;
+use refused_growths_cases::shown::{made, written};
+use refused_growths_cases::{Cases, counted};
 use std::alloc::{AllocError, Global};
 use std::borrow::CowSlice;
 
 const DATA: [u8; 2] = *b"ab";
 
-pub fn cases(bench: &mut Bench) -> Result<(), AllocError> {
-    bench.case("execute_build", build)?;
-    bench.case("execute_build_without_parameters", build_without_parameters)?;
-    bench.case("execute_clone", clone)?;
-    bench.case("execute_serialize", serialize)?;
-    bench.case("long_data_into_owned_of_borrowed", long_data_into_owned)?;
-    bench.case("long_data_serialize", serialize_long_data)?;
-    bench.case("close_serialize", serialize_close)
+pub fn all(cases: &mut Cases) -> Result<(), AllocError> {
+    cases.case("execute_build", build)?;
+    cases.case("execute_build_without_parameters", build_without_parameters)?;
+    cases.case("execute_clone", clone)?;
+    cases.case("execute_serialize", serialize)?;
+    cases.case("long_data_into_owned_of_borrowed", long_data_into_owned)?;
+    cases.case("long_data_serialize", serialize_long_data)?;
+    cases.case("close_serialize", serialize_close)
 }
 
 fn built(alloc: Global, params: &[Value]) -> Result<String, AllocError> {

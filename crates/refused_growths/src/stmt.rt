@@ -1,17 +1,16 @@
 //! Statement packets.
 
-use crate::bench::Bench;
-use crate::counted;
-use crate::shown::written;
 use mysql_stmt::StmtPacket;
 use mysql_wire::{Fault, MySerialize, ParseBuf};
+use refused_growths_cases::shown::written;
+use refused_growths_cases::{Cases, counted};
 use std::alloc::{AllocError, Global};
 
 const STATEMENT: [u8; 12] = [0, 1, 0, 0, 0, 1, 0, 2, 0, 0, 0, 0];
 
-pub fn cases(bench: &mut Bench) -> Result<(), AllocError> {
-    bench.case("stmt_packet_read", read)?;
-    bench.case("stmt_packet_serialize", serialize)
+pub fn all(cases: &mut Cases) -> Result<(), AllocError> {
+    cases.case("stmt_packet_read", read)?;
+    cases.case("stmt_packet_serialize", serialize)
 }
 
 fn read(alloc: Global) -> Result<String, AllocError> {
