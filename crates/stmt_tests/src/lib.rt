@@ -8,6 +8,8 @@ mod execute;
 #[cfg(test)]
 mod null_bitmap;
 #[cfg(test)]
+mod row_calls;
+#[cfg(test)]
 mod rows;
 #[cfg(test)]
 mod stmt;

@@ -137,19 +137,43 @@ fn named(alloc: Global, entries: &[(&[u8], i64)]) -> Result<Params, Fail> {
     Ok(Params::Named(values))
 }
 
+/// The names `b` and `a`.
+fn b_and_a(alloc: Global) -> Result<Vec<Vec<u8>>, AllocError> {
+    let mut names = Vec::new(alloc);
+    for name in [b"b", b"a"] {
+        names.push(Vec::from_slice(alloc, name)?)?;
+    }
+    Ok(names)
+}
+
 #[test]
 fn names_give_their_values_in_order(rt: HostRuntime) -> Result<(), Fail> {
+    let names = b_and_a(rt.alloc())?;
+    let both = named(rt.alloc(), &[(b"a", 1), (b"b", 2)])?;
+    match both.into_values(rt.alloc(), Some(&names)) {
+        Ok(row) => assert_eq!(rt; row.as_slice(), [Value::Int(2), Value::Int(1)].as_slice()),
+        Err(_) => assert!(rt; false),
+    }
+    Ok(())
+}
+
+#[test]
+fn a_name_without_a_value_is_told(rt: HostRuntime) -> Result<(), Fail> {
+    let names = b_and_a(rt.alloc())?;
+    let one = named(rt.alloc(), &[(b"a", 1)])?;
+    match one.into_values(rt.alloc(), Some(&names)) {
+        Err(ParamsError::Missing(name)) => assert_eq!(rt; name.as_slice(), b"b".as_slice()),
+        _ => assert!(rt; false),
+    }
+    Ok(())
+}
+
+#[test]
+fn names_and_places_do_not_mix(rt: HostRuntime) -> Result<(), Fail> {
     let alloc = rt.alloc();
-    let a = Vec::from_slice(alloc, b"a")?;
-    let b = Vec::from_slice(alloc, b"b")?;
-    let names = [b, a];
-    let both = named(alloc, &[(b"a", 1), (b"b", 2)])?;
-    let row = both.into_values(alloc, Some(&names));
-    assert!(rt; row == Ok(vec![in alloc; Value::Int(2), Value::Int(1)]?));
-    let missing = named(alloc, &[(b"a", 1)])?.into_values(alloc, Some(&names));
-    assert!(rt; missing == Err(ParamsError::Missing(Vec::from_slice(alloc, b"b")?)));
     let unnamed = named(alloc, &[])?.into_values(alloc, None);
     assert!(rt; unnamed == Err(ParamsError::NamedForPositional));
+    let names = b_and_a(alloc)?;
     let positional = Params::Positional(Vec::new(alloc)).into_values(alloc, Some(&names));
     assert!(rt; positional == Err(ParamsError::PositionalForNamed));
     let empty = Params::Empty.into_values(alloc, Some(&names));

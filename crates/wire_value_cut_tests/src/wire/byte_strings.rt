@@ -18,16 +18,18 @@ fn written<R: BytesRepr>(alloc: Global, content: &[u8]) -> Result<Vec<u8>, Alloc
     Ok(out)
 }
 
+/// Bytes, and the content with how many bytes are left behind it, if they begin with a null string.
+const NULL_STRINGS: [(&[u8], Option<(&[u8], usize)>); 5] = [
+    (b"", None),
+    (b"ab", None),
+    (b"\0", Some((b"", 0))),
+    (b"ab\0", Some((b"ab", 0))),
+    (b"ab\0c\0", Some((b"ab", 2))),
+];
+
 #[test]
-fn a_null_string_ends_at_its_zero(rt: HostRuntime) -> Result<(), Fail> {
-    let cases: [(&[u8], Option<(&[u8], usize)>); 5] = [
-        (b"", None),
-        (b"ab", None),
-        (b"\0", Some((b"", 0))),
-        (b"ab\0", Some((b"ab", 0))),
-        (b"ab\0c\0", Some((b"ab", 2))),
-    ];
-    for (bytes, expected) in cases {
+fn a_null_string_ends_at_its_zero(rt: HostRuntime) {
+    for (bytes, expected) in NULL_STRINGS {
         let mut buf = ParseBuf::new(rt.alloc(), bytes);
         match (buf.parse::<RawBytes<NullBytes>>(()), expected) {
             (Ok(content), Some((wanted, left))) => {
@@ -41,10 +43,12 @@ fn a_null_string_ends_at_its_zero(rt: HostRuntime) -> Result<(), Fail> {
             _ => assert!(rt; false),
         }
     }
-    assert_eq!(rt;
-        written::<NullBytes>(rt.alloc(), b"a\0b")?.as_slice(),
-        b"a\0".as_slice()
-    );
+}
+
+#[test]
+fn a_null_string_is_written_to_its_first_zero(rt: HostRuntime) -> Result<(), Fail> {
+    let out = written::<NullBytes>(rt.alloc(), b"a\0b")?;
+    assert_eq!(rt; out.as_slice(), b"a\0".as_slice());
     assert_eq!(rt; borrowed::<NullBytes>(b"a\0b").len(), 1);
     assert!(rt; borrowed::<NullBytes>(b"\0b").is_empty());
     Ok(())
@@ -85,15 +89,24 @@ fn a_count_past_the_end(rt: HostRuntime) {
 }
 
 #[test]
-fn other_counts(rt: HostRuntime) -> Result<(), Fail> {
+fn a_count_of_four_bytes(rt: HostRuntime) -> Result<(), Fail> {
     let out = written::<U32Bytes>(rt.alloc(), b"abc")?;
     assert_eq!(rt; out.as_slice(), b"\x03\0\0\0abc".as_slice());
     let mut buf = ParseBuf::new(rt.alloc(), &out);
     let content: RawBytes<U32Bytes> = buf.parse(()).ok().ok_or("a string")?;
     assert_eq!(rt; content.as_bytes(), b"abc".as_slice());
+    Ok(())
+}
 
+#[test]
+fn a_string_without_a_count_is_cut_where_it_is_written(rt: HostRuntime) -> Result<(), Fail> {
     let out = written::<BareBytes<2>>(rt.alloc(), b"abc")?;
     assert_eq!(rt; out.as_slice(), b"ab".as_slice());
+    Ok(())
+}
+
+#[test]
+fn a_count_handed_in_and_the_rest(rt: HostRuntime) -> Result<(), Fail> {
     let mut buf = ParseBuf::new(rt.alloc(), b"abcde\0");
     let content: RawBytes<BareBytes<2>> = buf.parse(3).ok().ok_or("3 bytes")?;
     assert_eq!(rt; content.as_bytes(), b"abc".as_slice());
@@ -144,16 +157,22 @@ fn strings_of_one_length(rt: HostRuntime) -> Result<(), Fail> {
     marker.serialize(&mut out)?;
     name.serialize(&mut out)?;
     assert_eq!(rt; out.as_slice(), b"\x03defab".as_slice());
+    Ok(())
+}
 
+#[test]
+fn other_bytes_are_no_marker(rt: HostRuntime) {
     let mut buf = ParseBuf::new(rt.alloc(), b"\x03dex");
     let fault = buf.parse::<ConstBytes<Marker, 4>>(()).err();
     assert_eq!(rt; fault, Some(Fault::InvalidData("Invalid marker")));
     let mut buf = ParseBuf::new(rt.alloc(), b"\x03de");
     let fault = buf.parse::<ConstBytes<Marker, 4>>(()).err();
     assert_eq!(rt; fault, Some(Fault::UnexpectedEof));
+}
 
+#[test]
+fn a_null_string_alone_has_no_size(rt: HostRuntime) {
     assert_eq!(rt; <[u8; 8] as MyDeserialize>::SIZE, Some(8));
     assert_eq!(rt; <ConstBytes<Marker, 4> as MyDeserialize>::SIZE, Some(4));
     assert_eq!(rt; <RawBytes<NullBytes> as MyDeserialize>::SIZE, None);
-    Ok(())
 }

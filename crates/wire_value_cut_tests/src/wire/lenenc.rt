@@ -34,7 +34,13 @@ fn a_number_has_its_shortest_spelling(rt: HostRuntime) -> Result<(), Fail> {
         let mut out = Vec::new(rt.alloc());
         RawInt::<LenEnc>::new(number).serialize(&mut out)?;
         assert_eq!(rt; out.as_slice(), bytes);
+    }
+    Ok(())
+}
 
+#[test]
+fn a_cut_spelling_stays_unread(rt: HostRuntime) {
+    for (_, bytes) in NUMBERS {
         for short in 0..bytes.len() {
             let mut buf = ParseBuf::new(rt.alloc(), &bytes[..short]);
             let read = buf.parse::<RawInt<LenEnc>>(());
@@ -42,7 +48,6 @@ fn a_number_has_its_shortest_spelling(rt: HostRuntime) -> Result<(), Fail> {
             assert_eq!(rt; buf.len(), short);
         }
     }
-    Ok(())
 }
 
 #[test]

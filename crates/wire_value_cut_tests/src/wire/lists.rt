@@ -4,28 +4,44 @@ use mysql_wire::{
     Either, Fault, LeU16, LeU64, LenEnc, MySerialize, ParseBuf, RawBytes, RawInt, Seq, Skip,
     Unknown, read_all,
 };
+use std::alloc::Global;
+use std::process::Abort;
 use std::test::Fail;
 
 type Numbers<'a> = Seq<'a, RawInt<LeU16>, LeU64>;
 
+/// The count of 2, the numbers 1 and 2, and another byte.
+const ONE_AND_TWO: &[u8] = b"\x02\0\0\0\0\0\0\0\x01\0\x02\0\x03";
+
 #[test]
 fn a_counted_list(rt: HostRuntime) -> Result<(), Fail> {
-    let bytes = b"\x02\0\0\0\0\0\0\0\x01\0\x02\0\x03";
-    let mut buf = ParseBuf::new(rt.alloc(), bytes);
-    let mut list: Numbers = buf.parse(()).ok().ok_or("a list")?;
+    let mut buf = ParseBuf::new(rt.alloc(), ONE_AND_TWO);
+    let list: Numbers = buf.parse(()).ok().ok_or("a list")?;
     assert_eq!(rt; list.len(), 2);
     assert_eq!(rt; buf.len(), 1);
     let mut out = Vec::new(rt.alloc());
     list.serialize(&mut out)?;
-    assert_eq!(rt; out.as_slice(), &bytes[..12]);
+    assert_eq!(rt; out.as_slice(), &ONE_AND_TWO[..12]);
+    Ok(())
+}
 
+/// The lent list is the one that the bytes spell, also once a number is pushed to each.
+fn assert_pushed(rt: &impl Abort, alloc: Global, lent: &mut Numbers<'_>) -> Result<(), Fail> {
+    let mut buf = ParseBuf::new(alloc, ONE_AND_TWO);
+    let mut list: Numbers = buf.parse(()).ok().ok_or("a list")?;
+    assert!(rt; *lent == list);
+    lent.push(alloc, RawInt::new(3))?;
+    list.push(alloc, RawInt::new(3))?;
+    assert!(rt; *lent == list);
+    assert!(rt; lent.clone()? == list);
+    Ok(())
+}
+
+#[test]
+fn a_lent_list_is_copied_before_a_push(rt: HostRuntime) -> Result<(), Fail> {
     let two = [RawInt::new(1), RawInt::new(2)];
     let mut lent: Numbers = Seq::borrowed(&two);
-    assert!(rt; lent == list);
-    lent.push(rt.alloc(), RawInt::new(3))?;
-    list.push(rt.alloc(), RawInt::new(3))?;
-    assert!(rt; lent == list);
-    assert!(rt; lent.clone()? == list);
+    assert_pushed(&rt, rt.alloc(), &mut lent)?;
     assert_eq!(rt; two.len(), 2);
     assert!(rt; Numbers::default().is_empty());
     Ok(())
