@@ -1,15 +1,16 @@
 #!/usr/bin/env bash
-# Runs each case of memory_cases with growth 1, 2, 3, .. of its memory refused, until a run meets no
-# refusal, and holds what it says to the table in refused_growths.txt: where a growth is refused the
-# promised refusal, else the right answer; and no growth above the stated bound.
+# Runs each case of refused_growths and of refused_growths_of_run with growth 1, 2, 3, .. of its memory
+# refused, until a run meets no refusal, and holds what it says to the table in refused_growths.txt:
+# where a growth is refused the promised refusal, else the right answer; and no growth above the
+# stated bound.
 #
-# refused_growths.sh [PROGRAM ..]  tries these builds of memory_cases; with none it builds it by rt.
+# refused_growths.sh [PROGRAM ..]  tries these builds of the two; with none it builds each by rt.
 # The last line is 'N passed, N failed', where a run of a case is one.
 set -uo pipefail
 export LC_ALL=C
 
 top=$(cd "$(dirname "${BASH_SOURCE[0]}")/.." && pwd) || exit 1
-crate=$top/crates/memory_cases
+crates=(refused_growths refused_growths_of_run)
 passed=0
 failed=0
 
@@ -72,38 +73,41 @@ try_case() {
     pass_or_fail "$1" "after 1000 refusals in turn it still met one"
 }
 
+# try_program: each case that the program lists, by its line of the table
 try_program() {
     local name
     program=$1
     for name in $("$program" --list); do
         if [[ -z ${table[$name]-} ]]; then
             pass_or_fail "$name" 'refused_growths.txt has no line for it'
+            continue
         fi
-    done
-    for name in "${names[@]}"; do
         IFS='|' read -r count bound refusal <<<"${table[$name]}"
         try_case "$name" "$count" "$bound" "$refusal"
     done
 }
 
 declare -A table answers
-names=()
 while IFS='|' read -r name count bound refusal; do
     if [[ $name == '#'* || -z $name ]]; then
         continue
     fi
     name=${name// /}
-    names+=("$name")
     table[$name]="${count// /}|${bound// /}|${refusal# }"
 done <"$top/tests/refused_growths.txt"
 while IFS= read -r line; do
     answers[${line%%: *}]=${line#*: }
-done <"$crate/stdout"
+done < <(for crate in "${crates[@]}"; do cat -- "$top/crates/$crate/stdout"; done)
+for name in "${!table[@]}"; do
+    [[ -n ${answers[$name]+there} ]] || pass_or_fail "$name" 'no program prints a case of that name'
+done
 
 command -v cc >/dev/null || stop 'there is no C compiler: install one as cc'
 if (($# == 0)); then
-    (cd "$crate" && rt run -- --list) >/dev/null || stop 'memory_cases was not built: rt run in crates/memory_cases says why'
-    set -- "$crate/out/memory_cases"
+    for crate in "${crates[@]}"; do
+        (cd "$top/crates/$crate" && rt run -- --list) >/dev/null || stop "$crate was not built: rt run in crates/$crate says why"
+        set -- "$@" "$top/crates/$crate/out/$crate"
+    done
 fi
 programs=()
 for program; do

@@ -16,8 +16,12 @@ fn execution(alloc: Global, params: &[Value]) -> Result<(Vec<u8>, bool), AllocEr
     Ok((out, as_long_data))
 }
 
+const EXECUTION: [u8; 24] = [
+    0x17, 1, 0, 0, 0, 0, 1, 0, 0, 0, 1, 1, 6, 0, 8, 0, 1, 0, 0, 0, 0, 0, 0, 0,
+];
+
 #[test]
-fn an_execution_is_written(rt: HostRuntime) -> Result<(), Fail> {
+fn an_execution_is_built(rt: HostRuntime) -> Result<(), Fail> {
     let params = [Value::NULL, Value::Int(1)];
     let builder = ComStmtExecuteRequestBuilder::new(1);
     let (request, as_long_data) = builder.build(rt.alloc(), &params)?;
@@ -29,13 +33,15 @@ fn an_execution_is_written(rt: HostRuntime) -> Result<(), Fail> {
     assert_eq!(rt; request.params(), params.as_slice());
     assert!(rt; !as_long_data && !request.as_long_data());
     assert_eq!(rt; request.defined_len(), 24);
-    let (out, _) = execution(rt.alloc(), &params)?;
-    let expected = [
-        0x17, 1, 0, 0, 0, 0, 1, 0, 0, 0, 1, 1, 6, 0, 8, 0, 1, 0, 0, 0, 0, 0, 0, 0,
-    ];
-    assert_eq!(rt; out.as_slice(), expected.as_slice());
+    Ok(())
+}
+
+#[test]
+fn an_execution_is_written(rt: HostRuntime) -> Result<(), Fail> {
+    let (out, _) = execution(rt.alloc(), &[Value::NULL, Value::Int(1)])?;
+    assert_eq!(rt; out.as_slice(), EXECUTION.as_slice());
     let (none, _) = execution(rt.alloc(), &[])?;
-    assert_eq!(rt; none.as_slice(), &expected[..10]);
+    assert_eq!(rt; none.as_slice(), &EXECUTION[..10]);
     Ok(())
 }
 
@@ -58,19 +64,21 @@ fn every_type_is_written(rt: HostRuntime) -> Result<(), Fail> {
     Ok(())
 }
 
+/// The size of the execution with so many zeros, and whether they are long data.
+fn zeros_execution(alloc: Global, count: usize) -> Result<(usize, bool), AllocError> {
+    let params = [Value::Bytes(vec![in alloc; 0; count]?)];
+    let (out, as_long_data) = execution(alloc, &params)?;
+    Ok((out.len(), as_long_data))
+}
+
 /// It takes some 50 MB: a byte string of 16 MB, and a buffer that grows to twice as much.
 #[test]
 fn byte_strings_are_long_data_past_the_limit(rt: HostRuntime) -> Result<(), Fail> {
-    let bytes = vec![in rt.alloc(); 0; 16_777_197]?;
-    let params = [Value::Bytes(bytes)];
-    let (out, as_long_data) = execution(rt.alloc(), &params)?;
-    assert!(rt; !as_long_data);
-    assert_eq!(rt; out.len(), 16_777_215);
-    let bytes = vec![in rt.alloc(); 0; 16_777_198]?;
-    let params = [Value::Bytes(bytes)];
-    let (out, as_long_data) = execution(rt.alloc(), &params)?;
-    assert!(rt; as_long_data);
-    assert_eq!(rt; out.len(), 14);
+    assert_eq!(rt;
+        zeros_execution(rt.alloc(), 16_777_197)?,
+        (16_777_215, false)
+    );
+    assert_eq!(rt; zeros_execution(rt.alloc(), 16_777_198)?, (14, true));
     Ok(())
 }
 
@@ -100,17 +108,19 @@ fn long_data_and_closes_are_written(rt: HostRuntime) -> Result<(), Fail> {
 
 #[test]
 fn markers_have_their_texts(rt: HostRuntime) -> Result<(), Fail> {
+    let text = format!(in rt.alloc(); "{}", InvalidComStmtExecuteHeader)?;
+    assert_eq!(rt; text.as_str(), "Invalid header for COM_STMT_EXECUTE");
+    let text = format!(in rt.alloc(); "{}", InvalidIterationCount)?;
     assert_eq!(rt;
-        format!(in rt.alloc(); "{}", InvalidComStmtExecuteHeader)?.as_str(),
-        "Invalid header for COM_STMT_EXECUTE"
-    );
-    assert_eq!(rt;
-        format!(in rt.alloc(); "{}", InvalidIterationCount)?.as_str(),
+        text.as_str(),
         "Invalid iteration count for COM_STMT_EXECUTE"
     );
-    assert_eq!(rt;
-        format!(in rt.alloc(); "{}", InvalidComStmtSendLongDataHeader)?.as_str(),
-        "Invalid header for COM_STMT_SEND_LONG_DATA"
-    );
+    Ok(())
+}
+
+#[test]
+fn the_marker_of_long_data_has_its_text(rt: HostRuntime) -> Result<(), Fail> {
+    let text = format!(in rt.alloc(); "{}", InvalidComStmtSendLongDataHeader)?;
+    assert_eq!(rt; text.as_str(), "Invalid header for COM_STMT_SEND_LONG_DATA");
     Ok(())
 }

@@ -4,19 +4,29 @@ use std::borrow::CowSlice;
 use std::test::Fail;
 
 #[test]
-fn bits_lie_behind_the_offset_of_their_side(rt: HostRuntime) -> Result<(), Fail> {
+fn bits_lie_from_the_first_at_a_client(rt: HostRuntime) -> Result<(), Fail> {
     let mut client = NullBitmap::<ClientSide>::new(rt.alloc(), 9)?;
     client.set(rt.alloc(), 8, true)?;
     assert_eq!(rt; client.as_bytes(), [0, 1].as_slice());
+    Ok(())
+}
+
+#[test]
+fn bits_lie_behind_two_others_at_a_server(rt: HostRuntime) -> Result<(), Fail> {
     let mut server = NullBitmap::<ServerSide>::new(rt.alloc(), 7)?;
     server.set(rt.alloc(), 6, true)?;
     assert_eq!(rt; server.as_bytes(), [0, 1].as_slice());
     assert!(rt; server.is_null(6) && !server.is_null(5));
-    let mut first = NullBitmap::<ServerSide>::new(rt.alloc(), 6)?;
-    first.set(rt.alloc(), 0, true)?;
-    assert_eq!(rt; first.as_bytes(), [4].as_slice());
-    assert_eq!(rt; NullBitmap::<ServerSide>::bitmap_len(6), 1);
     assert_eq!(rt; NullBitmap::<ServerSide>::bitmap_len(7), 2);
+    Ok(())
+}
+
+#[test]
+fn six_bits_of_a_server_take_a_byte(rt: HostRuntime) -> Result<(), Fail> {
+    let mut server = NullBitmap::<ServerSide>::new(rt.alloc(), 6)?;
+    server.set(rt.alloc(), 0, true)?;
+    assert_eq!(rt; server.as_bytes(), [4].as_slice());
+    assert_eq!(rt; NullBitmap::<ServerSide>::bitmap_len(6), 1);
     Ok(())
 }
 

@@ -1,28 +1,34 @@
 //! Column definitions.
 
 use crate::captured::column::PACKETS;
-use crate::captured::reported::{all_agree, are_reported, bytes_at};
+use crate::captured::reported::{
+    all_agree, are_bytes_reported, bytes_at, has_words, is_number_reported, is_written_as,
+};
 use mysql_replies::Column;
-use mysql_wire::{Fault, Flags, MySerialize, ParseBuf};
+use mysql_wire::{Fault, Flags, ParseBuf};
 use std::alloc::{AllocError, Global};
 use std::test::Fail;
 
-/// The column's words. Some clients report the low 15 bits of the flags alone.
-fn shown(alloc: Global, column: &Column) -> Result<String, AllocError> {
-    let schema = hex::encode(alloc, column.schema_ref())?;
-    let table = hex::encode(alloc, column.table_ref())?;
-    let org_table = hex::encode(alloc, column.org_table_ref())?;
-    let name = hex::encode(alloc, column.name_ref())?;
-    let org_name = hex::encode(alloc, column.org_name_ref())?;
-    let character_set = column.character_set();
-    let length = column.column_length();
-    let column_type = u8::from(column.column_type());
-    let flags = column.flags().bits();
-    let low = flags % 0x8000;
-    let decimals = column.decimals();
-    format!(in alloc;
-        "x{schema} x{table} x{org_table} x{name} x{org_name} {character_set} {length} {column_type} {flags} {low} {decimals}"
+/// Whether the column's names are those that were reported.
+fn are_names_reported(alloc: Global, line: &str, column: &Column) -> Result<bool, AllocError> {
+    Ok(
+        are_bytes_reported(alloc, line, 2, column.schema_ref())?
+            && are_bytes_reported(alloc, line, 3, column.table_ref())?
+            && are_bytes_reported(alloc, line, 4, column.org_table_ref())?
+            && are_bytes_reported(alloc, line, 5, column.name_ref())?
+            && are_bytes_reported(alloc, line, 6, column.org_name_ref())?,
     )
+}
+
+/// Whether the column's numbers are those that were reported. Some clients report the low 15 bits of the flags alone.
+fn are_numbers_reported(line: &str, column: &Column) -> bool {
+    let flags = u64::from(column.flags().bits());
+    is_number_reported(line, 7, u64::from(column.character_set()))
+        && is_number_reported(line, 8, u64::from(column.column_length()))
+        && is_number_reported(line, 9, u64::from(u8::from(column.column_type())))
+        && is_number_reported(line, 10, flags)
+        && is_number_reported(line, 11, flags % 0x8000)
+        && is_number_reported(line, 12, u64::from(column.decimals()))
 }
 
 /// Whether the packet of the line is read whole, as it was reported, and written again.
@@ -31,13 +37,12 @@ fn agrees(alloc: Global, line: &str) -> Result<bool, Fail> {
     let mut buf = ParseBuf::new(alloc, bytes.as_slice());
     let read: Result<Column, Fault> = buf.parse(());
     let column = read.ok().ok_or("a captured column is refused")?;
-    let shown = shown(alloc, &column)?;
-    let mut written = Vec::new(alloc);
-    column.serialize(&mut written)?;
     Ok(
         buf.is_empty()
-            && are_reported(line, 2, shown.as_str())
-            && written.as_slice() == bytes.as_slice(),
+            && has_words(line, 13)
+            && are_numbers_reported(line, &column)
+            && are_names_reported(alloc, line, &column)?
+            && is_written_as(alloc, &column, bytes.as_slice())?,
     )
 }
 

@@ -1,32 +1,46 @@
 //! Errors and progress reports.
 
-use crate::captured::reported::{all_agree, are_reported, bytes_at, capabilities};
+use crate::captured::reported::{
+    all_agree, are_bytes_reported, bytes_at, capabilities, has_words, is_number_reported,
+    is_reported, is_written_as,
+};
 use crate::captured::{err, progress};
 use mysql_replies::{ErrPacket, ProgressReport, ServerError};
-use mysql_wire::{Fault, MySerialize, ParseBuf};
+use mysql_wire::{Fault, ParseBuf};
 use std::alloc::{AllocError, Global};
 use std::test::Fail;
 
-/// The error's words.
-fn shown_error(alloc: Global, error: &ServerError<'_>) -> Result<String, AllocError> {
-    let code = error.error_code();
-    let message = hex::encode(alloc, error.message_ref())?;
-    match error.sql_state_ref() {
-        Some(state) => {
-            let state = hex::encode(alloc, state.as_bytes())?;
-            format!(in alloc; "{code} x{state} x{message}")
-        }
-        None => format!(in alloc; "{code} none x{message}"),
-    }
+/// Whether the error is the one that was reported.
+fn is_error_reported(
+    alloc: Global,
+    line: &str,
+    error: &ServerError<'_>,
+) -> Result<bool, AllocError> {
+    let is_state = match error.sql_state_ref() {
+        Some(state) => are_bytes_reported(alloc, line, 4, &state.as_bytes())?,
+        None => is_reported(line, 4, "none"),
+    };
+    Ok(
+        is_state
+            && has_words(line, 6)
+            && is_number_reported(line, 3, u64::from(error.error_code()))
+            && are_bytes_reported(alloc, line, 5, error.message_ref())?,
+    )
 }
 
-/// The progress report's words.
-fn shown_report(alloc: Global, report: &ProgressReport<'_>) -> Result<String, AllocError> {
-    let stage = report.stage();
-    let max_stage = report.max_stage();
-    let progress = report.progress();
-    let info = hex::encode(alloc, report.stage_info_ref())?;
-    format!(in alloc; "{stage} {max_stage} {progress} x{info}")
+/// Whether the progress report is the one that was reported.
+fn is_progress_reported(
+    alloc: Global,
+    line: &str,
+    report: &ProgressReport<'_>,
+) -> Result<bool, AllocError> {
+    Ok(
+        has_words(line, 7)
+            && is_number_reported(line, 3, u64::from(report.stage()))
+            && is_number_reported(line, 4, u64::from(report.max_stage()))
+            && is_number_reported(line, 5, u64::from(report.progress()))
+            && are_bytes_reported(alloc, line, 6, report.stage_info_ref())?,
+    )
 }
 
 /// Whether the packet of the line is read whole, as it was reported, and written again.
@@ -35,17 +49,11 @@ fn agrees(alloc: Global, line: &str) -> Result<bool, Fail> {
     let mut buf = ParseBuf::new(alloc, bytes.as_slice());
     let read: Result<ErrPacket<'_>, Fault> = buf.parse(capabilities(line));
     let packet = read.ok().ok_or("a captured error is refused")?;
-    let shown = match &packet {
-        ErrPacket::Error(error) => shown_error(alloc, error)?,
-        ErrPacket::Progress(report) => shown_report(alloc, report)?,
+    let is_reported = match &packet {
+        ErrPacket::Error(error) => is_error_reported(alloc, line, error)?,
+        ErrPacket::Progress(report) => is_progress_reported(alloc, line, report)?,
     };
-    let mut written = Vec::new(alloc);
-    packet.serialize(&mut written)?;
-    Ok(
-        buf.is_empty()
-            && are_reported(line, 3, shown.as_str())
-            && written.as_slice() == bytes.as_slice(),
-    )
+    Ok(buf.is_empty() && is_reported && is_written_as(alloc, &packet, bytes.as_slice())?)
 }
 
 #[test]

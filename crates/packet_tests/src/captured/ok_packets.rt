@@ -1,6 +1,8 @@
 //! OK packets of three kinds, down to what they say of the session.
 
-use crate::captured::reported::{all_agree, are_reported, bytes_at, capabilities};
+use crate::captured::reported::{
+    all_agree, bytes_at, capabilities, has_words, is_number_reported, is_reported,
+};
 use crate::captured::{eof_old, ok_common, ok_terminator};
 use crate::ok_kind::{OkKind, read_ok};
 use mysql_replies::{OkPacket, SessionStateInfo};
@@ -9,14 +11,17 @@ use mysql_wire::{Flags, ParseBuf, SessionStateType};
 use std::alloc::{AllocError, Global};
 use std::test::Fail;
 
-/// What may change, in the order of a table's words.
-const CHANGES: [SessionStateType; 6] = [
-    SessionStateType::SESSION_TRACK_GTIDS,
-    SessionStateType::SESSION_TRACK_SCHEMA,
-    SessionStateType::SESSION_TRACK_STATE_CHANGE,
-    SessionStateType::SESSION_TRACK_SYSTEM_VARIABLES,
-    SessionStateType::SESSION_TRACK_TRANSACTION_CHARACTERISTICS,
-    SessionStateType::SESSION_TRACK_TRANSACTION_STATE,
+/// What may change, and its place in a table's line.
+const CHANGES: [(usize, SessionStateType); 6] = [
+    (8, SessionStateType::SESSION_TRACK_GTIDS),
+    (9, SessionStateType::SESSION_TRACK_SCHEMA),
+    (10, SessionStateType::SESSION_TRACK_STATE_CHANGE),
+    (11, SessionStateType::SESSION_TRACK_SYSTEM_VARIABLES),
+    (
+        12,
+        SessionStateType::SESSION_TRACK_TRANSACTION_CHARACTERISTICS,
+    ),
+    (13, SessionStateType::SESSION_TRACK_TRANSACTION_STATE),
 ];
 
 /// Adds a byte string to a word.
@@ -51,31 +56,52 @@ fn add_change(alloc: Global, word: &mut String, info: &SessionStateInfo<'_>) -> 
     Ok(())
 }
 
-/// The packet's words.
-fn shown(alloc: Global, packet: &OkPacket<'_>) -> Result<String, Fail> {
-    let rows = packet.affected_rows();
-    let insert_id = packet.last_insert_id().unwrap_or(0);
-    let status = packet.status_flags().bits();
-    let warnings = packet.warnings();
+/// Whether the packet's own fields are those that were reported.
+fn are_fields_reported(
+    alloc: Global,
+    line: &str,
+    packet: &OkPacket<'_>,
+) -> Result<bool, AllocError> {
     let mut info = String::new(alloc);
     if let Some(bytes) = packet.info_ref() {
         add(alloc, &mut info, bytes)?;
     }
-    let info = or_none(&info);
-    let mut words = format!(in alloc; "{rows} {insert_id} {status} {warnings} {info}")?;
+    Ok(
+        is_number_reported(line, 3, packet.affected_rows())
+            && is_number_reported(line, 4, packet.last_insert_id().unwrap_or(0))
+            && is_number_reported(line, 5, u64::from(packet.status_flags().bits()))
+            && is_number_reported(line, 6, u64::from(packet.warnings()))
+            && is_reported(line, 7, or_none(&info)),
+    )
+}
+
+/// Whether the changes of that kind are those that were reported at that place.
+fn are_changes_reported(
+    alloc: Global,
+    line: &str,
+    place: usize,
+    kind: SessionStateType,
+    infos: &[SessionStateInfo<'_>],
+) -> Result<bool, Fail> {
+    let mut word = String::new(alloc);
+    for info in infos {
+        if info.data_type() == kind {
+            add_change(alloc, &mut word, info)?;
+        }
+    }
+    Ok(is_reported(line, place, or_none(&word)))
+}
+
+/// Whether what the packet says of the session is what was reported.
+fn is_state_reported(alloc: Global, line: &str, packet: &OkPacket<'_>) -> Result<bool, Fail> {
     let infos = packet.session_state_info(alloc);
     let infos = infos.ok().ok_or("a captured state is refused")?;
-    for kind in CHANGES {
-        let mut word = String::new(alloc);
-        for info in infos.as_slice() {
-            if info.data_type() == kind {
-                add_change(alloc, &mut word, info)?;
-            }
+    for (place, kind) in CHANGES {
+        if !are_changes_reported(alloc, line, place, kind, infos.as_slice())? {
+            return Ok(false);
         }
-        let word = or_none(&word);
-        write!(words, " {word}")?;
     }
-    Ok(words)
+    Ok(true)
 }
 
 fn or_none(word: &String) -> &str {
@@ -92,8 +118,12 @@ fn agrees(alloc: Global, line: &str, kind: OkKind) -> Result<bool, Fail> {
     let mut buf = ParseBuf::new(alloc, bytes.as_slice());
     let read = read_ok(&mut buf, kind, capabilities(line));
     let packet = read.ok().ok_or("a captured OK packet is refused")?;
-    let shown = shown(alloc, &packet)?;
-    Ok(buf.is_empty() && are_reported(line, 3, shown.as_str()))
+    Ok(
+        buf.is_empty()
+            && has_words(line, 14)
+            && are_fields_reported(alloc, line, &packet)?
+            && is_state_reported(alloc, line, &packet)?,
+    )
 }
 
 #[test]

@@ -1,9 +1,9 @@
 //! Answers to prepared statements.
 
-use crate::captured::reported::{all_agree, bytes_at, is_reported};
+use crate::captured::reported::{all_agree, bytes_at, is_number_reported, is_written_as};
 use crate::captured::stmt_prepare_ok::PACKETS;
 use mysql_stmt::StmtPacket;
-use mysql_wire::{Fault, MySerialize, ParseBuf};
+use mysql_wire::{Fault, ParseBuf};
 use std::alloc::Global;
 use std::test::Fail;
 
@@ -13,15 +13,13 @@ fn agrees(alloc: Global, line: &str) -> Result<bool, Fail> {
     let mut buf = ParseBuf::new(alloc, bytes.as_slice());
     let read: Result<StmtPacket, Fault> = buf.parse(());
     let packet = read.ok().ok_or("a captured statement is refused")?;
-    let mut written = Vec::new(alloc);
-    packet.serialize(&mut written)?;
     Ok(
         buf.is_empty()
-            && is_reported(line, 2, u64::from(packet.statement_id()))
-            && is_reported(line, 3, u64::from(packet.num_columns()))
-            && is_reported(line, 4, u64::from(packet.num_params()))
-            && is_reported(line, 5, u64::from(packet.warning_count()))
-            && written.as_slice() == bytes.as_slice(),
+            && is_number_reported(line, 2, u64::from(packet.statement_id()))
+            && is_number_reported(line, 3, u64::from(packet.num_columns()))
+            && is_number_reported(line, 4, u64::from(packet.num_params()))
+            && is_number_reported(line, 5, u64::from(packet.warning_count()))
+            && is_written_as(alloc, &packet, bytes.as_slice())?,
     )
 }
 

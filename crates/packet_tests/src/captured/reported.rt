@@ -1,7 +1,7 @@
 //! The words of a table's line.
 
-use mysql_wire::{CapabilityFlags, Flags};
-use std::alloc::Global;
+use mysql_wire::{CapabilityFlags, Flags, MySerialize};
+use std::alloc::{AllocError, Global};
 use std::process::Abort;
 use std::test::Fail;
 
@@ -42,20 +42,42 @@ pub fn capabilities(line: &str) -> CapabilityFlags {
     CapabilityFlags::from_bits_retain(word(line, 2).parse::<u32>().unwrap_or(0))
 }
 
+/// Whether the line has so many words.
+pub fn has_words(line: &str, count: usize) -> bool {
+    line.split(' ').count() == count
+}
+
+/// Whether the word is the one that was reported at that place, where one was.
+pub fn is_reported(line: &str, place: usize, shown: &str) -> bool {
+    let word = word(line, place);
+    word == "-" || word == shown
+}
+
 /// Whether the number is the one that was reported at that place, where one was.
-pub fn is_reported(line: &str, place: usize, number: u64) -> bool {
+pub fn is_number_reported(line: &str, place: usize, number: u64) -> bool {
     let word = word(line, place);
     word == "-" || word.parse::<u64>().ok() == Some(number)
 }
 
-/// Whether the words from that place on are these, where they were reported.
-pub fn are_reported(line: &str, place: usize, shown: &str) -> bool {
-    let mut shown = shown.split(' ');
-    for reported in line.split(' ').skip(place) {
-        match shown.next() {
-            Some(word) if reported == "-" || reported == word => {}
-            _ => return false,
-        }
-    }
-    shown.next().is_none()
+/// Whether the bytes are those that were reported at that place, where some were.
+pub fn are_bytes_reported(
+    alloc: Global,
+    line: &str,
+    place: usize,
+    bytes: &[u8],
+) -> Result<bool, AllocError> {
+    let word = word(line, place);
+    let digits = hex::encode(alloc, bytes)?;
+    Ok(word == "-" || word.strip_prefix('x') == Some(digits.as_str()))
+}
+
+/// Whether the value is written as these bytes.
+pub fn is_written_as<T: MySerialize>(
+    alloc: Global,
+    value: &T,
+    bytes: &[u8],
+) -> Result<bool, AllocError> {
+    let mut written = Vec::new(alloc);
+    value.serialize(&mut written)?;
+    Ok(written.as_slice() == bytes)
 }

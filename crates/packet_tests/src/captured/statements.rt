@@ -1,9 +1,8 @@
 //! Long data and closes of prepared statements, written from what was handed to the client's API.
 
-use crate::captured::reported::{all_agree, bytes_at, word};
+use crate::captured::reported::{all_agree, bytes_at, is_written_as, word};
 use crate::captured::{stmt_close, stmt_send_long_data};
 use mysql_stmt::{ComStmtClose, ComStmtSendLongData};
-use mysql_wire::MySerialize;
 use std::alloc::Global;
 use std::borrow::CowSlice;
 use std::test::Fail;
@@ -11,19 +10,18 @@ use std::test::Fail;
 /// Whether the close is written as the client wrote it.
 fn close_agrees(alloc: Global, line: &str) -> Result<bool, Fail> {
     let stmt_id = word(line, 2).parse::<u32>().ok().ok_or("no number")?;
-    let mut written = Vec::new(alloc);
-    ComStmtClose::new(stmt_id).serialize(&mut written)?;
-    Ok(written.as_slice() == bytes_at(alloc, line, 1)?.as_slice())
+    let bytes = bytes_at(alloc, line, 1)?;
+    Ok(is_written_as(alloc, &ComStmtClose::new(stmt_id), bytes.as_slice())?)
 }
 
 /// Whether the long data is written as the client wrote it.
 fn long_data_agrees(alloc: Global, line: &str) -> Result<bool, Fail> {
     let stmt_id = word(line, 2).parse::<u32>().ok().ok_or("no number")?;
     let param_index = word(line, 3).parse::<u16>().ok().ok_or("no number")?;
+    let bytes = bytes_at(alloc, line, 1)?;
     let data = CowSlice::Owned(bytes_at(alloc, line, 4)?);
-    let mut written = Vec::new(alloc);
-    ComStmtSendLongData::new(stmt_id, param_index, data).serialize(&mut written)?;
-    Ok(written.as_slice() == bytes_at(alloc, line, 1)?.as_slice())
+    let data = ComStmtSendLongData::new(stmt_id, param_index, data);
+    Ok(is_written_as(alloc, &data, bytes.as_slice())?)
 }
 
 #[test]

@@ -29,13 +29,39 @@ fn shown(alloc: Global, value: &Value) -> Result<String, AllocError> {
         Value::Float(bits) => format!(in alloc; "f{bits}"),
         Value::Double(bits) => format!(in alloc; "d{bits}"),
         Value::Date(year, month, day, hour, minute, second, micros) => {
-            format!(in alloc; "date{year}:{month}:{day}:{hour}:{minute}:{second}:{micros}")
+            let fields = [
+                u32::from(*year),
+                u32::from(*month),
+                u32::from(*day),
+                u32::from(*hour),
+                u32::from(*minute),
+                u32::from(*second),
+                *micros,
+            ];
+            numbers(alloc, "date", &fields)
         }
         Value::Time(is_negative, days, hour, minute, second, micros) => {
-            let sign = u8::from(*is_negative);
-            format!(in alloc; "time{sign}:{days}:{hour}:{minute}:{second}:{micros}")
+            let fields = [
+                u32::from(u8::from(*is_negative)),
+                *days,
+                u32::from(*hour),
+                u32::from(*minute),
+                u32::from(*second),
+                *micros,
+            ];
+            numbers(alloc, "time", &fields)
         }
     }
+}
+
+/// The numbers behind that head, parted by colons.
+fn numbers(alloc: Global, head: &str, numbers: &[u32]) -> Result<String, AllocError> {
+    let mut word = String::from_str(alloc, head)?;
+    for (place, number) in numbers.iter().enumerate() {
+        let colon = if place == 0 { "" } else { ":" };
+        write!(word, "{colon}{number}")?;
+    }
+    Ok(word)
 }
 
 /// Whether the value is the one of the word, where this tells one.

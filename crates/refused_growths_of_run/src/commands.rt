@@ -1,0 +1,60 @@
+//! The program's commands.
+
+use mysql_packets::run;
+use refused_growths_cases::{Cases, counted};
+use std::alloc::{AllocError, Global};
+
+const COLUMN: &str =
+    "0364656606736368656d61057461626c65096f72675f7461626c65046e616d65086f72675f6e616d650c21000f000000000100080000";
+
+const CHANGE: &str = "00000002400000001100\
+    0f0a6175746f636f6d6d6974034f4646";
+
+pub fn all(cases: &mut Cases) -> Result<(), AllocError> {
+    cases.case("run_bad_call", |alloc| shown(alloc, &["stmt", "0"]))?;
+    cases.case(
+        "run_stmt",
+        |alloc| shown(alloc, &["stmt", "000100000001000200000000"]),
+    )?;
+    cases.case(
+        "run_infile",
+        |alloc| shown(alloc, &["infile", "fb66696c655f6e616d65"]),
+    )?;
+    cases.case("run_column", |alloc| shown(alloc, &["column", COLUMN]))?;
+    cases.case(
+        "run_ok",
+        |alloc| shown(alloc, &["ok", "common", "800000", CHANGE]),
+    )?;
+    cases.case(
+        "run_err",
+        |alloc| shown(alloc, &["err", "200", "ff48042348593030304e6f"]),
+    )?;
+    cases.case(
+        "run_bulk",
+        |alloc| answered(alloc, &["bulk", "1", "31"], b"i1\ni2\ni3\n"),
+    )
+}
+
+/// What the program answers to the words, where it reads nothing.
+fn shown(alloc: Global, call: &[&str]) -> Result<String, AllocError> {
+    answered(alloc, call, b"")
+}
+
+/// The status that the program answers to the words on an input, and its lines.
+fn answered(alloc: Global, call: &[&str], input: &[u8]) -> Result<String, AllocError> {
+    let mut words = Vec::with_capacity(alloc, call.len())?;
+    for word in call {
+        words.push(String::from_str(alloc, word)?)?;
+    }
+    let mut input = input;
+    let mut written = Vec::with_capacity(alloc, 1024)?;
+    counted::start(alloc);
+    let status = run(alloc, words.as_slice(), &mut input, &mut written);
+    counted::stop(alloc);
+    let mut shown = format!(in alloc; "status {status}")?;
+    for line in str::from_utf8(written.as_slice()).unwrap_or("?").lines() {
+        shown.push_str("; ")?;
+        shown.push_str(line)?;
+    }
+    Ok(shown)
+}

@@ -1,0 +1,178 @@
+//! Byte strings at the limits of their forms.
+
+use mysql_wire::{
+    BareBytes, BytesRepr, ConstBytes, ConstBytesValue, ConstFault, EofBytes, Fault, LenEnc,
+    MyDeserialize, MySerialize, NullBytes, ParseBuf, RawBytes, U8Bytes, U32Bytes,
+};
+use std::alloc::{AllocError, Global};
+use std::borrow::CowSlice;
+use std::test::Fail;
+
+fn borrowed<'a, R>(content: &'a [u8]) -> RawBytes<'a, R> {
+    RawBytes::new(CowSlice::Borrowed(content))
+}
+
+fn written<R: BytesRepr>(alloc: Global, content: &[u8]) -> Result<Vec<u8>, AllocError> {
+    let mut out = Vec::new(alloc);
+    borrowed::<R>(content).serialize(&mut out)?;
+    Ok(out)
+}
+
+/// Bytes, and the content with how many bytes are left behind it, if they begin with a null string.
+const NULL_STRINGS: [(&[u8], Option<(&[u8], usize)>); 5] = [
+    (b"", None),
+    (b"ab", None),
+    (b"\0", Some((b"", 0))),
+    (b"ab\0", Some((b"ab", 0))),
+    (b"ab\0c\0", Some((b"ab", 2))),
+];
+
+#[test]
+fn a_null_string_ends_at_its_zero(rt: HostRuntime) {
+    for (bytes, expected) in NULL_STRINGS {
+        let mut buf = ParseBuf::new(rt.alloc(), bytes);
+        match (buf.parse::<RawBytes<NullBytes>>(()), expected) {
+            (Ok(content), Some((wanted, left))) => {
+                assert_eq!(rt; content.as_bytes(), wanted);
+                assert_eq!(rt; buf.len(), left);
+            }
+            (Err(fault), None) => {
+                assert_eq!(rt; fault, Fault::UnexpectedEof);
+                assert_eq!(rt; buf.len(), bytes.len());
+            }
+            _ => assert!(rt; false),
+        }
+    }
+}
+
+#[test]
+fn a_null_string_is_written_to_its_first_zero(rt: HostRuntime) -> Result<(), Fail> {
+    let out = written::<NullBytes>(rt.alloc(), b"a\0b")?;
+    assert_eq!(rt; out.as_slice(), b"a\0".as_slice());
+    assert_eq!(rt; borrowed::<NullBytes>(b"a\0b").len(), 1);
+    assert!(rt; borrowed::<NullBytes>(b"\0b").is_empty());
+    Ok(())
+}
+
+#[test]
+fn a_count_of_one_byte_tells_255_bytes(rt: HostRuntime) -> Result<(), Fail> {
+    let long = [b'x'; 256];
+    for n in [254, 255, 256] {
+        let content = &long[..n];
+        let kept = &long[..n.min(255)];
+        let out = written::<U8Bytes>(rt.alloc(), content)?;
+        assert_eq!(rt;
+            out.as_slice().split_first(),
+            Some((&(kept.len() as u8), kept))
+        );
+        assert_eq!(rt; borrowed::<U8Bytes>(content).len(), kept.len());
+        assert_eq!(rt; borrowed::<U8Bytes>(content).defined_len(), kept.len() + 1);
+        let mut buf = ParseBuf::new(rt.alloc(), &out);
+        let again: RawBytes<U8Bytes> = buf.parse(()).ok().ok_or("a string")?;
+        assert_eq!(rt; again.as_bytes(), kept);
+        assert!(rt; buf.is_empty());
+    }
+    Ok(())
+}
+
+#[test]
+fn a_count_past_the_end(rt: HostRuntime) {
+    let eof = Some(Fault::UnexpectedEof);
+    let mut buf = ParseBuf::new(rt.alloc(), b"\x03ab");
+    assert_eq!(rt; buf.parse::<RawBytes<U8Bytes>>(()).err(), eof);
+    let mut buf = ParseBuf::new(rt.alloc(), b"\xff\xff\xff\xffabc");
+    assert_eq!(rt; buf.parse::<RawBytes<U32Bytes>>(()).err(), eof);
+    let mut buf = ParseBuf::new(rt.alloc(), b"\xfe\xff\xff\xff\xff\xff\xff\xff\xffabc");
+    assert_eq!(rt; buf.parse::<RawBytes<LenEnc>>(()).err(), eof);
+    assert_eq!(rt; buf.parse::<RawBytes<BareBytes<99>>>(13).err(), eof);
+    assert_eq!(rt; buf.len(), 12);
+}
+
+#[test]
+fn a_count_of_four_bytes(rt: HostRuntime) -> Result<(), Fail> {
+    let out = written::<U32Bytes>(rt.alloc(), b"abc")?;
+    assert_eq!(rt; out.as_slice(), b"\x03\0\0\0abc".as_slice());
+    let mut buf = ParseBuf::new(rt.alloc(), &out);
+    let content: RawBytes<U32Bytes> = buf.parse(()).ok().ok_or("a string")?;
+    assert_eq!(rt; content.as_bytes(), b"abc".as_slice());
+    Ok(())
+}
+
+#[test]
+fn a_string_without_a_count_is_cut_where_it_is_written(rt: HostRuntime) -> Result<(), Fail> {
+    let out = written::<BareBytes<2>>(rt.alloc(), b"abc")?;
+    assert_eq!(rt; out.as_slice(), b"ab".as_slice());
+    Ok(())
+}
+
+#[test]
+fn a_count_handed_in_and_the_rest(rt: HostRuntime) -> Result<(), Fail> {
+    let mut buf = ParseBuf::new(rt.alloc(), b"abcde\0");
+    let content: RawBytes<BareBytes<2>> = buf.parse(3).ok().ok_or("3 bytes")?;
+    assert_eq!(rt; content.as_bytes(), b"abc".as_slice());
+    let content: RawBytes<EofBytes> = buf.parse(()).ok().ok_or("a rest")?;
+    assert_eq!(rt; content.as_bytes(), b"de\0".as_slice());
+    assert!(rt; buf.is_empty());
+    Ok(())
+}
+
+#[test]
+fn text_and_copies(rt: HostRuntime) -> Result<(), Fail> {
+    let content = borrowed::<EofBytes>(b"a\xffb\xe2\x82");
+    assert_eq!(rt; content.as_str(rt.alloc())?.as_str(), "a\u{FFFD}b\u{FFFD}");
+    let owned = content.clone()?.into_owned(rt.alloc())?;
+    assert!(rt; content == owned);
+    assert!(rt; RawBytes::<EofBytes>::default().is_empty());
+    Ok(())
+}
+
+#[derive(Clone, Copy, Debug)]
+struct Marker;
+
+impl ConstFault for Marker {
+    const MESSAGE: &'static str = "Invalid marker";
+}
+
+impl ConstBytesValue<4> for Marker {
+    ghost use Rattle.std.specs.Prelude.{◌∷◌, [], refl};
+
+    ghost VALUE = { 3 ∷ 100 ∷ 101 ∷ 102 ∷ [] };
+
+    const VALUE: [u8; 4] = [3, b'd', b'e', b'f'];
+
+    type Error = Marker;
+
+    ghost len_is = { refl };
+}
+
+#[test]
+fn strings_of_one_length(rt: HostRuntime) -> Result<(), Fail> {
+    let mut buf = ParseBuf::new(rt.alloc(), b"\x03defabc");
+    let marker: ConstBytes<Marker, 4> = buf.parse(()).ok().ok_or("the marker")?;
+    let name: [u8; 2] = buf.parse(()).ok().ok_or("two bytes")?;
+    assert_eq!(rt; name, *b"ab");
+    assert_eq!(rt; buf.parse::<[u8; 2]>(()).err(), Some(Fault::UnexpectedEof));
+    assert_eq!(rt; buf.len(), 1);
+    let mut out = Vec::new(rt.alloc());
+    marker.serialize(&mut out)?;
+    name.serialize(&mut out)?;
+    assert_eq!(rt; out.as_slice(), b"\x03defab".as_slice());
+    Ok(())
+}
+
+#[test]
+fn other_bytes_are_no_marker(rt: HostRuntime) {
+    let mut buf = ParseBuf::new(rt.alloc(), b"\x03dex");
+    let fault = buf.parse::<ConstBytes<Marker, 4>>(()).err();
+    assert_eq!(rt; fault, Some(Fault::InvalidData("Invalid marker")));
+    let mut buf = ParseBuf::new(rt.alloc(), b"\x03de");
+    let fault = buf.parse::<ConstBytes<Marker, 4>>(()).err();
+    assert_eq!(rt; fault, Some(Fault::UnexpectedEof));
+}
+
+#[test]
+fn a_null_string_alone_has_no_size(rt: HostRuntime) {
+    assert_eq!(rt; <[u8; 8] as MyDeserialize>::SIZE, Some(8));
+    assert_eq!(rt; <ConstBytes<Marker, 4> as MyDeserialize>::SIZE, Some(4));
+    assert_eq!(rt; <RawBytes<NullBytes> as MyDeserialize>::SIZE, None);
+}
