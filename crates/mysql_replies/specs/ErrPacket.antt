@@ -1,6 +1,7 @@
 -- Errors and progress reports, in their packet.
 use Rattle.std.specs.Prelude.{◌≡◌, ℕ, ◌<◌, ◌^◌, List, [], length, None, Bool, true, false, ◌&&◌, ◌==◌, refl}
 use Rattle.std.proofs.Common.{◌⊎◌, inl, inr}
+use Rattle.mysql_wire.specs.FlagMasks.{CLIENT_PROGRESS_OBSOLETE, CLIENT_PROTOCOL_41}
 use Rattle.mysql_wire.specs.Flags.{CapabilityFlags, has}
 use Rattle.mysql_wire.specs.Int.{raw_int}
 use Rattle.mysql_wire.specs.Codec.{Codec, Fields}
@@ -21,12 +22,11 @@ abbrev pub is_progress_report : ErrPacket → Bool
 is_progress_report (err.Error e) = false
 is_progress_report (err.Progress r) = true
 
--- CLIENT_PROGRESS_OBSOLETE, and CLIENT_PROTOCOL_41
 abbrev pub takes_progress : CapabilityFlags → Bool
-takes_progress capabilities = has capabilities.0 0x20000000
+takes_progress capabilities = has capabilities.0 CLIENT_PROGRESS_OBSOLETE
 
 abbrev pub sends_state : CapabilityFlags → Bool
-sends_state capabilities = has capabilities.0 0x200
+sends_state capabilities = has capabilities.0 CLIENT_PROTOCOL_41
 
 -- the code of an error, and ffff for a report
 abbrev pub packet_code : ErrPacket → ℕ

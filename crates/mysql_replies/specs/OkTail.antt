@@ -1,16 +1,18 @@
 -- The end of an OK packet.
 use Rattle.std.specs.Prelude.{◌≡◌, ℕ, List, [], ◌∷◌, None, Bool, true, false, not, ◌&&◌, ◌==◌, refl}
+use Rattle.mysql_wire.specs.FlagMasks.{CLIENT_SESSION_TRACK, SERVER_SESSION_STATE_CHANGED}
 use Rattle.mysql_wire.specs.Flags.{CapabilityFlags, StatusFlags, has}
 use Rattle.mysql_wire.specs.Form.{Form, ◌>>=◌, give, either, looking}
 use Rattle.mysql_wire.specs.LenEnc.{lenenc_string}
 use Rattle.mysql_replies.specs.declared.ok_tail.OkTail.{OkTail}
 
--- CLIENT_SESSION_TRACK, and SERVER_SESSION_STATE_CHANGED
+-- changes of the session are told of
 abbrev pub tracks : CapabilityFlags → Bool
-tracks capabilities = has capabilities.0 0x800000
+tracks capabilities = has capabilities.0 CLIENT_SESSION_TRACK
 
+-- the session has changed
 abbrev pub state_changed : StatusFlags → Bool
-state_changed status = has status.0 0x4000
+state_changed status = has status.0 SERVER_SESSION_STATE_CHANGED
 
 -- bytes are left
 abbrev pub is_there : List ℕ → Bool

@@ -1,9 +1,9 @@
 //! A column of a result.
 #![tactic(auto, using(mysql_wire::proofs::Packets::packets), unfolding(crate::specs::Column::column))]
 
-ghost use Rattle.std.specs.Prelude.{◌≡◌, true, length, is_ok, IsUtf8, None, refl, IfOk, ◌∷◌};
-ghost use Rattle.std.specs.Cow.{cow_str_bytes, IsOwnedStr};
-ghost use Rattle.mysql_wire.specs.Text.{lossy_text};
+ghost use Rattle.std.specs.Prelude.{◌≡◌, true, length, None, refl, IfOk, ◌∷◌};
+ghost use Rattle.std.specs.Cow.{cow_str_bytes};
+ghost use Rattle.mysql_wire.specs.Text.{lossy_text, BorrowsUtf8};
 ghost use Rattle.mysql_replies.specs.Column as spec;
 
 use crate::column_fields::ColumnFields;
@@ -274,7 +274,7 @@ impl Column {
     /// The name of the schema as text, with U+FFFD for what is not UTF-8. UTF-8 is borrowed.
     pub fn schema_str(&self, alloc: Global) -> Result<CowStr<'_>, AllocError>
         ensures text { IfOk result (λ text. cow_str_bytes text ≡ lossy_text (spec.schema self.now)) }
-        ensures utf8 { IsUtf8 (spec.schema self.now) → (is_ok result ≡ true) × IfOk result (λ text. IsOwnedStr text → ⊥) }
+        ensures utf8 { BorrowsUtf8 (spec.schema self.now) result }
     {
         self.meta.schema.as_str(alloc)
     }
@@ -290,7 +290,7 @@ impl Column {
     /// The name of the table, or of its alias as text, with U+FFFD for what is not UTF-8. UTF-8 is borrowed.
     pub fn table_str(&self, alloc: Global) -> Result<CowStr<'_>, AllocError>
         ensures text { IfOk result (λ text. cow_str_bytes text ≡ lossy_text (spec.table self.now)) }
-        ensures utf8 { IsUtf8 (spec.table self.now) → (is_ok result ≡ true) × IfOk result (λ text. IsOwnedStr text → ⊥) }
+        ensures utf8 { BorrowsUtf8 (spec.table self.now) result }
     {
         self.meta.table.as_str(alloc)
     }
@@ -306,7 +306,7 @@ impl Column {
     /// The name of the table itself as text, with U+FFFD for what is not UTF-8. UTF-8 is borrowed.
     pub fn org_table_str(&self, alloc: Global) -> Result<CowStr<'_>, AllocError>
         ensures text { IfOk result (λ text. cow_str_bytes text ≡ lossy_text (spec.org_table self.now)) }
-        ensures utf8 { IsUtf8 (spec.org_table self.now) → (is_ok result ≡ true) × IfOk result (λ text. IsOwnedStr text → ⊥) }
+        ensures utf8 { BorrowsUtf8 (spec.org_table self.now) result }
     {
         self.meta.org_table.as_str(alloc)
     }
@@ -322,7 +322,7 @@ impl Column {
     /// The name of the column, or of its alias as text, with U+FFFD for what is not UTF-8. UTF-8 is borrowed.
     pub fn name_str(&self, alloc: Global) -> Result<CowStr<'_>, AllocError>
         ensures text { IfOk result (λ text. cow_str_bytes text ≡ lossy_text (spec.name self.now)) }
-        ensures utf8 { IsUtf8 (spec.name self.now) → (is_ok result ≡ true) × IfOk result (λ text. IsOwnedStr text → ⊥) }
+        ensures utf8 { BorrowsUtf8 (spec.name self.now) result }
     {
         self.meta.name.as_str(alloc)
     }
@@ -338,7 +338,7 @@ impl Column {
     /// The name of the column itself as text, with U+FFFD for what is not UTF-8. UTF-8 is borrowed.
     pub fn org_name_str(&self, alloc: Global) -> Result<CowStr<'_>, AllocError>
         ensures text { IfOk result (λ text. cow_str_bytes text ≡ lossy_text (spec.org_name self.now)) }
-        ensures utf8 { IsUtf8 (spec.org_name self.now) → (is_ok result ≡ true) × IfOk result (λ text. IsOwnedStr text → ⊥) }
+        ensures utf8 { BorrowsUtf8 (spec.org_name self.now) result }
     {
         self.meta.org_name.as_str(alloc)
     }

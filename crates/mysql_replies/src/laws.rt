@@ -3,7 +3,7 @@
 //! Each law is a function with nothing in it, whose contract holds for all values.
 #![tactic(auto, using(mysql_wire::proofs::Packets::packets))]
 
-ghost use Rattle.std.specs.Prelude.{◌≡◌, ◌++◌, [], List, ℕ, Bool};
+ghost use Rattle.std.specs.Prelude.{◌≡◌, ◌++◌, [], List, ℕ, Bool, Some, true};
 ghost use Rattle.mysql_wire.specs.Flags.{CapabilityFlags};
 ghost use Rattle.mysql_replies.specs.declared.column.Column.{Column};
 ghost use Rattle.mysql_replies.specs.declared.err_packet.ErrPacket.{ErrPacket};
@@ -20,6 +20,9 @@ ghost use Rattle.mysql_replies.specs.ServerError.{server_error};
 ghost use Rattle.mysql_replies.specs.SessionStateInfo.{session_state_info, state_string};
 ghost use Rattle.mysql_replies.specs.SqlState.{sql_state};
 
+use mysql_wire::MyDeserialize;
+use std::hash::Hash;
+
 /// What is written of a request for a local file is read again, where nothing follows.
 pub fn local_infile_again()
     ensures spelled { (p : LocalInfilePacket) (rest : List ℕ) → local_infile.fits tt p rest → (local_infile.form tt).Spells p (local_infile.bytes p ++ rest) rest }
@@ -28,6 +31,18 @@ pub fn local_infile_again()
 /// What is written of an SQL state is read again, whatever follows.
 pub fn sql_state_again()
     ensures spelled { (s : SqlState) (rest : List ℕ) → sql_state.fits tt s rest → (sql_state.form tt).Spells s (sql_state.bytes s ++ rest) rest }
+{}
+
+/// An SQL state takes 6 bytes.
+pub fn sql_state_size() -> Option<usize>
+    ensures value { result ≡ Some 6 }
+{
+    <crate::sql_state::SqlState as MyDeserialize>::SIZE
+}
+
+/// Equal SQL states hash equally.
+pub fn equal_sql_states_hash_equally()
+    ensures hash { (x y : SqlState) → ⟦<crate::sql_state::SqlState as PartialEq>⟧.eq x y ≡ true → ⟦<crate::sql_state::SqlState as Hash>⟧.hash_input x ≡ ⟦<crate::sql_state::SqlState as Hash>⟧.hash_input y }
 {}
 
 /// What is written of an error is read again, where nothing follows and the reader is told the

@@ -1,9 +1,9 @@
 //! The request for a file of the client's.
 #![tactic(auto, using(mysql_wire::proofs::Packets::packets), unfolding(crate::specs::LocalInfile::local_infile))]
 
-ghost use Rattle.std.specs.Prelude.{false, ◌≡◌, None, refl, IfOk, true, is_ok, IsUtf8};
-ghost use Rattle.std.specs.Cow.{cow_slice_items, cow_str_bytes, IsOwnedStr};
-ghost use Rattle.mysql_wire.specs.Text.{lossy_text};
+ghost use Rattle.std.specs.Prelude.{false, ◌≡◌, None, refl, IfOk};
+ghost use Rattle.std.specs.Cow.{cow_slice_items, cow_str_bytes};
+ghost use Rattle.mysql_wire.specs.Text.{lossy_text, BorrowsUtf8};
 ghost use Rattle.mysql_replies.specs.LocalInfile as infile;
 
 use mysql_wire::{
@@ -59,7 +59,7 @@ impl<'a> LocalInfilePacket<'a> {
     /// The file's name as text, with U+FFFD for what is not UTF-8. UTF-8 is borrowed.
     pub fn file_name_str(&self, alloc: Global) -> Result<CowStr<'_>, AllocError>
         ensures text { IfOk result (λ text. cow_str_bytes text ≡ lossy_text (infile.file_name self.now)) }
-        ensures utf8 { IsUtf8 (infile.file_name self.now) → (is_ok result ≡ true) × IfOk result (λ text. IsOwnedStr text → ⊥) }
+        ensures utf8 { BorrowsUtf8 (infile.file_name self.now) result }
     {
         self.file_name.as_str(alloc)
     }

@@ -4,7 +4,7 @@ ghost use Rattle.std.specs.Prelude.{true, ◌≡◌, ℕ, List, [], Option, Some
 ghost use Rattle.std.specs.Cow.{cow_str_bytes};
 ghost use Rattle.mysql_wire.specs.Reading.{Answers};
 ghost use Rattle.mysql_wire.specs.Seq.{items_of};
-ghost use Rattle.mysql_wire.specs.Text.{lossy_text};
+ghost use Rattle.mysql_wire.specs.Text.{lossy_text, OptionBorrowsUtf8};
 ghost use Rattle.mysql_replies.specs.OkPacket as spec;
 ghost use Rattle.mysql_replies.specs.SessionStateInfo.{state_string};
 
@@ -113,6 +113,7 @@ impl<'a> OkPacket<'a> {
     /// The info as text, with U+FFFD for what is not UTF-8. UTF-8 is borrowed.
     pub fn info_str(&self, alloc: Global) -> Result<Option<CowStr<'_>>, AllocError>
         ensures text { IfOk result (λ text. option_map cow_str_bytes text ≡ option_map lossy_text (spec.info self.now)) }
+        ensures utf8 { OptionBorrowsUtf8 (spec.info self.now) result }
     {
         match &self.info {
             Some(info) => Ok(Some(info.as_str(alloc)?)),
@@ -132,9 +133,10 @@ impl<'a> OkPacket<'a> {
 
     /// The entries that the whole state string spells, none where there is no state.
     ///
-    /// The fault is the first one of an entry.
+    /// The fault is the first one of an entry. Without a state it takes no memory.
     pub fn session_state_info(&self, alloc: Global) -> Result<Vec<SessionStateInfo<'_>>, Fault>
         ensures value { Answers true (items_of result) [] (state_string.reads (spec.state_bytes self.now)) }
+        ensures absent { spec.session_state self.now ≡ None → items_of result ≡ Ok [] }
         ensures spelled { IfOk result (λ infos. state_string.Spells infos.items (spec.state_bytes self.now) []) }
     {
         match &self.session_state_info {

@@ -1,9 +1,9 @@
 //! How far a server is with a long statement.
 #![tactic(auto, using(mysql_wire::proofs::Packets::packets), unfolding(crate::specs::ProgressReport::progress_report))]
 
-ghost use Rattle.std.specs.Prelude.{false, ◌≡◌, None, Some, refl, IfOk, true, is_ok, IsUtf8};
-ghost use Rattle.std.specs.Cow.{cow_slice_items, cow_str_bytes, IsOwnedStr};
-ghost use Rattle.mysql_wire.specs.Text.{lossy_text};
+ghost use Rattle.std.specs.Prelude.{false, ◌≡◌, None, Some, refl, IfOk};
+ghost use Rattle.std.specs.Cow.{cow_slice_items, cow_str_bytes};
+ghost use Rattle.mysql_wire.specs.Text.{lossy_text, BorrowsUtf8};
 ghost use Rattle.mysql_replies.specs.ProgressReport as spec;
 
 use bstr::BStr;
@@ -76,7 +76,7 @@ impl<'a> ProgressReport<'a> {
     /// The stage's text as text, with U+FFFD for what is not UTF-8. UTF-8 is borrowed.
     pub fn stage_info_str(&self, alloc: Global) -> Result<CowStr<'_>, AllocError>
         ensures text { IfOk result (λ text. cow_str_bytes text ≡ lossy_text (spec.stage_info self.now)) }
-        ensures utf8 { IsUtf8 (spec.stage_info self.now) → (is_ok result ≡ true) × IfOk result (λ text. IsOwnedStr text → ⊥) }
+        ensures utf8 { BorrowsUtf8 (spec.stage_info self.now) result }
     {
         self.stage_info.as_str(alloc)
     }

@@ -1,9 +1,9 @@
 //! An error that a server reports.
 #![tactic(auto, using(mysql_wire::proofs::Packets::packets), unfolding(crate::specs::ServerError::server_error))]
 
-ghost use Rattle.std.specs.Prelude.{false, ◌≡◌, None, Some, refl, IfOk, option_map, true, is_ok, IsUtf8};
-ghost use Rattle.std.specs.Cow.{cow_slice_items, cow_str_bytes, IsOwnedStr};
-ghost use Rattle.mysql_wire.specs.Text.{lossy_text};
+ghost use Rattle.std.specs.Prelude.{false, ◌≡◌, None, Some, refl, IfOk, option_map};
+ghost use Rattle.std.specs.Cow.{cow_slice_items, cow_str_bytes};
+ghost use Rattle.mysql_wire.specs.Text.{lossy_text, BorrowsUtf8};
 ghost use Rattle.mysql_replies.specs.ServerError as spec;
 
 use crate::sql_state::SqlState;
@@ -66,7 +66,7 @@ impl<'a> ServerError<'a> {
     /// The message as text, with U+FFFD for what is not UTF-8. UTF-8 is borrowed.
     pub fn message_str(&self, alloc: Global) -> Result<CowStr<'_>, AllocError>
         ensures text { IfOk result (λ text. cow_str_bytes text ≡ lossy_text (spec.message self.now)) }
-        ensures utf8 { IsUtf8 (spec.message self.now) → (is_ok result ≡ true) × IfOk result (λ text. IsOwnedStr text → ⊥) }
+        ensures utf8 { BorrowsUtf8 (spec.message self.now) result }
     {
         self.message.as_str(alloc)
     }

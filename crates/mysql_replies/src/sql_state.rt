@@ -1,9 +1,9 @@
 //! The SQL state of an error.
 #![tactic(auto, using(mysql_wire::proofs::Packets::packets), unfolding(crate::specs::SqlState::sql_state))]
 
-ghost use Rattle.std.specs.Prelude.{false, ◌≡◌, Some, refl, IfOk, true, is_ok, IsUtf8};
-ghost use Rattle.std.specs.Cow.{cow_str_bytes, IsOwnedStr};
-ghost use Rattle.mysql_wire.specs.Text.{lossy_text};
+ghost use Rattle.std.specs.Prelude.{false, ◌≡◌, Some, refl, IfOk};
+ghost use Rattle.std.specs.Cow.{cow_str_bytes};
+ghost use Rattle.mysql_wire.specs.Text.{lossy_text, BorrowsUtf8};
 ghost use Rattle.mysql_replies.specs.SqlState as spec;
 
 use bstr::ByteSlice;
@@ -58,7 +58,7 @@ impl SqlState {
     /// The five bytes as text, with U+FFFD for what is not UTF-8. UTF-8 is borrowed.
     pub fn as_str(&self, alloc: Global) -> Result<CowStr<'_>, AllocError>
         ensures text { IfOk result (λ text. cow_str_bytes text ≡ lossy_text (spec.state_bytes self.now)) }
-        ensures utf8 { IsUtf8 (spec.state_bytes self.now) → (is_ok result ≡ true) × IfOk result (λ text. IsOwnedStr text → ⊥) }
+        ensures utf8 { BorrowsUtf8 (spec.state_bytes self.now) result }
     {
         self.state.as_slice().to_str_lossy(alloc)
     }

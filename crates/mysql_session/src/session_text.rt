@@ -1,8 +1,8 @@
 //! The parts of session changes that are one byte string each.
 
-ghost use Rattle.std.specs.Prelude.{false, true, is_ok, IsUtf8, ◌≡◌, None, IfOk, refl};
-ghost use Rattle.std.specs.Cow.{cow_slice_items, cow_str_bytes, IsOwnedStr};
-ghost use Rattle.mysql_wire.specs.Text.{lossy_text};
+ghost use Rattle.std.specs.Prelude.{false, ◌≡◌, None, IfOk, refl};
+ghost use Rattle.std.specs.Cow.{cow_slice_items, cow_str_bytes};
+ghost use Rattle.mysql_wire.specs.Text.{lossy_text, BorrowsUtf8};
 ghost use Rattle.mysql_session.specs.SessionText.{session_text, text_bytes, text_of};
 
 use mysql_wire::{
@@ -75,7 +75,7 @@ impl<'a, N, R> SessionText<'a, N, R> {
     /// The text, with U+FFFD for what is not UTF-8. UTF-8 is borrowed, and takes no memory.
     pub fn as_str(&self, alloc: Global) -> Result<CowStr<'_>, AllocError>
         ensures text { IfOk result (λ text. cow_str_bytes text ≡ lossy_text (text_bytes self.now)) }
-        ensures utf8 { IsUtf8 (text_bytes self.now) → (is_ok result ≡ true) × IfOk result (λ text. IsOwnedStr text → ⊥) }
+        ensures utf8 { BorrowsUtf8 (text_bytes self.now) result }
     {
         self.0.as_str(alloc)
     }
