@@ -11,8 +11,6 @@ ghost use Rattle.mysql_values.specs.ContentEq.{content_eq};
 ghost use Rattle.mysql_values.specs.ParamType.{param_type, type_flags};
 
 use crate::param_type::ParamType;
-use mysql_wire::MyDeserialize;
-
 use crate::value_deserializer::{BinValue, TextValue, ValueDeserializer};
 use mysql_wire::MyDeserialize;
 
