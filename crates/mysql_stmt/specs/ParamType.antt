@@ -3,6 +3,7 @@ use Rattle.std.specs.Prelude.{ℕ, if◌then◌else◌, ◌++◌, List}
 use Rattle.std.specs.List.{flat_map}
 use Rattle.mysql_wire.specs.declared.codes.column_type.ColumnType.{ColumnType}
 use Rattle.mysql_wire.specs.ColumnType.{column_type_code}
+use Rattle.mysql_wire.specs.FlagMasks.{UNSIGNED}
 use Rattle.mysql_wire.specs.Writing.{le_bytes}
 use Rattle.mysql_values.specs.declared.value.Value.{Value}
 use Rattle.mysql_values.specs.Value.{Content, content_of}
@@ -13,9 +14,9 @@ use Rattle.mysql_stmt.specs.declared.param_type.ParamType.{ParamType}
 abbrev pub typed : ColumnType → ℕ → ParamType
 typed t flags = record { column_type = record { 0 = t; 1 = record {} }; flags = record { 0 = record { 0 = flags; 1 = record {} }; 1 = record {} } }
 
--- the type that a value is sent as: an unsigned number has the flag 128
+-- the type that a value is sent as: an unsigned number has the flag UNSIGNED
 abbrev pub type_of : Content → ParamType
-type_of value = typed (sent_type value) (if is_uint value then 128 else 0)
+type_of value = typed (sent_type value) (if is_uint value then UNSIGNED else 0)
 
 -- a byte for the type, and a byte of flags
 abbrev pub type_bytes : ParamType → List ℕ

@@ -2,6 +2,7 @@
 use Rattle.std.specs.Prelude.{ℕ, ◌+◌, ◌==◌, Bool, List, length, Option, Some, Result, Ok, Err}
 use Rattle.std.specs.Global.{Vec}
 use Rattle.mysql_wire.specs.declared.fault.FaultOf.{FaultOf}
+use Rattle.mysql_wire.specs.FlagMasks.{UNSIGNED_FLAG}
 use Rattle.mysql_wire.specs.Flags.{has}
 use Rattle.mysql_wire.specs.Form.{Form, ◌>>=◌, give, either, map}
 use Rattle.mysql_wire.specs.Each.{each}
@@ -33,7 +34,7 @@ text_row columns = each text_cell 0 columns
 
 -- a value in the binary form of its column's type; nothing is spelled where the bitmap says NULL
 abbrev pub bin_value_unless : (is_null : Bool) → Column → Form Content
-bin_value_unless is_null column = either is_null (give NULL) (bin_value (column_type column) (has (flags column).0 32))
+bin_value_unless is_null column = either is_null (give NULL) (bin_value (column_type column) (has (flags column).0 UNSIGNED_FLAG))
 
 abbrev pub bin_cell : (nulls : List ℕ) (offset : ℕ) → ℕ → Column → Form (Option Content)
 bin_cell nulls offset place column = there (bin_value_unless (cell nulls (place + offset) == 1) column)

@@ -94,8 +94,9 @@ impl Parts for ExecuteParams<'_> {
         if self.values.is_empty() {
             sink.part(&End);
         } else {
-            let bitmap: RawBytes<'_, WrittenBitmap> =
-                RawBytes::new(CowSlice::Borrowed(self.bitmap.as_bytes()));
+            let bitmap: RawBytes<'_, WrittenBitmap> = RawBytes::new(CowSlice::Borrowed(
+                self.bitmap.as_bytes(),
+            ));
             sink.part(&parts!(
                 bitmap,
                 self.flags,

@@ -78,11 +78,6 @@ impl Parts for ComStmtSendLongData<'_> {
 
     #[inline(always)]
     fn put<S: Sink>(&self, sink: &mut S) {
-        sink.part(&parts!(
-            self.header,
-            self.stmt_id,
-            self.param_index,
-            self.content
-        ));
+        sink.part(&parts!(self.header, self.stmt_id, self.param_index, self.content));
     }
 }
