@@ -130,35 +130,37 @@ fn assert_first_is_taken(
     assert!(rt; run.into_carried().is_none());
 }
 
-/// Values without `b` are refused by that name.
-fn assert_missing(
-    rt: &impl Abort,
-    alloc: Global,
-    builder: &mut ComStmtBulkExecuteRequestBuilder<'_>,
-) -> Result<(), AllocError> {
-    match builder.add_params(named(alloc, 1, None)?) {
-        Err(BulkExecuteRequestBuilderError::Params(ParamsError::Missing(name))) => {
-            assert_eq!(rt; name.as_slice(), b"b".as_slice());
-        }
-        _ => assert!(rt; false),
+/// The names `b` and `a`.
+fn b_and_a(alloc: Global) -> Result<Vec<Vec<u8>>, AllocError> {
+    let mut names = Vec::new(alloc);
+    for name in [b"b", b"a"] {
+        names.push(Vec::from_slice(alloc, name)?)?;
     }
-    Ok(())
+    Ok(names)
 }
 
 #[test]
 fn parameters_are_rows_by_their_names(rt: HostRuntime) -> Result<(), Fail> {
     let alloc = rt.alloc();
-    let names = vec![in alloc;
-        Vec::from_slice(alloc, b"b")?,
-        Vec::from_slice(alloc, b"a")?,
-    ]?;
+    let names = b_and_a(alloc)?;
     let mut builder = builder(alloc, 96).with_named_params(Some(names.as_slice()));
     assert_first_is_taken(&rt, &mut builder, named_then_positional(alloc)?);
     assert!(rt; builder.has_rows());
     let request = bytes_of(alloc, builder.build())?;
     let two_one = b"\0\x02\0\0\0\0\0\0\0\0\x01\0\0\0\0\0\0\0";
     assert!(rt; request.as_slice().ends_with(two_one));
-    assert_missing(&rt, alloc, &mut builder)?;
+    Ok(())
+}
+
+#[test]
+fn a_name_without_a_value_is_told(rt: HostRuntime) -> Result<(), Fail> {
+    let alloc = rt.alloc();
+    let names = b_and_a(alloc)?;
+    let one = named(alloc, 1, None)?;
+    let b = Vec::from_slice(alloc, b"b")?;
+    let mut builder = builder(alloc, 96).with_named_params(Some(names.as_slice()));
+    let missing = builder.add_params(one);
+    assert!(rt; missing == Err(BulkExecuteRequestBuilderError::Params(ParamsError::Missing(b))));
     Ok(())
 }
 

@@ -107,7 +107,6 @@ fn values_are_shown_and_put(rt: HostRuntime) -> Result<(), Fail> {
     assert!(rt; row.as_ref(1).is_some());
     assert!(rt; row[1] == Value::NULL);
     row.place(1, Value::UInt(7));
-    assert!(rt; row.as_ref(1).is_some());
     assert!(rt; row[1] == Value::UInt(7));
     assert!(rt; !row.is_empty());
     let values = row.unwrap_raw();
@@ -118,7 +117,9 @@ fn values_are_shown_and_put(rt: HostRuntime) -> Result<(), Fail> {
 
 #[test]
 fn rows_are_equal_to_their_copies(rt: HostRuntime) -> Result<(), Fail> {
-    let row = one_and_null(rt.alloc())?;
+    let mut row = one_and_null(rt.alloc())?;
+    assert!(rt; row.as_ref(1).is_some());
+    row.place(1, Value::UInt(7));
     assert!(rt; row.clone()? == row);
     assert!(rt; row != read_number_and_null(rt.alloc())?);
     assert_eq!(rt; row.columns()?.len(), 2);
