@@ -1,12 +1,12 @@
 -- What is written is read again.
 use Rattle.std.specs.Prelude.{◌≡◌, ℕ, ◌<◌, ◌^◌, List, [], ◌∷◌, ◌++◌, length, replicate, Some, refl}
-use Rattle.std.proofs.Common.{ap, sym, ◌∙◌, arith, append_assoc, eq-eqb}
+use Rattle.std.proofs.Common.{arith, eq-eqb}
 use Rattle.std.proofs.lemmas.List.{length-replicate}
 use Rattle.mysql_wire.specs.declared.constant.ConstU8.{ConstU8}
 use Rattle.mysql_wire.specs.declared.constant.ConstU32.{ConstU32}
 use Rattle.mysql_wire.specs.declared.skip.Skip.{Skip}
 use Rattle.mysql_wire.specs.Form.{Form, block, bytes, number}
-use Rattle.mysql_wire.specs.Writing.{le_bytes, joined, joined_to}
+use Rattle.mysql_wire.specs.Writing.{le_bytes}
 use Rattle.mysql_wire.specs.LittleEndian.{value-le_bytes, length-le_bytes}
 use Rattle.mysql_wire.specs.Int.{byte, le_u16, le_u24, le_u32, le_u64, raw, raw_int}
 use Rattle.mysql_wire.specs.Skip.{skip}
@@ -16,34 +16,12 @@ use Rattle.mysql_wire.specs.Constant.{const_byte, const_u8, const_le_u32, const_
 abbrev pub IsSpelling : {A : Type 0} → Form A → A → List ℕ → Type 0
 IsSpelling f v text = (rest : List ℕ) → f.Spells v (text ++ rest) rest
 
--- ---- the parts of a packet
-
--- the parts, one after another, and then the rest
-abbrev pub before_rest : List (List ℕ) → List ℕ → List ℕ
-before_rest [] rest = rest
-before_rest (part ∷ parts) rest = part ++ before_rest parts rest
-
-joined_to-rest : (front : List ℕ) (parts : List (List ℕ)) (rest : List ℕ) → joined_to front parts ++ rest ≡ front ++ before_rest parts rest
-joined_to-rest front [] rest = refl
-joined_to-rest front (part ∷ parts) rest = joined_to-rest (front ++ part) parts rest ∙ append_assoc front part (before_rest parts rest)
-
-pub joined-rest : (parts : List (List ℕ)) (rest : List ℕ) → joined parts ++ rest ≡ before_rest parts rest
-joined-rest [] rest = refl
-joined-rest (part ∷ parts) rest = joined_to-rest part parts rest
+-- ---- blocks
 
 -- a block spells what its bytes spell
 pub block-again : {A : Type 0} (n : ℕ) (f : Form A) (v : A) (text : List ℕ) → length text ≡ n → f.Spells v text [] → IsSpelling (block n f) v text
 unfolding bytes
 block-again n f v text len p rest = (text, (len, refl), p)
-
-before_rest-append : (parts : List (List ℕ)) (rest : List ℕ) → before_rest parts rest ≡ before_rest parts [] ++ rest
-before_rest-append [] rest = refl
-before_rest-append (part ∷ parts) rest = ap (λ (t : List ℕ). part ++ t) (before_rest-append parts rest) ∙ sym (append_assoc part (before_rest parts []) rest)
-
--- a block among a packet's parts
-pub block-at : {A : Type 0} (n : ℕ) (f : Form A) (v : A) (parts : List (List ℕ)) (rest : List ℕ) → length (before_rest parts []) ≡ n → f.Spells v (before_rest parts []) [] → (block n f).Spells v (before_rest parts rest) rest
-unfolding bytes
-block-at n f v parts rest len p = (before_rest parts [], (len, before_rest-append parts rest), p)
 
 -- ---- leaves
 
