@@ -53,7 +53,8 @@ impl<T, L> Seq<'_, T, L> {
 
 CHECKED = """
 src/a.rt:7:9: error[unsupported-method]: no method named `x`
-./proofs/a/gone/Answers.antt:3:1: error: `returns`: module `Rattle.c` has no `returns`
+./proofs/a/gone/Answers.antt:3:1: error: `returns`: module `Rattle.c`
+  has no `returns` that can be named from here
 ./proofs/a/false_/Answers.antt:3:1: error: `returns`: the two types differ
 fn c::a::right: proved
 fn c::a::open: no proof: expected answers in ./proofs/a/open/Answers.antt; `search` did not prove `x`, `y`; it calls `c::a::gone`

@@ -7,7 +7,7 @@ ERROR = re.compile(r"^(?:\./)?(?P<path>(?:src|specs|proofs)/\S+?):(?P<line>\d+):
 UNPROVED = re.compile(r"did not prove (?P<goals>(?:`[^`]*`(?:, )?)+)")
 NO_FUNCTION = re.compile(r"^rattle: error: `\w+` has no function `(?P<name>[^`]+)`", re.M)
 # An error of a proof file that names what is no longer there, behind the quoted name of what is wrong.
-MISSING = re.compile(r"is not in scope|has no field|has no `|is no name|was not admitted|has no goal|no such goal|names no")
+MISSING = re.compile(r"is not in scope|has no field|has no `|is no name|was not admitted")
 ENDED = re.compile(r"^only=\d+ proved=\d+$", re.M)
 
 
@@ -39,7 +39,8 @@ def folder_of(name):
 def read(text):
     """Reads all that a check printed."""
     functions, refused, errors = {}, [], []
-    for line in text.splitlines():
+    lines = text.splitlines()
+    for line, behind in zip(lines, [*lines[1:], ""]):
         found = LINE.match(line)
         if found:
             functions[found["name"]] = Said(found["said"].strip(), found["more"])
@@ -47,7 +48,8 @@ def read(text):
         if found and found["code"]:
             refused.append((found["path"], int(found["line"]), line))
         elif found:
-            errors.append((found["path"], found["text"]))
+            # (a long error goes on in the next line)
+            errors.append((found["path"], found["text"] + (behind[1:] if behind.startswith("  ") else "")))
     for path, said in errors:
         owner = next((it for it in functions if path.rpartition("/")[0] == folder_of(it)), None)
         if owner:
@@ -82,7 +84,7 @@ def refusal(names, report):
     for name in names:
         errors = [it for it in report.functions[name].errors if not is_missing(it)]
         if report.functions[name].verdict in ("not proved", "no proof") and errors:
-            return f"{name}: its proof fails: {errors[0][:100]}"
+            return f"{name}: its proof fails: {errors[0][:160]}"
     return ""
 
 
@@ -94,6 +96,6 @@ def shortcoming(names, report):
     if all(it.verdict == "proved" for it in said):
         return "NOT REFUSED: it is proved"
     if any(it.errors for it in said):
-        return f"refused for a missing name alone: {next(it.errors[0] for it in said if it.errors)[:100]}"
+        return f"refused for a missing name alone: {next(it.errors[0] for it in said if it.errors)[:200]}"
     first = next(it for it in said if it.verdict != "proved")
     return f"it has no verdict of its own: {first.verdict}{first.text}"[:200]
