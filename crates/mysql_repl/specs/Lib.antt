@@ -2,3 +2,15 @@ pub mod RegisterSlave
 pub mod TableDump
 pub mod BinlogDump
 pub mod SemiSyncAck
+pub mod GnoInterval
+pub mod Tag
+pub mod VarlenString
+pub mod TagString
+pub mod Sid
+pub mod Beginning
+pub mod SidBlock
+pub mod SidBlockAgain
+pub mod BinlogDumpGtid
+pub mod BinlogRequest
+pub mod SidText
+pub mod SidTextParts

@@ -1,16 +1,20 @@
 //! Laws over the grammars and the defined bytes of this crate's packets, and over texts.
 //!
 //! Each law is a function with nothing in it, whose contract holds for all values.
-#![tactic(auto, using(mysql_wire::proofs::Packets::packets, crate::proofs::Fits::plain_fits))]
+#![tactic(auto, using(mysql_wire::proofs::Packets::packets, crate::proofs::Fits::plain_fits, crate::proofs::SidFits::sid_fits))]
 
-ghost use Rattle.std.specs.Prelude.{◌≡◌, ◌++◌, ℕ, List, Ok};
+ghost use Rattle.std.specs.Prelude.{◌≡◌, ◌++◌, ℕ, List, None, true, false};
 ghost use Rattle.mysql_repl.specs.declared.binlog_dump.ComBinlogDump.{ComBinlogDump};
+ghost use Rattle.mysql_repl.specs.declared.binlog_dump_gtid.ComBinlogDumpGtid.{ComBinlogDumpGtid};
 ghost use Rattle.mysql_repl.specs.declared.register_slave.ComRegisterSlave.{ComRegisterSlave};
 ghost use Rattle.mysql_repl.specs.declared.semi_sync_ack.SemiSyncAckPacket.{SemiSyncAckPacket};
+ghost use Rattle.mysql_repl.specs.declared.sid.Sid.{Sid};
 ghost use Rattle.mysql_repl.specs.declared.table_dump.ComTableDump.{ComTableDump};
 ghost use Rattle.mysql_repl.specs.BinlogDump.{binlog_dump, BinlogDumpFits};
+ghost use Rattle.mysql_repl.specs.BinlogDumpGtid.{gtid_dump, GtidDumpFits};
 ghost use Rattle.mysql_repl.specs.RegisterSlave.{register_slave, RegisterSlaveFits};
 ghost use Rattle.mysql_repl.specs.SemiSyncAck.{semi_sync_ack, SemiSyncAckFits};
+ghost use Rattle.mysql_repl.specs.Sid.{sid, tagged_sid, IsSid};
 ghost use Rattle.mysql_repl.specs.TableDump.{table_dump, TableDumpFits};
 
 /// What is written of a registration is read again, whatever follows.
@@ -31,4 +35,22 @@ pub fn binlog_dump_again()
 /// What is written of an acknowledgement is read again, where nothing follows.
 pub fn semi_sync_ack_again()
     ensures spelled { (p : SemiSyncAckPacket) (rest : List ℕ) → SemiSyncAckFits p rest → (semi_sync_ack.form tt).Spells p (semi_sync_ack.bytes p ++ rest) rest }
+{}
+
+/// What is written of a sid without a tag is read again, whatever follows; and what is written of any sid in the form
+/// with tags.
+pub fn sid_again()
+    ensures untagged { (s : Sid) (rest : List ℕ) → IsSid s → s.tag ≡ None → (sid.form tt).Spells s (sid.bytes s ++ rest) rest }
+    ensures tagged { (s : Sid) (rest : List ℕ) → IsSid s → (tagged_sid.form tt).Spells s (tagged_sid.bytes s ++ rest) rest }
+{}
+
+/// What is written of a dump by GTID set is read again, whatever follows, by either reader.
+pub fn binlog_dump_gtid_again()
+    ensures lenient { (p : ComBinlogDumpGtid) (rest : List ℕ) → GtidDumpFits p → (gtid_dump.form false).Spells p (gtid_dump.bytes p ++ rest) rest }
+    ensures strict { (p : ComBinlogDumpGtid) (rest : List ℕ) → GtidDumpFits p → (gtid_dump.form true).Spells p (gtid_dump.bytes p ++ rest) rest }
+{}
+
+/// What the strict reader of dumps by GTID set accepts, the other reads as the same request with the same rest.
+pub fn strict_is_lenient()
+    ensures spelled { (p : ComBinlogDumpGtid) (bytes rest : List ℕ) → (gtid_dump.form true).Spells p bytes rest → (gtid_dump.form false).Spells p bytes rest }
 {}

@@ -1,0 +1,310 @@
+//! The request for a binary log without the transactions of a GTID set.
+#![tactic(auto, using(mysql_wire::proofs::Packets::packets), unfolding(crate::specs::BinlogDumpGtid::gtid_dump))]
+
+ghost use Rattle.std.specs.Prelude.{false, true, ◌≡◌, [], is_ok, IfOk, IsUtf8, OnErr, Ok, List, ℕ};
+ghost use Rattle.std.specs.Cow.{cow_slice_items, cow_str_bytes, IsOwnedStr};
+ghost use Rattle.mysql_wire.specs.Reading.{Answers, IsTail};
+ghost use Rattle.mysql_wire.specs.Text.{lossy_text};
+ghost use Rattle.mysql_repl.specs.declared.binlog_dump_gtid.ComBinlogDumpGtid.{ComBinlogDumpGtid};
+ghost use Rattle.mysql_repl.specs.BinlogDumpGtid as spec;
+
+use crate::sid::Sid;
+use crate::sid_block::{SidBlock, read_block};
+use mysql_wire::{
+    AnyWidth, BinlogDumpFlags, Const, ConstFault, ConstU8, Fault, FaultOf, Flags, LeU16, LeU32,
+    LeU64, MyDeserialize, ParseBuf, Parts, RawBytes, RawInt, Seq, Sink, U32Bytes, parts,
+};
+use std::alloc::{AllocError, Global};
+use std::borrow::{CowSlice, CowStr};
+use thiserror::Error;
+
+/// The first byte of a dump by GTID set is not `1e`.
+#[derive(Clone, Copy, Debug, Default, PartialEq, Eq, Hash, Error)]
+#[error("Invalid header for COM_BINLOG_DUMP_GTID")]
+pub struct InvalidComBinlogDumpGtidHeader;
+
+impl ConstFault for InvalidComBinlogDumpGtidHeader {
+    const MESSAGE: &'static str = "Invalid header for COM_BINLOG_DUMP_GTID";
+}
+
+/// The first byte of a dump by GTID set: `1e`.
+pub type ComBinlogDumpGtidHeader = ConstU8<InvalidComBinlogDumpGtidHeader, 0x1e>;
+
+/// A replica's request for a binary log without the transactions that it has
+/// (`COM_BINLOG_DUMP_GTID`).
+///
+/// | Bytes | Field |
+/// |---|---|
+/// | 1 | `1e` |
+/// | 2 | `flags` |
+/// | 4 | `server_id` |
+/// | 4 + n | `filename`, behind its length |
+/// | 8 | `pos` |
+/// | 4 + n | the block of `sids`, behind its length |
+///
+/// Numbers have the low byte first. The block is a head of eight bytes, and so many sids. The head's
+/// top byte is 1 where the sids are in the form with tags: the count then stands in the bits 8 to
+/// 55. With any other top byte the sids are in the form without tags, and the count stands in the
+/// bits 0 to 55. A sid is 16 bytes; with tags, a length of varying width and so many bytes of a tag;
+/// a count of eight bytes, and so many pairs of numbers of eight bytes. Bytes of the block behind the
+/// last sid are ignored, unless the reader is [`parse_strict`](Self::parse_strict).
+///
+/// Missing bytes are `UnexpectedEof`. Another first byte, or the bytes of a tag that are no tag, are
+/// `InvalidData`. Reading takes room for the sids as it comes to them, and answers `Memory` where
+/// that is refused.
+///
+/// The block is written with tags where some sid has one, and whole; its length is written as
+/// 2^32 - 1 where it is more. The first 2^32 - 1 bytes of the name are written.
+#[derive(Debug, PartialEq, Eq, Hash, Drop)]
+pub struct ComBinlogDumpGtid<'a> {
+    header: ComBinlogDumpGtidHeader,
+    flags: Const<BinlogDumpFlags, LeU16>,
+    server_id: RawInt<LeU32>,
+    filename: RawBytes<'a, U32Bytes>,
+    pos: RawInt<LeU64>,
+    sid_block: Seq<'a, Sid<'a>, LeU64>,
+}
+
+impl<'a> ComBinlogDumpGtid<'a> {
+    /// The request of the replica with this number, from position 0, with no flag, no file's name and
+    /// no sid.
+    pub fn new(server_id: u32) -> Self
+        ensures value { result ≡ spec.dump_of server_id 0 0 [] [] }
+    {
+        ComBinlogDumpGtid {
+            header: ConstU8::new(),
+            flags: Const::new(BinlogDumpFlags::empty()),
+            server_id: RawInt::new(server_id),
+            filename: RawBytes::default(),
+            pos: RawInt::new(0),
+            sid_block: Seq::default(),
+        }
+    }
+
+    /// The replica's number.
+    #[inline]
+    pub fn server_id(&self) -> u32
+        ensures value { result ≡ spec.server_id self.now }
+    {
+        self.server_id.0
+    }
+
+    /// How the log is sent.
+    #[inline]
+    pub fn flags(&self) -> BinlogDumpFlags
+        ensures value { result.0 ≡ spec.flag_bits self.now }
+    {
+        self.flags.0
+    }
+
+    /// The bytes of the log's name.
+    #[inline]
+    pub fn filename_raw(&self) -> &[u8]
+        ensures value { result.now ≡ spec.filename self.now }
+    {
+        self.filename.as_bytes()
+    }
+
+    /// The log's name as text, with U+FFFD for what is not UTF-8. UTF-8 is borrowed.
+    pub fn filename(&self, alloc: Global) -> Result<CowStr<'_>, AllocError>
+        ensures text { IfOk result (λ text. cow_str_bytes text ≡ lossy_text (spec.filename self.now)) }
+        ensures utf8 { IsUtf8 (spec.filename self.now) → (is_ok result ≡ true) × IfOk result (λ text. IsOwnedStr text → ⊥) }
+    {
+        self.filename.as_str(alloc)
+    }
+
+    /// The position from which the log is sent.
+    #[inline]
+    pub fn pos(&self) -> u64
+        ensures value { result ≡ spec.pos self.now }
+    {
+        self.pos.0
+    }
+
+    /// The transactions that the replica has.
+    #[inline]
+    pub fn sids(&self) -> &[Sid<'a>]
+        ensures value { result.now ≡ spec.sids self.now }
+    {
+        self.sid_block.as_slice()
+    }
+
+    /// The request for the binary log of this name.
+    pub fn with_filename(mut self, filename: CowSlice<'a, u8>) -> Self
+        ensures value { result ≡ spec.with_filename (cow_slice_items filename.entry) self.entry }
+    {
+        self.filename = RawBytes::new(filename);
+        self
+    }
+
+    /// The request of the replica with this number.
+    pub fn with_server_id(mut self, server_id: u32) -> Self
+        ensures value { result ≡ spec.with_server_id server_id self.entry }
+    {
+        self.server_id = RawInt::new(server_id);
+        self
+    }
+
+    /// The request with these flags, but for BINLOG_THROUGH_GTID, which is set exactly if there is a
+    /// sid.
+    pub fn with_flags(mut self, flags: BinlogDumpFlags) -> Self
+        ensures value { result ≡ spec.with_flags flags.0 self.entry }
+    {
+        self.flags = Const::new(through_gtid(flags, self.sids()));
+        self
+    }
+
+    /// The request from this position on.
+    pub fn with_pos(mut self, pos: u64) -> Self
+        ensures value { result ≡ spec.with_pos pos self.entry }
+    {
+        self.pos = RawInt::new(pos);
+        self
+    }
+
+    /// The request with a sid more, at the end, and with the flag BINLOG_THROUGH_GTID. Borrowed sids
+    /// are copied first. Where a growth is refused, the request is given up.
+    pub fn with_sid(mut self, alloc: Global, sid: Sid<'a>) -> Result<Self, AllocError>
+        ensures value { IfOk result (λ p. p ≡ spec.with_sid sid.entry self.entry) }
+    {
+        self.sid_block.push(alloc, sid)?;
+        self.flags = Const::new(through_gtid(self.flags.0, self.sids()));
+        Ok(self)
+    }
+
+    /// The request with these sids, in place of its own. The flag BINLOG_THROUGH_GTID is set exactly
+    /// if there is a sid.
+    pub fn with_sids(mut self, sids: CowSlice<'a, Sid<'a>>) -> Self
+        ensures value { result ≡ spec.with_sids (cow_slice_items sids.entry) self.entry }
+    {
+        self.sid_block = list_of(sids);
+        self.flags = Const::new(through_gtid(self.flags.0, self.sids()));
+        self
+    }
+
+    /// Reads a request as [`ParseBuf::parse`] does, and refuses as `InvalidData` two things more: a
+    /// block whose head's top byte is neither 0 nor 1, before any sid is read; and bytes of the
+    /// block behind the last sid.
+    ///
+    /// What it reads is what `parse` reads. After a refusal the buffer is as it was.
+    pub fn parse_strict(buf: &mut ParseBuf<'a>) -> Result<Self, Fault>
+        ensures value { Answers true result buf.new ((spec.gtid_dump.form true).reads buf.old) }
+        ensures spelled { IfOk result (λ p. (spec.gtid_dump.form true).Spells p buf.old buf.new) }
+        ensures read { (p : ComBinlogDumpGtid) (rest : List ℕ) → (spec.gtid_dump.form true).Spells p buf.old rest → Answers true result buf.new (Ok (p, rest)) }
+        ensures err { OnErr result (buf.new ≡ buf.old) }
+    {
+        let mut rest = buf.rest();
+        let request = read(true, &mut rest)?;
+        *buf = rest;
+        Ok(request)
+    }
+}
+
+/// The list of these values.
+fn list_of<'a, T, L>(values: CowSlice<'a, T>) -> Seq<'a, T, L>
+    ensures value { result ≡ cow_slice_items values.entry }
+{
+    let values = match values {
+        CowSlice::Owned(values) => return Seq::owned(values),
+        CowSlice::Borrowed(values) => values,
+    };
+    Seq::borrowed(values)
+}
+
+/// The flags, with BINLOG_THROUGH_GTID exactly if there is a sid.
+fn through_gtid(mut flags: BinlogDumpFlags, sids: &[Sid<'_>]) -> BinlogDumpFlags
+    ensures value { result.0 ≡ spec.through_gtid sids.now flags.0 }
+{
+    flags.set(BinlogDumpFlags::BINLOG_THROUGH_GTID, !sids.is_empty());
+    flags
+}
+
+/// The first seven bytes: the header, the flags and the replica's number.
+#[tactic(auto, using(mysql_wire::proofs::Packets::packets), unfolding(crate::specs::BinlogDumpGtid::gtid_dump_head))]
+fn read_head<'s>(
+    strict: bool,
+    buf: &mut ParseBuf<'_>,
+) -> Result<
+    (
+        ComBinlogDumpGtidHeader,
+        Const<BinlogDumpFlags, LeU16>,
+        RawInt<LeU32>,
+    ),
+    FaultOf<'s>,
+>
+    ensures value { Answers false result buf.new ((spec.gtid_dump_head.form strict).reads buf.old) }
+{
+    let mut head: ParseBuf<'_> = buf.parse(7)?;
+    let header = head.parse_unchecked(())?;
+    let flags = head.parse_unchecked(())?;
+    let server_id = head.parse_unchecked(())?;
+    Ok((header, flags, server_id))
+}
+
+/// Reads a request, as a strict reader or as the other.
+fn read<'s, 'de>(
+    strict: bool,
+    buf: &mut ParseBuf<'de>,
+) -> Result<ComBinlogDumpGtid<'de>, FaultOf<'s>>
+    ensures value { Answers true result buf.new ((spec.gtid_dump.form strict).reads buf.old) }
+{
+    let (header, flags, server_id) = read_head(strict, buf)?;
+    let filename = buf.parse(())?;
+    let pos = buf.parse(())?;
+    let sid_block = read_block(strict, buf)?;
+    Ok(ComBinlogDumpGtid {
+        header,
+        flags,
+        server_id,
+        filename,
+        pos,
+        sid_block,
+    })
+}
+
+impl Clone for ComBinlogDumpGtid<'_> {
+    ghost is_clone = { λ p copy. copy ≡ p };
+
+    fn clone(&self) -> Result<Self, AllocError> {
+        Ok(ComBinlogDumpGtid {
+            header: self.header,
+            flags: self.flags,
+            server_id: self.server_id.clone()?,
+            filename: self.filename.clone()?,
+            pos: self.pos.clone()?,
+            sid_block: self.sid_block.clone()?,
+        })
+    }
+}
+
+impl<'de> MyDeserialize<'de> for ComBinlogDumpGtid<'de> {
+    const SIZE: Option<usize> = None;
+
+    type Size = AnyWidth;
+
+    ghost takes_memory = { true };
+
+    type Ctx = ();
+
+    ghost form = { λ _. spec.gtid_dump.form false };
+
+    fn deserialize<'s>(_ctx: (), buf: &mut ParseBuf<'de>) -> Result<Self, FaultOf<'s>> {
+        let mut rest = buf.rest();
+        let request = read(false, &mut rest)?;
+        *buf = rest;
+        Ok(request)
+    }
+
+    ghost size_is = { λ _. spec.size-gtid_dump false };
+}
+
+impl Parts for ComBinlogDumpGtid<'_> {
+    ghost bytes = { spec.gtid_dump.bytes };
+
+    #[inline(always)]
+    fn put<S: Sink>(&self, sink: &mut S) {
+        let head = parts!(self.header, self.flags, self.server_id);
+        let sids = SidBlock(self.sids());
+        sink.part(&parts!(head, self.filename, self.pos, sids));
+    }
+}

@@ -1,0 +1,107 @@
+//! Intervals of transaction numbers.
+#![tactic(auto, using(mysql_wire::proofs::Packets::packets), unfolding(crate::specs::GnoInterval::interval))]
+
+ghost use Rattle.std.specs.Prelude.{false, ◌≡◌, ◌<◌, ◌≤◌, Ok, Err};
+ghost use Rattle.mysql_repl.specs.GnoInterval as spec;
+ghost use Rattle.mysql_repl.specs.declared.gno_interval.InvalidGno.TheVariants.{Order, Zero};
+
+use mysql_wire::{FaultOf, Fixed, LeU64, MyDeserialize, ParseBuf, Parts, RawInt, Sink, parts};
+use thiserror::Error;
+
+/// Why two numbers are no interval of transactions.
+#[derive(Clone, Copy, Debug, PartialEq, Eq, Hash, Error)]
+pub enum InvalidGno {
+    /// The start is not below the end.
+    #[error("start({start}) >= end({end}) in GnoInterval")]
+    Order {
+        /// The number that was to be the first.
+        start: u64,
+        /// The number that was to stand behind the last.
+        end: u64,
+    },
+    /// The start is 0, which numbers no transaction.
+    #[error("Gno can't be zero")]
+    Zero,
+}
+
+/// The transactions from `start` on, before `end`: two numbers of eight bytes, the low one first.
+///
+/// Fewer than 16 bytes are `UnexpectedEof`. Any two numbers are read and written.
+#[derive(Clone, Copy, Debug, PartialEq, Eq, Hash)]
+pub struct GnoInterval {
+    start: u64,
+    end: u64,
+}
+
+impl GnoInterval {
+    /// The interval of these two numbers, whatever they are.
+    #[inline]
+    pub fn new(start: u64, end: u64) -> Self
+        ensures value { result ≡ spec.interval_of start end }
+    {
+        GnoInterval { start, end }
+    }
+
+    /// The first transaction.
+    #[inline]
+    pub fn start(&self) -> u64
+        ensures value { result ≡ spec.start self.now }
+    {
+        self.start
+    }
+
+    /// The number behind the last transaction.
+    #[inline]
+    pub fn end(&self) -> u64
+        ensures value { result ≡ spec.end self.now }
+    {
+        self.end
+    }
+
+    /// The interval of these two numbers, where the first is below the second and is not 0.
+    pub fn check_and_new(start: u64, end: u64) -> Result<Self, InvalidGno>
+        ensures order { end ≤ start → result ≡ Err (Order start end) }
+        ensures zero { start < end → start ≡ 0 → result ≡ Err Zero }
+        ensures value { 0 < start → start < end → result ≡ Ok (spec.interval_of start end) }
+    {
+        if start >= end {
+            return Err(InvalidGno::Order { start, end });
+        }
+        if start == 0 {
+            return Err(InvalidGno::Zero);
+        }
+        Ok(GnoInterval::new(start, end))
+    }
+}
+
+impl<'de> MyDeserialize<'de> for GnoInterval {
+    const SIZE: Option<usize> = Some(16);
+
+    type Size = Fixed<16>;
+
+    ghost takes_memory = { false };
+
+    type Ctx = ();
+
+    ghost form = { spec.interval.form };
+
+    fn deserialize<'s>(_ctx: (), buf: &mut ParseBuf<'de>) -> Result<Self, FaultOf<'s>> {
+        let mut numbers: ParseBuf<'de> = buf.parse(16)?;
+        let start: RawInt<LeU64> = numbers.parse_unchecked(())?;
+        let end: RawInt<LeU64> = numbers.parse_unchecked(())?;
+        Ok(GnoInterval::new(start.0, end.0))
+    }
+
+    ghost size_is = { λ _. spec.size-interval };
+}
+
+impl Parts for GnoInterval {
+    ghost bytes = { spec.interval.bytes };
+
+    #[inline(always)]
+    fn put<S: Sink>(&self, sink: &mut S) {
+        let start: RawInt<LeU64> = RawInt::new(self.start);
+        let end: RawInt<LeU64> = RawInt::new(self.end);
+        sink.part(&parts!(start, end));
+    }
+}

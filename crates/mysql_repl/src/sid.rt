@@ -1,0 +1,191 @@
+//! A server's transactions.
+#![tactic(auto, using(mysql_wire::proofs::Packets::packets), unfolding(crate::specs::Sid::sid, crate::specs::Sid::tagged_sid))]
+
+ghost use Rattle.std.specs.Prelude.{false, true, ◌≡◌, IfOk, option_map, Option, List, ℕ};
+ghost use Rattle.mysql_wire.specs.Reading.{Answers};
+ghost use Rattle.mysql_repl.specs.Sid as spec;
+
+use crate::gno_interval::GnoInterval;
+use crate::tag::Tag;
+use crate::tag_field::{read_tag, tag_bytes};
+use crate::varlen_bytes::VarLenBytes;
+use mysql_wire::{
+    AnyWidth, FaultOf, LeU64, MyDeserialize, ParseBuf, Parts, RawBytes, Seq, Sink, parts,
+};
+use std::alloc::{AllocError, Global};
+use std::borrow::CowSlice;
+
+/// How many bytes a server's identifier has.
+pub const UUID_LEN: usize = 16;
+
+/// The transactions of one server, or those of them that have one tag: a part of a GTID set.
+///
+/// Its own reader and writer are the form without tags, which drops the tag: the identifier's 16
+/// bytes, a count of eight bytes, and so many intervals of 16 bytes each. Missing bytes are
+/// `UnexpectedEof`. The packet [`ComBinlogDumpGtid`](crate::ComBinlogDumpGtid) has the form with
+/// tags.
+#[derive(Debug, PartialEq, Eq, Hash, Drop)]
+pub struct Sid<'a> {
+    uuid: [u8; UUID_LEN],
+    tag: Option<Tag<'a>>,
+    intervals: Seq<'a, GnoInterval, LeU64>,
+}
+
+impl<'a> Sid<'a> {
+    /// The server with this identifier, without a tag and without a transaction.
+    pub fn new(uuid: [u8; UUID_LEN]) -> Self
+        ensures value { result ≡ spec.new_sid uuid }
+    {
+        Sid {
+            uuid,
+            tag: None,
+            intervals: Seq::default(),
+        }
+    }
+
+    /// The server's identifier.
+    #[inline]
+    pub fn uuid(&self) -> [u8; UUID_LEN]
+        ensures value { result ≡ spec.uuid self.now }
+    {
+        self.uuid
+    }
+
+    /// The tag, if there is one.
+    #[inline]
+    pub fn tag(&self) -> Option<&Tag<'a>>
+        ensures value { option_map (λ t. t.now) result ≡ spec.tag self.now }
+    {
+        self.tag.as_ref()
+    }
+
+    /// The intervals.
+    #[inline]
+    pub fn intervals(&self) -> &[GnoInterval]
+        ensures value { result.now ≡ spec.intervals self.now }
+    {
+        self.intervals.as_slice()
+    }
+
+    /// The same with an interval more, at the end. Borrowed intervals are copied first. Where a
+    /// growth is refused, the transactions are given up.
+    pub fn with_interval(mut self, alloc: Global, interval: GnoInterval) -> Result<Self, AllocError>
+        ensures value { IfOk result (λ s. s ≡ spec.with_interval interval self.entry) }
+    {
+        self.intervals.push(alloc, interval)?;
+        Ok(self)
+    }
+
+    /// The same with these intervals, in place of its own.
+    pub fn with_intervals(mut self, intervals: Vec<GnoInterval>) -> Self
+        ensures value { result ≡ spec.with_intervals intervals.items self.entry }
+    {
+        self.intervals = Seq::owned(intervals);
+        self
+    }
+
+    /// The same with this tag.
+    ///
+    /// A packet with a tag anywhere is written in the form with tags throughout.
+    pub fn with_tag(mut self, tag: Tag<'a>) -> Self
+        ensures value { result ≡ spec.with_tag tag.entry self.entry }
+    {
+        self.tag = Some(tag);
+        self
+    }
+}
+
+impl Clone for Sid<'_> {
+    ghost is_clone = { λ s copy. copy ≡ s };
+
+    fn clone(&self) -> Result<Self, AllocError> {
+        let tag = match &self.tag {
+            Some(tag) => Some(tag.clone()?),
+            None => None,
+        };
+        Ok(Sid {
+            uuid: self.uuid,
+            tag,
+            intervals: self.intervals.clone()?,
+        })
+    }
+}
+
+impl<'de> MyDeserialize<'de> for Sid<'de> {
+    const SIZE: Option<usize> = None;
+
+    type Size = AnyWidth;
+
+    ghost takes_memory = { true };
+
+    type Ctx = ();
+
+    ghost form = { spec.sid.form };
+
+    fn deserialize<'s>(_ctx: (), buf: &mut ParseBuf<'de>) -> Result<Self, FaultOf<'s>> {
+        Ok(Sid {
+            uuid: buf.parse(())?,
+            tag: None,
+            intervals: buf.parse(())?,
+        })
+    }
+
+    ghost size_is = { λ _. spec.size-sid };
+}
+
+impl Parts for Sid<'_> {
+    ghost bytes = { spec.sid.bytes };
+
+    #[inline(always)]
+    fn put<S: Sink>(&self, sink: &mut S) {
+        sink.part(&parts!(self.uuid, self.intervals));
+    }
+}
+
+/// Reads a sid in the form with tags.
+fn read_tagged<'s, 'de>(buf: &mut ParseBuf<'de>) -> Result<Sid<'de>, FaultOf<'s>>
+    ensures value { Answers true result buf.new ((spec.tagged_sid.form tt).reads buf.old) }
+{
+    Ok(Sid {
+        uuid: buf.parse(())?,
+        tag: read_tag(buf)?,
+        intervals: buf.parse(())?,
+    })
+}
+
+/// Reads a sid in the form with tags or in the other.
+pub(crate) fn read_sid<'s, 'de>(
+    tagged: bool,
+    buf: &mut ParseBuf<'de>,
+) -> Result<Sid<'de>, FaultOf<'s>>
+    ensures value { Answers true result buf.new (((spec.sid_as tagged).form tt).reads buf.old) }
+{
+    if tagged {
+        read_tagged(buf)
+    } else {
+        buf.parse(())
+    }
+}
+
+/// A sid that is written in the form with tags or in the other.
+#[derive(Drop)]
+pub(crate) struct SidAs<'b, 'a> {
+    pub(crate) tagged: bool,
+    pub(crate) sid: &'b Sid<'a>,
+}
+
+impl Parts for SidAs<'_, '_> {
+    ghost bytes = { λ s. (spec.sid_as s.tagged).bytes s.sid.now };
+
+    #[inline(always)]
+    fn put<S: Sink>(&self, sink: &mut S) {
+        let sid = self.sid;
+        if self.tagged {
+            let tag = tag_bytes(&sid.tag);
+            let tag: RawBytes<'_, VarLenBytes> = RawBytes::new(CowSlice::Borrowed(tag));
+            sink.part(&parts!(sid.uuid, tag, sid.intervals));
+        } else {
+            sink.part(sid);
+        }
+    }
+}

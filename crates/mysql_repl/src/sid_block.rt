@@ -1,0 +1,180 @@
+//! The sids of a dump by GTID set.
+#![tactic(auto, using(mysql_wire::proofs::Packets::packets))]
+
+ghost use Rattle.std.specs.Prelude.{false, true, ◌≡◌, ◌+◌, ◌++◌, ◌≤◌, length, vec_len, vec_capacity, OnErr, List, ℕ};
+ghost use Rattle.std.specs.List.{flat_map};
+ghost use Rattle.mysql_wire.specs.Reading.{Answers, IsTail};
+ghost use Rattle.mysql_wire.specs.Seq.{items_of, counted};
+ghost use Rattle.mysql_wire.specs.Writing.{saturated};
+ghost use Rattle.mysql_repl.specs.Sid.{sid_as};
+ghost use Rattle.mysql_repl.specs.SidBlock as spec;
+
+use crate::sid::{Sid, SidAs, read_sid};
+use mysql_wire::{BytesRepr, FaultOf, LeU32, LeU64, MySerialize, ParseBuf, RawInt, Seq, U32Bytes};
+use std::cmp::min;
+
+/// The layout that the head tells: its top byte.
+fn layout(head: u64) -> u64
+    ensures value { result ≡ spec.layout head }
+{
+    head >> 56
+}
+
+/// How many sids the head tells.
+fn count_of(head: u64) -> u64
+    ensures value { result ≡ spec.count_of head }
+{
+    if layout(head) == 1 {
+        (head >> 8) % (1 << 48)
+    } else {
+        head % (1 << 56)
+    }
+}
+
+/// Reads so many sids, in the form with tags or in the other. Room is taken as they are read, and
+/// none for the count.
+fn read_counted<'s, 'de>(
+    tagged: bool,
+    count: u64,
+    block: &mut ParseBuf<'de>,
+) -> Result<Vec<Sid<'de>>, FaultOf<'s>>
+    ensures value { Answers true (items_of result) block.new ((counted count ((sid_as tagged).form tt)).reads block.old) }
+{
+    let mut sids = Vec::new(block.alloc());
+    for _ in 0..count {
+        let sid = read_sid(tagged, block)?;
+        sids.push(sid)?;
+    }
+    Ok(sids)
+}
+
+/// Reads the head, and so many sids. A strict reader knows the layouts 0 and 1 alone.
+#[tactic(auto, using(mysql_wire::proofs::Packets::packets), unfolding(crate::specs::SidBlock::sids_form))]
+fn read_sids<'s, 'de>(strict: bool, block: &mut ParseBuf<'de>) -> Result<Vec<Sid<'de>>, FaultOf<'s>>
+    ensures value { Answers true (items_of result) block.new ((spec.sids_form strict).reads block.old) }
+{
+    let head: RawInt<LeU64> = block.parse(())?;
+    let head = head.0;
+    if strict && layout(head) > 1 {
+        return Err(FaultOf::InvalidData("Unknown sid block format"));
+    }
+    read_counted(layout(head) == 1, count_of(head), block)
+}
+
+/// Reads a block behind its length, as a strict reader: no bytes stand behind the last sid.
+#[tactic(auto, using(mysql_wire::proofs::Packets::packets), unfolding(crate::specs::SidBlock::block_form))]
+fn read_whole_block<'s, 'de>(
+    buf: &mut ParseBuf<'de>,
+) -> Result<Seq<'de, Sid<'de>, LeU64>, FaultOf<'s>>
+    ensures value { Answers true result buf.new ((spec.block_form true).reads buf.old) }
+{
+    let mut block = <U32Bytes as BytesRepr>::deserialize((), buf)?;
+    let sids = read_sids(true, &mut block)?;
+    if !block.is_empty() {
+        return Err(FaultOf::InvalidData("Bytes behind the last sid"));
+    }
+    Ok(Seq::owned(sids))
+}
+
+/// Reads a block behind its length. Bytes behind the last sid are ignored.
+#[tactic(auto, using(mysql_wire::proofs::Packets::packets), unfolding(crate::specs::SidBlock::block_form))]
+fn read_lenient_block<'s, 'de>(
+    buf: &mut ParseBuf<'de>,
+) -> Result<Seq<'de, Sid<'de>, LeU64>, FaultOf<'s>>
+    ensures value { Answers true result buf.new ((spec.block_form false).reads buf.old) }
+{
+    let mut block = <U32Bytes as BytesRepr>::deserialize((), buf)?;
+    let sids = read_sids(false, &mut block)?;
+    Ok(Seq::owned(sids))
+}
+
+/// Reads a block behind its length, as a strict reader or as the other.
+pub(crate) fn read_block<'s, 'de>(
+    strict: bool,
+    buf: &mut ParseBuf<'de>,
+) -> Result<Seq<'de, Sid<'de>, LeU64>, FaultOf<'s>>
+    ensures value { Answers true result buf.new ((spec.block_form strict).reads buf.old) }
+{
+    if strict {
+        read_whole_block(buf)
+    } else {
+        read_lenient_block(buf)
+    }
+}
+
+/// The sids of a dump, as they are written: with tags throughout where some sid has one.
+#[derive(Drop)]
+pub(crate) struct SidBlock<'b, 'a>(pub(crate) &'b [Sid<'a>]);
+
+impl<'a> SidBlock<'_, 'a> {
+    /// Whether some sid has a tag.
+    #[tactic(auto, unfolding(crate::specs::SidBlock::any_tag))]
+    fn any_tag(&self) -> bool
+        ensures value { result ≡ spec.any_tag self.now.0.now }
+    {
+        self.0.iter().any(|sid| sid.tag().is_some())
+    }
+
+    /// The head before the sids.
+    #[tactic(auto, unfolding(crate::specs::SidBlock::head_for))]
+    fn head(&self) -> RawInt<LeU64>
+        ensures value { result.0 ≡ spec.head_for (spec.any_tag self.now.0.now) (length self.now.0.now) }
+    {
+        let count = self.0.len() as u64;
+        if self.any_tag() {
+            RawInt::new((1 << 56) + (1 << 8) * (count % (1 << 48)))
+        } else {
+            RawInt::new(count % (1 << 56))
+        }
+    }
+
+    /// How many bytes the sids are written as, or `usize::MAX` where that is less.
+    #[tactic(auto, unfolding(mysql_wire::specs::Writing::saturated))]
+    fn sids_len(&self, tagged: bool) -> usize
+        ensures value { result ≡ saturated (length (flat_map (sid_as tagged).bytes self.now.0.now)) }
+    {
+        let mut total: usize = 0;
+        for sid in self.0 {
+            let len = SidAs { tagged, sid }.defined_len();
+            total = total.saturating_add(len);
+        }
+        total
+    }
+
+    /// How many bytes the head and the sids are written as, or `usize::MAX` where that is less.
+    #[tactic(auto, using(mysql_wire::specs::Writing::lengths), unfolding(crate::specs::SidBlock::content, mysql_wire::specs::Writing::le_bytes, mysql_wire::specs::Writing::saturated))]
+    fn content_len(&self) -> usize
+        ensures value { result ≡ saturated (length (spec.content self.now.0.now)) }
+    {
+        self.sids_len(self.any_tag()).saturating_add(8)
+    }
+
+    /// Writes the sids to a buffer that has room for them.
+    fn append_sids(&self, tagged: bool, out: &mut Vec<u8>)
+        requires { vec_len out.old + length (flat_map (sid_as tagged).bytes self.now.0.now) ≤ vec_capacity out.old }
+        ensures items { out.new.items ≡ out.old.items ++ flat_map (sid_as tagged).bytes self.now.0.now }
+        ensures room { vec_capacity out.old ≤ vec_capacity out.new }
+    {
+        for sid in self.0 {
+            SidAs { tagged, sid }.append(out);
+        }
+    }
+}
+
+impl MySerialize for SidBlock<'_, '_> {
+    ghost bytes = { λ b. spec.block_bytes b.0.now };
+
+    #[tactic(auto, using(mysql_wire::specs::Writing::lengths), unfolding(crate::specs::SidBlock::block_bytes, mysql_wire::specs::Writing::le_bytes, mysql_wire::specs::Writing::saturated))]
+    fn defined_len(&self) -> usize {
+        self.content_len().saturating_add(4)
+    }
+
+    #[tactic(auto, using(mysql_wire::specs::Writing::lengths), unfolding(crate::specs::SidBlock::block_bytes, crate::specs::SidBlock::content, mysql_wire::specs::Writing::saturated))]
+    fn append(&self, out: &mut Vec<u8>) {
+        let len = min(self.content_len(), u32::MAX as usize) as u32;
+        let len: RawInt<LeU32> = RawInt::new(len);
+        len.append(out);
+        self.head().append(out);
+        self.append_sids(self.any_tag(), out);
+    }
+}

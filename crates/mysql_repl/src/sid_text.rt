@@ -1,0 +1,309 @@
+//! The text of a sid.
+
+ghost use Rattle.std.specs.Prelude.{◌≡◌, ◌++◌, ◌+◌, ◌<◌, ◌∷◌, ℕ, List, Option, Some, None, Ok, Err, true, false, option_map, MatchOption, codes};
+ghost use Rattle.std.specs.List.{flat_map};
+ghost use Rattle.uuid.specs.Text.{parsed};
+ghost use Rattle.mysql_repl.specs.SidText as spec;
+ghost use Rattle.mysql_repl.specs.SidTextParts.{left_parts, left_len, items_read};
+
+use crate::gno_interval::{GnoInterval, InvalidGno};
+use crate::sid::Sid;
+use crate::tag::{InvalidTag, Tag};
+use std::alloc::{AllocError, AllocFailed, Global};
+use std::borrow::CowStr;
+use std::fmt;
+use thiserror::Error;
+use uuid::Uuid;
+
+/// Why a text is no sid: the first refusal from the left.
+#[derive(Clone, Debug, PartialEq, Drop, Error)]
+pub enum InvalidSid {
+    /// No colon follows the uuid.
+    #[error("NoColon")]
+    NoColon,
+    /// What stands before the first colon is no uuid.
+    #[error("Uuid")]
+    Uuid,
+    /// Nothing follows the first colon.
+    #[error("Empty")]
+    Empty,
+    /// What stands between the uuid and the intervals is no tag.
+    #[error("{0}")]
+    Tag(InvalidTag),
+    /// No colon follows the tag.
+    #[error("NoIntervals")]
+    NoIntervals,
+    /// An interval has more than one hyphen.
+    #[error("Parts")]
+    Parts,
+    /// An interval has something else than digits behind a plus or none, or a number past 64 bits.
+    #[error("Number")]
+    Number,
+    /// The last number of an interval is 2^64 - 1, behind which there is none.
+    #[error("TooLarge")]
+    TooLarge,
+    /// The numbers of an interval are no interval of transactions.
+    #[error("{0}")]
+    Gno(InvalidGno),
+    /// A growth was refused. The same text may be read once memory is there.
+    #[error("Memory")]
+    Memory,
+}
+
+impl From<InvalidTag> for InvalidSid {
+    ghost use Rattle.mysql_repl.specs.declared.sid_text.InvalidSid.TheVariants as fault;
+
+    ghost from_gives = { λ fault_of_tag e. e ≡ fault.Tag fault_of_tag };
+
+    fn from(error: InvalidTag) -> InvalidSid {
+        InvalidSid::Tag(error)
+    }
+}
+
+impl From<InvalidGno> for InvalidSid {
+    ghost use Rattle.mysql_repl.specs.declared.sid_text.InvalidSid.TheVariants as fault;
+
+    ghost from_gives = { λ fault_of_gno e. e ≡ fault.Gno fault_of_gno };
+
+    fn from(error: InvalidGno) -> InvalidSid {
+        InvalidSid::Gno(error)
+    }
+}
+
+impl From<AllocError> for InvalidSid {
+    ghost use Rattle.mysql_repl.specs.declared.sid_text.InvalidSid.TheVariants as fault;
+
+    ghost from_gives = { λ _ e. e ≡ fault.Memory };
+
+    fn from(_error: AllocError) -> InvalidSid {
+        InvalidSid::Memory
+    }
+}
+
+impl<T: Drop> From<AllocFailed<T>> for InvalidSid {
+    ghost use Rattle.mysql_repl.specs.declared.sid_text.InvalidSid.TheVariants as fault;
+
+    ghost from_gives = { λ _ e. e ≡ fault.Memory };
+
+    fn from(_error: AllocFailed<T>) -> InvalidSid {
+        InvalidSid::Memory
+    }
+}
+
+/// What stands before the first colon, and what behind it.
+#[tactic(auto, using(crate::proofs::SidTexts::cuts))]
+fn cut_at_colon(text: &str) -> Option<(&str, &str)>
+    ensures value { MatchOption result (spec.has spec.colon text.now ≡ false) (λ cut. (spec.has spec.colon text.now ≡ true) × (cut.0.now ≡ spec.before spec.colon text.now) × (cut.1.now ≡ spec.behind spec.colon text.now)) }
+{
+    text.split_once(':')
+}
+
+/// What stands before the first hyphen, and what behind it.
+#[tactic(auto, using(crate::proofs::SidTexts::cuts))]
+fn cut_at_hyphen(text: &str) -> Option<(&str, &str)>
+    ensures value { MatchOption result (spec.has spec.hyphen text.now ≡ false) (λ cut. (spec.has spec.hyphen text.now ≡ true) × (cut.0.now ≡ spec.before spec.hyphen text.now) × (cut.1.now ≡ spec.behind spec.hyphen text.now)) }
+{
+    text.split_once('-')
+}
+
+/// The number of 64 bits that digits write, behind a plus or none.
+fn number_of(text: &str) -> Option<u64>
+    ensures { result ≡ spec.number_of text.now }
+{
+    text.parse().ok()
+}
+
+/// The interval from the first number to the last.
+fn checked(first: u64, last: u64) -> Result<GnoInterval, InvalidSid>
+    ensures value { result ≡ spec.checked first last }
+{
+    let Some(end) = last.checked_add(1) else {
+        return Err(InvalidSid::TooLarge);
+    };
+    Ok(GnoInterval::check_and_new(first, end)?)
+}
+
+/// The interval from one number to another, if both are numbers.
+fn from_numbers(first: Option<u64>, last: Option<u64>) -> Result<GnoInterval, InvalidSid>
+    ensures value { result ≡ spec.from_numbers first last }
+{
+    match (first, last) {
+        (Some(first), Some(last)) => checked(first, last),
+        _ => Err(InvalidSid::Number),
+    }
+}
+
+/// The interval that a text spells.
+#[tactic(auto, unfolding(crate::specs::SidText::read_interval))]
+fn read_interval(text: &str) -> Result<GnoInterval, InvalidSid>
+    ensures value { result ≡ spec.read_interval text.now }
+{
+    let Some((first, last)) = cut_at_hyphen(text) else {
+        let number = number_of(text);
+        return from_numbers(number, number);
+    };
+    if cut_at_hyphen(last).is_some() {
+        return Err(InvalidSid::Parts);
+    }
+    from_numbers(number_of(first), number_of(last))
+}
+
+/// A text up to its first colon, and what stands behind that colon, if there is one.
+#[derive(Drop)]
+struct FirstPart<'a> {
+    part: &'a str,
+    left: Option<&'a str>,
+}
+
+#[tactic(auto, using(crate::proofs::SidTexts::first_parts))]
+fn first_part(text: &str) -> FirstPart<'_>
+    ensures parts { spec.parts_of text.now ≡ result.part.now ∷ left_parts (option_map (λ t. t.now) result.left) }
+    ensures shorter { left_len (option_map (λ t. t.now) result.left) < left_len (Some text.now) }
+{
+    match cut_at_colon(text) {
+        Some((part, left)) => FirstPart {
+            part,
+            left: Some(left),
+        },
+        None => FirstPart {
+            part: text,
+            left: None,
+        },
+    }
+}
+
+/// The intervals that a text spells, with colons between them.
+#[tactic(auto, using(crate::proofs::SidLoops::loops), unfolding(crate::specs::SidText::read_intervals))]
+fn read_intervals(alloc: Global, text: &str) -> Result<Vec<GnoInterval>, InvalidSid>
+    ensures value { spec.Answered (items_read result) (spec.read_intervals text.now) }
+{
+    let mut intervals = Vec::new(alloc);
+    let mut left = Some(text);
+    while let Some(text) = left {
+        let first = first_part(text);
+        let interval = read_interval(first.part)?;
+        intervals.push(interval)?;
+        left = first.left;
+    }
+    Ok(intervals)
+}
+
+/// The sid with that uuid whose tag and intervals a text spells.
+#[tactic(auto, unfolding(crate::specs::SidText::read_behind))]
+fn read_behind(alloc: Global, uuid: [u8; 16], text: &str) -> Result<Sid<'static>, InvalidSid>
+    ensures value { spec.Answered result (spec.read_behind uuid text.now) }
+{
+    let Some(first) = text.as_bytes().first() else {
+        return Err(InvalidSid::Empty);
+    };
+    if first.is_ascii_digit() {
+        let intervals = read_intervals(alloc, text)?;
+        return Ok(Sid::new(uuid).with_intervals(intervals));
+    }
+    let Some((tag, text)) = cut_at_colon(text) else {
+        return Err(InvalidSid::NoIntervals);
+    };
+    let tag = Tag::new(CowStr::Borrowed(tag))?.into_owned(alloc)?;
+    let intervals = read_intervals(alloc, text)?;
+    Ok(Sid::new(uuid).with_intervals(intervals).with_tag(tag))
+}
+
+impl Sid<'static> {
+    /// The sid that a text spells: `UUID:1-5:7`, or with a tag `UUID:tag:1-5:7`.
+    ///
+    /// The text is a uuid in any form without a colon; a colon; a tag and a colon, or none; and
+    /// intervals with colons between them. An interval is a number, or the first and the last number
+    /// with a hyphen between them: the first is at least 1 and at most the last, and the last is
+    /// below 2^64 - 1. A number is one or more digits, behind a plus or none. Without a tag the
+    /// intervals begin with a digit.
+    ///
+    /// Another text is refused by its first fault.
+    #[tactic(auto, unfolding(crate::specs::SidText::read_sid))]
+    pub fn from_str(alloc: Global, text: &str) -> Result<Sid<'static>, InvalidSid>
+        ensures value { spec.Answered result (spec.read_sid text.now) }
+    {
+        let Some((uuid, text)) = cut_at_colon(text) else {
+            return Err(InvalidSid::NoColon);
+        };
+        let Some(uuid) = uuid_of(uuid) else {
+            return Err(InvalidSid::Uuid);
+        };
+        read_behind(alloc, uuid, text)
+    }
+}
+
+/// The bytes of the uuid that a text writes, in any of its forms.
+fn uuid_of(text: &str) -> Option<[u8; 16]>
+    ensures value { result ≡ parsed text.now }
+{
+    match Uuid::parse_str(text) {
+        Ok(uuid) => Some(uuid.into_bytes()),
+        Err(_) => None,
+    }
+}
+
+/// An interval behind its colon.
+#[derive(Drop)]
+struct ShownInterval<'b>(&'b GnoInterval);
+
+impl fmt::Display for ShownInterval<'_> {
+    ghost output = { λ i. Some (spec.interval_text i.0.now) };
+
+    fn fmt<W: fmt::Write>(&self, f: &mut fmt::Formatter<W>) -> fmt::Result {
+        let start = self.0.start();
+        let end = self.0.end();
+        if start.checked_add(1) == Some(end) {
+            write!(f, ":{start}")
+        } else {
+            let last = end.saturating_sub(1);
+            write!(f, ":{start}-{last}")
+        }
+    }
+}
+
+/// Intervals, each behind its colon.
+#[derive(Drop)]
+struct ShownIntervals<'b>(&'b [GnoInterval]);
+
+impl fmt::Display for ShownIntervals<'_> {
+    ghost output = { λ s. Some (flat_map spec.interval_text s.0.now) };
+
+    fn fmt<W: fmt::Write>(&self, f: &mut fmt::Formatter<W>) -> fmt::Result {
+        for interval in self.0 {
+            let interval = ShownInterval(interval);
+            write!(f, "{interval}")?;
+        }
+        Ok(())
+    }
+}
+
+/// A tag behind its colon, or nothing.
+#[derive(Drop)]
+struct ShownTag<'b, 'a>(Option<&'b Tag<'a>>);
+
+impl fmt::Display for ShownTag<'_, '_> {
+    ghost output = { λ s. Some (spec.tag_text (option_map (λ t. t.now) s.0)) };
+
+    fn fmt<W: fmt::Write>(&self, f: &mut fmt::Formatter<W>) -> fmt::Result {
+        match self.0 {
+            Some(tag) => write!(f, ":{tag}"),
+            None => Ok(()),
+        }
+    }
+}
+
+/// The text: the uuid in lower case with hyphens, the tag if there is one, and the intervals, with
+/// colons between them. An interval of one number is that number, another one its first and its last
+/// with a hyphen between them. Every interval is shown; an end of 0 has the last number 0.
+impl fmt::Display for Sid<'_> {
+    ghost use Rattle.mysql_repl.specs.SidText.{sid_text};
+
+    ghost output = { λ s. Some (sid_text s) };
+
+    fn fmt<W: fmt::Write>(&self, f: &mut fmt::Formatter<W>) -> fmt::Result {
+        let uuid = Uuid::from_bytes(self.uuid());
+        let tag = ShownTag(self.tag());
+        let intervals = ShownIntervals(self.intervals());
+        write!(f, "{uuid}{tag}{intervals}")
+    }
+}

@@ -1,0 +1,243 @@
+//! Tags of transactions.
+
+ghost use Rattle.std.specs.Prelude.{◌≡◌, ℕ, List, Option, Some, None, IfOk, IfErr, not, slice_get};
+ghost use Rattle.std.specs.Cow.{cow_str_bytes};
+ghost use Rattle.std.specs.List.{find};
+ghost use Rattle.std.specs.Str.{chars};
+ghost use Rattle.std.specs.String.{string_bytes};
+ghost use Rattle.mysql_repl.specs.Tag.{tag_fault, is_first, is_later};
+
+use std::alloc::{AllocError, Global};
+use std::borrow::CowStr;
+use std::cmp::Ordering;
+use std::fmt;
+use std::fmt::Debug;
+use std::hash::{Hash, Hasher};
+use std::marker::Model;
+use thiserror::Error;
+
+/// Why a text is no tag. The first fault is told: the text is empty, it is too long, its first
+/// character, and then its other characters from the left.
+#[derive(Clone, Debug, PartialEq, Eq, Hash, Drop, Error)]
+pub enum InvalidTag {
+    /// The text is empty.
+    #[error("tag is empty")]
+    Empty,
+    /// The text has so many bytes, and so more than 32.
+    #[error("tag is too long ({0} > 32)")]
+    TooLong(usize),
+    /// The text begins with this character.
+    #[error("invalid first character '{0}' (must be lowercase letter or underscore)")]
+    InvalidFirstChar(char),
+    /// This character stands further on in the text.
+    #[error("invalid character '{0}' (must be lowercase letter, digit, or underscore)")]
+    InvalidChar(char),
+}
+
+/// Whether a tag may begin with the character.
+fn is_first_char(c: char) -> bool
+    ensures value { result ≡ is_first c }
+{
+    ('a' <= c && c <= 'z') || c == '_'
+}
+
+/// Whether the character may stand in a tag.
+fn is_later_char(c: char) -> bool
+    ensures value { result ≡ is_later c }
+{
+    is_first_char(c) || ('0' <= c && c <= '9')
+}
+
+fn first_char(text: &str) -> Option<char>
+    ensures value { result ≡ slice_get (chars text.now) 0 }
+{
+    text.chars().nth(0)
+}
+
+fn first_bad_char(text: &str) -> Option<char>
+    ensures value { result ≡ find (λ c. not (is_later c)) (chars text.now) }
+{
+    text.chars().find(|c| !is_later_char(*c))
+}
+
+/// The first fault of a text.
+#[tactic(auto, unfolding(crate::specs::Tag::tag_fault))]
+fn fault_in(text: &str) -> Option<InvalidTag>
+    ensures { result ≡ tag_fault text.now }
+{
+    let Some(first) = first_char(text) else {
+        return Some(InvalidTag::Empty);
+    };
+    if text.len() > 32 {
+        return Some(InvalidTag::TooLong(text.len()));
+    }
+    if !is_first_char(first) {
+        return Some(InvalidTag::InvalidFirstChar(first));
+    }
+    match first_bad_char(text) {
+        Some(bad) => Some(InvalidTag::InvalidChar(bad)),
+        None => None,
+    }
+}
+
+/// The tag of some transactions: a lowercase letter or an underscore, and then up to 31 lowercase
+/// letters, digits and underscores.
+///
+/// Tags with the same text are equal, hash equally and have one place in the order, whoever owns the
+/// text. They are ordered by their bytes.
+#[derive(Drop)]
+pub struct Tag<'a>(CowStr<'a>);
+
+impl<'a> Model for Tag<'a> {
+    ghost use Rattle.std.specs.Prelude.{ℕ, List};
+    ghost use Rattle.std.specs.Cow.{cow_str_bytes};
+
+    ghost Value = { List ℕ };
+
+    ghost view = { λ t. cow_str_bytes t.0 };
+}
+
+impl<'a> Tag<'a> {
+    /// The most bytes that a tag has.
+    pub const MAX_LEN: usize = 32;
+
+    /// The tag of this text, or the text's first fault. It takes no memory.
+    pub fn new(text: CowStr<'a>) -> Result<Self, InvalidTag>
+        ensures ok { IfOk result (λ tag. (tag ≡ cow_str_bytes text.entry) × (tag_fault (cow_str_bytes text.entry) ≡ None)) }
+        ensures err { IfErr result (λ fault. tag_fault (cow_str_bytes text.entry) ≡ Some fault) }
+    {
+        match fault_in(text.as_str()) {
+            Some(fault) => Err(fault),
+            None => Ok(Tag(text)),
+        }
+    }
+
+    /// The text.
+    #[inline]
+    pub fn as_str(&self) -> &str
+        ensures value { result.now ≡ self.now }
+    {
+        self.0.as_str()
+    }
+
+    /// The same tag, on memory of its own. Where the copy is refused, the tag is given up, and the
+    /// text that it borrowed stays.
+    pub fn into_owned(self, alloc: Global) -> Result<Tag<'static>, AllocError>
+        ensures value { IfOk result (λ owned. owned ≡ self.entry) }
+    {
+        Ok(Tag(CowStr::Owned(self.0.into_owned(alloc)?)))
+    }
+}
+
+impl<'a> TryFrom<&'a str> for Tag<'a> {
+    type Error = InvalidTag;
+
+    fn try_from(text: &'a str) -> Result<Self, InvalidTag>
+        ensures ok { IfOk result (λ tag. (tag ≡ text.now) × (tag_fault text.now ≡ None)) }
+        ensures err { IfErr result (λ fault. tag_fault text.now ≡ Some fault) }
+    {
+        Tag::new(CowStr::Borrowed(text))
+    }
+}
+
+impl TryFrom<String> for Tag<'static> {
+    type Error = InvalidTag;
+
+    fn try_from(text: String) -> Result<Self, InvalidTag>
+        ensures ok { IfOk result (λ tag. (tag ≡ string_bytes text) × (tag_fault (string_bytes text) ≡ None)) }
+        ensures err { IfErr result (λ fault. tag_fault (string_bytes text) ≡ Some fault) }
+    {
+        Tag::new(CowStr::Owned(text))
+    }
+}
+
+impl Clone for Tag<'_> {
+    ghost is_clone = { λ t copy. copy ≡ t };
+
+    fn clone(&self) -> Result<Self, AllocError> {
+        Ok(Tag(self.0.clone()?))
+    }
+}
+
+impl PartialEq for Tag<'_> {
+    ghost use Rattle.std.specs.Prelude.{nat_eq};
+    ghost use Rattle.std.specs.Cmp.Lexicographic.{pointwise};
+    ghost use Rattle.std.proofs.Common.{rules};
+    ghost use Rattle.std.specs.Cmp.Rules.{comparing};
+
+    ghost eq = { pointwise nat_eq };
+
+    ghost laws = { Prim.search (comparing, rules) };
+
+    fn eq(&self, other: &Self) -> bool {
+        self.as_str() == other.as_str()
+    }
+}
+
+impl Eq for Tag<'_> {
+    ghost use Rattle.std.proofs.Common.{rules};
+    ghost use Rattle.std.specs.Cmp.Rules.{comparing};
+
+    ghost laws = { Prim.search (comparing, rules) };
+}
+
+impl PartialOrd for Tag<'_> {
+    ghost use Rattle.std.specs.Prelude.{Some};
+    ghost use Rattle.std.specs.Ordering.{nat_cmp};
+    ghost use Rattle.std.specs.Cmp.Lexicographic.{slice_cmp, texts_po};
+
+    ghost partial_cmp = { λ s t. Some (slice_cmp nat_cmp s t) };
+
+    ghost laws = { texts_po };
+
+    fn partial_cmp(&self, other: &Self) -> Option<Ordering> {
+        self.as_str().partial_cmp(other.as_str())
+    }
+}
+
+impl Ord for Tag<'_> {
+    ghost use Rattle.std.specs.Ordering.{nat_cmp};
+    ghost use Rattle.std.specs.Cmp.Lexicographic.{slice_cmp, nat_list_cmp_total, texts_ties};
+    ghost use Rattle.std.proofs.Common.{rules};
+
+    ghost cmp = { slice_cmp nat_cmp };
+
+    ghost total = { nat_list_cmp_total };
+
+    ghost matches_partial_cmp = { Prim.search rules };
+
+    ghost matches_eq = { texts_ties };
+
+    fn cmp(&self, other: &Self) -> Ordering {
+        self.as_str().cmp(other.as_str())
+    }
+}
+
+impl Hash for Tag<'_> {
+    ghost use Rattle.std.proofs.Common.{rules};
+    ghost use Rattle.std.specs.Hash as fed;
+
+    ghost hash_input = { fed.str };
+
+    ghost respects_eq = { Prim.search rules };
+
+    fn hash<H: Hasher>(&self, state: &mut H) {
+        self.as_str().hash(state);
+    }
+}
+
+impl Debug for Tag<'_> {
+    fn fmt<W: fmt::Write>(&self, f: &mut fmt::Formatter<W>) -> fmt::Result {
+        self.as_str().fmt(f)
+    }
+}
+
+/// The text.
+impl fmt::Display for Tag<'_> {
+    ghost output = { λ tag. Some tag };
+
+    fn fmt<W: fmt::Write>(&self, f: &mut fmt::Formatter<W>) -> fmt::Result {
+        let text = self.as_str();
+        write!(f, "{text}")
+    }
+}

@@ -1,0 +1,52 @@
+//! A tag among bytes, or none.
+
+ghost use Rattle.std.specs.Prelude.{false, ◌≡◌, List, ℕ};
+ghost use Rattle.mysql_wire.specs.Form.{looked_up};
+ghost use Rattle.mysql_wire.specs.Reading.{Answers};
+ghost use Rattle.mysql_repl.specs.TagString as spec;
+
+use crate::tag::Tag;
+use crate::varlen_bytes::VarLenBytes;
+use mysql_wire::{BytesRepr, FaultOf, ParseBuf};
+use std::borrow::CowStr;
+use std::str;
+
+/// What stands in place of a tag, where it is none.
+const INVALID: &str = "Invalid tag";
+
+/// The tag of some bytes; none, if there are no bytes.
+fn tag_of<'s, 'a>(bytes: &'a [u8]) -> Result<Option<Tag<'a>>, FaultOf<'s>>
+    ensures value { (rest : List ℕ) → Answers false result rest (looked_up (spec.tag_of bytes.now) rest) }
+{
+    if bytes.is_empty() {
+        return Ok(None);
+    }
+    let Ok(text) = str::from_utf8(bytes) else {
+        return Err(FaultOf::InvalidData(INVALID));
+    };
+    match Tag::new(CowStr::Borrowed(text)) {
+        Ok(tag) => Ok(Some(tag)),
+        Err(_) => Err(FaultOf::InvalidData(INVALID)),
+    }
+}
+
+/// Reads a tag behind its length, which is 0 where there is none. It takes no memory.
+///
+/// Bytes that are no tag are `InvalidData`.
+#[tactic(auto, unfolding(crate::specs::TagString::tag_form))]
+pub(crate) fn read_tag<'s, 'de>(buf: &mut ParseBuf<'de>) -> Result<Option<Tag<'de>>, FaultOf<'s>>
+    ensures value { Answers false result buf.new (spec.tag_form.reads buf.old) }
+{
+    let mut content = <VarLenBytes as BytesRepr>::deserialize((), buf)?;
+    tag_of(content.eat_all())
+}
+
+/// The bytes of the tag; none, if there is none.
+pub(crate) fn tag_bytes<'b>(tag: &'b Option<Tag<'_>>) -> &'b [u8]
+    ensures value { result.now ≡ spec.tag_bytes tag.now }
+{
+    match tag {
+        Some(tag) => tag.as_str().as_bytes(),
+        None => &[],
+    }
+}
