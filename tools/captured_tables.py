@@ -1,5 +1,5 @@
 #!/usr/bin/env python3
-"""Writes the tables of captured packets that the crate packet_tests reads.
+"""Writes the tables of captured packets that the crates packet_tests and auth_tests read.
 
 captured_tables.py          writes them from tests/captured/packets.jsonl
 captured_tables.py --check  changes nothing, and fails where one is not what would be written
@@ -17,6 +17,7 @@ from captured_rows import binary_row, bulk_rows, text_row
 TOP = os.path.dirname(os.path.dirname(os.path.realpath(__file__)))
 PACKETS = f"{TOP}/tests/captured/packets.jsonl"
 TABLES = f"{TOP}/crates/packet_tests/src/captured"
+AUTH_TABLES = f"{TOP}/crates/auth_tests/src/captured"
 
 UNREPORTED = "-"
 
@@ -108,6 +109,34 @@ def sent_ahead(packet):
     return [*numbers(given, "stmt_id", "param"), data(given.get("data"))]
 
 
+def greeting(packet):
+    api = api_of(packet)
+    flags = numbers(api, "server_capabilities", "ext_server_capabilities")
+    states = numbers(api, "server_language", "server_status", "server_version_id")
+    version = api.get("server_version")
+    without_prefix = api.get("server_version_without_5.5.5_prefix")
+    if version is None and without_prefix is not None:
+        version = "5.5.5-" + without_prefix
+    named = [text(version), data(api.get("scramble")), text(api.get("auth_plugin"))]
+    return [*numbers(api, "protocol_version", "connection_id"), *flags, *states, *named]
+
+
+def switch(packet):
+    return [text(packet.get("expected", {}).get("sql", {}).get("plugin_by_setup"))]
+
+
+def old_switch(packet):
+    return []
+
+
+def further_data(packet):
+    return [data(input_of(packet).get("data"))]
+
+
+def tls(packet):
+    return [number(int(packet["caps"], 16))]
+
+
 OK_WORDS = " ".join(["capabilities affected_rows last_insert_id status_flags warnings info", *CHANGES])
 
 # the file and its kind of packet; what the words behind the payload are; how they are made
@@ -129,17 +158,30 @@ KINDS = {
     "binary_row": ("columns values", binary_row),
 }
 
+# the same of the packets before the first command
+AUTH_KINDS = {
+    "handshake": (
+        "protocol_version connection_id capabilities mariadb_ext_capabilities default_collation status_flags "
+        "version_number server_version nonce auth_plugin_name",
+        greeting,
+    ),
+    "auth_switch_request": ("plugin", switch),
+    "auth_switch_request_old": ("", old_switch),
+    "auth_more_data": ("data", further_data),
+    "ssl_request": ("capabilities", tls),
+}
+
 # those whose words stand in other packets too
 AMONG_OTHERS = (text_row, bulk_rows)
 
 
-def table(kind, packets):
-    words, make = KINDS[kind]
+def table(kinds, kind, packets):
+    words, make = kinds[kind]
     others = [packets] if make in AMONG_OTHERS else []
     lines = [
         "//! Written by `tools/captured_tables.py` from `tests/captured/packets.jsonl`: change nothing here.",
         "",
-        f"/// id payload {words}",
+        f"/// id payload {words}".rstrip(),
         'pub const PACKETS: &str = "\\',
     ]
     for it in packets:
@@ -155,8 +197,9 @@ def main(words):
     with open(PACKETS, encoding="utf-8") as it:
         packets = [json.loads(line) for line in it]
     stale = []
-    for kind in KINDS:
-        path, wanted = f"{TABLES}/{kind}.rt", table(kind, packets)
+    files = [(TABLES, KINDS, kind) for kind in KINDS] + [(AUTH_TABLES, AUTH_KINDS, kind) for kind in AUTH_KINDS]
+    for folder, kinds, kind in files:
+        path, wanted = f"{folder}/{kind}.rt", table(kinds, kind, packets)
         if words:
             with open(path, encoding="utf-8") as it:
                 stale += [path] * (it.read() != wanted)

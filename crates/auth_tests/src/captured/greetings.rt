@@ -1,0 +1,60 @@
+//! Handshakes.
+
+use crate::captured::handshake::PACKETS;
+use crate::captured::reported::{all_agree, are_reported, bytes_at, is_reported};
+use mysql_auth::HandshakePacket;
+use mysql_wire::{Fault, Flags, MySerialize, ParseBuf};
+use std::alloc::Global;
+use std::test::Fail;
+
+/// Whether the numbers of the handshake are those that were reported.
+fn numbers_agree(line: &str, packet: &HandshakePacket<'_>) -> bool {
+    is_reported(line, 2, u64::from(packet.protocol_version()))
+        && is_reported(line, 3, u64::from(packet.connection_id()))
+        && is_reported(line, 4, u64::from(packet.capabilities().bits()))
+        && is_reported(line, 5, u64::from(packet.mariadb_ext_capabilities().bits()))
+        && is_reported(line, 6, u64::from(packet.default_collation()))
+        && is_reported(line, 7, u64::from(packet.status_flags().bits()))
+}
+
+/// Whether the version of MariaDB has the number that was reported, two digits for each part.
+fn version_agrees(line: &str, packet: &HandshakePacket<'_>) -> bool {
+    match packet.maria_db_server_version_parsed() {
+        Some((major, minor, patch)) => {
+            let number = u64::from(major) * 10000 + u64::from(minor) * 100 + u64::from(patch);
+            is_reported(line, 8, number)
+        }
+        None => false,
+    }
+}
+
+/// Whether the packet of the line is read whole, as it was reported, and written again.
+fn agrees(alloc: Global, line: &str) -> Result<bool, Fail> {
+    let bytes = bytes_at(alloc, line, 1)?;
+    let mut buf = ParseBuf::new(alloc, bytes.as_slice());
+    let read: Result<HandshakePacket<'_>, Fault> = buf.parse(());
+    let packet = read.ok().ok_or("a captured handshake is refused")?;
+    let nonce = packet.nonce(alloc)?;
+    let mut written = Vec::new(alloc);
+    packet.serialize(&mut written)?;
+    Ok(
+        buf.is_empty()
+            && numbers_agree(line, &packet)
+            && version_agrees(line, &packet)
+            && are_reported(alloc, line, 9, packet.server_version_ref())?
+            && are_reported(alloc, line, 10, nonce.as_slice())?
+            && are_reported(
+                alloc,
+                line,
+                11,
+                packet.auth_plugin_name_ref().unwrap_or(&[]),
+            )?
+            && written.as_slice() == bytes.as_slice(),
+    )
+}
+
+#[test]
+fn handshakes_are_read_as_reported(rt: HostRuntime) -> Result<(), Fail> {
+    let alloc = rt.alloc();
+    all_agree(&rt, PACKETS, 37, |line| agrees(alloc, line))
+}
