@@ -25,7 +25,7 @@ which false = inr refl
 later-ascii : (c : ℕ) → is_later c ≡ true → c < 128
 later-ascii c h = grind (arith, nat_tests)
 
-first-later : (c : ℕ) → is_first c ≡ true → is_later c ≡ true
+pub first-later : (c : ℕ) → is_first c ≡ true → is_later c ≡ true
 first-later c h = rw h refl
 
 all-ascii : (cs : List ℕ) → list_all is_later cs ≡ true → IsAscii cs
@@ -33,18 +33,18 @@ all-ascii [] h = IsAscii-nil
 all-ascii (c ∷ cs) h = let p = both (is_later c) (list_all is_later cs) h in IsAscii-cons c cs (later-ascii c p.0) (all-ascii cs p.1)
 
 pub record TagParts (c : ℕ) (cs : List ℕ) : Type 0 where
-  first : is_first c ≡ true
-  later : list_all is_later cs ≡ true
-  short : length cs ≤ 31
+  pub first : is_first c ≡ true
+  pub later : list_all is_later cs ≡ true
+  pub short : length cs ≤ 31
 
-tag-parts : (c : ℕ) (cs : List ℕ) → IsTag (c ∷ cs) → TagParts c cs
+pub tag-parts : (c : ℕ) (cs : List ℕ) → IsTag (c ∷ cs) → TagParts c cs
 unfolding is_tag
 tag-parts c cs h =
     let p = both (is_first c) (list_all is_later cs && nat_le (length cs) 31) h in
     let q = both (list_all is_later cs) (nat_le (length cs) 31) p.1 in
     record { first = p.0; later = q.0; short = leb-true _ _ q.1 }
 
-nothing : IsTag [] → ⊥
+pub nothing : IsTag [] → ⊥
 unfolding is_tag
 nothing h = absurd cc
 

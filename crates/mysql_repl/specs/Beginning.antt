@@ -1,5 +1,5 @@
 -- Fields at the beginning of a part, whose other bytes are ignored.
-use Rattle.std.specs.Prelude.{◌≡◌, ℕ, List, [], ◌++◌, None, Ok}
+use Rattle.std.specs.Prelude.{◌≡◌, ℕ, List, [], None, Ok}
 use Rattle.std.proofs.Common.{◌∙◌, refl}
 use Rattle.mysql_wire.specs.Form.{Form, within}
 use Rattle.mysql_wire.specs.Reading.{Reading, IsTail, then_read, then_read-ok, done-value, done-rest, done-both}

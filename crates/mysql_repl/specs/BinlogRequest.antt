@@ -1,5 +1,5 @@
 -- A request for a binary log, in either of the two commands.
-use Rattle.std.specs.Prelude.{ℕ, ◌%◌, ◌^◌, List, [], Bool, true, false, bit_and}
+use Rattle.std.specs.Prelude.{ℕ, ◌%◌, ◌^◌, List, Bool, true, false, bit_and}
 use Rattle.mysql_wire.specs.declared.either.Either.{Either}
 use Rattle.mysql_wire.specs.declared.either.Either.TheVariants.{Left, Right}
 use Rattle.mysql_wire.specs.Flags.{BinlogDumpFlags}

@@ -14,3 +14,4 @@ pub mod BinlogDumpGtid
 pub mod BinlogRequest
 pub mod SidText
 pub mod SidTextParts
+pub mod ProperSid

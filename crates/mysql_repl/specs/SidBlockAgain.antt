@@ -1,24 +1,22 @@
 -- What is written of a block is read again, by either reader.
-use Rattle.std.specs.Prelude.{◌≡◌, ℕ, ◌+◌, ◌*◌, ◌/◌, ◌%◌, ◌<◌, ◌≤◌, ◌^◌, List, [], ◌∷◌, ◌++◌, length, min, take, Option, Some, None, Bool, true, false, ◌&&◌, ◌==◌, nat_lt, if◌then◌else◌, refl}
+use Rattle.std.specs.Prelude.{◌≡◌, ℕ, ◌+◌, ◌*◌, ◌/◌, ◌%◌, ◌<◌, ◌≤◌, ◌^◌, List, [], ◌∷◌, ◌++◌, length, min, take, Some, None, Bool, true, false, nat_lt, if◌then◌else◌, refl}
 use Rattle.std.specs.List.{flat_map}
-use Rattle.std.proofs.Common.{arith, subst, sym, ◌∙◌}
+use Rattle.std.proofs.Common.{arith, subst}
 use Rattle.std.proofs.lemmas.Bool.{eq-eqb, ne_eqb, le-ltb}
 use Rattle.std.proofs.lemmas.List.{append-nil, length-append, take_all}
 use Rattle.mysql_wire.specs.BytesAgain.{u32_string-again}
 use Rattle.mysql_wire.specs.Codec.{Codec}
-use Rattle.mysql_wire.specs.Codecs.{leaf}
 use Rattle.mysql_wire.specs.CodecFits.{each_fits}
 use Rattle.mysql_wire.specs.CodecAgain.{counted-again}
 use Rattle.mysql_wire.specs.CountedBytes.{u32_string, counted_bytes_of}
 use Rattle.mysql_wire.specs.Int.{raw_int}
-use Rattle.mysql_wire.specs.LittleEndian.{length-le_bytes}
 use Rattle.mysql_wire.specs.Seq.{counted}
 use Rattle.mysql_wire.specs.Spelling.{IsSpelling, le_u64-again}
 use Rattle.mysql_wire.specs.Writing.{le_bytes}
 use Rattle.mysql_repl.specs.declared.sid.Sid.{Sid}
 use Rattle.mysql_repl.specs.Beginning.{whole-beginning}
 use Rattle.mysql_repl.specs.Sid.{sid_as, sid, tagged_sid}
-use Rattle.mysql_repl.specs.SidBlock.{layout, is_tagged, count_of, head_of, head_for, sids_form, block_form, any_tag, content, block_bytes, BlockFits}
+use Rattle.mysql_repl.specs.SidBlock.{layout, is_tagged, head_of, head_for, sids_form, block_form, any_tag, content, block_bytes, BlockFits}
 
 -- each sid takes at least one byte
 some-bytes : (tagged : Bool) (s : Sid) (rest : List ℕ) → (sid_as tagged).fits tt s rest → 0 < length ((sid_as tagged).bytes s)

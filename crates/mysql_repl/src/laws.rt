@@ -3,7 +3,7 @@
 //! Each law is a function with nothing in it, whose contract holds for all values.
 #![tactic(auto, using(mysql_wire::proofs::Packets::packets, crate::proofs::Fits::plain_fits, crate::proofs::SidFits::sid_fits))]
 
-ghost use Rattle.std.specs.Prelude.{◌≡◌, ◌++◌, ℕ, List, None, true, false};
+ghost use Rattle.std.specs.Prelude.{◌≡◌, ◌++◌, ℕ, List, None, Ok, true, false};
 ghost use Rattle.mysql_repl.specs.declared.binlog_dump.ComBinlogDump.{ComBinlogDump};
 ghost use Rattle.mysql_repl.specs.declared.binlog_dump_gtid.ComBinlogDumpGtid.{ComBinlogDumpGtid};
 ghost use Rattle.mysql_repl.specs.declared.register_slave.ComRegisterSlave.{ComRegisterSlave};
@@ -15,6 +15,8 @@ ghost use Rattle.mysql_repl.specs.BinlogDumpGtid.{gtid_dump, GtidDumpFits};
 ghost use Rattle.mysql_repl.specs.RegisterSlave.{register_slave, RegisterSlaveFits};
 ghost use Rattle.mysql_repl.specs.SemiSyncAck.{semi_sync_ack, SemiSyncAckFits};
 ghost use Rattle.mysql_repl.specs.Sid.{sid, tagged_sid, IsSid};
+ghost use Rattle.mysql_repl.specs.ProperSid.{ProperSid};
+ghost use Rattle.mysql_repl.specs.SidText.{read_sid, sid_text};
 ghost use Rattle.mysql_repl.specs.TableDump.{table_dump, TableDumpFits};
 
 /// What is written of a registration is read again, whatever follows.
@@ -53,4 +55,10 @@ pub fn binlog_dump_gtid_again()
 /// What the strict reader of dumps by GTID set accepts, the other reads as the same request with the same rest.
 pub fn strict_is_lenient()
     ensures spelled { (p : ComBinlogDumpGtid) (bytes rest : List ℕ) → (gtid_dump.form true).Spells p bytes rest → (gtid_dump.form false).Spells p bytes rest }
+{}
+
+/// The text that is written of a sid is read as that sid, where it has at least one interval, and each is proper.
+#[tactic(auto, using(crate::proofs::SidTextAgain::sid_texts_again))]
+pub fn sid_text_again()
+    ensures read { (s : Sid) → ProperSid s → read_sid (sid_text s) ≡ Ok s }
 {}

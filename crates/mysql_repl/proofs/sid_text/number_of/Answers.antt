@@ -1,4 +1,4 @@
-use Rattle.std.proofs.Common.{rules, ◌∙◌}
+use Rattle.std.proofs.Common.{rules}
 use Rattle.mysql_repl.proofs.SidTexts.{number-parse}
 use Rattle.mysql_repl.proofs.sid_text.number_of.Goals as goal
 
