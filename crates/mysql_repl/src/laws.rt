@@ -15,7 +15,7 @@ ghost use Rattle.mysql_repl.specs.BinlogDumpGtid.{gtid_dump, GtidDumpFits};
 ghost use Rattle.mysql_repl.specs.RegisterSlave.{register_slave, RegisterSlaveFits};
 ghost use Rattle.mysql_repl.specs.SemiSyncAck.{semi_sync_ack, SemiSyncAckFits};
 ghost use Rattle.mysql_repl.specs.Sid.{sid, tagged_sid, IsSid};
-ghost use Rattle.mysql_repl.specs.ProperSid.{ProperSid};
+ghost use Rattle.mysql_repl.specs.ProperSid.{IsSidValue, ProperSid};
 ghost use Rattle.mysql_repl.specs.SidText.{read_sid, sid_text};
 ghost use Rattle.mysql_repl.specs.TableDump.{table_dump, TableDumpFits};
 
@@ -61,4 +61,10 @@ pub fn strict_is_lenient()
 #[tactic(auto, using(crate::proofs::SidTextAgain::sid_texts_again))]
 pub fn sid_text_again()
     ensures read { (s : Sid) → ProperSid s → read_sid (sid_text s) ≡ Ok s }
+{}
+
+/// A text that was read, printed and read again gives the first reading.
+#[tactic(auto, using(crate::proofs::SidTextRead::sid_reads_again))]
+pub fn sid_text_read_again()
+    ensures read { (text : List ℕ) (s : Sid) → IsSidValue s → read_sid text ≡ Ok s → read_sid (sid_text s) ≡ Ok s }
 {}
