@@ -9,8 +9,8 @@ ghost use Rattle.mysql_bulk.specs.ParamTypes.{types_block};
 
 use mysql_values::ParamType;
 use mysql_wire::{
-    ColumnFlags, ColumnType, Const, ConstFault, ConstU8, FaultOf, Flags, LeU16, LeU32, ParseBuf, RawInt,
-    Seq, StmtBulkExecuteFlags, StmtExecuteParamFlags, Unknown,
+    ColumnFlags, ColumnType, Const, ConstFault, ConstU8, FaultOf, Flags, LeU16, LeU32, ParseBuf,
+    RawInt, Seq, StmtBulkExecuteFlags, StmtExecuteParamFlags, Unknown,
 };
 use std::alloc::{AllocError, Global};
 use std::borrow::CowSlice;

@@ -7,7 +7,6 @@ ghost use Rattle.mysql_values.specs.Value.{contents_of};
 ghost use Rattle.mysql_bulk.specs.ParamValue.{with_indicator};
 ghost use Rattle.mysql_bulk.specs.ParamValues.{values_of_columns};
 
-
 use crate::param_value::StmtBulkExecuteParamValue;
 use crate::row::append_row;
 use mysql_values::Value;

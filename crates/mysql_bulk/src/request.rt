@@ -17,8 +17,8 @@ use crate::param_values::read_values;
 use crate::row::{append_row, equally_long, find_room};
 use mysql_values::{ParamType, Value};
 use mysql_wire::{
-    AnyWidth, ColumnFlags, ColumnType, Const, FaultOf, LeU16, LeU32, MyDeserialize, MySerialize, ParseBuf,
-    RawInt, Seq, StmtBulkExecuteFlags, Unknown, items_len, parts,
+    AnyWidth, ColumnFlags, ColumnType, Const, FaultOf, LeU16, LeU32, MyDeserialize, MySerialize,
+    ParseBuf, RawInt, Seq, StmtBulkExecuteFlags, Unknown, items_len, parts,
 };
 use std::alloc::{AllocError, Global};
 use std::marker::Model;

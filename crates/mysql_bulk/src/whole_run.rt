@@ -35,9 +35,7 @@ fn send(
     ensures requests { OnOk result (PutsRequest builder.old requests.old.items requests.new.items builder.new) }
     ensures unchanged { OnErr result ((builder.new ≡ builder.old) × (requests.new.items ≡ requests.old.items) × (ends.new.items ≡ ends.old.items)) }
 {
-    let end = sent
-        .checked_add(builder.rows_waiting())
-        .ok_or(AllocError)?;
+    let end = sent.checked_add(builder.rows_waiting()).ok_or(AllocError)?;
     requests.reserve(1)?;
     ends.reserve(1)?;
     match builder.build() {
