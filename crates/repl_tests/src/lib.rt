@@ -1,0 +1,15 @@
+//! Tests of what a replica sends, by examples with their bytes and by captured packets.
+#![tactic(auto)]
+
+#[cfg(test)]
+mod captured;
+#[cfg(test)]
+mod commands;
+#[cfg(test)]
+mod gtid_dumps;
+#[cfg(test)]
+mod requests;
+#[cfg(test)]
+mod sid_texts;
+#[cfg(test)]
+mod tags;
