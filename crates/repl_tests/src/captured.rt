@@ -1,6 +1,7 @@
 //! Packets that a replica of MariaDB 10.11.19, and a client of Connector/C 3.3.20 in its place, sent to a server.
 //!
-//! They are in `tests/captured/packets.jsonl`, under the names that stand here.
+//! They were captured on the loopback, without encryption, and are compared with what the server's and the client's
+//! logs say. Above each stands the capture, the connection and the packet's number.
 
 use mysql_repl::{ComBinlogDump, ComRegisterSlave, SemiSyncAckPacket};
 use mysql_wire::{Fault, Flags, MySerialize, ParseBuf};
