@@ -1,7 +1,10 @@
 #!/usr/bin/env python3
-"""Holds docs/ARCHITECTURE.md to the crate that it quotes: the quoted blocks of a file are the whole file, in order.
+"""Holds pages to the code that they quote.
 
-quoted_lines.py: the status is 0 where each file of crates/example_packet is quoted whole.
+The quoted blocks of a file in docs/ARCHITECTURE.md are the whole file, in order. Each line of the tour in README.md is a
+line of the tests that run it.
+
+quoted_lines.py: the status is 0 where each file of crates/example_packet is quoted whole, and the tour is that of the tests.
 """
 import os
 import re
@@ -11,6 +14,8 @@ TOP = os.path.dirname(os.path.dirname(os.path.realpath(__file__)))
 PAGE = "docs/ARCHITECTURE.md"
 CRATE = "crates/example_packet"
 BLOCK = re.compile(r"^```\w+ (crates/\S+)\n(.*?)^```$", re.MULTILINE | re.DOTALL)
+TOUR = re.compile(r"^```rust\n(.*?)^```$", re.MULTILINE | re.DOTALL)
+TOUR_TESTS = "crates/packet_tests/src/tour.rt"
 
 
 def lines(text):
@@ -33,17 +38,28 @@ def sources():
             yield f"{CRATE}/{part}/{name}"
 
 
+def read(path):
+    with open(f"{TOP}/{path}", encoding="utf-8") as file:
+        return file.read()
+
+
+def strange_in_the_tour():
+    """The lines of the tour that the tests don't have."""
+    tested = {line.strip() for line in lines(read(TOUR_TESTS))}
+    shown = [line.strip() for text in TOUR.findall(read("README.md")) for line in lines(text)]
+    return [line for line in shown if line not in tested] if shown else ["(there is no tour)"]
+
+
 def main():
-    with open(f"{TOP}/{PAGE}", encoding="utf-8") as page:
-        found = quoted(page.read())
+    found = quoted(read(PAGE))
     wrong = sorted(set(found) - set(sources()))
-    for path in sources():
-        with open(f"{TOP}/{path}", encoding="utf-8") as file:
-            if found.get(path) != lines(file.read()):
-                wrong.append(path)
+    wrong += [path for path in sources() if found.get(path) != lines(read(path))]
     for path in wrong:
         print(f"{PAGE} does not quote {path} as it is")
-    return 1 if wrong else 0
+    strange = strange_in_the_tour()
+    for line in strange:
+        print(f"README.md has a line in its tour that {TOUR_TESTS} has not: {line}")
+    return 1 if wrong or strange else 0
 
 
 if __name__ == "__main__":

@@ -7,3 +7,5 @@ mod captured;
 mod ok_kind;
 #[cfg(test)]
 mod replies;
+#[cfg(test)]
+mod tour;
