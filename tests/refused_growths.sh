@@ -1,16 +1,20 @@
 #!/usr/bin/env bash
-# Runs each case of refused_growths and of refused_growths_of_run with growth 1, 2, 3, .. of its memory
+# Runs each case of the programs crates/refused_growths* with growth 1, 2, 3, .. of its memory
 # refused, until a run meets no refusal, and holds what it says to the table in refused_growths.txt:
 # where a growth is refused the promised refusal, else the right answer; and no growth above the
 # stated bound.
 #
-# refused_growths.sh [PROGRAM ..]  tries these builds of the two; with none it builds each by rt.
+# refused_growths.sh [PROGRAM ..]  tries these builds of them; with none it builds each by rt.
 # The last line is 'N passed, N failed', where a run of a case is one.
 set -uo pipefail
 export LC_ALL=C
 
 top=$(cd "$(dirname "${BASH_SOURCE[0]}")/.." && pwd) || exit 1
-crates=(refused_growths refused_growths_of_run)
+crates=()
+for main in "$top"/crates/refused_growths*/src/main.rt; do
+    crate=${main%/src/main.rt}
+    crates+=("${crate##*/}")
+done
 passed=0
 failed=0
 
@@ -96,7 +100,9 @@ while IFS='|' read -r name count bound refusal; do
     table[$name]="${count// /}|${bound// /}|${refusal# }"
 done <"$top/tests/refused_growths.txt"
 while IFS= read -r line; do
-    answers[${line%%: *}]=${line#*: }
+    name=${line%%: *}
+    [[ -z ${answers[$name]+there} ]] || pass_or_fail "$name" 'two programs print a case of that name'
+    answers[$name]=${line#*: }
 done < <(for crate in "${crates[@]}"; do cat -- "$top/crates/$crate/stdout"; done)
 for name in "${!table[@]}"; do
     [[ -n ${answers[$name]+there} ]] || pass_or_fail "$name" 'no program prints a case of that name'
