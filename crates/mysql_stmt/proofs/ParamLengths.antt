@@ -7,19 +7,19 @@ use Rattle.std.proofs.lemmas.List.{append-nil, length-append, length-take}
 use Rattle.std.proofs.lemmas.List.Folds.{length-flat_map-take}
 use Rattle.std.proofs.lemmas.List.Sums.{sum_by-cons}
 use Rattle.mysql_wire.specs.Writing.{le_bytes}
+use Rattle.mysql_values.specs.ParamType.{param_type, type_of}
 use Rattle.mysql_values.specs.declared.value.Value.{Value}
 use Rattle.mysql_values.specs.Value.{Content, NULL, Bytes, Int, UInt, Float, Double, Date, Time, content_of, bin, size_of}
 use Rattle.mysql_values.proofs.Sizes.{length-bin}
 use Rattle.mysql_stmt.specs.Bitmap.{bytes_for}
-use Rattle.mysql_stmt.specs.ParamType.{type_of, type_bytes, types_bytes}
-use Rattle.mysql_stmt.specs.ExecuteParams.{short, data_bytes, whole_size, max_payload, MarksNulls, params_bytes, where_some}
+use Rattle.mysql_stmt.specs.ExecuteParams.{types_bytes, short, data_bytes, whole_size, max_payload, MarksNulls, params_bytes, where_some}
 use Rattle.mysql_stmt.specs.declared.execute_params.ExecuteParams.{ExecuteParams}
 
 pub length-types_bytes : (values : List Value) → length (types_bytes values) ≡ 2 * length values
-unfolding le_bytes
+unfolding param_type le_bytes
 length-types_bytes [] = refl
 length-types_bytes (v ∷ values) =
-    omega (arith, length-append (type_bytes (type_of (content_of v))) (types_bytes values), length-types_bytes values)
+    omega (arith, length-append (param_type.bytes (type_of (content_of v))) (types_bytes values), length-types_bytes values)
 
 -- the values are as long as their sizes say
 pub length-values : (values : List Value) → length (data_bytes false values) ≡ sum_by size_of values

@@ -4,9 +4,9 @@ use Rattle.std.specs.List.{flat_map}
 use Rattle.std.specs.Option.{option_map_or}
 use Rattle.mysql_wire.specs.Writing.{le_bytes}
 use Rattle.mysql_values.specs.declared.value.Value.{Value}
+use Rattle.mysql_values.specs.ParamType.{param_type, type_of}
 use Rattle.mysql_values.specs.Value.{Content, NULL, Bytes, content_of, bin, size_of}
 use Rattle.mysql_stmt.specs.Bitmap.{bytes_for, cell}
-use Rattle.mysql_stmt.specs.ParamType.{types_bytes}
 use Rattle.mysql_stmt.specs.declared.execute_params.ExecuteParams.{ExecuteParams}
 
 -- ---- the bitmap
@@ -23,6 +23,12 @@ null_at params i = option_map_or (λ v. null_bit (content_of v)) (slice_get para
 pub record MarksNulls (params : List Value) (bitmap : List ℕ) : Type 0 where
   pub len : length bitmap ≡ bytes_for 0 (length params)
   pub cells : (i : ℕ) → cell bitmap i ≡ null_at params i
+
+-- ---- the types
+
+-- the types that the values are sent as, one after another
+abbrev pub types_bytes : List Value → List ℕ
+types_bytes values = flat_map (λ v. param_type.bytes (type_of (content_of v))) values
 
 -- ---- which values are sent
 

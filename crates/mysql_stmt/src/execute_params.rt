@@ -5,8 +5,7 @@ ghost use Rattle.mysql_wire.specs.Writing.{saturated};
 ghost use Rattle.mysql_stmt.specs.ExecuteParams.{MarksNulls, whole_size, max_payload, params_bytes};
 
 use crate::null_bitmap::NullBitmap;
-use crate::param_type::ParamTypes;
-use crate::sent_values::SentValues;
+use crate::sent_values::{ParamTypes, SentValues};
 use mysql_values::{ClientSide, Value};
 use mysql_wire::{
     BareBytes, Const, End, Parts, RawBytes, Sink, StmtExecuteParamsFlags, items_len, parts,

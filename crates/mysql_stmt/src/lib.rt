@@ -1,5 +1,6 @@
 //! Prepared statements: what a server answers to one that it prepared, what an execution, long data and a close are
-//! written as, the bitmaps of NULLs, and the rows of results.
+//! written as, the bitmaps of NULLs, and the rows of results. The bulk executions of `mysql_bulk`, and the judge of
+//! their cuts of `mysql_cuts`, have a path here too.
 #![tactic(auto)]
 
 mod close;
@@ -9,7 +10,6 @@ mod execute_params;
 pub mod laws;
 mod long_data;
 mod null_bitmap;
-mod param_type;
 mod row;
 mod row_deserializer;
 mod row_protocol;
@@ -25,6 +25,13 @@ pub use execute::{
 pub use long_data::{
     ComStmtSendLongData, ComStmtSendLongDataHeader, InvalidComStmtSendLongDataHeader,
 };
+pub use mysql_bulk::{
+    BulkExecuteRequestBuilderError, BulkExecuteRequestError, BulkParamsRequests, BulkRequests,
+    BulkRun, ComStmtBulkExecuteHeader, ComStmtBulkExecuteRequest, ComStmtBulkExecuteRequestBuilder,
+    InvalidComStmtBulkExecuteHeader, StmtBulkExecuteParamType, StmtBulkExecuteParamValue,
+    StmtBulkExecuteParamValues, bulk_row_size, read_bulk_rows,
+};
+pub use mysql_cuts::{BulkRule, cut_is_fewest};
 pub use null_bitmap::NullBitmap;
 pub use row::{Row, new_row, new_row_raw};
 pub use row_deserializer::RowDeserializer;

@@ -1,9 +1,30 @@
-//! The values of an execution, as they are sent.
+//! The types and the values of an execution, as they are sent.
 
 ghost use Rattle.std.specs.Prelude.{◌≡◌};
 
-use mysql_values::Value;
+use mysql_values::{ParamType, Value};
 use mysql_wire::MySerialize;
+
+/// The types that some values are sent as, one after another.
+#[derive(Drop)]
+pub(crate) struct ParamTypes<'a>(pub(crate) &'a [Value]);
+
+impl MySerialize for ParamTypes<'_> {
+    ghost use Rattle.mysql_stmt.specs.ExecuteParams.{types_bytes};
+
+    ghost bytes = { λ types. types_bytes types.0.now };
+
+    #[tactic(auto, using(crate::proofs::ParamLengths::param_lengths), unfolding(mysql_wire::specs::Writing::saturated))]
+    fn defined_len(&self) -> usize {
+        self.0.len().saturating_mul(2)
+    }
+
+    fn append(&self, out: &mut Vec<u8>) {
+        for value in self.0 {
+            ParamType::from_value(value).append(out);
+        }
+    }
+}
 
 /// A value as an execution sends it: without a byte string where those are sent ahead, as long data.
 #[derive(Drop)]

@@ -1,6 +1,6 @@
 use Rattle.std.proofs.Common.{◌≡◌, ◌++◌, ◌≤◌, take, vec_capacity}
-use Rattle.mysql_stmt.specs.ParamType.{types_bytes}
-use Rattle.mysql_stmt.proofs.param_type.ParamTypesMySerialize.append.Given as goal
+use Rattle.mysql_stmt.specs.ExecuteParams.{types_bytes}
+use Rattle.mysql_stmt.proofs.sent_values.ParamTypesMySerialize.append.Given as goal
 
 abbrev pub invariant-loop-value : goal.invariant-loop-value
 invariant-loop-value l =
