@@ -45,14 +45,15 @@ both true true h = (refl, refl)
 both true false h = absurd cc
 both false b h = absurd cc
 
+pub numeral-from : (ds : List ℕ) → (nat_lt 0 (length ds) && all_ascii_digits ds) ≡ true → IsNumeral 10 ds
+numeral-from ds digits = let p = both (nat_lt 0 (length ds)) (all_ascii_digits ds) digits in (ltb-true _ _ p.0, own.to ds p.1)
+
 number-none : (ds : List ℕ) → (IsNumeral 10 ds × (digits_value 10 ds < 2 ^ 64) → ⊥) → number_in ds ≡ None
 number-none ds wrong =
     elim (which (nat_lt 0 (length ds) && all_ascii_digits ds)) [
       | inl digits ↦
-          let p = both (nat_lt 0 (length ds)) (all_ascii_digits ds) digits in
-          let numeral : IsNumeral 10 ds = (ltb-true _ _ p.0, own.to ds p.1) in
           elim (which (nat_lt (digits_value 10 ds) (2 ^ 64))) [
-            | inl small ↦ absurd (wrong (numeral, ltb-true _ _ small))
+            | inl small ↦ absurd (wrong (numeral-from ds digits, ltb-true _ _ small))
             | inr large ↦ rw (digits, large) refl
           ]
       | inr other ↦ rw other refl

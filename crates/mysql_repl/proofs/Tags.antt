@@ -144,3 +144,5 @@ reads-tag [] text tag rest some utf8 same is h = absurd (some refl)
 reads-tag (c ∷ cs) text tag rest some utf8 same is h =
     let e : tag ≡ c ∷ cs = is ∙ same in
     rw (bytes-tag c cs utf8 (rw same at h), e) refl
+
+pub ruleset tag_faults = (tag-no_fault, no_fault-tag)

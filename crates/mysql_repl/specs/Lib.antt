@@ -15,3 +15,4 @@ pub mod BinlogRequest
 pub mod SidText
 pub mod SidTextParts
 pub mod ProperSid
+pub mod SidGrammar

@@ -3,7 +3,7 @@
 //! Each law is a function with nothing in it, whose contract holds for all values.
 #![tactic(auto, using(mysql_wire::proofs::Packets::packets, crate::proofs::Fits::plain_fits, crate::proofs::SidFits::sid_fits))]
 
-ghost use Rattle.std.specs.Prelude.{◌≡◌, ◌++◌, ℕ, List, None, Ok, true, false};
+ghost use Rattle.std.specs.Prelude.{◌≡◌, ◌++◌, ℕ, List, None, Ok, IsUtf8, true, false};
 ghost use Rattle.mysql_repl.specs.declared.binlog_dump.ComBinlogDump.{ComBinlogDump};
 ghost use Rattle.mysql_repl.specs.declared.binlog_dump_gtid.ComBinlogDumpGtid.{ComBinlogDumpGtid};
 ghost use Rattle.mysql_repl.specs.declared.register_slave.ComRegisterSlave.{ComRegisterSlave};
@@ -16,7 +16,9 @@ ghost use Rattle.mysql_repl.specs.RegisterSlave.{register_slave, RegisterSlaveFi
 ghost use Rattle.mysql_repl.specs.SemiSyncAck.{semi_sync_ack, SemiSyncAckFits};
 ghost use Rattle.mysql_repl.specs.Sid.{sid, tagged_sid, IsSid};
 ghost use Rattle.mysql_repl.specs.ProperSid.{IsSidValue, ProperSid};
+ghost use Rattle.mysql_repl.specs.SidGrammar.{SpellsSid};
 ghost use Rattle.mysql_repl.specs.SidText.{read_sid, sid_text};
+ghost use Rattle.mysql_repl.specs.Tag.{IsTag, tag_fault};
 ghost use Rattle.mysql_repl.specs.TableDump.{table_dump, TableDumpFits};
 
 /// What is written of a registration is read again, whatever follows.
@@ -57,9 +59,19 @@ pub fn strict_is_lenient()
     ensures spelled { (p : ComBinlogDumpGtid) (bytes rest : List ℕ) → (gtid_dump.form true).Spells p bytes rest → (gtid_dump.form false).Spells p bytes rest }
 {}
 
-/// The text that is written of a sid is read as that sid, where it has at least one interval, and each is proper.
+/// A text spells one sid at the most, and what it spells is what it is read as. So a text that spells no sid is refused.
+#[tactic(auto, using(crate::proofs::SidTextRead::texts_spelled))]
+pub fn sid_text_is_spelled()
+    ensures one { (text : List ℕ) (s t : Sid) → SpellsSid text s → SpellsSid text t → s ≡ t }
+    ensures read { (text : List ℕ) (s : Sid) → SpellsSid text s → read_sid text ≡ Ok s }
+    ensures spelled { (text : List ℕ) (s : Sid) → IsUtf8 text → read_sid text ≡ Ok s → SpellsSid text s }
+{}
+
+/// The text that is written of a sid spells that sid, and is read as it, where it has at least one interval, and each is
+/// proper.
 #[tactic(auto, using(crate::proofs::SidTextAgain::sid_texts_again))]
 pub fn sid_text_again()
+    ensures spelled { (s : Sid) → ProperSid s → SpellsSid (sid_text s) s }
     ensures read { (s : Sid) → ProperSid s → read_sid (sid_text s) ≡ Ok s }
 {}
 
@@ -67,4 +79,11 @@ pub fn sid_text_again()
 #[tactic(auto, using(crate::proofs::SidTextRead::sid_reads_again))]
 pub fn sid_text_read_again()
     ensures read { (text : List ℕ) (s : Sid) → IsSidValue s → read_sid text ≡ Ok s → read_sid (sid_text s) ≡ Ok s }
+{}
+
+/// A text is a tag exactly where it has no fault of one.
+#[tactic(auto, using(crate::proofs::Tags::tag_faults))]
+pub fn tag_has_no_fault()
+    ensures none { (text : List ℕ) → IsTag text → tag_fault text ≡ None }
+    ensures tag { (text : List ℕ) → IsUtf8 text → tag_fault text ≡ None → IsTag text }
 {}

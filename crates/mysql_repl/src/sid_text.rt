@@ -1,8 +1,10 @@
 //! The text of a sid.
 
-ghost use Rattle.std.specs.Prelude.{◌≡◌, ◌++◌, ◌+◌, ◌<◌, ◌∷◌, ℕ, List, Option, Some, None, Ok, Err, true, false, option_map, MatchOption, codes};
+ghost use Rattle.std.specs.Prelude.{◌≡◌, ◌++◌, ◌+◌, ◌<◌, ◌∷◌, ℕ, List, Option, Some, None, Ok, Err, true, false, option_map, MatchOption, IfOk, codes};
 ghost use Rattle.std.specs.List.{flat_map};
 ghost use Rattle.uuid.specs.Text.{parsed};
+ghost use Rattle.mysql_repl.specs.declared.sid.Sid.{Sid};
+ghost use Rattle.mysql_repl.specs.SidGrammar.{SpellsSid};
 ghost use Rattle.mysql_repl.specs.SidText as spec;
 ghost use Rattle.mysql_repl.specs.SidTextParts.{left_parts, left_len, items_read};
 
@@ -218,18 +220,28 @@ impl Sid<'static> {
     /// intervals begin with a digit.
     ///
     /// Another text is refused by its first fault.
-    #[tactic(auto, unfolding(crate::specs::SidText::read_sid))]
+    #[tactic(auto, using(crate::proofs::SidTextRead::answers))]
     pub fn from_str(alloc: Global, text: &str) -> Result<Sid<'static>, InvalidSid>
+        ensures spelled { IfOk result (SpellsSid text.now) }
+        ensures read { (s : Sid) → SpellsSid text.now s → spec.Answered result (Ok s) }
         ensures value { spec.Answered result (spec.read_sid text.now) }
     {
-        let Some((uuid, text)) = cut_at_colon(text) else {
-            return Err(InvalidSid::NoColon);
-        };
-        let Some(uuid) = uuid_of(uuid) else {
-            return Err(InvalidSid::Uuid);
-        };
-        read_behind(alloc, uuid, text)
+        read_sid(alloc, text)
     }
+}
+
+/// The sid that a text spells, or the text's first refusal.
+#[tactic(auto, unfolding(crate::specs::SidText::read_sid))]
+fn read_sid(alloc: Global, text: &str) -> Result<Sid<'static>, InvalidSid>
+    ensures value { spec.Answered result (spec.read_sid text.now) }
+{
+    let Some((uuid, text)) = cut_at_colon(text) else {
+        return Err(InvalidSid::NoColon);
+    };
+    let Some(uuid) = uuid_of(uuid) else {
+        return Err(InvalidSid::Uuid);
+    };
+    read_behind(alloc, uuid, text)
 }
 
 /// The bytes of the uuid that a text writes, in any of its forms.
