@@ -16,3 +16,4 @@ pub mod SidText
 pub mod SidTextParts
 pub mod ProperSid
 pub mod SidGrammar
+pub mod RequestBytes

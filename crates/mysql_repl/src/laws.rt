@@ -1,9 +1,9 @@
 //! Laws over the grammars and the defined bytes of this crate's packets, and over texts.
 //!
-//! Each law is a function with nothing in it, whose contract holds for all values.
+//! Each law but the last is a function with nothing in it, whose contract holds for all values.
 #![tactic(auto, using(mysql_wire::proofs::Packets::packets, crate::proofs::Fits::plain_fits, crate::proofs::SidFits::sid_fits))]
 
-ghost use Rattle.std.specs.Prelude.{◌≡◌, ◌++◌, ℕ, List, None, Ok, IsUtf8, true, false};
+ghost use Rattle.std.specs.Prelude.{◌≡◌, ◌++◌, ℕ, List, None, Ok, OnErr, OnOk, IsUtf8, true, false};
 ghost use Rattle.mysql_repl.specs.declared.binlog_dump.ComBinlogDump.{ComBinlogDump};
 ghost use Rattle.mysql_repl.specs.declared.binlog_dump_gtid.ComBinlogDumpGtid.{ComBinlogDumpGtid};
 ghost use Rattle.mysql_repl.specs.declared.register_slave.ComRegisterSlave.{ComRegisterSlave};
@@ -16,10 +16,15 @@ ghost use Rattle.mysql_repl.specs.RegisterSlave.{register_slave, RegisterSlaveFi
 ghost use Rattle.mysql_repl.specs.SemiSyncAck.{semi_sync_ack, SemiSyncAckFits};
 ghost use Rattle.mysql_repl.specs.Sid.{sid, tagged_sid, IsSid};
 ghost use Rattle.mysql_repl.specs.ProperSid.{IsSidValue, ProperSid};
+ghost use Rattle.mysql_repl.specs.RequestBytes.{request_bytes};
 ghost use Rattle.mysql_repl.specs.SidGrammar.{SpellsSid};
 ghost use Rattle.mysql_repl.specs.SidText.{read_sid, sid_text};
 ghost use Rattle.mysql_repl.specs.Tag.{IsTag, tag_fault};
 ghost use Rattle.mysql_repl.specs.TableDump.{table_dump, TableDumpFits};
+
+use crate::binlog_request::BinlogRequest;
+use mysql_wire::MySerialize;
+use std::alloc::AllocError;
 
 /// What is written of a registration is read again, whatever follows.
 pub fn register_slave_again()
@@ -87,3 +92,15 @@ pub fn tag_has_no_fault()
     ensures none { (text : List ℕ) → IsTag text → tag_fault text ≡ None }
     ensures tag { (text : List ℕ) → IsUtf8 text → tag_fault text ≡ None → IsTag text }
 {}
+
+/// What is written of the command that a request makes: the bytes of either command, behind what stood there. A refused
+/// growth leaves the buffer as it was.
+///
+/// This law makes the two calls.
+#[tactic(auto, using(crate::proofs::RequestBytes::commands_written))]
+pub fn request_written(request: &BinlogRequest<'_>, out: &mut Vec<u8>) -> Result<(), AllocError>
+    ensures written { OnOk result (out.new.items ≡ out.old.items ++ request_bytes request.now) }
+    ensures refused { OnErr result (out.new.items ≡ out.old.items) }
+{
+    request.as_cmd().serialize(out)
+}
