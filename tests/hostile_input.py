@@ -1,12 +1,13 @@
 #!/usr/bin/env python3
-"""What the lines of crates/hostile_input must be, by a second reading of the protocol's pages.
+"""What the lines of hostile_input and of the programs beside it must be, by a second reading of the protocol's pages.
 
-The program changes each vector of its table in the same ways and says what came of it. Here the table is read from its
-source, and the counts are worked out by the readers of second_reading.py, which share nothing with the crates.
+Each program changes each vector of its table in the same ways and says what came of it. Here the tables are read from
+their sources, and the counts and the records are worked out by the readers of second_reading.py, which share nothing with
+the crates.
 
-hostile_input.py             compares crates/hostile_input/stdout with these lines, and looks for a row for each reader
-                             that the crates export. The last line is 'N passed, N failed'.
-hostile_input.py --expected  prints the lines.
+hostile_input.py                 compares the stdout of each such crate with these lines, and looks for a row for each
+                                 reader that the crates export. The last line is 'N passed, N failed'.
+hostile_input.py --expected NAME prints the lines of the crate of that name.
 """
 import ast
 import re
@@ -17,7 +18,8 @@ import second_reading as second
 from second_reading import Buf, Eof, Invalid
 
 TOP = Path(__file__).resolve().parent.parent
-CRATE = TOP / "crates" / "hostile_input"
+# the programs: the crates of that name that have a table
+PROGRAMS = sorted(table.parent.parent for table in (TOP / "crates").glob("hostile_input*/src/vectors.rt"))
 EDGES = [0x00, 0x7F, 0xFB, 0xFC, 0xFD, 0xFE, 0xFF]
 
 
@@ -39,22 +41,31 @@ def told_word(word):
     return int(word, 0)
 
 
-def table():
+def table(program):
     """The rows: name, name of the reader, what it is told, bytes, accepted cuts."""
-    source = (CRATE / "src" / "vectors.rt").read_text()
-    source = re.sub(r"^\s*//.*$", "", source[source.index("VECTORS: &[Vector]"):], flags=re.M)
-    row = r'\(\s*"([^"]+)",\s*Reader::(\w+)(?:\(([^)]*)\))?,\s*(b"(?:[^"\\]|\\.)*"),\s*&\[([^\]]*)\],?\s*\)'
+    source = re.sub(r"^\s*//.*$", "", (program / "src" / "vectors.rt").read_text(), flags=re.M)
+    string = r'b"(?:[^"\\]|\\.)*"'
+    constants = dict(re.findall(rf"const (\w+): &\[u8\] =\s*({string});", source))
+    source = source[source.index("VECTORS: &["):]
+    row = rf'\(\s*"([^"]+)",\s*Reader::(\w+)(?:\(([^)]*)\))?,\s*({string}|\w+),\s*&\[([^\]]*)\],?\s*\)'
     for name, reader, told, content, accepted in re.findall(row, source):
-        content = re.sub(r"\\0", r"\\x00", content)
+        content = re.sub(r"\\0", r"\\x00", constants.get(content, content))
         yield (name, reader, [told_word(word) for word in told.split(",") if word.strip()], ast.literal_eval(content),
                [tuple(map(int, pair)) for pair in re.findall(r"\((\d+), (\d+)\)", accepted)])
 
 
 # the lines
 
+def shown(value):
+    """A field's value, as the lines show it."""
+    if isinstance(value, bytes):
+        return "x" + value.hex()
+    return "none" if value is None else str(value)
+
+
 class Row:
     def __init__(self, name, reader, told, content, accepted):
-        self.name, self.content, self.accepted = name, content, accepted
+        self.name, self.reader, self.content, self.accepted = name, reader, content, accepted
         self.read = lambda data: second.READERS[reader](Buf(data), *told)
         self.record = self.read(content)
 
@@ -86,6 +97,12 @@ class Row:
         text += "; grown: 20000 answered, some read"
         return text + (", some refused" if {"eof", "invalid"} & {*cuts, *bits, *edges} else "")
 
+    def lines(self):
+        yield self.line()
+        for n in (n for n in range(len(self.content)) if any(a <= n <= b for a, b in self.accepted)):
+            fields = second.FIELDS[self.reader](self.read(self.content[:n]))
+            yield f"{self.name}, cut to {n}: " + ", ".join(f"{name} {shown(value)}" for name, value in fields)
+
 
 # the readers that the crates export
 
@@ -108,11 +125,7 @@ STAND_INS = {
     "Unknown": ["SeqOfACountHandedIn"],
 }
 # Readers that the crates export already, and whose vectors are still to come.
-TO_COME = {
-    "AuthMoreData", "AuthPlugin", "AuthSwitchRequest", "OldAuthSwitchRequest", "PublicKeyRequest", "PublicKeyResponse",
-    "SslRequest", "HandshakePacket", "HandshakeResponse", "ComChangeUser", "ComChangeUserMoreData", "GnoInterval", "Sid",
-    "ComBinlogDumpGtid", "LastName", "ComBinlogDump", "ComRegisterSlave", "ComTableDump", "SemiSyncAckPacket",
-}
+TO_COME = {"HandshakeResponse", "ComChangeUser", "ComChangeUserMoreData"}
 TRAITS = r"MyDeserialize<'\w+>|IntRepr|BytesRepr|SeqRepr|RowProtocol|OkPacketKind"
 
 
@@ -127,33 +140,49 @@ def readers():
                 yield reader if reader in STAND_INS else name
 
 
-def missing(rows):
-    """The readers without a row, and the names in reader.rt that no row has."""
-    used = {reader for _, reader, *_ in rows}
+def missing(tables):
+    """The readers without a row, and the names in a reader.rt that no row of its program has."""
+    used = {reader for rows in tables.values() for _, reader, *_ in rows}
     for name in sorted(set(readers()) - TO_COME):
         for stand_in in STAND_INS.get(name, [name]):
             if stand_in not in used:
                 yield f"{name}: no vector for Reader::{stand_in}"
-    source = (CRATE / "src" / "reader.rt").read_text()
-    for name in re.findall(r"^        Reader::(\w+)", source, flags=re.M):
-        if name not in used:
-            yield f"Reader::{name}: no vector"
+    for program, rows in tables.items():
+        source = (program / "src" / "reader.rt").read_text()
+        for name in set(re.findall(r"^\s+Reader::(\w+)", source, flags=re.M)) - {reader for _, reader, *_ in rows}:
+            yield f"{program.name}: Reader::{name}: no vector"
+
+
+def expected(rows):
+    return [line for row in rows for line in Row(*row).lines()]
+
+
+def differences(program, lines):
+    """Where a program's stdout has other lines."""
+    written = (program / "stdout").read_text().splitlines()
+    for a, b in zip(written, lines):
+        if a != b:
+            yield f"{program.name}: stdout has\n  {a}\nand a second reading gives\n  {b}"
+    if len(written) != len(lines):
+        yield f"{program.name}: stdout has {len(written)} lines, and not {len(lines)}"
 
 
 def main():
-    rows = list(table())
-    lines = [Row(*row).line() for row in rows]
-    if sys.argv[1:] == ["--expected"]:
-        print("\n".join(lines))
+    if sys.argv[1:2] == ["--expected"]:
+        print("\n".join(expected(table(TOP / "crates" / sys.argv[2]))))
         return 0
-    written = (CRATE / "stdout").read_text().splitlines()
-    failures = list(missing(rows))
-    failures += [f"stdout has\n  {a}\nand a second reading gives\n  {b}" for a, b in zip(written, lines) if a != b]
-    if len(written) != len(lines):
-        failures.append(f"stdout has {len(written)} lines, and not {len(lines)}")
+    tables = {program: list(table(program)) for program in PROGRAMS}
+    failures = list(missing(tables))
+    passed = len(set(readers()) - TO_COME)
+    for program, rows in tables.items():
+        lines = expected(rows)
+        wrong = list(differences(program, lines))
+        wrong += [f"{program.name}: {line}" for line in lines if "WRONG" in line]
+        passed += len(lines) - len(wrong)
+        failures += wrong
     for failure in failures:
         print(f"hostile_input: {failure}")
-    print(f"{len(lines) + len(set(readers()) - TO_COME)} passed, {len(failures)} failed")
+    print(f"{passed} passed, {len(failures)} failed")
     return 1 if failures else 0
 
 

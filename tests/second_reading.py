@@ -4,7 +4,7 @@ Each reading takes a Buf, and what the reader is told; it gives the record, or r
 """
 import re
 
-PROTOCOL_41, SESSION_TRACK, PROGRESS_OBSOLETE = 1 << 9, 1 << 23, 1 << 29
+PROTOCOL_41, SECURE_CONNECTION, PLUGIN_AUTH, SESSION_TRACK, PROGRESS_OBSOLETE = (1 << n for n in (9, 15, 19, 23, 29))
 SESSION_STATE_CHANGED = 1 << 14
 UNSIGNED = 32
 
@@ -263,6 +263,106 @@ def counted(buf, count, read):
     return [read(buf) for _ in range(count)]
 
 
+# before the first command
+
+def last_name(buf):
+    name = buf.all()
+    return name[:-1] if name.endswith(b"\0") else name
+
+
+def auth_switch_request(buf):
+    buf.const(b"\xfe")
+    return buf.null_string(), buf.all()
+
+
+def ssl_request(buf):
+    block = buf.block(32)
+    fields = block.number(4), block.number(4), block.number(1)
+    block.take(19)
+    return fields, block.number(4)
+
+
+def handshake(buf):
+    protocol, version = buf.number(1), buf.null_string()
+    block = buf.block(31)
+    connection, scramble_1 = block.number(4), block.take(8)
+    block.take(1)
+    low, collation, status, high, length = (block.number(n) for n in (2, 1, 2, 2, 1))
+    block.take(6)
+    capabilities = low | high << 16
+    scramble_2 = buf.take(max(13, length - 8)) if capabilities & SECURE_CONNECTION else None
+    name = last_name(buf) if capabilities & PLUGIN_AUTH else None
+    return (protocol, version, connection, scramble_1, scramble_2, capabilities, collation, status, block.number(4), name)
+
+
+# what a replica sends
+
+def u8_string(buf):
+    return buf.take(buf.number(1))
+
+
+def register_slave(buf):
+    block = buf.block(5)
+    block.const(b"\x15")
+    server_id, texts = block.number(4), [u8_string(buf) for _ in range(3)]
+    block = buf.block(10)
+    return server_id, texts, block.number(2), block.number(4), block.number(4)
+
+
+def table_dump(buf):
+    buf.const(b"\x13")
+    return u8_string(buf), u8_string(buf)
+
+
+def binlog_dump(buf):
+    block = buf.block(11)
+    block.const(b"\x12")
+    return block.number(4), block.number(2), block.number(4), buf.all()
+
+
+def semi_sync_ack(buf):
+    block = buf.block(9)
+    block.const(b"\xef")
+    return block.number(8), buf.all()
+
+
+def gno_interval(buf):
+    block = buf.block(16)
+    return block.number(8), block.number(8)
+
+
+def tag(buf):
+    text = buf.take(buf.varlen())
+    if text and not re.fullmatch(rb"[a-z_][a-z0-9_]{0,31}", text):
+        raise Invalid
+    return text
+
+
+def sid(buf, has_tags):
+    uuid, text = buf.take(16), tag(buf) if has_tags else b""
+    return uuid, text, counted(buf, buf.number(8), gno_interval)
+
+
+def sids(block, is_strict):
+    head = block.number(8)
+    if is_strict and head >> 56 > 1:
+        raise Invalid
+    has_tags = head >> 56 == 1
+    count = head >> 8 & 0xFFFF_FFFF_FFFF if has_tags else head & 0xFF_FFFF_FFFF_FFFF
+    read = counted(block, count, lambda b: sid(b, has_tags))
+    if is_strict and block.data:
+        raise Invalid
+    return read
+
+
+def binlog_dump_gtid(buf, is_strict):
+    block = buf.block(7)
+    block.const(b"\x1e")
+    flags, server_id = block.number(2), block.number(4)
+    name, position = buf.take(buf.number(4)), buf.number(8)
+    return flags, server_id, name, position, sids(buf.block(buf.number(4)), is_strict)
+
+
 # What each name of reader.rt stands for: a reading, told what stands behind the name there.
 READERS = {
     "U8": lambda b: b.number(1),
@@ -323,4 +423,81 @@ READERS = {
     "BulkParamValues": lambda b: [bulk_value(b, *column) for column in COLUMNS],
     "BulkRequest": bulk_request,
     "BulkRows": bulk_rows,
+    "LastName": last_name,
+    "AuthPlugin": last_name,
+    "AuthMoreData": lambda b: (b.const(b"\1"), b.all()),
+    "PublicKeyRequest": lambda b: b.const(b"\2"),
+    "PublicKeyResponse": lambda b: (b.const(b"\1"), b.all()),
+    "OldAuthSwitchRequest": lambda b: b.const(b"\xfe"),
+    "AuthSwitchRequest": auth_switch_request,
+    "SslRequest": ssl_request,
+    "HandshakePacket": handshake,
+    "GnoInterval": gno_interval,
+    "Sid": lambda b: sid(b, False),
+    "ComRegisterSlave": register_slave,
+    "ComTableDump": table_dump,
+    "ComBinlogDump": binlog_dump,
+    "SemiSyncAckPacket": semi_sync_ack,
+    "ComBinlogDumpGtid": lambda b: binlog_dump_gtid(b, False),
+    "StrictDumpGtid": lambda b: binlog_dump_gtid(b, True),
+}
+
+
+# The names of a record's fields, where a cut of a vector is read too: a reading's record, as pairs.
+
+PLUGINS = {b"mysql_old_password", b"mysql_clear_password", b"mysql_native_password", b"caching_sha2_password",
+           b"client_ed25519", b"parsec"}
+
+
+def error_fields(record):
+    return [("error", record[0]), ("sql_state", record[1]), ("message", record[2])]
+
+
+def variables_fields(record):
+    return [("variables", len(record))] + [pair for name, value in record for pair in (("name", name), ("value", value))]
+
+
+def change_fields(record):
+    return [("gtids", record)] if isinstance(record, bytes) else variables_fields(record)
+
+
+def ok_fields(record):
+    (rows, insert_id), status, warnings, (info, state) = record
+    return [("affected_rows", rows), ("last_insert_id", insert_id), ("status_flags", status), ("warnings", warnings),
+            ("info", info), ("session_state_info", state)]
+
+
+def plugin_fields(name):
+    return [("plugin" if name in PLUGINS else "other_plugin", name)]
+
+
+def switch_fields(record):
+    name, data = record
+    return plugin_fields(name) + [("plugin_data", data[:-1] if data.endswith(b"\0") else data)]
+
+
+def named(*names):
+    return lambda record: zip(names, record)
+
+
+FIELDS = {
+    "EofBytes": lambda record: [("content", record)],
+    "Gtids": change_fields,
+    "SystemVariables": change_fields,
+    "SessionStateChange": change_fields,
+    "LocalInfilePacket": lambda record: [("file_name", record[1])],
+    "ServerError": error_fields,
+    "ErrPacket": error_fields,
+    "CommonOkPacket": ok_fields,
+    "BulkRows": lambda record: [("rows", len(record))],
+    "LastName": lambda record: [("name", record)],
+    "AuthPlugin": plugin_fields,
+    "AuthMoreData": lambda record: [("data", record[1])],
+    "PublicKeyResponse": lambda record: [("rsa_key", record[1])],
+    "AuthSwitchRequest": switch_fields,
+    "HandshakePacket": named("protocol_version", "server_version", "connection_id", "scramble_1", "scramble_2",
+                             "capabilities", "default_collation", "status_flags", "mariadb_ext_capabilities",
+                             "auth_plugin_name"),
+    "ComBinlogDump": named("pos", "flags", "server_id", "filename"),
+    "SemiSyncAckPacket": named("position", "filename"),
 }

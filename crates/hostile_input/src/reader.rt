@@ -1,8 +1,8 @@
-//! The readers of the public surface.
+//! The readers of numbers, byte strings, changes of a session and replies.
 
-use crate::met::Met;
-use crate::readers::{bulk, replies, session, stmt, values, wire};
-use mysql_wire::{ColumnFlags, ColumnType, SessionStateType};
+use crate::readers::{replies, session, wire};
+use hostile_input_lines::{Met, TableReader};
+use mysql_wire::SessionStateType;
 use std::alloc::{AllocError, Global};
 
 /// A reader, with what it is told beside the bytes.
@@ -29,8 +29,6 @@ pub enum Reader {
     /// A block of so many bytes.
     Block(usize),
     // constants and codes
-    ConstU8,
-    ConstU32,
     ConstBytes,
     ColumnType,
     BulkIndicator,
@@ -41,9 +39,6 @@ pub enum Reader {
     SeqOfByteStrings,
     /// So many bytes as numbers.
     SeqOfACountHandedIn(usize),
-    // values
-    TextValue,
-    BinValue(ColumnType, ColumnFlags),
     // changes of a session's state
     Schema,
     Gtids,
@@ -66,97 +61,105 @@ pub enum Reader {
     ResultSetTerminator(u32),
     OldEofPacket(u32),
     NetworkStreamTerminator(u32),
-    // prepared statements; the counts are of values
-    StmtPacket,
-    ClientBitmap(usize),
-    ServerBitmap(usize),
-    TextRow,
-    BinaryRow,
-    ClientRow,
-    // bulk executions
-    BulkParamType,
-    BulkParamValue(ColumnType, ColumnFlags),
-    BulkParamValues,
-    BulkRequest,
-    BulkRows,
 }
 
-/// What reading the bytes comes to, beside the record of the vector. What is read, and meets its packet's condition, is written and read again.
-pub fn meet(alloc: Global, reader: Reader, bytes: &[u8], vector: &[u8]) -> Result<Met, AllocError> {
-    Ok(match reader {
-        Reader::U8 => wire::u8(alloc, bytes, vector),
-        Reader::LeU16 => wire::le_u16(alloc, bytes, vector),
-        Reader::LeU24 => wire::le_u24(alloc, bytes, vector),
-        Reader::LeU32 => wire::le_u32(alloc, bytes, vector),
-        Reader::LeU64 => wire::le_u64(alloc, bytes, vector),
-        Reader::LenEnc => wire::len_enc(alloc, bytes, vector),
-        Reader::VarLen => wire::var_len(alloc, bytes, vector),
-        Reader::LenEncBytes => wire::len_enc_bytes(alloc, bytes, vector),
-        Reader::NullBytes => wire::null_bytes(alloc, bytes, vector),
-        Reader::EofBytes => wire::eof_bytes(alloc, bytes, vector),
-        Reader::U8Bytes => wire::u8_bytes(alloc, bytes, vector),
-        Reader::U32Bytes => wire::u32_bytes(alloc, bytes, vector),
-        Reader::BareBytes(count) => wire::bare_bytes(alloc, bytes, vector, count),
-        Reader::ByteArray => wire::byte_array(alloc, bytes, vector),
-        Reader::Skip => wire::skip(alloc, bytes, vector),
-        Reader::Block(count) => wire::block(alloc, bytes, vector, count),
-        Reader::ConstU8 => wire::const_u8(alloc, bytes, vector),
-        Reader::ConstU32 => wire::const_u32(alloc, bytes, vector),
-        Reader::ConstBytes => wire::const_bytes(alloc, bytes, vector),
-        Reader::ColumnType => wire::const_column_type(alloc, bytes, vector),
-        Reader::BulkIndicator => wire::const_indicator(alloc, bytes, vector),
-        Reader::SessionStateType => wire::const_session_state_type(alloc, bytes, vector),
-        Reader::StatusFlags => wire::const_status_flags(alloc, bytes, vector),
-        Reader::Seq => wire::seq(alloc, bytes, vector),
-        Reader::SeqOfByteStrings => wire::seq_of_byte_strings(alloc, bytes, vector),
-        Reader::SeqOfACountHandedIn(count) => {
-            wire::seq_of_a_count_handed_in(alloc, bytes, vector, count)
+impl TableReader for Reader {
+    fn meet(self, alloc: Global, bytes: &[u8], vector: &[u8]) -> Result<Met, AllocError> {
+        Ok(match self {
+            Reader::U8 => wire::u8(alloc, bytes, vector),
+            Reader::LeU16 => wire::le_u16(alloc, bytes, vector),
+            Reader::LeU24 => wire::le_u24(alloc, bytes, vector),
+            Reader::LeU32 => wire::le_u32(alloc, bytes, vector),
+            Reader::LeU64 => wire::le_u64(alloc, bytes, vector),
+            Reader::LenEnc => wire::len_enc(alloc, bytes, vector),
+            Reader::VarLen => wire::var_len(alloc, bytes, vector),
+            Reader::LenEncBytes => wire::len_enc_bytes(alloc, bytes, vector),
+            Reader::NullBytes => wire::null_bytes(alloc, bytes, vector),
+            Reader::EofBytes => wire::eof_bytes(alloc, bytes, vector),
+            Reader::U8Bytes => wire::u8_bytes(alloc, bytes, vector),
+            Reader::U32Bytes => wire::u32_bytes(alloc, bytes, vector),
+            Reader::BareBytes(count) => wire::bare_bytes(alloc, bytes, vector, count),
+            Reader::ByteArray => wire::byte_array(alloc, bytes, vector),
+            Reader::Skip => wire::skip(alloc, bytes, vector),
+            Reader::Block(count) => wire::block(alloc, bytes, vector, count),
+            Reader::ConstBytes => wire::const_bytes(alloc, bytes, vector),
+            Reader::ColumnType => wire::const_column_type(alloc, bytes, vector),
+            Reader::BulkIndicator => wire::const_indicator(alloc, bytes, vector),
+            Reader::SessionStateType => wire::const_session_state_type(alloc, bytes, vector),
+            Reader::StatusFlags => wire::const_status_flags(alloc, bytes, vector),
+            Reader::Seq => wire::seq(alloc, bytes, vector),
+            Reader::SeqOfByteStrings => wire::seq_of_byte_strings(alloc, bytes, vector),
+            Reader::SeqOfACountHandedIn(count) => wire::seq_of_a_count_handed_in(
+                alloc, bytes, vector, count,
+            ),
+            Reader::Schema => session::schema(alloc, bytes, vector),
+            Reader::Gtids => session::gtids(alloc, bytes, vector),
+            Reader::TransactionCharacteristics => session::transaction_characteristics(
+                alloc, bytes, vector,
+            ),
+            Reader::TransactionState => session::transaction_state(alloc, bytes, vector),
+            Reader::Unsupported => session::unsupported(alloc, bytes, vector),
+            Reader::SystemVariable => session::system_variable(alloc, bytes, vector),
+            Reader::SystemVariables => session::system_variables(alloc, bytes, vector),
+            Reader::SessionStateChange(kind) => session::change(alloc, bytes, vector, kind),
+            Reader::Column => replies::column(alloc, bytes, vector),
+            Reader::LocalInfilePacket => replies::local_infile(alloc, bytes, vector),
+            Reader::ProgressReport => replies::progress_report(alloc, bytes, vector),
+            Reader::SqlState => replies::sql_state(alloc, bytes, vector),
+            Reader::SessionStateInfo => replies::session_state_info(alloc, bytes, vector),
+            Reader::ServerError(code, has_state) => replies::server_error(
+                alloc, bytes, vector, code, has_state,
+            ),
+            Reader::ErrPacket(capabilities) => replies::err_packet(
+                alloc,
+                bytes,
+                vector,
+                capabilities,
+            ),
+            Reader::CommonOkPacket(capabilities) => replies::common_ok(
+                alloc,
+                bytes,
+                vector,
+                capabilities,
+            ),
+            Reader::ResultSetTerminator(capabilities) => replies::result_set_terminator(
+                alloc,
+                bytes,
+                vector,
+                capabilities,
+            ),
+            Reader::OldEofPacket(capabilities) => replies::old_eof(
+                alloc,
+                bytes,
+                vector,
+                capabilities,
+            ),
+            Reader::NetworkStreamTerminator(capabilities) => replies::network_stream_terminator(
+                alloc,
+                bytes,
+                vector,
+                capabilities,
+            ),
+        })
+    }
+
+    fn named(self, alloc: Global, bytes: &[u8]) -> Result<String, AllocError> {
+        match self {
+            Reader::EofBytes => wire::eof_bytes_named(alloc, bytes),
+            Reader::Gtids => session::gtids_named(alloc, bytes),
+            Reader::SystemVariables => session::system_variables_named(alloc, bytes),
+            Reader::SessionStateChange(kind) => session::change_named(alloc, bytes, kind),
+            Reader::LocalInfilePacket => replies::local_infile_named(alloc, bytes),
+            Reader::ServerError(code, has_state) => {
+                replies::server_error_named(alloc, bytes, code, has_state)
+            }
+            Reader::ErrPacket(capabilities) => {
+                replies::err_packet_named(alloc, bytes, capabilities)
+            }
+            Reader::CommonOkPacket(capabilities) => {
+                replies::common_ok_named(alloc, bytes, capabilities)
+            }
+            _ => Ok(String::new(alloc)),
         }
-        Reader::TextValue => values::text(alloc, bytes, vector),
-        Reader::BinValue(column_type, flags) => {
-            values::binary(alloc, bytes, vector, (column_type, flags))
-        }
-        Reader::Schema => session::schema(alloc, bytes, vector),
-        Reader::Gtids => session::gtids(alloc, bytes, vector),
-        Reader::TransactionCharacteristics => {
-            session::transaction_characteristics(alloc, bytes, vector)
-        }
-        Reader::TransactionState => session::transaction_state(alloc, bytes, vector),
-        Reader::Unsupported => session::unsupported(alloc, bytes, vector),
-        Reader::SystemVariable => session::system_variable(alloc, bytes, vector),
-        Reader::SystemVariables => session::system_variables(alloc, bytes, vector),
-        Reader::SessionStateChange(kind) => session::change(alloc, bytes, vector, kind),
-        Reader::Column => replies::column(alloc, bytes, vector),
-        Reader::LocalInfilePacket => replies::local_infile(alloc, bytes, vector),
-        Reader::ProgressReport => replies::progress_report(alloc, bytes, vector),
-        Reader::SqlState => replies::sql_state(alloc, bytes, vector),
-        Reader::SessionStateInfo => replies::session_state_info(alloc, bytes, vector),
-        Reader::ServerError(code, has_state) => {
-            replies::server_error(alloc, bytes, vector, code, has_state)
-        }
-        Reader::ErrPacket(capabilities) => replies::err_packet(alloc, bytes, vector, capabilities),
-        Reader::CommonOkPacket(capabilities) => {
-            replies::common_ok(alloc, bytes, vector, capabilities)
-        }
-        Reader::ResultSetTerminator(capabilities) => {
-            replies::result_set_terminator(alloc, bytes, vector, capabilities)
-        }
-        Reader::OldEofPacket(capabilities) => replies::old_eof(alloc, bytes, vector, capabilities),
-        Reader::NetworkStreamTerminator(capabilities) => {
-            replies::network_stream_terminator(alloc, bytes, vector, capabilities)
-        }
-        Reader::StmtPacket => stmt::statement(alloc, bytes, vector),
-        Reader::ClientBitmap(count) => stmt::client_bitmap(alloc, bytes, vector, count),
-        Reader::ServerBitmap(count) => stmt::server_bitmap(alloc, bytes, vector, count),
-        Reader::TextRow => stmt::text_row(alloc, bytes, vector)?,
-        Reader::BinaryRow => stmt::binary_row(alloc, bytes, vector)?,
-        Reader::ClientRow => stmt::client_row(alloc, bytes, vector)?,
-        Reader::BulkParamType => bulk::param_type(alloc, bytes, vector),
-        Reader::BulkParamValue(column_type, flags) => {
-            bulk::param_value(alloc, bytes, vector, (column_type, flags))
-        }
-        Reader::BulkParamValues => bulk::param_values(alloc, bytes, vector)?,
-        Reader::BulkRequest => bulk::request(alloc, bytes, vector)?,
-        Reader::BulkRows => bulk::rows(alloc, bytes, vector),
-    })
+    }
 }

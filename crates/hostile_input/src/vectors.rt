@@ -4,17 +4,8 @@
 //! name there yet; then `tests/hostile_input.py` says what its line must be, by a reading of its own.
 
 use crate::reader::Reader;
-use mysql_wire::{ColumnFlags, ColumnType, SessionStateType};
-
-/// A name, the reader with what it is told, the bytes, and from which to which length a cut of them is read too.
-pub type Vector = (
-    &'static str,
-    Reader,
-    &'static [u8],
-    &'static [(usize, usize)],
-);
-
-const SIGNED: ColumnFlags = ColumnFlags::NOT_NULL_FLAG;
+use hostile_input_lines::Vector;
+use mysql_wire::SessionStateType;
 
 // Words of capabilities, by their bits.
 const NONE: u32 = 0;
@@ -25,8 +16,8 @@ const SESSION_TRACK: u32 = 0x80_0000;
 
 const PROGRESS_OBSOLETE: u32 = 0x2000_0000;
 
-/// A vector for each reader of the public surface, or more.
-pub const VECTORS: &[Vector] = &[
+/// A vector for each of these readers, or more.
+pub const VECTORS: &[Vector<Reader>] = &[
     ("u8", Reader::U8, b"\xfa", &[]),
     ("u16", Reader::LeU16, b"\x39\x30", &[]),
     ("u24", Reader::LeU24, b"\xcc\x5b\0", &[]),
@@ -43,8 +34,6 @@ pub const VECTORS: &[Vector] = &[
     ("byte array", Reader::ByteArray, b"dvH@I-CJ", &[]),
     ("skip", Reader::Skip, b"\0\0\0\0\0\0", &[]),
     ("block", Reader::Block(4), b"\x0f\0\0\0", &[]),
-    ("const u8", Reader::ConstU8, b"\0", &[]),
-    ("const u32", Reader::ConstU32, b"\x01\0\0\0", &[]),
     ("const bytes", Reader::ConstBytes, b"\x03def", &[]),
     ("column type", Reader::ColumnType, b"\xf6", &[]),
     ("bulk indicator", Reader::BulkIndicator, b"\x02", &[]),
@@ -66,68 +55,6 @@ pub const VECTORS: &[Vector] = &[
         "list of three",
         Reader::SeqOfACountHandedIn(3),
         b"\x01\x02\x03",
-        &[],
-    ),
-    ("text value", Reader::TextValue, b"\x011", &[]),
-    ("text null", Reader::TextValue, b"\xfb", &[]),
-    (
-        "bin tiny",
-        Reader::BinValue(ColumnType::MYSQL_TYPE_TINY, SIGNED),
-        b"\x80",
-        &[],
-    ),
-    (
-        "bin year",
-        Reader::BinValue(ColumnType::MYSQL_TYPE_YEAR, ColumnFlags::UNSIGNED_FLAG),
-        b"\xe8\x07",
-        &[],
-    ),
-    (
-        "bin long",
-        Reader::BinValue(ColumnType::MYSQL_TYPE_LONG, SIGNED),
-        b"\x2a\0\0\0",
-        &[],
-    ),
-    (
-        "bin longlong",
-        Reader::BinValue(ColumnType::MYSQL_TYPE_LONGLONG, SIGNED),
-        b"\x2a\0\0\0\0\0\0\0",
-        &[],
-    ),
-    (
-        "bin float",
-        Reader::BinValue(ColumnType::MYSQL_TYPE_FLOAT, SIGNED),
-        b"\0\0\xc0\x3f",
-        &[],
-    ),
-    (
-        "bin double",
-        Reader::BinValue(ColumnType::MYSQL_TYPE_DOUBLE, SIGNED),
-        b"\0\0\0\0\0\0\xf8\x3f",
-        &[],
-    ),
-    (
-        "bin string",
-        Reader::BinValue(ColumnType::MYSQL_TYPE_VAR_STRING, SIGNED),
-        b"\x01a",
-        &[],
-    ),
-    (
-        "bin date",
-        Reader::BinValue(ColumnType::MYSQL_TYPE_DATE, SIGNED),
-        b"\x04\xe8\x07\x02\x1d",
-        &[],
-    ),
-    (
-        "bin datetime",
-        Reader::BinValue(ColumnType::MYSQL_TYPE_DATETIME, SIGNED),
-        b"\x0b\xe8\x07\x02\x1d\0\0\0\x01\0\0\0",
-        &[],
-    ),
-    (
-        "bin time",
-        Reader::BinValue(ColumnType::MYSQL_TYPE_TIME, SIGNED),
-        b"\x08\x01\x01\0\0\0\x02\x03\x04",
         &[],
     ),
     ("schema", Reader::Schema, b"\x04test", &[]),
@@ -286,58 +213,5 @@ pub const VECTORS: &[Vector] = &[
         Reader::NetworkStreamTerminator(PROTOCOL_41),
         b"\xfe\0\0\x02\0",
         &[],
-    ),
-    (
-        "statement packet",
-        Reader::StmtPacket,
-        b"\0\x01\0\0\0\x01\0\x02\0\0\0\0",
-        &[],
-    ),
-    ("client's bitmap", Reader::ClientBitmap(9), b"\0\x01", &[]),
-    ("server's bitmap", Reader::ServerBitmap(7), b"\0\x01", &[]),
-    ("text row", Reader::TextRow, b"\xfb\x011", &[]),
-    (
-        "binary row",
-        Reader::BinaryRow,
-        b"\0\x08\x2a\0\0\0\0\0\0\0",
-        &[],
-    ),
-    (
-        "client's binary row",
-        Reader::ClientRow,
-        b"\0\x02\x2a\0\0\0\0\0\0\0",
-        &[],
-    ),
-    ("bulk type", Reader::BulkParamType, b"\x08\x80", &[]),
-    (
-        "bulk default",
-        Reader::BulkParamValue(ColumnType::MYSQL_TYPE_LONGLONG, SIGNED),
-        b"\x02",
-        &[],
-    ),
-    (
-        "bulk number",
-        Reader::BulkParamValue(ColumnType::MYSQL_TYPE_LONGLONG, SIGNED),
-        b"\0\x05\0\0\0\0\0\0\0",
-        &[],
-    ),
-    (
-        "bulk values",
-        Reader::BulkParamValues,
-        b"\0\x05\0\0\0\0\0\0\0\0\x01a\x01",
-        &[],
-    ),
-    (
-        "bulk request",
-        Reader::BulkRequest,
-        b"\xfa\x01\0\0\0\x80\0\x08\0\xfd\0\x0c\0\0\x05\0\0\0\0\0\0\0\0\x01a\x01",
-        &[],
-    ),
-    // at 9 there is no row
-    (
-        "bulk rows",
-        Reader::BulkRows,
-        b"\xfa\x01\0\0\0\x80\0\x06\0\x01",
-        &[(9, 9)],
     ),
 ];

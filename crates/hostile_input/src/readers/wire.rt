@@ -1,15 +1,13 @@
 //! Numbers, byte strings, and what else packets are made of.
 
-use crate::met::{Met, refused};
-use crate::readers::read_and_write;
+use hostile_input_lines::{Met, named, read_and_write, refused};
 use mysql_replies::ColumnDefinitionCatalog;
-use mysql_stmt::{InvalidStmtPacketStatus, IterationCount};
 use mysql_wire::{
-    BareBytes, ColumnType, Const, ConstU8, EofBytes, Fault, LeU16, LeU24, LeU32, LeU64, LenEnc,
+    BareBytes, ColumnType, Const, EofBytes, Fault, LeU16, LeU24, LeU32, LeU64, LenEnc,
     MariadbBulkIndicator, NullBytes, ParseBuf, RawBytes, RawInt, Seq, SessionStateType, Skip,
     StatusFlags, U8Bytes, U32Bytes, Unknown, VarLen,
 };
-use std::alloc::Global;
+use std::alloc::{AllocError, Global};
 
 pub fn u8(alloc: Global, bytes: &[u8], vector: &[u8]) -> Met {
     read_and_write!(alloc, bytes, vector; RawInt<u8>, ())
@@ -49,6 +47,15 @@ pub fn null_bytes(alloc: Global, bytes: &[u8], vector: &[u8]) -> Met {
 
 pub fn eof_bytes(alloc: Global, bytes: &[u8], vector: &[u8]) -> Met {
     read_and_write!(alloc, bytes, vector; RawBytes<'_, EofBytes>, ())
+}
+
+pub fn eof_bytes_named(alloc: Global, bytes: &[u8]) -> Result<String, AllocError> {
+    named::<RawBytes<'_, EofBytes>, _>(
+        alloc,
+        bytes,
+        (),
+        |content, fields| fields.bytes("content", content.as_bytes()),
+    )
 }
 
 pub fn u8_bytes(alloc: Global, bytes: &[u8], vector: &[u8]) -> Met {
@@ -97,14 +104,6 @@ pub fn seq_of_byte_strings(alloc: Global, bytes: &[u8], vector: &[u8]) -> Met {
 
 pub fn seq_of_a_count_handed_in(alloc: Global, bytes: &[u8], vector: &[u8], count: usize) -> Met {
     read_and_write!(alloc, bytes, vector; Seq<'_, RawInt<u8>, Unknown>, count)
-}
-
-pub fn const_u8(alloc: Global, bytes: &[u8], vector: &[u8]) -> Met {
-    read_and_write!(alloc, bytes, vector; ConstU8<InvalidStmtPacketStatus, 0>, ())
-}
-
-pub fn const_u32(alloc: Global, bytes: &[u8], vector: &[u8]) -> Met {
-    read_and_write!(alloc, bytes, vector; IterationCount, ())
 }
 
 pub fn const_bytes(alloc: Global, bytes: &[u8], vector: &[u8]) -> Met {

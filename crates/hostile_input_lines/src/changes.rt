@@ -1,8 +1,8 @@
 //! A vector's bytes, cut and changed.
 
-use crate::met::{Harm, Met};
-use crate::reader::{Reader, meet};
+use crate::met::Met;
 use crate::tally::Tally;
+use crate::vector::TableReader;
 use mysql_wire::FaultKind;
 use std::alloc::{AllocError, Global};
 
@@ -21,15 +21,17 @@ pub struct Cuts {
     pub wrong: Option<usize>,
 }
 
-fn is_accepted(accepted: &[(usize, usize)], n: usize) -> bool {
+/// Whether a cut to n bytes is read too.
+pub fn is_accepted(accepted: &[(usize, usize)], n: usize) -> bool {
     accepted
         .iter()
         .any(|(first, last)| *first <= n && n <= *last)
 }
 
-pub fn try_cuts(
+/// What comes of a vector's cuts.
+pub fn try_cuts<R: TableReader>(
     alloc: Global,
-    reader: Reader,
+    reader: R,
     bytes: &[u8],
     accepted: &[(usize, usize)],
 ) -> Result<Cuts, AllocError> {
@@ -39,7 +41,7 @@ pub fn try_cuts(
         wrong: None,
     };
     for n in 0..bytes.len() {
-        let met = meet(alloc, reader, &bytes[..n], bytes)?;
+        let met = reader.meet(alloc, &bytes[..n], bytes)?;
         match met {
             Met::Refused(FaultKind::UnexpectedEof) if !is_accepted(accepted, n) => {
                 cuts.refused = cuts.refused.saturating_add(1);
@@ -54,9 +56,9 @@ pub fn try_cuts(
 }
 
 /// What comes of a vector with each of its bits turned. `copy` holds its bytes.
-pub fn try_flips(
+pub fn try_flips<R: TableReader>(
     alloc: Global,
-    reader: Reader,
+    reader: R,
     vector: &[u8],
     copy: &mut [u8],
 ) -> Result<Tally, AllocError> {
@@ -65,7 +67,7 @@ pub fn try_flips(
         let before = copy[i];
         for bit in 0..8u32 {
             copy[i] = before ^ (1 << bit);
-            tally.count(meet(alloc, reader, copy, vector)?);
+            tally.count(reader.meet(alloc, copy, vector)?);
         }
         copy[i] = before;
     }
@@ -73,9 +75,9 @@ pub fn try_flips(
 }
 
 /// What comes of a vector with each of its bytes set to each of the edges. `copy` holds its bytes.
-pub fn try_sets(
+pub fn try_sets<R: TableReader>(
     alloc: Global,
-    reader: Reader,
+    reader: R,
     vector: &[u8],
     copy: &mut [u8],
 ) -> Result<Tally, AllocError> {
@@ -84,7 +86,7 @@ pub fn try_sets(
         let before = copy[i];
         for edge in EDGES {
             copy[i] = edge;
-            tally.count(meet(alloc, reader, copy, vector)?);
+            tally.count(reader.meet(alloc, copy, vector)?);
         }
         copy[i] = before;
     }

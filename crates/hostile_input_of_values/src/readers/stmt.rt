@@ -1,13 +1,22 @@
 //! Prepared statements and rows.
 
-use crate::met::Met;
-use crate::readers::{read_and_write, read_only};
+use hostile_input_lines::{Met, read_and_write, read_only};
 use mysql_replies::Column;
-use mysql_stmt::{NullBitmap, RowDeserializer, StmtPacket};
+use mysql_stmt::{
+    InvalidStmtPacketStatus, IterationCount, NullBitmap, RowDeserializer, StmtPacket,
+};
 use mysql_values::{Binary, ClientSide, ServerSide, Text};
-use mysql_wire::ColumnType;
+use mysql_wire::{ColumnType, ConstU8};
 use std::alloc::{AllocError, Global};
 use std::rc::RcSlice;
+
+pub fn const_u8(alloc: Global, bytes: &[u8], vector: &[u8]) -> Met {
+    read_and_write!(alloc, bytes, vector; ConstU8<InvalidStmtPacketStatus, 0>, ())
+}
+
+pub fn const_u32(alloc: Global, bytes: &[u8], vector: &[u8]) -> Met {
+    read_and_write!(alloc, bytes, vector; IterationCount, ())
+}
 
 pub fn statement(alloc: Global, bytes: &[u8], vector: &[u8]) -> Met {
     read_and_write!(alloc, bytes, vector; StmtPacket, ())

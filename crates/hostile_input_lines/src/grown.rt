@@ -1,8 +1,8 @@
-//! Inputs that are made from vectors at random: cut, joined, spliced, with numbers at the limits of their widths and with lengths that lie. The generator's seed is fixed, so each run makes the same.
+//! Inputs that are made from vectors at random: cut, joined, spliced, with numbers at the limits of their widths and
+//! with lengths that lie. The generator's seed is fixed, so each run makes the same.
 
-use crate::reader::{Reader, meet};
 use crate::tally::Tally;
-use crate::vectors::VECTORS;
+use crate::vector::{TableReader, Vector};
 use rand_core::utils::NextWord;
 use rand_pcg::Pcg32;
 use std::alloc::{AllocError, Global};
@@ -97,11 +97,16 @@ fn change(random: &mut Pcg32, bytes: &mut Vec<u8>, other: &[u8]) -> Result<(), A
 }
 
 /// Makes an input from the bytes of a vector: up to four changes.
-fn grow(random: &mut Pcg32, bytes: &mut Vec<u8>, vector: &[u8]) -> Result<(), AllocError> {
+fn grow<R: TableReader>(
+    random: &mut Pcg32,
+    bytes: &mut Vec<u8>,
+    vector: &[u8],
+    table: &[Vector<R>],
+) -> Result<(), AllocError> {
     bytes.clear();
     bytes.extend_from_slice(vector)?;
     for _ in 0..(random.next_word() & 3) + 1 {
-        let other = match VECTORS.get(below(random, VECTORS.len())) {
+        let other = match table.get(below(random, table.len())) {
             Some(other) => other.2,
             None => vector,
         };
@@ -111,20 +116,21 @@ fn grow(random: &mut Pcg32, bytes: &mut Vec<u8>, vector: &[u8]) -> Result<(), Al
     Ok(())
 }
 
-/// What comes of so many inputs that are made from a vector.
-pub fn try_inputs(
+/// What comes of so many inputs that are made from a vector of the table.
+pub fn try_inputs<R: TableReader>(
     alloc: Global,
-    reader: Reader,
-    vector: &[u8],
+    table: &[Vector<R>],
+    vector: &Vector<R>,
     count: u32,
     seed: u64,
 ) -> Result<Tally, AllocError> {
+    let (reader, vector) = (vector.1, vector.2);
     let mut tally = Tally::new();
     let mut random = Pcg32::new(seed, 54);
     let mut bytes = Vec::with_capacity(alloc, MOST)?;
     for _ in 0..count {
-        grow(&mut random, &mut bytes, vector)?;
-        tally.count(meet(alloc, reader, bytes.as_slice(), vector)?);
+        grow(&mut random, &mut bytes, vector, table)?;
+        tally.count(reader.meet(alloc, bytes.as_slice(), vector)?);
     }
     Ok(tally)
 }

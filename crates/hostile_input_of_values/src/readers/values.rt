@@ -1,6 +1,6 @@
 //! Values.
 
-use crate::met::{Met, refused};
+use hostile_input_lines::{Met, refused};
 use mysql_values::{BinValue, TextValue, Value, ValueDeserializer};
 use mysql_wire::{ColumnFlags, ColumnType, Fault, MySerialize, ParseBuf};
 use std::alloc::Global;

@@ -1,8 +1,7 @@
 //! Bulk executions.
 
-use crate::met::{Met, refused};
 use crate::readers::values::is_read_again;
-use crate::readers::{read_and_write, read_only};
+use hostile_input_lines::{Fields, Met, read_and_write, refused};
 use mysql_bulk::{
     ComStmtBulkExecuteRequest, StmtBulkExecuteParamType, StmtBulkExecuteParamValue,
     StmtBulkExecuteParamValues, read_bulk_rows,
@@ -77,4 +76,13 @@ pub fn rows(alloc: Global, bytes: &[u8], vector: &[u8]) -> Met {
             is_same: rows_of(alloc, vector).0.is_ok_and(|others| rows == others),
         },
     }
+}
+
+/// How many rows of how many values the bytes spell.
+pub fn rows_named(alloc: Global, bytes: &[u8]) -> Result<String, AllocError> {
+    let mut fields = Fields::new(alloc);
+    if let (Ok(rows), _) = rows_of(alloc, bytes) {
+        fields.number("rows", rows.len() as u64)?;
+    }
+    Ok(fields.into_text())
 }

@@ -1,10 +1,16 @@
-//! The line of a vector: what came of its cuts, its changes, and the inputs made from it.
+//! The lines of a vector: what came of its cuts, its changes, and the inputs made from it; and the record of each cut
+//! that is read too.
 
-use crate::changes::{Cuts, try_cuts, try_flips, try_sets};
+use crate::changes::{Cuts, is_accepted, try_cuts, try_flips, try_sets};
 use crate::grown::try_inputs;
 use crate::tally::Tally;
-use crate::vectors::Vector;
+use crate::vector::{TableReader, Vector};
 use std::alloc::{AllocError, Global};
+use std::rt::Env;
+use std::{env, io};
+
+/// How many inputs are made from a vector, where no other count is asked for.
+const INPUTS: u32 = 20_000;
 
 /// Adds a count and a word.
 fn push_count(line: &mut String, alloc: Global, count: u32, word: &str) -> Result<(), AllocError> {
@@ -62,14 +68,15 @@ fn push_grown(
     push_harm(line, tally)
 }
 
-/// The line of a vector, with so many inputs made from it.
-pub fn line_of(
+/// The line of a vector of the table, with so many inputs made from it.
+fn line_of<R: TableReader>(
     alloc: Global,
-    vector: &Vector,
+    table: &[Vector<R>],
+    vector: &Vector<R>,
     count: u32,
     seed: u64,
 ) -> Result<String, AllocError> {
-    let (name, reader, bytes, accepted) = *vector;
+    let (name, reader, bytes, accepted) = (vector.0, vector.1, vector.2, vector.3);
     let mut line = String::from_str(alloc, name)?;
     line.push_str(": ")?;
     line.push_str(format!(in alloc; "{} bytes", bytes.len())?.as_str())?;
@@ -79,7 +86,42 @@ pub fn line_of(
     push_tally(&mut line, alloc, "; bits: ", &tally)?;
     let tally = try_sets(alloc, reader, bytes, copy.as_mut_slice())?;
     push_tally(&mut line, alloc, "; bytes: ", &tally)?;
-    let tally = try_inputs(alloc, reader, bytes, count, seed)?;
+    let tally = try_inputs(alloc, table, vector, count, seed)?;
     push_grown(&mut line, alloc, count, &tally)?;
     Ok(line)
+}
+
+/// A line for each cut of the vector that is read too: the fields of its record.
+fn print_accepted<R: TableReader>(
+    rt: &(impl Print + AllocGlobal),
+    vector: &Vector<R>,
+) -> io::Result<()> {
+    let (name, reader, bytes, accepted) = (vector.0, vector.1, vector.2, vector.3);
+    for n in 0..bytes.len() {
+        if is_accepted(accepted, n) {
+            let fields = reader.named(rt.alloc(), &bytes[..n])?;
+            println!(rt; "{name}, cut to {n}: {fields}")?;
+        }
+    }
+    Ok(())
+}
+
+/// Prints the lines of each vector of the table. A number as the program's argument is how many inputs are made from
+/// each vector, in place of 20,000.
+pub fn print_lines<R: TableReader>(
+    rt: &(impl Env + Print + AllocGlobal),
+    table: &[Vector<R>],
+) -> io::Result<()> {
+    let count = match env::args(rt)?.nth(1) {
+        Some(word) => word.parse::<u32>().unwrap_or(INPUTS),
+        None => INPUTS,
+    };
+    let mut seed = 42u64;
+    for vector in table {
+        let line = line_of(rt.alloc(), table, vector, count, seed)?;
+        println!(rt; "{line}")?;
+        print_accepted(rt, vector)?;
+        seed = seed.wrapping_add(1);
+    }
+    Ok(())
 }

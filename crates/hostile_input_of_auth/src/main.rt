@@ -1,0 +1,14 @@
+//! What a stranger's bytes do to the readers of the packets before the first command, one line a vector: see `hostile_input`.
+#![tactic(auto)]
+
+mod reader;
+mod readers;
+mod vectors;
+
+use hostile_input_lines::print_lines;
+use std::io;
+use vectors::VECTORS;
+
+fn main(rt: HostRuntime) -> io::Result<()> {
+    print_lines(&rt, VECTORS)
+}

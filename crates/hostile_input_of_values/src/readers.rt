@@ -1,0 +1,5 @@
+//! Each reader over some bytes.
+
+pub mod bulk;
+pub mod stmt;
+pub mod values;
