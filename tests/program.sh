@@ -73,6 +73,40 @@ expect 'a command without its words' 2 "$usage" "$top/mypackets" stmt
 expect 'a word too many' 2 "$usage" "$top/mypackets" stmt 00 00
 expect 'no digits' 2 "$usage" "$top/mypackets" stmt 'not hex'
 expect 'half a byte' 2 "$usage" "$top/mypackets" stmt 000
+handshake=0a352e352e352d31302e31312e31392d4d6172696144422d302b646562313275312d6c6f67000d000000475f27415460655d00fef72d0200ff81150000000000001d0000002436265a7048575b427a5e49006d7973716c5f6e61746976655f70617373776f726400
+expect 'a handshake' 0 "protocol_version: 10
+server_version: x352e352e352d31302e31312e31392d4d6172696144422d302b646562313275312d6c6f67
+version: 5.5.5
+mariadb_version: 10.11.19
+connection_id: 13
+scramble_1: x475f27415460655d
+scramble_2: x2436265a7048575b427a5e4900
+capabilities: 2181036030
+default_collation: 45
+status_flags: 2
+mariadb_ext_capabilities: 29
+auth_plugin_name: x6d7973716c5f6e61746976655f70617373776f7264
+rest: 0
+bytes: $handshake
+" "$top/mypackets" handshake "$handshake"
+dump=1e04002a0000000000000004000000000000005d00000000020000000000013e11fa4771ca11e19e33c80aa942956206617070010000000000000001000000000000006400000000000000a0b1c2d3e4f56789abcdef012345678900010000000000000001000000000000003200000000000000
+dump_lines="server_id: 42
+flags: 4
+filename: x
+pos: 4
+sid: 3e11fa47-71ca-11e1-9e33-c80aa9429562:app:1-99
+sid: a0b1c2d3-e4f5-6789-abcd-ef0123456789:1-49
+rest: 0
+bytes: $dump
+"
+longer=1e04002a0000000000000004000000000000005e00000000020000000000013e11fa4771ca11e19e33c80aa942956206617070010000000000000001000000000000006400000000000000a0b1c2d3e4f56789abcdef01234567890001000000000000000100000000000000320000000000000000
+expect 'a dump by GTID set' 0 "$dump_lines" "$top/mypackets" gtid "$dump"
+expect 'a dump by GTID set, read strictly' 0 "$dump_lines" "$top/mypackets" gtidstrict "$dump"
+expect 'a byte behind the last sid' 0 "$dump_lines" "$top/mypackets" gtid "$longer"
+expect 'a byte behind the last sid, read strictly' 1 $'refused: InvalidData\n' "$top/mypackets" gtidstrict "$longer"
+expect 'the text of a sid' 0 $'sid: 3e11fa47-71ca-11e1-9e33-c80aa9429562:domain_a:5\n' "$top/mypackets" \
+    sid 3E11FA47-71CA-11E1-9E33-C80AA9429562:domain_a:5-5
+expect 'the text of no sid' 1 $'refused: Gno\n' "$top/mypackets" sid 3E11FA47-71CA-11E1-9E33-C80AA9429562:4-3
 fails_to_write 'a statement packet on a full device' "$top/mypackets" stmt 000100000001000200000000
 fails_to_write 'a bad call on a full device' "$top/mypackets"
 

@@ -3,6 +3,7 @@ pub mod Judged
 pub mod Words
 pub mod Refused
 pub mod OkRefused
+pub mod HandshakeRefused
 pub mod Decimals
 pub mod Inputs
 pub mod Rows

@@ -10,12 +10,16 @@ use Rattle.mysql_packets.specs.OkKind.{kind_of}
 use Rattle.mysql_packets.specs.Named.{is_named}
 use Rattle.mysql_packets.specs.BulkCall.{bulk_call, plain_rule, rule_of_one, rule_of_two}
 
--- stmt HEX, infile HEX, column HEX
+-- stmt HEX, infile HEX, column HEX, handshake HEX, gtid HEX, gtidstrict HEX, sid TEXT
 abbrev pub with_one : List ℕ → List ℕ → Option Command
 with_one name word =
     if is_named name (codes "stmt") then option_map command.Stmt (bytes_of word)
     else if is_named name (codes "infile") then option_map command.Infile (bytes_of word)
     else if is_named name (codes "column") then option_map command.Column (bytes_of word)
+    else if is_named name (codes "handshake") then option_map command.Handshake (bytes_of word)
+    else if is_named name (codes "gtid") then option_map command.Gtid (bytes_of word)
+    else if is_named name (codes "gtidstrict") then option_map command.GtidStrict (bytes_of word)
+    else if is_named name (codes "sid") then Some (command.Sid word)
     else None
 
 abbrev pub err_command : Option CapabilityFlags → Option (List ℕ) → Option Command

@@ -16,5 +16,8 @@ pub mod OkKind
 pub mod Ok
 pub mod Err
 pub mod Bulk
+pub mod Gtid
+pub mod Sid
+pub mod Handshake
 pub mod Command
 pub mod Program

@@ -1,5 +1,5 @@
 -- What the program answers to the words behind its name.
-use Rattle.std.specs.Prelude.{◌≡◌, ◌⊎◌, ℕ, List, true, Option, Some, None}
+use Rattle.std.specs.Prelude.{◌≡◌, ◌⊎◌, ℕ, List, true, false, Option, Some, None}
 use Rattle.mysql_packets.specs.declared.command.Command.{Command}
 use Rattle.mysql_packets.specs.declared.command.Command.TheVariants as command
 use Rattle.mysql_packets.specs.Answer.{Answer, IsGiven, usage, out_of_memory}
@@ -8,6 +8,9 @@ use Rattle.mysql_packets.specs.Input.{GaveAll}
 use Rattle.mysql_packets.specs.Stmt.{stmt_answer}
 use Rattle.mysql_packets.specs.Infile.{infile_answer}
 use Rattle.mysql_packets.specs.Column.{column_answer}
+use Rattle.mysql_packets.specs.Handshake.{IsHandshakeAnswer}
+use Rattle.mysql_packets.specs.Gtid.{gtid_answer}
+use Rattle.mysql_packets.specs.Sid.{sid_answer}
 use Rattle.mysql_packets.specs.Ok.{ok_answer}
 use Rattle.mysql_packets.specs.Err.{err_answer}
 use Rattle.mysql_packets.specs.Bulk.{IsBulkAnswer}
@@ -17,6 +20,10 @@ abbrev pub AnswersCommand : Command → List ℕ → Answer → Type 0
 AnswersCommand (command.Stmt bytes) input answer = answer ≡ stmt_answer bytes
 AnswersCommand (command.Infile bytes) input answer = answer ≡ infile_answer bytes
 AnswersCommand (command.Column bytes) input answer = answer ≡ column_answer bytes
+AnswersCommand (command.Handshake bytes) input answer = IsHandshakeAnswer bytes answer
+AnswersCommand (command.Gtid bytes) input answer = answer ≡ gtid_answer false bytes
+AnswersCommand (command.GtidStrict bytes) input answer = answer ≡ gtid_answer true bytes
+AnswersCommand (command.Sid text) input answer = answer ≡ sid_answer text
 AnswersCommand (command.Ok kind capabilities bytes) input answer = answer ≡ ok_answer kind capabilities bytes
 AnswersCommand (command.Err capabilities bytes) input answer = answer ≡ err_answer capabilities bytes
 AnswersCommand (command.Bulk call) input answer = IsBulkAnswer call input answer

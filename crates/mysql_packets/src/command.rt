@@ -8,8 +8,9 @@ use crate::answer::Answer;
 use crate::bulk_call::BulkCall;
 use crate::capabilities::capabilities_of;
 use crate::commands::ok::OkKind;
-use crate::commands::{bulk, column, err, infile, ok, stmt};
+use crate::commands::{bulk, column, err, gtid, handshake, infile, ok, sid, stmt};
 use crate::digits::HexDigits;
+use crate::word::Word;
 use mysql_wire::CapabilityFlags;
 use std::alloc::{AllocError, Global};
 
@@ -22,6 +23,14 @@ pub enum Command<'a> {
     Infile(HexDigits<'a>),
     /// `column HEX`: a column's definition.
     Column(HexDigits<'a>),
+    /// `handshake HEX`: what a server says first.
+    Handshake(HexDigits<'a>),
+    /// `gtid HEX`: a replica's request for a binary log without the transactions of a GTID set.
+    Gtid(HexDigits<'a>),
+    /// `gtidstrict HEX`: the same, by the strict reader.
+    GtidStrict(HexDigits<'a>),
+    /// `sid TEXT`: the text of a server's transactions.
+    Sid(Word<'a>),
     /// `ok KIND CAPS HEX`: an OK packet.
     Ok(OkKind, CapabilityFlags, HexDigits<'a>),
     /// `err CAPS HEX`: an error packet.
@@ -81,6 +90,10 @@ impl<'a> Command<'a> {
             "stmt" => Some(Command::Stmt(HexDigits::new(word.as_bytes())?)),
             "infile" => Some(Command::Infile(HexDigits::new(word.as_bytes())?)),
             "column" => Some(Command::Column(HexDigits::new(word.as_bytes())?)),
+            "handshake" => Some(Command::Handshake(HexDigits::new(word.as_bytes())?)),
+            "gtid" => Some(Command::Gtid(HexDigits::new(word.as_bytes())?)),
+            "gtidstrict" => Some(Command::GtidStrict(HexDigits::new(word.as_bytes())?)),
+            "sid" => Some(Command::Sid(Word::new(word))),
             _ => None,
         }
     }
@@ -144,6 +157,14 @@ impl<'a> Command<'a> {
             Command::Stmt(digits) => stmt::answer(alloc, digits.decode(alloc)?.as_slice()),
             Command::Infile(digits) => infile::answer(alloc, digits.decode(alloc)?.as_slice()),
             Command::Column(digits) => column::answer(alloc, digits.decode(alloc)?.as_slice()),
+            Command::Handshake(digits) => {
+                handshake::answer(alloc, digits.decode(alloc)?.as_slice())
+            }
+            Command::Gtid(digits) => gtid::answer(alloc, false, digits.decode(alloc)?.as_slice()),
+            Command::GtidStrict(digits) => {
+                gtid::answer(alloc, true, digits.decode(alloc)?.as_slice())
+            }
+            Command::Sid(word) => sid::answer(alloc, word.as_str()),
             Command::Ok(kind, capabilities, digits) => {
                 ok::answer(alloc, kind, capabilities, digits.decode(alloc)?.as_slice())
             }

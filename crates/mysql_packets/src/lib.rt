@@ -15,5 +15,6 @@ mod parts;
 mod program;
 pub mod row;
 mod row_text;
+mod word;
 
 pub use program::{refuse_memory, run};

@@ -1,7 +1,15 @@
 //! Packets, from the handshake to the replication commands.
 
+pub mod binlog_request;
+pub mod caching_sha2_password;
 pub mod session_state_change;
 
+pub use mysql_auth::{
+    AuthMoreData, AuthMoreDataHeader, AuthPlugin, AuthPluginData, AuthSwitchRequest,
+    AuthSwitchRequestHeader, HandshakePacket, InvalidAuthMoreDataHeader,
+    InvalidAuthSwitchRequestHeader, InvalidPublicKeyResponse, OldAuthSwitchRequest,
+    PublicKeyResponse, PublicKeyResponseHeader, SslRequest, parse_parsec_salt,
+};
 pub use mysql_bulk::{
     BulkExecuteRequestBuilderError, BulkExecuteRequestError, BulkParamsRequests, BulkRequests,
     BulkRun, ComStmtBulkExecuteHeader, ComStmtBulkExecuteRequest, ComStmtBulkExecuteRequestBuilder,
@@ -9,6 +17,14 @@ pub use mysql_bulk::{
     StmtBulkExecuteParamValues, bulk_row_size, read_bulk_rows,
 };
 pub use mysql_cuts::{BulkRule, cut_is_fewest};
+pub use mysql_repl::{
+    BinlogDumpFlags, ComBinlogDump, ComBinlogDumpGtid, ComBinlogDumpGtidHeader,
+    ComBinlogDumpHeader, ComRegisterSlave, ComRegisterSlaveHeader, ComTableDump,
+    ComTableDumpHeader, GnoInterval, InvalidComBinlogDumpGtidHeader, InvalidComBinlogDumpHeader,
+    InvalidComRegisterSlaveHeader, InvalidComTableDumpHeader, InvalidGno,
+    InvalidSemiSyncAckPacketPacketHeader, InvalidSid, InvalidTag, SemiSyncAckPacket,
+    SemiSyncAckPacketPacketHeader, Sid, Tag, UUID_LEN,
+};
 pub use mysql_replies::{
     Catalog, Column, ColumnDefinitionCatalog, CommonOkPacket, ErrPacket, ErrPacketHeader,
     FixedLengthFieldsLen, InvalidCatalog, InvalidErrPacketHeader, InvalidFixedLengthFieldsLen,

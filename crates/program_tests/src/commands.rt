@@ -49,7 +49,7 @@ pub(crate) const USAGE: &str = "usage: mypackets COMMAND ARGS\n";
 const STATEMENT: &str = "statement_id: 1\nnum_columns: 1\nnum_params: 2\nwarning_count: 0\n";
 
 /// The status, and what is written.
-fn answered(alloc: Global, call: &[&str]) -> Result<(u8, Vec<u8>), AllocError> {
+pub(crate) fn answered(alloc: Global, call: &[&str]) -> Result<(u8, Vec<u8>), AllocError> {
     let args = words(alloc, call)?;
     let mut written = Vec::new(alloc);
     let status = run(alloc, args.as_slice(), &mut FailingReader, &mut written);

@@ -7,3 +7,7 @@
 mod bulk;
 #[cfg(test)]
 mod commands;
+#[cfg(test)]
+mod handshakes;
+#[cfg(test)]
+mod replication;

@@ -10,6 +10,12 @@ const COLUMN: &str =
 const CHANGE: &str = "00000002400000001100\
     0f0a6175746f636f6d6d6974034f4646";
 
+const HANDSHAKE: &str =
+    "0a352e352e352d31302e31312e31392d4d6172696144422d302b646562313275312d6c6f67000d000000475f27415460655d00fef72d0200ff81150000000000001d0000002436265a7048575b427a5e49006d7973716c5f6e61746976655f70617373776f726400";
+
+const DUMP: &str =
+    "1e04002a0000000000000004000000000000005d00000000020000000000013e11fa4771ca11e19e33c80aa942956206617070010000000000000001000000000000006400000000000000a0b1c2d3e4f56789abcdef012345678900010000000000000001000000000000003200000000000000";
+
 pub fn all(cases: &mut Cases) -> Result<(), AllocError> {
     cases.case("run_bad_call", |alloc| shown(alloc, &["stmt", "0"]))?;
     cases.case(
@@ -28,6 +34,25 @@ pub fn all(cases: &mut Cases) -> Result<(), AllocError> {
     cases.case(
         "run_err",
         |alloc| shown(alloc, &["err", "200", "ff48042348593030304e6f"]),
+    )?;
+    cases.case(
+        "run_handshake",
+        |alloc| shown(alloc, &["handshake", HANDSHAKE]),
+    )?;
+    cases.case("run_gtid", |alloc| shown(alloc, &["gtid", DUMP]))?;
+    cases.case(
+        "run_gtidstrict",
+        |alloc| shown(alloc, &["gtidstrict", DUMP]),
+    )?;
+    cases.case(
+        "run_sid",
+        |alloc| shown(
+            alloc,
+            &[
+                "sid",
+                "3E11FA47-71CA-11E1-9E33-C80AA9429562:domain_a:1-5:10-15",
+            ],
+        ),
     )?;
     cases.case(
         "run_bulk",

@@ -1,0 +1,47 @@
+//! `sid TEXT`: a server's transactions, in the text that the library writes for them.
+
+ghost use Rattle.std.specs.Prelude.{◌≡◌, IfOk};
+ghost use Rattle.mysql_packets.specs.Answer.{done};
+ghost use Rattle.mysql_packets.specs.Gtid.{sid_line};
+ghost use Rattle.mysql_packets.specs.Sid as spec;
+
+use crate::answer::Answer;
+use crate::lines::{Line, text_of};
+use mysql_repl::{InvalidSid, Sid};
+use std::alloc::{AllocError, Global};
+
+/// The line of the sid that a text spells.
+pub fn answer(alloc: Global, text: &str) -> Result<Answer, AllocError>
+    ensures value { IfOk result (λ answer. answer ≡ spec.sid_answer text.now) }
+{
+    match Sid::from_str(alloc, text) {
+        Ok(sid) => show(alloc, &sid),
+        Err(refusal) => refused(alloc, &refusal),
+    }
+}
+
+fn show(alloc: Global, sid: &Sid<'_>) -> Result<Answer, AllocError>
+    ensures value { IfOk result (λ answer. answer ≡ done (sid_line sid.now)) }
+{
+    let shown = format!(in alloc; "{sid}")?;
+    Ok(Answer::done(text_of(alloc, &[Line::text("sid", shown.as_str())])?))
+}
+
+/// A refusal by its name. A growth that was refused gives no answer of its own, but the error.
+fn refused(alloc: Global, refusal: &InvalidSid) -> Result<Answer, AllocError>
+    ensures value { IfOk result (spec.IsSidRefusal refusal.now) }
+{
+    let name = match refusal {
+        InvalidSid::NoColon => "NoColon",
+        InvalidSid::Uuid => "Uuid",
+        InvalidSid::Empty => "Empty",
+        InvalidSid::Tag(_) => "Tag",
+        InvalidSid::NoIntervals => "NoIntervals",
+        InvalidSid::Parts => "Parts",
+        InvalidSid::Number => "Number",
+        InvalidSid::TooLarge => "TooLarge",
+        InvalidSid::Gno(_) => "Gno",
+        InvalidSid::Memory => return Err(AllocError),
+    };
+    Answer::refused_by(alloc, String::new(alloc), name)
+}

@@ -1,0 +1,3 @@
+//! What a client asks of a server with the plugin `caching_sha2_password`.
+
+pub use mysql_auth::{InvalidPublicKeyRequest, PublicKeyRequest, PublicKeyRequestHeader};
