@@ -11,7 +11,7 @@ use Rattle.mysql_bulk.specs.Row.{first_length, row_size, rows_packing}
 use Rattle.mysql_bulk.specs.WholeRun.{IsNew, OfRows, RunGives}
 use Rattle.mysql_packets.specs.Answer.{Answer, done, refused_by}
 use Rattle.mysql_packets.specs.BulkCall.{BulkCall}
-use Rattle.mysql_packets.specs.Bulk.{AnswersRows, builder_of, last_lines, name_of, request_lines}
+use Rattle.mysql_packets.specs.Bulk.{AnswersRows, builder_of, last_lines, bulk_refusal_name, request_lines}
 
 pub new_builder : (call : BulkCall) → IsNew (builder_of call)
 new_builder call = record { arity = refl; types_due = refl; waiting = refl }
@@ -29,7 +29,7 @@ names_fewest law call rows requests ends refusal left gives none =
 pub was_refused : {E : Type 0} (call : BulkCall) (rows : List (List Content)) (requests : List BulkRequest) (ends : List ℕ) (e : BulkExecuteRequestBuilderError) (left : BuilderState) (text name : List ℕ) (r : Result Answer E)
     → RunGives (builder_of call) rows requests ends (Some e) left
     → OfRows (Some e)
-    → name ≡ name_of e
+    → name ≡ bulk_refusal_name e
     → text ≡ request_lines requests
     → IfOk r (λ answer. answer ≡ refused_by text name)
     → IfOk r (AnswersRows call rows)

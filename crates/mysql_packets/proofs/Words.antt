@@ -8,7 +8,7 @@ use Rattle.std.specs.List.{list_all}
 use Rattle.std.specs.Result.{OkIff}
 use Rattle.std.specs.Str.Parse.{AllDigits, ParsesUnsigned, digits_value}
 use Rattle.mysql_packets.proofs.Numerals.{AreDigits, both, numeral_of}
-use Rattle.mysql_packets.specs.Capabilities.{is_word}
+use Rattle.mysql_packets.specs.Capabilities.{is_flag_word}
 
 hexadecimal_digits : AreDigits 16 is_ascii_hexdigit
 hexadecimal_digits c e = grind (arith, common_steps)
@@ -25,8 +25,8 @@ given_ok (Ok x) P v p parsed = ap Ok parsed.1
 given_ok (Err e) P v p parsed = absurd (parsed p)
 
 -- such a word is read as its number
-pub flags_parse : {E : Type 0} (w : List ℕ) (r : Result ℕ E) → is_word w ≡ true → ParsesUnsigned 32 16 w r → r ≡ Ok (digits_value 16 w)
-unfolding is_word
+pub flags_parse : {E : Type 0} (w : List ℕ) (r : Result ℕ E) → is_flag_word w ≡ true → ParsesUnsigned 32 16 w r → r ≡ Ok (digits_value 16 w)
+unfolding is_flag_word
 flags_parse w r judged parsed =
     let b = both (nat_le 1 (length w)) (nat_le (length w) 8 && list_all is_ascii_hexdigit w) judged in
     let d = both (nat_le (length w) 8) (list_all is_ascii_hexdigit w) b.1 in

@@ -1,5 +1,5 @@
 -- What the program answers.
-use Rattle.std.specs.Prelude.{◌≡◌, ℕ, List, [], ◌++◌, ◌⊎◌, length, Option, Ok, Err, codes}
+use Rattle.std.specs.Prelude.{◌≡◌, ℕ, List, [], ◌++◌, length, Option, Ok, Err, codes}
 use Rattle.std.specs.Io.KnownBytes.{Appends}
 use Rattle.mysql_wire.specs.declared.fault.FaultOf.{FaultOf}
 use Rattle.mysql_wire.specs.declared.fault.FaultOf.TheVariants as fault
@@ -17,25 +17,25 @@ pub record Answer : Type 0 where
 abbrev pub done : List ℕ → Answer
 done lines = record { text = lines; status = 0 }
 
-abbrev pub name_of : FaultKind → List ℕ
-name_of kind.UnexpectedEof = codes "UnexpectedEof"
-name_of kind.InvalidData = codes "InvalidData"
-name_of kind.InvalidInput = codes "InvalidInput"
-name_of kind.Memory = codes "Memory"
+abbrev pub fault_name : FaultKind → List ℕ
+fault_name kind.UnexpectedEof = codes "UnexpectedEof"
+fault_name kind.InvalidData = codes "InvalidData"
+fault_name kind.InvalidInput = codes "InvalidInput"
+fault_name kind.Memory = codes "Memory"
 
 -- the lines so far, and then a refusal of that name
 abbrev pub refused_by : List ℕ → List ℕ → Answer
 refused_by lines name = record { text = lines ++ line (codes "refused") name; status = 1 }
 
 abbrev pub refused : List ℕ → FaultKind → Answer
-refused lines k = refused_by lines (name_of k)
+refused lines k = refused_by lines (fault_name k)
 
 -- the refusal for a fault; a growth that was refused is none
-abbrev pub IsRefusal : List ℕ → FaultOf → Answer → Type 0
-IsRefusal lines fault.UnexpectedEof answer = answer ≡ refused lines kind.UnexpectedEof
-IsRefusal lines (fault.InvalidData text) answer = answer ≡ refused lines kind.InvalidData
-IsRefusal lines (fault.InvalidInput text) answer = answer ≡ refused lines kind.InvalidInput
-IsRefusal lines fault.Memory answer = ⊥
+abbrev pub IsFaultRefusal : List ℕ → FaultOf → Answer → Type 0
+IsFaultRefusal lines fault.UnexpectedEof answer = answer ≡ refused lines kind.UnexpectedEof
+IsFaultRefusal lines (fault.InvalidData text) answer = answer ≡ refused lines kind.InvalidData
+IsFaultRefusal lines (fault.InvalidInput text) answer = answer ≡ refused lines kind.InvalidInput
+IsFaultRefusal lines fault.Memory answer = ⊥
 
 -- a bad call
 abbrev pub usage : Answer
@@ -50,6 +50,10 @@ abbrev pub of_reading : {A : Type 0} → (A → ℕ → List ℕ) → Reading A 
 of_reading lines (Ok x) = done (lines x.0 (length x.1))
 of_reading lines (Err k) = refused [] k
 
--- the answer stands behind what the writer held, and its status is given; or a write failed, with status 3
-abbrev pub IsGiven : Answer → Option (List ℕ) → Option (List ℕ) → ℕ → Type 0
-IsGiven answer old new status = (status ≡ 3) ⊎ (Appends old new answer.text × (status ≡ answer.status))
+-- the lines of the answer stand behind what the writer held, and its status is given
+abbrev pub IsWritten : Answer → Option (List ℕ) → Option (List ℕ) → ℕ → Type 0
+IsWritten answer old new status = Appends old new answer.text × (status ≡ answer.status)
+
+-- a read or a write failed, which the status 3 says; what then stands in the writer is not known
+abbrev pub IsFailedReadOrWrite : ℕ → Type 0
+IsFailedReadOrWrite status = status ≡ 3

@@ -5,7 +5,7 @@ use Rattle.hex.specs.Hex.{encode_lower}
 use Rattle.mysql_values.specs.Value.{Content}
 use Rattle.mysql_bulk.specs.declared.error.BulkExecuteRequestError.TheVariants as error
 use Rattle.mysql_bulk.specs.declared.error.BulkExecuteRequestBuilderError.{BulkExecuteRequestBuilderError}
-use Rattle.mysql_bulk.specs.declared.error.BulkExecuteRequestBuilderError.TheVariants as refused
+use Rattle.mysql_bulk.specs.declared.error.BulkExecuteRequestBuilderError.TheVariants as builder_error
 use Rattle.mysql_bulk.specs.Request.{BulkRequest, request_bytes}
 use Rattle.mysql_bulk.specs.Builder.{BuilderState}
 use Rattle.mysql_bulk.specs.WholeRun.{OfRows, RunGives}
@@ -43,17 +43,17 @@ last_lines requests rows fewest =
     ∷ []
     )
 
-abbrev pub name_of : BulkExecuteRequestBuilderError → List ℕ
-name_of (refused.Request error.MixedArity) = codes "MixedArity"
-name_of (refused.Request (error.RowTooLarge row)) = codes "RowTooLarge"
-name_of (refused.Request (error.MemoryRow row)) = codes "MemoryRow"
-name_of (refused.Request error.NoParams) = codes "NoParams"
-name_of (refused.Request error.Memory) = codes "Memory"
-name_of (refused.Params e) = codes "Params"
+abbrev pub bulk_refusal_name : BulkExecuteRequestBuilderError → List ℕ
+bulk_refusal_name (builder_error.Request error.MixedArity) = codes "MixedArity"
+bulk_refusal_name (builder_error.Request (error.RowTooLarge row)) = codes "RowTooLarge"
+bulk_refusal_name (builder_error.Request (error.MemoryRow row)) = codes "MemoryRow"
+bulk_refusal_name (builder_error.Request error.NoParams) = codes "NoParams"
+bulk_refusal_name (builder_error.Request error.Memory) = codes "Memory"
+bulk_refusal_name (builder_error.Params e) = codes "Params"
 
 abbrev pub run_answer : List BulkRequest → ℕ → Option BulkExecuteRequestBuilderError → Answer
 run_answer requests rows None = done (request_lines requests ++ last_lines (length requests) rows true)
-run_answer requests rows (Some e) = refused_by (request_lines requests) (name_of e)
+run_answer requests rows (Some e) = refused_by (request_lines requests) (bulk_refusal_name e)
 
 -- the rows are cut into requests of a new builder, as many and as full as may be; what is refused is what has no such cut
 pub record AnswersRows (call : BulkCall) (rows : List (List Content)) (answer : Answer) : Type 0 where

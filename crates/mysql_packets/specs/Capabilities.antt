@@ -6,9 +6,9 @@ use Rattle.std.specs.Str.Parse.{digits_value}
 use Rattle.mysql_wire.specs.Flags.{CapabilityFlags}
 
 -- one to eight hexadecimal digits
-unfoldable pub is_word : List ℕ → Bool
-is_word word = nat_le 1 (length word) && (nat_le (length word) 8 && list_all is_ascii_hexdigit word)
+unfoldable pub is_flag_word : List ℕ → Bool
+is_flag_word word = nat_le 1 (length word) && (nat_le (length word) 8 && list_all is_ascii_hexdigit word)
 
 -- the flags whose bits are that number
 abbrev pub capabilities_of : List ℕ → Option CapabilityFlags
-capabilities_of word = if is_word word then Some (record { 0 = digits_value 16 word; 1 = record {} }) else None
+capabilities_of word = if is_flag_word word then Some (record { 0 = digits_value 16 word; 1 = record {} }) else None

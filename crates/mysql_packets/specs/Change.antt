@@ -13,19 +13,19 @@ abbrev pub variable_text : SystemVariable → List ℕ
 variable_text v = codes " " ++ (prefixed (variable_name v) ++ (codes "=" ++ prefixed (variable_value v)))
 
 -- a kind, and its bytes
-abbrev pub named : List ℕ → List ℕ → List ℕ
-named kind bytes = kind ++ (codes " " ++ prefixed bytes)
+abbrev pub kind_and_bytes : List ℕ → List ℕ → List ℕ
+kind_and_bytes kind bytes = kind ++ (codes " " ++ prefixed bytes)
 
 -- the kind, and what has changed
 abbrev pub change_value : SessionStateChange → List ℕ
 change_value (change.IsTracked true) = codes "IsTracked true"
 change_value (change.IsTracked false) = codes "IsTracked false"
-change_value (change.Schema s) = named (codes "Schema") (text_bytes s)
+change_value (change.Schema s) = kind_and_bytes (codes "Schema") (text_bytes s)
 change_value (change.SystemVariables vs) = codes "SystemVariables" ++ flat_map variable_text vs
-change_value (change.Gtids g) = named (codes "Gtids") (text_bytes g)
-change_value (change.TransactionCharacteristics c) = named (codes "TransactionCharacteristics") (text_bytes c)
-change_value (change.TransactionState s) = named (codes "TransactionState") (text_bytes s)
-change_value (change.Unsupported u) = named (codes "Unsupported") (text_bytes u)
+change_value (change.Gtids g) = kind_and_bytes (codes "Gtids") (text_bytes g)
+change_value (change.TransactionCharacteristics c) = kind_and_bytes (codes "TransactionCharacteristics") (text_bytes c)
+change_value (change.TransactionState s) = kind_and_bytes (codes "TransactionState") (text_bytes s)
+change_value (change.Unsupported u) = kind_and_bytes (codes "Unsupported") (text_bytes u)
 
 abbrev pub change_line : SessionStateChange → List ℕ
 change_line c = line (codes "change") (change_value c)

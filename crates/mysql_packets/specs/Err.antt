@@ -15,8 +15,8 @@ use Rattle.mysql_packets.specs.Lines.{line, prefixed, or_none}
 use Rattle.mysql_packets.specs.Answer.{Answer, of_reading}
 
 -- the lines of an error, with the bytes of its state
-abbrev pub lines_with_state : ServerError → Option (List ℕ) → List ℕ
-lines_with_state e state =
+abbrev pub lines_with_sql_state : ServerError → Option (List ℕ) → List ℕ
+lines_with_sql_state e state =
     concat (
     line (codes "error") (decimal (error_code e))
     ∷ line (codes "sql_state") (or_none prefixed state)
@@ -25,7 +25,7 @@ lines_with_state e state =
     )
 
 abbrev pub error_lines : ServerError → List ℕ
-error_lines e = lines_with_state e (option_map state_bytes (sql_state_of e))
+error_lines e = lines_with_sql_state e (option_map state_bytes (sql_state_of e))
 
 abbrev pub progress_lines : ProgressReport → List ℕ
 progress_lines r =

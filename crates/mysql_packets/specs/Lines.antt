@@ -17,9 +17,9 @@ abbrev pub or_none : {A : Type 0} → (A → List ℕ) → Option A → List ℕ
 or_none show None = codes "none"
 or_none show (Some value) = show value
 
-abbrev pub shown : Shown → List ℕ
-shown (shows.Number n) = decimal n
-shown (shows.Text text) = text.now
-shown (shows.Bytes bytes) = prefixed bytes.now
-shown (shows.Digits bytes) = encode_lower bytes.now
-shown shows.Absent = codes "none"
+abbrev pub shown_text : Shown → List ℕ
+shown_text (shows.Number n) = decimal n
+shown_text (shows.Text text) = text.now
+shown_text (shows.Bytes bytes) = prefixed bytes.now
+shown_text (shows.Digits bytes) = encode_lower bytes.now
+shown_text shows.Absent = codes "none"

@@ -17,7 +17,7 @@ use Rattle.mysql_replies.specs.OkDeserializer.{ok_packet, packet}
 use Rattle.mysql_replies.specs.OkPacket.{affected_rows, last_insert_id, status_flags, warnings, info, session_state, state_bytes}
 use Rattle.mysql_replies.specs.SessionStateInfo.{state_string, decoded}
 use Rattle.mysql_packets.specs.declared.commands.ok.OkKind.{OkKind}
-use Rattle.mysql_packets.specs.declared.commands.ok.OkKind.TheVariants as named
+use Rattle.mysql_packets.specs.declared.commands.ok.OkKind.TheVariants as ok_kind
 use Rattle.mysql_packets.specs.Lines.{line, prefixed, or_none}
 use Rattle.mysql_packets.specs.Change.{change_line}
 use Rattle.mysql_packets.specs.Answer.{Answer, done, refused}
@@ -27,10 +27,10 @@ abbrev pub packet_reading : (T : Type 0) → ℕ → Form OkPacketBody → List 
 packet_reading T header body bytes = then_read ((ok_packet {T = T} header body).reads bytes) (λ d rest. Ok (packet d, rest))
 
 abbrev pub ok_reading : OkKind → CapabilityFlags → List ℕ → Reading OkPacket
-ok_reading named.Common capabilities = packet_reading CommonOkPacket 0 (common_ok_body capabilities)
-ok_reading named.Terminator capabilities = packet_reading ResultSetTerminator 0xfe (terminator_body capabilities)
-ok_reading named.Eof capabilities = packet_reading OldEofPacket 0xfe (old_eof_body capabilities)
-ok_reading named.Stream capabilities = packet_reading NetworkStreamTerminator 0xfe (old_eof_body capabilities)
+ok_reading ok_kind.Common capabilities = packet_reading CommonOkPacket 0 (common_ok_body capabilities)
+ok_reading ok_kind.Terminator capabilities = packet_reading ResultSetTerminator 0xfe (terminator_body capabilities)
+ok_reading ok_kind.Eof capabilities = packet_reading OldEofPacket 0xfe (old_eof_body capabilities)
+ok_reading ok_kind.Stream capabilities = packet_reading NetworkStreamTerminator 0xfe (old_eof_body capabilities)
 
 -- the lines of the packet's own fields
 abbrev pub field_lines : OkPacket → List ℕ
@@ -56,12 +56,12 @@ with_changes lines rest [] = done (lines ++ line (codes "rest") (decimal rest))
 with_changes lines rest (i ∷ infos) = with_change lines (decoded i) (λ more. with_changes more rest infos)
 
 -- the list of changes is read whole before the first of their lines
-abbrev pub with_state : List ℕ → ℕ → Reading (List SessionStateInfo) → Answer
-with_state lines rest (Ok x) = with_changes lines rest x.0
-with_state lines rest (Err k) = refused lines k
+abbrev pub with_session_state : List ℕ → ℕ → Reading (List SessionStateInfo) → Answer
+with_session_state lines rest (Ok x) = with_changes lines rest x.0
+with_session_state lines rest (Err k) = refused lines k
 
 abbrev pub packet_answer : Reading OkPacket → Answer
-packet_answer (Ok x) = with_state (field_lines x.0) (length x.1) (state_string.reads (state_bytes x.0))
+packet_answer (Ok x) = with_session_state (field_lines x.0) (length x.1) (state_string.reads (state_bytes x.0))
 packet_answer (Err k) = refused [] k
 
 abbrev pub ok_answer : OkKind → CapabilityFlags → List ℕ → Answer

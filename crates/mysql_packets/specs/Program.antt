@@ -2,7 +2,7 @@
 use Rattle.std.specs.Prelude.{◌≡◌, ◌⊎◌, ℕ, List, true, false, Option, Some, None}
 use Rattle.mysql_packets.specs.declared.command.Command.{Command}
 use Rattle.mysql_packets.specs.declared.command.Command.TheVariants as command
-use Rattle.mysql_packets.specs.Answer.{Answer, IsGiven, usage, out_of_memory}
+use Rattle.mysql_packets.specs.Answer.{Answer, IsWritten, usage, out_of_memory}
 use Rattle.mysql_packets.specs.Command.{reads_input}
 use Rattle.mysql_packets.specs.Input.{GaveAll}
 use Rattle.mysql_packets.specs.Stmt.{stmt_answer}
@@ -28,19 +28,15 @@ AnswersCommand (command.Ok kind capabilities bytes) input answer = answer ≡ ok
 AnswersCommand (command.Err capabilities bytes) input answer = answer ≡ err_answer capabilities bytes
 AnswersCommand (command.Bulk call) input answer = IsBulkAnswer call input answer
 
--- the answer to a call on an input
-abbrev pub AnswersCall : Option Command → List ℕ → Answer → Type 0
-AnswersCall None input answer = answer ≡ usage
-AnswersCall (Some c) input answer = AnswersCommand c input answer
-
--- a call was answered: its answer was given, on all that the reader had where the call reads
-pub record IsAnswered (call : Option Command) (before after old new : Option (List ℕ)) (status : ℕ) : Type 0 where
+-- a command was answered: its answer was written, on all that the reader had where the command reads
+pub record IsCommandAnswered (c : Command) (before after old new : Option (List ℕ)) (status : ℕ) : Type 0 where
   pub input : List ℕ
-  pub read : reads_input call ≡ true → GaveAll before after input
+  pub read : reads_input (Some c) ≡ true → GaveAll before after input
   pub answer : Answer
-  pub answers : AnswersCall call input answer
-  pub given : IsGiven answer old new status
+  pub answers : AnswersCommand c input answer
+  pub written : IsWritten answer old new status
 
--- a call was answered; or a growth was refused, which is told; or a read or write failed, with status 3
-abbrev pub Runs : Option Command → Option (List ℕ) → Option (List ℕ) → Option (List ℕ) → Option (List ℕ) → ℕ → Type 0
-Runs call before after old new status = IsAnswered call before after old new status ⊎ (IsGiven out_of_memory old new status ⊎ (status ≡ 3))
+-- a bad call was told; or a command was answered, or a growth was refused, which is told
+abbrev pub IsAnswered : Option Command → Option (List ℕ) → Option (List ℕ) → Option (List ℕ) → Option (List ℕ) → ℕ → Type 0
+IsAnswered None before after old new status = IsWritten usage old new status
+IsAnswered (Some c) before after old new status = IsCommandAnswered c before after old new status ⊎ IsWritten out_of_memory old new status

@@ -1,7 +1,7 @@
 //! What the program answers.
 
 ghost use Rattle.std.specs.Prelude.{◌≡◌, IfOk, string_bytes};
-ghost use Rattle.mysql_packets.specs.Answer.{done, refused_by, usage, IsRefusal};
+ghost use Rattle.mysql_packets.specs.Answer.{done, refused_by, usage, IsFaultRefusal};
 
 use crate::lines::{Line, append_lines};
 use mysql_wire::Fault;
@@ -55,7 +55,7 @@ impl Answer {
     ///
     /// A growth that was refused gives no answer of its own, but the error.
     pub fn refused(alloc: Global, text: String, fault: Fault) -> Result<Answer, AllocError>
-        ensures value { IfOk result (λ answer. IsRefusal (string_bytes text) fault.entry answer) }
+        ensures value { IfOk result (λ answer. IsFaultRefusal (string_bytes text) fault.entry answer) }
     {
         let name = match fault {
             Fault::UnexpectedEof => "UnexpectedEof",

@@ -42,7 +42,7 @@ impl BulkCall {
     }
 
     /// `STMT MAX types` or `STMT MAX rows=K`. It takes no memory.
-    pub fn with_one(stmt: &str, most: &str, option: &str) -> Option<BulkCall>
+    pub fn with_one_option(stmt: &str, most: &str, option: &str) -> Option<BulkCall>
         ensures value { result ≡ spec.bulk_call stmt.now most.now (spec.rule_of_one option.now) }
     {
         let rule = match option {
@@ -59,7 +59,7 @@ impl BulkCall {
     }
 
     /// `STMT MAX types rows=K`. It takes no memory.
-    pub fn with_two(stmt: &str, most: &str, first: &str, second: &str) -> Option<BulkCall>
+    pub fn with_two_options(stmt: &str, most: &str, first: &str, second: &str) -> Option<BulkCall>
         ensures value { result ≡ spec.bulk_call stmt.now most.now (spec.rule_of_two first.now second.now) }
     {
         if first != "types" {

@@ -122,7 +122,7 @@ impl<'a> Command<'a> {
                 let capabilities = capabilities_of(second)?;
                 Some(Command::Ok(kind, capabilities, HexDigits::new(third.as_bytes())?))
             }
-            "bulk" => Some(Command::Bulk(BulkCall::with_one(first, second, third)?)),
+            "bulk" => Some(Command::Bulk(BulkCall::with_one_option(first, second, third)?)),
             _ => None,
         }
     }
@@ -137,7 +137,9 @@ impl<'a> Command<'a> {
         ensures value { result ≡ spec.with_four name.now first.now second.now third.now fourth.now }
     {
         match name {
-            "bulk" => Some(Command::Bulk(BulkCall::with_two(first, second, third, fourth)?)),
+            "bulk" => Some(Command::Bulk(BulkCall::with_two_options(
+                first, second, third, fourth,
+            )?)),
             _ => None,
         }
     }

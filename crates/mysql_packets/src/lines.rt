@@ -32,11 +32,11 @@ pub struct Line<'a> {
 
 impl<'a> Model for Line<'a> {
     ghost use Rattle.std.specs.Prelude.{ℕ, List};
-    ghost use Rattle.mysql_packets.specs.Lines.{line, shown};
+    ghost use Rattle.mysql_packets.specs.Lines.{line, shown_text};
 
     ghost Value = { List ℕ };
 
-    ghost view = { λ l. line l.name.now (shown l.value) };
+    ghost view = { λ l. line l.name.now (shown_text l.value) };
 }
 
 impl<'a> Line<'a> {

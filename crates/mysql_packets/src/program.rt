@@ -1,10 +1,10 @@
 //! The program: what it writes for the words behind its name, and its status.
 
-ghost use Rattle.std.specs.Prelude.{◌≡◌, IfOk, Some, None, true, false, map, string_bytes};
-ghost use Rattle.mysql_packets.specs.Answer.{IsGiven, out_of_memory, usage};
+ghost use Rattle.std.specs.Prelude.{◌≡◌, ◌⊎◌, IfOk, Some, true, false, map, string_bytes};
+ghost use Rattle.mysql_packets.specs.Answer.{IsFailedReadOrWrite, IsWritten, out_of_memory};
 ghost use Rattle.mysql_packets.specs.Command.{command_of, reads_input};
 ghost use Rattle.mysql_packets.specs.Input.{GaveAll};
-ghost use Rattle.mysql_packets.specs.Program.{Runs};
+ghost use Rattle.mysql_packets.specs.Program.{IsAnswered};
 
 use crate::answer::USAGE;
 use crate::command::Command;
@@ -25,12 +25,11 @@ use std::io::{Read, Write};
 /// is written, by at most 1,048,576 calls of `read`. An input that has not ended by then is a failed read. Where a
 /// growth is refused, the one line is `refused: Memory` and the status 1. Only a failed read or write gives 3.
 pub fn run<R: Read, W: Write>(alloc: Global, args: &[String], reader: &mut R, writer: &mut W) -> u8
-    ensures bad_call { command_of (map string_bytes args.now) ≡ None → IsGiven usage (W.contents writer.old) (W.contents writer.new) result }
-    ensures answer { Runs (command_of (map string_bytes args.now)) (R.remaining reader.old) (R.remaining reader.new) (W.contents writer.old) (W.contents writer.new) result }
+    ensures answer { IsFailedReadOrWrite result ⊎ IsAnswered (command_of (map string_bytes args.now)) (R.remaining reader.old) (R.remaining reader.new) (W.contents writer.old) (W.contents writer.new) result }
     ensures unread { reads_input (command_of (map string_bytes args.now)) ≡ false → reader.new ≡ reader.old }
 {
     let Some(command) = Command::of(args) else {
-        return give(writer, USAGE, 2);
+        return write_lines(writer, USAGE, 2);
     };
     let input = match input_of(alloc, &command, reader) {
         Ok(input) => input,
@@ -38,7 +37,7 @@ pub fn run<R: Read, W: Write>(alloc: Global, args: &[String], reader: &mut R, wr
         Err(InputError::Memory) => return refuse_memory(writer),
     };
     match command.answer(alloc, input.as_slice()) {
-        Ok(answer) => give(writer, answer.text(), answer.status()),
+        Ok(answer) => write_lines(writer, answer.text(), answer.status()),
         Err(_) => refuse_memory(writer),
     }
 }
@@ -61,14 +60,14 @@ fn input_of<R: Read>(
 
 /// Writes that a growth was refused, `refused: Memory`, and answers 1, or 3 where the write failed.
 pub fn refuse_memory<W: Write>(writer: &mut W) -> u8
-    ensures value { IsGiven out_of_memory (W.contents writer.old) (W.contents writer.new) result }
+    ensures value { IsFailedReadOrWrite result ⊎ IsWritten out_of_memory (W.contents writer.old) (W.contents writer.new) result }
 {
-    give(writer, "refused: Memory\n", 1)
+    write_lines(writer, "refused: Memory\n", 1)
 }
 
 /// Writes the lines, and answers the status, or 3 where the write failed.
-fn give<W: Write>(writer: &mut W, text: &str, status: u8) -> u8
-    ensures value { IsGiven (record { text = text.now; status = status }) (W.contents writer.old) (W.contents writer.new) result }
+fn write_lines<W: Write>(writer: &mut W, text: &str, status: u8) -> u8
+    ensures value { IsFailedReadOrWrite result ⊎ IsWritten (record { text = text.now; status = status }) (W.contents writer.old) (W.contents writer.new) result }
 {
     match writer.write_all(text.as_bytes()) {
         Ok(()) => status,

@@ -46,7 +46,7 @@ fn send(alloc: Global, call: &BulkCall, rows: Vec<Vec<Value>>) -> Result<Answer,
     } = builder.build_all(rows);
     let text = request_lines(alloc, requests.as_slice())?;
     match refusal {
-        Some(refusal) => Answer::refused_by(alloc, text, name_of(&refusal)),
+        Some(refusal) => Answer::refused_by(alloc, text, refusal_name(&refusal)),
         None => {
             let (sizes, ends) = (sizes.as_slice(), ends.as_slice());
             fewest_cut_is_named_by_its_ends();
@@ -131,8 +131,8 @@ fn sent(
     Ok(Answer::done(text))
 }
 
-fn name_of(refusal: &BulkExecuteRequestBuilderError) -> &'static str
-    ensures value { result.now ≡ spec.name_of refusal.now }
+fn refusal_name(refusal: &BulkExecuteRequestBuilderError) -> &'static str
+    ensures value { result.now ≡ spec.bulk_refusal_name refusal.now }
 {
     match refusal {
         BulkExecuteRequestBuilderError::Request(error) => match error {

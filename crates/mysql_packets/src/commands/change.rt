@@ -15,28 +15,32 @@ pub fn change_value(alloc: Global, change: &SessionStateChange<'_>) -> Result<St
     match change {
         SessionStateChange::IsTracked(true) => String::from_str(alloc, "IsTracked true"),
         SessionStateChange::IsTracked(false) => String::from_str(alloc, "IsTracked false"),
-        SessionStateChange::Schema(schema) => named(alloc, "Schema", schema.as_bytes()),
+        SessionStateChange::Schema(schema) => kind_and_bytes(alloc, "Schema", schema.as_bytes()),
         SessionStateChange::SystemVariables(variables) => variables_text(
             alloc,
             variables.as_slice(),
         ),
-        SessionStateChange::Gtids(gtids) => named(alloc, "Gtids", gtids.as_bytes()),
+        SessionStateChange::Gtids(gtids) => kind_and_bytes(alloc, "Gtids", gtids.as_bytes()),
         SessionStateChange::TransactionCharacteristics(characteristics) => {
-            named(
+            kind_and_bytes(
                 alloc,
                 "TransactionCharacteristics",
                 characteristics.as_bytes(),
             )
         }
         SessionStateChange::TransactionState(state) => {
-            named(alloc, "TransactionState", state.as_bytes())
+            kind_and_bytes(alloc, "TransactionState", state.as_bytes())
         }
-        SessionStateChange::Unsupported(data) => named(alloc, "Unsupported", data.as_bytes()),
+        SessionStateChange::Unsupported(data) => kind_and_bytes(
+            alloc,
+            "Unsupported",
+            data.as_bytes(),
+        ),
     }
 }
 
 /// A kind, and its bytes.
-fn named(alloc: Global, kind: &str, bytes: &[u8]) -> Result<String, AllocError>
+fn kind_and_bytes(alloc: Global, kind: &str, bytes: &[u8]) -> Result<String, AllocError>
     ensures value { IfOk result (λ text. string_bytes text ≡ kind.now ++ (codes " " ++ prefixed bytes.now)) }
 {
     let digits = hex::encode(alloc, bytes)?;

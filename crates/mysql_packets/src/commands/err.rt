@@ -3,7 +3,7 @@
 ghost use Rattle.std.specs.Prelude.{◌≡◌, IfOk, option_map, string_bytes};
 ghost use Rattle.mysql_wire.specs.Flags.{CapabilityFlags};
 ghost use Rattle.mysql_packets.specs.Answer.{done};
-ghost use Rattle.mysql_packets.specs.Err.{err_answer, err_lines, error_lines, lines_with_state, progress_lines};
+ghost use Rattle.mysql_packets.specs.Err.{err_answer, err_lines, error_lines, lines_with_sql_state, progress_lines};
 
 use crate::answer::Answer;
 use crate::lines::{Line, append_lines, text_of};
@@ -55,19 +55,19 @@ fn error_text(alloc: Global, error: &ServerError<'_>) -> Result<String, AllocErr
     let text = match error.sql_state_ref() {
         Some(state) => {
             let state = state.as_bytes();
-            text_with_state(alloc, error, Some(state.as_slice()))?
+            text_with_sql_state(alloc, error, Some(state.as_slice()))?
         }
-        None => text_with_state(alloc, error, None)?,
+        None => text_with_sql_state(alloc, error, None)?,
     };
     Ok(text)
 }
 
-fn text_with_state(
+fn text_with_sql_state(
     alloc: Global,
     error: &ServerError<'_>,
     state: Option<&[u8]>,
 ) -> Result<String, AllocError>
-    ensures value { IfOk result (λ text. string_bytes text ≡ lines_with_state error.now (option_map (λ bytes. bytes.now) state.entry)) }
+    ensures value { IfOk result (λ text. string_bytes text ≡ lines_with_sql_state error.now (option_map (λ bytes. bytes.now) state.entry)) }
 {
     text_of(
         alloc,

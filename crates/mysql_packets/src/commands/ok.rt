@@ -94,7 +94,7 @@ fn read<'a, 's>(
 
 #[tactic(auto, using(crate::proofs::OkRefused::ok_refusals))]
 fn show(alloc: Global, packet: &OkPacket<'_>, rest: usize) -> Result<Answer, AllocError>
-    ensures value { IfOk result (λ answer. answer ≡ spec.with_state (spec.field_lines packet.now) rest (state_string.reads (state_bytes packet.now))) }
+    ensures value { IfOk result (λ answer. answer ≡ spec.with_session_state (spec.field_lines packet.now) rest (state_string.reads (state_bytes packet.now))) }
 {
     let text = fields_text(alloc, packet)?;
     match packet.session_state_info(alloc) {

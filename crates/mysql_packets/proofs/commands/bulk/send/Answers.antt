@@ -12,7 +12,7 @@ returns-in-Some c =
           was_refused c.args.call.now _ _ _ c.in-Some.refusal _ _ _ c.refused_by.result
           (rw c.in-Some.is at gives)
           (rw c.in-Some.is at c.build_all-requests.ensures.of_rows)
-          c.name_of.ensures.value
+          c.refusal_name.ensures.value
           (c.in_ok-text.ensures.value ∙ ap request_lines c.as_slice-3.ensures.value)
           c.refused_by.ensures.value;
     }
