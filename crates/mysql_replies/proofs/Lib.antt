@@ -1,2 +1,3 @@
 pub mod ErrPacketFits
+pub mod NamesBehind
 pub mod StateString

@@ -9,5 +9,6 @@ pub mod OkBody
 pub mod OkPacket
 pub mod OkDeserializer
 pub mod ColumnMeta
+pub mod ColumnNames
 pub mod ColumnFields
 pub mod Column

@@ -8,12 +8,14 @@ ghost use Rattle.mysql_replies.specs.Column as spec;
 
 use crate::column_fields::ColumnFields;
 use crate::column_meta::ColumnMeta;
+use crate::column_names::{ColumnNames, borrowed};
+use bstr::ByteSlice;
 use mysql_wire::{
     AnyWidth, ColumnFlags, ColumnType, Const, ConstBytes, ConstBytesValue, ConstFault, FaultOf,
-    LenEnc, MyDeserialize, ParseBuf, Parts, RawBytes, RawInt, Sink, parts,
+    MyDeserialize, ParseBuf, Parts, RawInt, Sink, parts,
 };
 use std::alloc::{AllocError, Global};
-use std::borrow::{CowSlice, CowStr};
+use std::borrow::CowStr;
 use thiserror::Error;
 
 /// A column's definition does not begin with the catalog `def`.
@@ -54,15 +56,19 @@ pub type ColumnDefinitionCatalog = ConstBytes<Catalog, 4>;
 #[derive(Clone, Debug, PartialEq, Eq, Drop)]
 pub struct Column {
     catalog: ColumnDefinitionCatalog,
-    meta: ColumnMeta,
+    meta: ColumnNames,
     fields: ColumnFields,
 }
 
-/// A copy of these bytes.
-fn copied(alloc: Global, content: &[u8]) -> Result<RawBytes<'static, LenEnc>, AllocError>
-    ensures value { IfOk result (λ copy. copy ≡ content.now) }
+/// The column of these names and fields, which copies the names.
+fn named(alloc: Global, meta: &ColumnMeta<'_>, fields: ColumnFields) -> Result<Column, AllocError>
+    ensures value { IfOk result (λ column. (column.meta ≡ meta.now) × (column.fields ≡ fields)) }
 {
-    Ok(RawBytes::new(CowSlice::Owned(Vec::from_slice(alloc, content)?)))
+    Ok(Column {
+        catalog: ConstBytes::new(),
+        meta: ColumnNames::of(alloc, meta)?,
+        fields,
+    })
 }
 
 impl Column {
@@ -72,7 +78,7 @@ impl Column {
     {
         Column {
             catalog: ConstBytes::new(),
-            meta: ColumnMeta::empty(),
+            meta: ColumnNames::empty(),
             fields: ColumnFields::of_type(column_type),
         }
     }
@@ -81,85 +87,60 @@ impl Column {
     pub fn with_schema(self, alloc: Global, schema: &[u8]) -> Result<Column, AllocError>
         ensures value { IfOk result (λ column. column ≡ spec.with_schema self schema.now) }
     {
-        let schema = copied(alloc, schema)?;
-        let Column {
-            catalog,
-            meta,
-            fields,
-        } = self;
-        Ok(Column {
-            catalog,
-            meta: ColumnMeta { schema, ..meta },
-            fields,
-        })
+        let schema = borrowed(schema);
+        let meta = ColumnMeta {
+            schema,
+            ..self.meta.meta()
+        };
+        named(alloc, &meta, self.fields)
     }
 
     /// The column with this name of the table, or of its alias. Where the copy is refused, the column is given up.
     pub fn with_table(self, alloc: Global, table: &[u8]) -> Result<Column, AllocError>
         ensures value { IfOk result (λ column. column ≡ spec.with_table self table.now) }
     {
-        let table = copied(alloc, table)?;
-        let Column {
-            catalog,
-            meta,
-            fields,
-        } = self;
-        Ok(Column {
-            catalog,
-            meta: ColumnMeta { table, ..meta },
-            fields,
-        })
+        let table = borrowed(table);
+        let meta = ColumnMeta {
+            table,
+            ..self.meta.meta()
+        };
+        named(alloc, &meta, self.fields)
     }
 
     /// The column with this name of the table itself. Where the copy is refused, the column is given up.
     pub fn with_org_table(self, alloc: Global, org_table: &[u8]) -> Result<Column, AllocError>
         ensures value { IfOk result (λ column. column ≡ spec.with_org_table self org_table.now) }
     {
-        let org_table = copied(alloc, org_table)?;
-        let Column {
-            catalog,
-            meta,
-            fields,
-        } = self;
-        Ok(Column {
-            catalog,
-            meta: ColumnMeta { org_table, ..meta },
-            fields,
-        })
+        let org_table = borrowed(org_table);
+        let meta = ColumnMeta {
+            org_table,
+            ..self.meta.meta()
+        };
+        named(alloc, &meta, self.fields)
     }
 
     /// The column with this name of the column, or of its alias. Where the copy is refused, the column is given up.
     pub fn with_name(self, alloc: Global, name: &[u8]) -> Result<Column, AllocError>
         ensures value { IfOk result (λ column. column ≡ spec.with_name self name.now) }
     {
-        let name = copied(alloc, name)?;
-        let Column {
-            catalog,
-            meta,
-            fields,
-        } = self;
-        Ok(Column {
-            catalog,
-            meta: ColumnMeta { name, ..meta },
-            fields,
-        })
+        let name = borrowed(name);
+        let meta = ColumnMeta {
+            name,
+            ..self.meta.meta()
+        };
+        named(alloc, &meta, self.fields)
     }
 
     /// The column with this name of the column itself. Where the copy is refused, the column is given up.
     pub fn with_org_name(self, alloc: Global, org_name: &[u8]) -> Result<Column, AllocError>
         ensures value { IfOk result (λ column. column ≡ spec.with_org_name self org_name.now) }
     {
-        let org_name = copied(alloc, org_name)?;
-        let Column {
-            catalog,
-            meta,
-            fields,
-        } = self;
-        Ok(Column {
-            catalog,
-            meta: ColumnMeta { org_name, ..meta },
-            fields,
-        })
+        let org_name = borrowed(org_name);
+        let meta = ColumnMeta {
+            org_name,
+            ..self.meta.meta()
+        };
+        named(alloc, &meta, self.fields)
     }
 
     /// The column with these flags.
@@ -268,7 +249,7 @@ impl Column {
     pub fn schema_ref(&self) -> &[u8]
         ensures value { result.now ≡ spec.schema self.now }
     {
-        self.meta.schema.as_bytes()
+        self.meta.schema()
     }
 
     /// The name of the schema as text, with U+FFFD for what is not UTF-8. UTF-8 is borrowed.
@@ -276,7 +257,7 @@ impl Column {
         ensures text { IfOk result (λ text. cow_str_bytes text ≡ lossy_text (spec.schema self.now)) }
         ensures utf8 { BorrowsUtf8 (spec.schema self.now) result }
     {
-        self.meta.schema.as_str(alloc)
+        self.meta.schema().to_str_lossy(alloc)
     }
 
     /// The bytes of the name of the table, or of its alias.
@@ -284,7 +265,7 @@ impl Column {
     pub fn table_ref(&self) -> &[u8]
         ensures value { result.now ≡ spec.table self.now }
     {
-        self.meta.table.as_bytes()
+        self.meta.table()
     }
 
     /// The name of the table, or of its alias as text, with U+FFFD for what is not UTF-8. UTF-8 is borrowed.
@@ -292,7 +273,7 @@ impl Column {
         ensures text { IfOk result (λ text. cow_str_bytes text ≡ lossy_text (spec.table self.now)) }
         ensures utf8 { BorrowsUtf8 (spec.table self.now) result }
     {
-        self.meta.table.as_str(alloc)
+        self.meta.table().to_str_lossy(alloc)
     }
 
     /// The bytes of the name of the table itself.
@@ -300,7 +281,7 @@ impl Column {
     pub fn org_table_ref(&self) -> &[u8]
         ensures value { result.now ≡ spec.org_table self.now }
     {
-        self.meta.org_table.as_bytes()
+        self.meta.org_table()
     }
 
     /// The name of the table itself as text, with U+FFFD for what is not UTF-8. UTF-8 is borrowed.
@@ -308,7 +289,7 @@ impl Column {
         ensures text { IfOk result (λ text. cow_str_bytes text ≡ lossy_text (spec.org_table self.now)) }
         ensures utf8 { BorrowsUtf8 (spec.org_table self.now) result }
     {
-        self.meta.org_table.as_str(alloc)
+        self.meta.org_table().to_str_lossy(alloc)
     }
 
     /// The bytes of the name of the column, or of its alias.
@@ -316,7 +297,7 @@ impl Column {
     pub fn name_ref(&self) -> &[u8]
         ensures value { result.now ≡ spec.name self.now }
     {
-        self.meta.name.as_bytes()
+        self.meta.name()
     }
 
     /// The name of the column, or of its alias as text, with U+FFFD for what is not UTF-8. UTF-8 is borrowed.
@@ -324,7 +305,7 @@ impl Column {
         ensures text { IfOk result (λ text. cow_str_bytes text ≡ lossy_text (spec.name self.now)) }
         ensures utf8 { BorrowsUtf8 (spec.name self.now) result }
     {
-        self.meta.name.as_str(alloc)
+        self.meta.name().to_str_lossy(alloc)
     }
 
     /// The bytes of the name of the column itself.
@@ -332,7 +313,7 @@ impl Column {
     pub fn org_name_ref(&self) -> &[u8]
         ensures value { result.now ≡ spec.org_name self.now }
     {
-        self.meta.org_name.as_bytes()
+        self.meta.org_name()
     }
 
     /// The name of the column itself as text, with U+FFFD for what is not UTF-8. UTF-8 is borrowed.
@@ -340,7 +321,7 @@ impl Column {
         ensures text { IfOk result (λ text. cow_str_bytes text ≡ lossy_text (spec.org_name self.now)) }
         ensures utf8 { BorrowsUtf8 (spec.org_name self.now) result }
     {
-        self.meta.org_name.as_str(alloc)
+        self.meta.org_name().to_str_lossy(alloc)
     }
 }
 

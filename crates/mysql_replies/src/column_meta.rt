@@ -1,54 +1,29 @@
-//! The names of a column.
+//! The names of a column, where they lie.
 #![tactic(auto, using(mysql_wire::proofs::Packets::packets), unfolding(crate::specs::ColumnMeta::column_meta))]
 
-ghost use Rattle.std.specs.Prelude.{◌≡◌, true, None, IfOk};
-ghost use Rattle.mysql_wire.specs.LenEnc.{lenenc_string};
-ghost use Rattle.mysql_wire.specs.Reading.{Answers};
+ghost use Rattle.std.specs.Prelude.{false, None};
 ghost use Rattle.mysql_replies.specs.ColumnMeta as spec;
 
 use mysql_wire::{
     AnyWidth, FaultOf, LenEnc, MyDeserialize, ParseBuf, Parts, RawBytes, Sink, parts,
 };
 
-/// The names of a column, each a length-encoded string, on memory of their own.
+/// The names of a column, each a length-encoded string.
 #[derive(Clone, Debug, PartialEq, Eq, Drop)]
-pub(crate) struct ColumnMeta {
-    pub(crate) schema: RawBytes<'static, LenEnc>,
-    pub(crate) table: RawBytes<'static, LenEnc>,
-    pub(crate) org_table: RawBytes<'static, LenEnc>,
-    pub(crate) name: RawBytes<'static, LenEnc>,
-    pub(crate) org_name: RawBytes<'static, LenEnc>,
+pub(crate) struct ColumnMeta<'a> {
+    pub(crate) schema: RawBytes<'a, LenEnc>,
+    pub(crate) table: RawBytes<'a, LenEnc>,
+    pub(crate) org_table: RawBytes<'a, LenEnc>,
+    pub(crate) name: RawBytes<'a, LenEnc>,
+    pub(crate) org_name: RawBytes<'a, LenEnc>,
 }
 
-impl ColumnMeta {
-    /// Empty names.
-    pub(crate) fn empty() -> Self
-        ensures value { result ≡ spec.no_names }
-    {
-        ColumnMeta {
-            schema: RawBytes::default(),
-            table: RawBytes::default(),
-            org_table: RawBytes::default(),
-            name: RawBytes::default(),
-            org_name: RawBytes::default(),
-        }
-    }
-}
-
-/// Reads a length-encoded string, and copies it.
-fn owned_string<'s, 'de>(buf: &mut ParseBuf<'de>) -> Result<RawBytes<'static, LenEnc>, FaultOf<'s>>
-    ensures value { Answers true result buf.new (lenenc_string.reads buf.old) }
-{
-    let content: RawBytes<'de, LenEnc> = buf.parse(())?;
-    Ok(content.into_owned(buf.alloc())?)
-}
-
-impl<'de> MyDeserialize<'de> for ColumnMeta {
+impl<'de> MyDeserialize<'de> for ColumnMeta<'de> {
     const SIZE: Option<usize> = None;
 
     type Size = AnyWidth;
 
-    ghost takes_memory = { true };
+    ghost takes_memory = { false };
 
     type Ctx = ();
 
@@ -57,11 +32,11 @@ impl<'de> MyDeserialize<'de> for ColumnMeta {
     fn deserialize<'s>(_ctx: (), buf: &mut ParseBuf<'de>) -> Result<Self, FaultOf<'s>> {
         let mut rest = buf.rest();
         let meta = ColumnMeta {
-            schema: owned_string(&mut rest)?,
-            table: owned_string(&mut rest)?,
-            org_table: owned_string(&mut rest)?,
-            name: owned_string(&mut rest)?,
-            org_name: owned_string(&mut rest)?,
+            schema: rest.parse(())?,
+            table: rest.parse(())?,
+            org_table: rest.parse(())?,
+            name: rest.parse(())?,
+            org_name: rest.parse(())?,
         };
         *buf = rest;
         Ok(meta)
@@ -70,7 +45,7 @@ impl<'de> MyDeserialize<'de> for ColumnMeta {
     ghost size_is = { λ _. spec.size-column_meta };
 }
 
-impl Parts for ColumnMeta {
+impl Parts for ColumnMeta<'_> {
     ghost bytes = { spec.column_meta.bytes };
 
     #[inline(always)]

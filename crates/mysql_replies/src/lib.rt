@@ -5,6 +5,7 @@
 mod column;
 mod column_fields;
 mod column_meta;
+mod column_names;
 mod err_packet;
 pub mod laws;
 mod local_infile;

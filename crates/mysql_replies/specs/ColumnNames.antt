@@ -1,0 +1,19 @@
+-- The names of a column, behind one another in one buffer.
+use Rattle.std.specs.Prelude.{ℕ, ◌≤◌, List, length, take, slice_range}
+use Rattle.mysql_replies.specs.declared.column_meta.ColumnMeta.{ColumnMeta}
+use Rattle.mysql_replies.specs.declared.column_names.ColumnNames.TheInside.{Inside}
+use Rattle.mysql_replies.specs.ColumnMeta.{meta_of}
+
+-- the names that end at these places of the bytes
+abbrev pub names_at : List ℕ → (schema_end table_end org_table_end name_end : ℕ) → ColumnMeta
+names_at bytes s t o n = meta_of (take s bytes) (slice_range bytes s t) (slice_range bytes t o) (slice_range bytes o n) (slice_range bytes n (length bytes))
+
+abbrev pub names_in : Inside → ColumnMeta
+names_in i = names_at i.bytes i.schema_end i.table_end i.org_table_end i.name_end
+
+-- no name ends ahead of where it begins, nor behind the bytes
+pub record AreInOrder (i : Inside) : Type 0 where
+  pub table : i.schema_end ≤ i.table_end
+  pub org_table : i.table_end ≤ i.org_table_end
+  pub name : i.org_table_end ≤ i.name_end
+  pub org_name : i.name_end ≤ length i.bytes
