@@ -216,9 +216,14 @@ fn ok_packets(rt: HostRuntime) -> Result<(), Fail> {
 
 #[test]
 fn a_failed_write_alone_gives_3(rt: HostRuntime) -> Result<(), Fail> {
-    let calls: [(&[&str], u8); 3] = [
+    let calls: [(&[&str], u8); 8] = [
         (&["stmt", "000100000001000200000000"], 0),
         (&["stmt", "00"], 1),
+        (&["sid", "3E11FA4771CA11E19E33C80AA9429562:1"], 0),
+        (&["sid", "3E11FA4771CA11E19E33C80AA9429562:"], 1),
+        (&["gtid", "00"], 1),
+        (&["gtidstrict", "00"], 1),
+        (&["handshake", "00"], 1),
         (&["stmt"], 2),
     ];
     for (call, status) in calls {
