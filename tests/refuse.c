@@ -1,15 +1,16 @@
-/* Refuses one growth of a program's memory, and says how many growths it met.
+/* Refuses one growth of a program's memory, or all, and says how many growths it met.
  *
  * Preloaded, it stands in front of the C library's allocator. The program says which part of its run
  * is meant: it asks for START bytes before it and for STOP bytes behind it. All that happens outside,
  * in the loader, at the start of the program or while it prints, is let through and not counted.
- * REFUSED_GROWTH is the number of the growth to refuse, from 1; 0 refuses none. At the program's end
- * it writes "growths COUNT largest BYTES" to standard error.
+ * REFUSED_GROWTH is the number of the growth to refuse, from 1; 0 refuses none, and all refuses each.
+ * At the program's end it writes "growths COUNT largest BYTES" to standard error.
  *
  * It calls the C library's own allocator by its second names, so it looks nothing up. */
 #include <errno.h>
 #include <stdio.h>
 #include <stdlib.h>
+#include <string.h>
 
 enum { START = 0x5eed1, STOP = 0x5eed2 };
 
@@ -17,7 +18,7 @@ extern void *__libc_malloc(size_t size);
 extern void *__libc_realloc(void *block, size_t size);
 extern void *__libc_calloc(size_t count, size_t size);
 
-static int counting;
+static int counting, refuses_all;
 static unsigned long refused, met;
 static size_t largest;
 
@@ -25,7 +26,8 @@ static int refuses(size_t size)
 {
     if (size == START || size == STOP) {
         const char *number = getenv("REFUSED_GROWTH");
-        refused = number ? strtoul(number, NULL, 10) : 0;
+        refuses_all = number && strcmp(number, "all") == 0;
+        refused = number && !refuses_all ? strtoul(number, NULL, 10) : 0;
         counting = size == START;
         return 0;
     }
@@ -33,9 +35,10 @@ static int refuses(size_t size)
         return 0;
     largest = size > largest ? size : largest;
     met++;
-    if (met == refused)
-        errno = ENOMEM;
-    return met == refused;
+    if (!refuses_all && met != refused)
+        return 0;
+    errno = ENOMEM;
+    return 1;
 }
 
 void *malloc(size_t size) { return refuses(size) ? NULL : __libc_malloc(size); }

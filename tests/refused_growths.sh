@@ -2,7 +2,7 @@
 # Runs each case of the programs crates/refused_growths* with growth 1, 2, 3, .. of its memory
 # refused, until a run meets no refusal, and holds what it says to the table in refused_growths.txt:
 # where a growth is refused the promised refusal, else the right answer; and no growth above the
-# stated bound.
+# stated bound. A call that takes no memory is run with every growth refused, too.
 #
 # refused_growths.sh [PROGRAM ..]  tries these builds of them; with none it builds each by rt.
 # The last line is 'N passed, N failed', where a run of a case is one.
@@ -34,7 +34,7 @@ pass_or_fail() {
     fi
 }
 
-# run_case NAME N: sets answer, status, growths and largest; the C library is given back in front of all else
+# run_case NAME N: sets answer, status, growths and largest, with growth N refused; the C library is given back in front of all else
 run_case() {
     answer=$(REFUSED_GROWTH=$2 LD_PRELOAD=./refuse.so "$program" "$1" 2>report </dev/null)
     status=$?
@@ -71,10 +71,14 @@ try_case() {
         ((n == 0)) && told="$1" || told="$1, growth $n refused"
         pass_or_fail "$told" "$(judge "$n" "$2" "$3" "$4")"
         if [[ -z $growths ]] || ((n > 0 && growths < n)); then
-            return
+            break
         fi
     done
-    pass_or_fail "$1" "after 1000 refusals in turn it still met one"
+    ((n <= 1000)) || pass_or_fail "$1" "after 1000 refusals in turn it still met one"
+    if [[ $2 == 0 ]]; then
+        run_case "$1" all
+        pass_or_fail "$1, every growth refused" "$(judge 0 "$2" "$3" "$4")"
+    fi
 }
 
 # try_program: each case that the program lists, by its line of the table

@@ -4,6 +4,7 @@
 
 mod cases;
 pub mod counted;
+pub mod readings;
 pub mod shown;
 
 pub use cases::{Asked, Cases};

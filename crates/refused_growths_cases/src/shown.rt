@@ -98,3 +98,22 @@ pub fn read<T: MySerialize + Drop>(
         Err(fault) => format!(in alloc; "{fault}, {left} left"),
     }
 }
+
+/// Whether a value was read, or why it wasn't, and how many bytes are left.
+pub fn taken<T: Drop>(
+    alloc: Global,
+    answer: Result<T, Fault>,
+    left: usize,
+) -> Result<String, AllocError> {
+    match answer {
+        Ok(_) => format!(in alloc; "read, {left} left"),
+        Err(fault) => format!(in alloc; "{fault}, {left} left"),
+    }
+}
+
+/// How many of some answers are yes, of how many.
+pub fn count(alloc: Global, answers: &[bool]) -> Result<String, AllocError> {
+    let yes = answers.iter().filter(|answer| **answer).count();
+    let all = answers.len();
+    format!(in alloc; "{yes} of {all}")
+}

@@ -1,9 +1,13 @@
-//! Makes each call of `mysql_bulk` that takes memory, one a name, and prints what it answered and what stands after.
+//! Makes each call of `mysql_bulk` and `mysql_cuts` that takes memory, one a name, and prints what it answered and what stands after.
 //!
 //! `refused_growths_of_bulk --list` prints the names, `--all` each name with what its call answered, and a name what that one answered. Only the growths of the call itself are counted: what is made ready before it and printed behind it is not (`refused_growths_cases::counted`).
 #![tactic(auto)]
 
-mod bulk;
+mod builder;
+mod requests;
+mod runs;
+mod takes_none;
+mod told;
 
 use refused_growths_cases::{Asked, Cases};
 use std::process::ExitCode;
@@ -16,7 +20,10 @@ fn run(rt: &(impl Env + Print + AllocGlobal)) -> io::Result<ExitCode> {
         return Ok(ExitCode::from(2));
     };
     let mut cases = Cases::new(rt.alloc(), Asked::from_word(word));
-    bulk::all(&mut cases)?;
+    builder::all(&mut cases)?;
+    runs::all(&mut cases)?;
+    requests::all(&mut cases)?;
+    takes_none::all(&mut cases)?;
     rt.print(cases.lines())?;
     Ok(ExitCode::SUCCESS)
 }

@@ -19,6 +19,10 @@ pub fn all(cases: &mut Cases) -> Result<(), AllocError> {
     cases.case("column_clone", clone)?;
     cases.case("column_read", read)?;
     cases.case("column_read_of_a_false_length", read_of_a_false_length)?;
+    cases.case(
+        "column_read_of_the_largest_length",
+        read_of_the_largest_length,
+    )?;
     cases.case("column_serialize", serialize)
 }
 
@@ -140,6 +144,11 @@ fn read(alloc: Global) -> Result<String, AllocError> {
 /// The schema's length is 2^56, and three bytes follow.
 fn read_of_a_false_length(alloc: Global) -> Result<String, AllocError> {
     read_column(alloc, b"\x03def\xfe\x00\x00\x00\x00\x00\x00\x00\x01abc")
+}
+
+/// The schema's length is the largest number, and three bytes follow.
+fn read_of_the_largest_length(alloc: Global) -> Result<String, AllocError> {
+    read_column(alloc, b"\x03def\xfe\xff\xff\xff\xff\xff\xff\xff\xffabc")
 }
 
 fn serialize(alloc: Global) -> Result<String, AllocError> {

@@ -6,6 +6,7 @@
 mod column;
 mod err;
 mod ok;
+mod takes_none;
 
 use refused_growths_cases::{Asked, Cases};
 use std::process::ExitCode;
@@ -21,6 +22,7 @@ fn run(rt: &(impl Env + Print + AllocGlobal)) -> io::Result<ExitCode> {
     column::all(&mut cases)?;
     ok::all(&mut cases)?;
     err::all(&mut cases)?;
+    takes_none::all(&mut cases)?;
     rt.print(cases.lines())?;
     Ok(ExitCode::SUCCESS)
 }

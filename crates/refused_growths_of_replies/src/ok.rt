@@ -1,6 +1,8 @@
 //! OK packets, and the entries of their state strings.
 
-use mysql_replies::{CommonOkPacket, OkPacket, OkPacketDeserializer, SessionStateInfo};
+use mysql_replies::{
+    CommonOkPacket, OkPacket, OkPacketDeserializer, OkPacketKind, SessionStateInfo,
+};
 use mysql_wire::{CapabilityFlags, Fault, ParseBuf};
 use refused_growths_cases::{Cases, counted, shown};
 use std::alloc::{AllocError, Global};
@@ -9,8 +11,13 @@ pub fn all(cases: &mut Cases) -> Result<(), AllocError> {
     cases.case("ok_packet_read", read)?;
     cases.case("ok_packet_into_owned", into_owned)?;
     cases.case("ok_packet_clone", clone)?;
+    cases.case("ok_packet_body_clone", body_clone)?;
     cases.case("ok_packet_info_str", info_str)?;
     cases.case("ok_packet_session_state_info", session_state_info)?;
+    cases.case(
+        "ok_packet_session_state_info_of_a_false_length",
+        session_state_info_of_a_false_length,
+    )?;
     cases.case("session_state_info_decode", decode)?;
     cases.case("session_state_info_into_owned", info_into_owned)?;
     cases.case("session_state_info_clone", info_clone)?;
@@ -70,6 +77,22 @@ fn clone(alloc: Global) -> Result<String, AllocError> {
     made(alloc, counted!(alloc; packet.clone()))
 }
 
+/// A body as a kind of OK packet reads it: it borrows its bytes, and so does its copy.
+fn body_clone(alloc: Global) -> Result<String, AllocError> {
+    let mut buf = ParseBuf::new(alloc, &PACKET[1..]);
+    let read = CommonOkPacket::parse_body(CapabilityFlags::CLIENT_SESSION_TRACK, &mut buf);
+    let Ok(body) = read else {
+        return format!(in alloc; "no body");
+    };
+    match counted!(alloc; body.clone()) {
+        Ok(copy) => match OkPacket::try_from(copy) {
+            Ok(packet) => shown_packet(alloc, &packet),
+            Err(fault) => format!(in alloc; "{fault}"),
+        },
+        Err(AllocError) => format!(in alloc; "Memory"),
+    }
+}
+
 fn info_str(alloc: Global) -> Result<String, AllocError> {
     let packet = packet(alloc)?;
     let info = packet.info_ref().unwrap_or(&[]);
@@ -91,6 +114,21 @@ fn session_state_info(alloc: Global) -> Result<String, AllocError> {
         }
         Err(fault) => format!(in alloc; "{fault}"),
     }
+}
+
+/// A change of one byte, and one that says that it is longer than any: there is room for the first.
+const FALSE_STATE: &[u8] = b"\x00\x01\x00\x02\x40\x00\x00\x00\x0d\x01\x01a\x01\
+    \xfe\xff\xff\xff\xff\xff\xff\xff\xff";
+
+fn session_state_info_of_a_false_length(alloc: Global) -> Result<String, AllocError> {
+    let mut buf = ParseBuf::new(alloc, FALSE_STATE);
+    let read: Read<'_> = buf.parse(CapabilityFlags::CLIENT_SESSION_TRACK);
+    let Ok(packet) = read else {
+        return format!(in alloc; "no packet");
+    };
+    let packet = packet.into_inner();
+    let answer = counted!(alloc; packet.session_state_info(alloc));
+    shown::taken(alloc, answer, 0)
 }
 
 fn info(alloc: Global) -> Result<SessionStateInfo<'static>, AllocError> {

@@ -3,7 +3,9 @@
 //! `refused_growths_of_session --list` prints the names, `--all` each name with what its call answered, and a name what that one answered. Only the growths of the call itself are counted: what is made ready before it and printed behind it is not (`refused_growths_cases::counted`).
 #![tactic(auto)]
 
+mod false_lengths;
 mod session;
+mod takes_none;
 
 use refused_growths_cases::{Asked, Cases};
 use std::process::ExitCode;
@@ -17,6 +19,8 @@ fn run(rt: &(impl Env + Print + AllocGlobal)) -> io::Result<ExitCode> {
     };
     let mut cases = Cases::new(rt.alloc(), Asked::from_word(word));
     session::all(&mut cases)?;
+    false_lengths::all(&mut cases)?;
+    takes_none::all(&mut cases)?;
     rt.print(cases.lines())?;
     Ok(ExitCode::SUCCESS)
 }

@@ -19,6 +19,8 @@ pub fn all(cases: &mut Cases) -> Result<(), AllocError> {
     cases.case("system_variable_serialize", variable_serialize)?;
     cases.case("system_variables_into_owned", variables_into_owned)?;
     cases.case("system_variables_clone", variables_clone)?;
+    cases.case("system_variables_read", variables_read)?;
+    cases.case("system_variables_serialize", variables_serialize)?;
     cases.case("session_state_change_read", change_read)?;
     cases.case("session_state_change_into_owned", change_into_owned)?;
     cases.case("session_state_change_clone", change_clone)?;
@@ -105,9 +107,23 @@ fn variables_clone(alloc: Global) -> Result<String, AllocError> {
     shown::cloned(alloc, &variables(alloc)?.into_owned(alloc)?)
 }
 
-/// Two variables; their list is all that takes memory.
+/// Two variables, `a` of `1` and `b` of `2`.
+const VARIABLES: &[u8] = b"\x01a\x011\x01b\x012";
+
+/// The list is all that takes memory.
+fn variables_read(alloc: Global) -> Result<String, AllocError> {
+    let mut buf = ParseBuf::new(alloc, VARIABLES);
+    let answer: Result<SystemVariables<'_>, Fault> = counted!(alloc; buf.parse(()));
+    shown::read(alloc, answer, buf.len())
+}
+
+fn variables_serialize(alloc: Global) -> Result<String, AllocError> {
+    shown::serialized(alloc, &variables(alloc)?)
+}
+
+/// The list is all that takes memory.
 fn change_read(alloc: Global) -> Result<String, AllocError> {
-    let mut buf = ParseBuf::new(alloc, b"\x01a\x011\x01b\x012");
+    let mut buf = ParseBuf::new(alloc, VARIABLES);
     let kind = SessionStateType::SESSION_TRACK_SYSTEM_VARIABLES;
     let answer: Result<SessionStateChange<'_>, Fault> = counted!(alloc; buf.parse(kind));
     shown::read(alloc, answer, buf.len())

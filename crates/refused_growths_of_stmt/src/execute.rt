@@ -4,7 +4,7 @@ use mysql_stmt::{ComStmtClose, ComStmtExecuteRequestBuilder, ComStmtSendLongData
 use mysql_values::Value;
 use mysql_wire::MySerialize;
 use refused_growths_cases::shown::{made, written};
-use refused_growths_cases::{Cases, counted};
+use refused_growths_cases::{Cases, counted, shown};
 use std::alloc::{AllocError, Global};
 use std::borrow::CowSlice;
 
@@ -16,6 +16,7 @@ pub fn all(cases: &mut Cases) -> Result<(), AllocError> {
     cases.case("execute_clone", clone)?;
     cases.case("execute_serialize", serialize)?;
     cases.case("long_data_into_owned_of_borrowed", long_data_into_owned)?;
+    cases.case("long_data_clone", clone_long_data)?;
     cases.case("long_data_serialize", serialize_long_data)?;
     cases.case("close_serialize", serialize_close)
 }
@@ -73,6 +74,12 @@ fn long_data_into_owned(alloc: Global) -> Result<String, AllocError> {
         }
         Err(error) => made(alloc, Err(error), &DATA),
     }
+}
+
+/// A packet on memory of its own.
+fn clone_long_data(alloc: Global) -> Result<String, AllocError> {
+    let data = ComStmtSendLongData::new(1, 2, CowSlice::Borrowed(&DATA)).into_owned(alloc)?;
+    shown::cloned(alloc, &data)
 }
 
 fn serialize_long_data(alloc: Global) -> Result<String, AllocError> {

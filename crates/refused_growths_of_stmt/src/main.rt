@@ -7,6 +7,7 @@ mod execute;
 mod null_bitmap;
 mod row;
 mod stmt;
+mod takes_none;
 
 use refused_growths_cases::{Asked, Cases};
 use std::process::ExitCode;
@@ -23,6 +24,7 @@ fn run(rt: &(impl Env + Print + AllocGlobal)) -> io::Result<ExitCode> {
     row::all(&mut cases)?;
     null_bitmap::all(&mut cases)?;
     execute::all(&mut cases)?;
+    takes_none::all(&mut cases)?;
     rt.print(cases.lines())?;
     Ok(ExitCode::SUCCESS)
 }

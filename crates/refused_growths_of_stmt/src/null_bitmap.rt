@@ -4,7 +4,7 @@ use mysql_stmt::NullBitmap;
 use mysql_values::ClientSide;
 use mysql_wire::{Fault, ParseBuf};
 use refused_growths_cases::shown::made;
-use refused_growths_cases::{Cases, counted};
+use refused_growths_cases::{Cases, counted, shown};
 use std::alloc::{AllocError, Global};
 use std::borrow::CowSlice;
 
@@ -19,6 +19,10 @@ pub fn all(cases: &mut Cases) -> Result<(), AllocError> {
     cases.case("null_bitmap_new", new)?;
     cases.case("null_bitmap_read", read)?;
     cases.case("null_bitmap_deserialize", deserialize)?;
+    cases.case("null_bitmap_deserialize_of_the_largest_count", |alloc| {
+        deserialize_of(alloc, usize::MAX)
+    })?;
+    cases.case("null_bitmap_serialize", serialize)?;
     cases.case("null_bitmap_set_on_borrowed", set_on_borrowed)?;
     cases.case("null_bitmap_set_on_owned", set_on_owned)?;
     cases.case("null_bitmap_clone_of_owned", clone_of_owned)
@@ -45,8 +49,13 @@ fn read(alloc: Global) -> Result<String, AllocError> {
 }
 
 fn deserialize(alloc: Global) -> Result<String, AllocError> {
+    deserialize_of(alloc, 9)
+}
+
+/// Reads the bytes as a bitmap of so many values.
+fn deserialize_of(alloc: Global, count: usize) -> Result<String, AllocError> {
     let mut buf = ParseBuf::new(alloc, &NINE);
-    let answer: Result<Client<'_>, Fault> = counted!(alloc; buf.parse(9));
+    let answer: Result<Client<'_>, Fault> = counted!(alloc; buf.parse(count));
     let left = buf.len();
     match answer {
         Ok(bitmap) => {
@@ -55,6 +64,11 @@ fn deserialize(alloc: Global) -> Result<String, AllocError> {
         }
         Err(fault) => format!(in alloc; "{fault}, {left} left"),
     }
+}
+
+fn serialize(alloc: Global) -> Result<String, AllocError> {
+    let bitmap = Client::from_bytes(CowSlice::Borrowed(&CLEAR));
+    shown::serialized(alloc, &bitmap)
 }
 
 /// The borrowed bytes are copied, and stay.

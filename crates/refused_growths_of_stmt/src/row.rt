@@ -7,7 +7,7 @@ use mysql_replies::Column;
 use mysql_stmt::{Row, RowDeserializer, new_row, new_row_raw};
 use mysql_values::{Binary, FromValueError, ServerSide, Text, Value};
 use mysql_wire::{ColumnType, Fault, ParseBuf};
-use refused_growths_cases::{Cases, counted};
+use refused_growths_cases::{Cases, counted, shown};
 use std::alloc::{AllocError, Global};
 use std::rc::RcSlice;
 
@@ -19,7 +19,9 @@ pub fn all(cases: &mut Cases) -> Result<(), AllocError> {
     cases.case("row_clone", clone)?;
     cases.case("row_unwrap", unwrap)?;
     cases.case("row_read_text", read_text)?;
-    cases.case("row_read_binary", read_binary)
+    cases.case("row_read_binary", read_binary)?;
+    cases.case("row_read_text_of_a_false_length", read_of_a_false_length)?;
+    cases.case("row_deserializer_clone", clone_reading)
 }
 
 /// So many columns of strings.
@@ -46,7 +48,7 @@ fn one(alloc: Global) -> Result<Row, AllocError>
 }
 
 /// What a call answered that makes a row, or that memory ran out.
-fn shown(alloc: Global, answer: Result<Row, AllocError>) -> Result<String, AllocError> {
+fn shown_row(alloc: Global, answer: Result<Row, AllocError>) -> Result<String, AllocError> {
     let Ok(row) = answer else {
         return format!(in alloc; "Memory");
     };
@@ -73,7 +75,7 @@ fn copied(
         }
         Ok(_) => format!(in alloc; "no bytes"),
         Err(AllocError) => {
-            let then = shown(alloc, Ok(row))?;
+            let then = shown_row(alloc, Ok(row))?;
             format!(in alloc; "Memory, then {then}")
         }
     }
@@ -87,7 +89,7 @@ fn new(alloc: Global) -> Result<String, AllocError> {
         return format!(in alloc; "no columns");
     }
     let answer = counted!(alloc; new_row(alloc, values, columns));
-    shown(alloc, answer)
+    shown_row(alloc, answer)
 }
 
 /// A share takes no memory.
@@ -119,7 +121,7 @@ fn get_opt(alloc: Global) -> Result<String, AllocError> {
 fn clone(alloc: Global) -> Result<String, AllocError> {
     let row = one(alloc)?;
     let answer = counted!(alloc; row.clone());
-    shown(alloc, answer)
+    shown_row(alloc, answer)
 }
 
 fn unwrap(alloc: Global) -> Result<String, AllocError> {
@@ -141,7 +143,7 @@ fn read_text(alloc: Global) -> Result<String, AllocError> {
     let answer: Result<RowDeserializer<ServerSide, Text>, Fault> =
         counted!(alloc; buf.parse(columns));
     let left = buf.len();
-    let row = shown(
+    let row = shown_row(
         alloc,
         answer
             .map(RowDeserializer::into_inner)
@@ -157,11 +159,32 @@ fn read_binary(alloc: Global) -> Result<String, AllocError> {
     let answer: Result<RowDeserializer<ServerSide, Binary>, Fault> =
         counted!(alloc; buf.parse(columns));
     let left = buf.len();
-    let row = shown(
+    let row = shown_row(
         alloc,
         answer
             .map(RowDeserializer::into_inner)
             .map_err(|_| AllocError),
     )?;
     format!(in alloc; "{row}, {left} left")
+}
+
+/// The second value says that it is longer than any: there is room for the list, and for the first.
+fn read_of_a_false_length(alloc: Global) -> Result<String, AllocError> {
+    let columns = strings(alloc, 3)?;
+    let mut buf = ParseBuf::new(alloc, b"\x02ab\xfe\xff\xff\xff\xff\xff\xff\xff\xffa");
+    let answer: Result<RowDeserializer<ServerSide, Text>, Fault> =
+        counted!(alloc; buf.parse(columns));
+    shown::taken(alloc, answer, buf.len())
+}
+
+/// The list of the values, and the bytes of the one that has any.
+fn clone_reading(alloc: Global) -> Result<String, AllocError> {
+    let columns = strings(alloc, 1)?;
+    let mut buf = ParseBuf::new(alloc, b"\x02ab");
+    let read: Result<RowDeserializer<ServerSide, Text>, Fault> = buf.parse(columns);
+    let Ok(read) = read else {
+        return format!(in alloc; "no row");
+    };
+    let answer = counted!(alloc; read.clone());
+    shown_row(alloc, answer.map(RowDeserializer::into_inner))
 }

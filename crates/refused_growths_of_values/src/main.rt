@@ -3,6 +3,8 @@
 //! `refused_growths_of_values --list` prints the names, `--all` each name with what its call answered, and a name what that one answered. Only the growths of the call itself are counted: what is made ready before it and printed behind it is not (`refused_growths_cases::counted`).
 #![tactic(auto)]
 
+mod params;
+mod takes_none;
 mod values;
 
 use refused_growths_cases::{Asked, Cases};
@@ -17,6 +19,8 @@ fn run(rt: &(impl Env + Print + AllocGlobal)) -> io::Result<ExitCode> {
     };
     let mut cases = Cases::new(rt.alloc(), Asked::from_word(word));
     values::all(&mut cases)?;
+    params::all(&mut cases)?;
+    takes_none::all(&mut cases)?;
     rt.print(cases.lines())?;
     Ok(ExitCode::SUCCESS)
 }

@@ -1,7 +1,6 @@
-//! Values, and the parameters that give them.
+//! Values.
 
-use indexmap::IndexMap;
-use mysql_values::{BinValue, Params, ParamsError, TextValue, Value, ValueDeserializer};
+use mysql_values::{BinValue, FromValueError, ParamType, TextValue, Value, ValueDeserializer};
 use mysql_wire::{ColumnFlags, ColumnType, Fault, ParseBuf};
 use refused_growths_cases::{Cases, counted, shown};
 use std::alloc::{AllocError, Global};
@@ -15,10 +14,15 @@ pub fn all(cases: &mut Cases) -> Result<(), AllocError> {
         read_text(alloc, &FALSE_LENGTH)
     })?;
     cases.case("value_read_binary", read_binary)?;
+    cases.case("value_read_binary_of_a_false_length", |alloc| {
+        read_string(alloc, &FALSE_LENGTH)
+    })?;
     cases.case("value_clone", clone)?;
     cases.case("value_serialize", serialize)?;
-    cases.case("params_into_values_by_names", into_values)?;
-    cases.case("params_clone", clone_params)
+    cases.case("param_type_serialize", |alloc| {
+        shown::serialized(alloc, &ParamType::from_value(&Value::UInt(1)))
+    })?;
+    cases.case("from_value_error_clone", clone_refusal)
 }
 
 /// The value `ab`.
@@ -34,7 +38,12 @@ fn read_text(alloc: Global, bytes: &[u8]) -> Result<String, AllocError> {
 }
 
 fn read_binary(alloc: Global) -> Result<String, AllocError> {
-    let mut buf = ParseBuf::new(alloc, b"\x02ab\x07");
+    read_string(alloc, b"\x02ab\x07")
+}
+
+/// Reads the bytes as a column of texts.
+fn read_string(alloc: Global, bytes: &[u8]) -> Result<String, AllocError> {
+    let mut buf = ParseBuf::new(alloc, bytes);
     let context = (
         ColumnType::MYSQL_TYPE_VAR_STRING,
         ColumnFlags::NOT_NULL_FLAG,
@@ -54,40 +63,12 @@ fn serialize(alloc: Global) -> Result<String, AllocError> {
     shown::serialized(alloc, &value)
 }
 
-/// The value `ab` by the name `a`.
-fn named(alloc: Global) -> Result<Params, AllocError> {
-    let mut values = IndexMap::new(alloc);
-    values.insert(Vec::from_slice(alloc, b"a")?, bytes(alloc)?)?;
-    Ok(Params::Named(values))
-}
-
-/// A list of two, and the copies of their bytes.
-fn into_values(alloc: Global) -> Result<String, AllocError> {
-    let params = named(alloc)?;
-    let names = vec![in alloc;
-        Vec::from_slice(alloc, b"a")?,
-        Vec::from_slice(alloc, b"a")?,
-    ]?;
-    let answer = counted!(alloc; params.into_values(alloc, Some(names.as_slice())));
+/// What did not convert is kept by its copy too.
+fn clone_refusal(alloc: Global) -> Result<String, AllocError> {
+    let refusal = FromValueError(bytes(alloc)?);
+    let answer = counted!(alloc; refusal.clone());
     match answer {
-        Ok(values) => {
-            let count = values.len();
-            format!(in alloc; "{count} values")
-        }
-        Err(ParamsError::Memory) => format!(in alloc; "Memory"),
-        Err(_) => format!(in alloc; "no values"),
-    }
-}
-
-fn clone_params(alloc: Global) -> Result<String, AllocError> {
-    let params = named(alloc)?;
-    let answer = counted!(alloc; params.clone());
-    match answer {
-        Ok(Params::Named(values)) => {
-            let count = values.len();
-            format!(in alloc; "{count} named")
-        }
-        Ok(_) => format!(in alloc; "none named"),
-        Err(AllocError) => format!(in alloc; "Memory"),
+        Ok(copy) => shown::value(alloc, Ok(copy.0), &[]),
+        Err(error) => shown::value::<Value>(alloc, Err(error), b"ab"),
     }
 }

@@ -3,8 +3,11 @@
 //! `refused_growths_of_wire --list` prints the names, `--all` each name with what its call answered, and a name what that one answered. Only the growths of the call itself are counted: what is made ready before it and printed behind it is not (`refused_growths_cases::counted`).
 #![tactic(auto)]
 
+mod false_counts;
 mod raw_bytes;
 mod seq;
+mod takes_none;
+mod writers;
 
 use refused_growths_cases::{Asked, Cases};
 use std::process::ExitCode;
@@ -19,6 +22,9 @@ fn run(rt: &(impl Env + Print + AllocGlobal)) -> io::Result<ExitCode> {
     let mut cases = Cases::new(rt.alloc(), Asked::from_word(word));
     raw_bytes::all(&mut cases)?;
     seq::all(&mut cases)?;
+    writers::all(&mut cases)?;
+    false_counts::all(&mut cases)?;
+    takes_none::all(&mut cases)?;
     rt.print(cases.lines())?;
     Ok(ExitCode::SUCCESS)
 }
