@@ -1,5 +1,5 @@
 #!/usr/bin/env python3
-"""Writes the tables of captured packets that the crates packet_tests and auth_tests read.
+"""Writes the tables of captured packets that the crates packet_tests, auth_tests and repl_tests read.
 
 captured_tables.py          writes them from tests/captured/packets.jsonl
 captured_tables.py --check  changes nothing, and fails where one is not what would be written
@@ -18,6 +18,7 @@ TOP = os.path.dirname(os.path.dirname(os.path.realpath(__file__)))
 PACKETS = f"{TOP}/tests/captured/packets.jsonl"
 TABLES = f"{TOP}/crates/packet_tests/src/captured"
 AUTH_TABLES = f"{TOP}/crates/auth_tests/src/captured"
+REPL_TABLES = f"{TOP}/crates/repl_tests/src/captured"
 
 UNREPORTED = "-"
 
@@ -137,6 +138,20 @@ def tls(packet):
     return [number(int(packet["caps"], 16))]
 
 
+def registration(packet):
+    given = input_of(packet)
+    return [*numbers(given, "server_id"), *texts(given, "slave_host"), *numbers(given, "slave_port")]
+
+
+def dump(packet):
+    given = input_of(packet)
+    return [*numbers(given, "server_id", "pos"), *texts(given, "file")]
+
+
+def acknowledgement(packet):
+    return []
+
+
 OK_WORDS = " ".join(["capabilities affected_rows last_insert_id status_flags warnings info", *CHANGES])
 
 # the file and its kind of packet; what the words behind the payload are; how they are made
@@ -171,6 +186,13 @@ AUTH_KINDS = {
     "ssl_request": ("capabilities", tls),
 }
 
+# the same of what a replica sends
+REPL_KINDS = {
+    "register_slave": ("server_id hostname port", registration),
+    "binlog_dump": ("server_id pos filename", dump),
+    "semi_sync_ack": ("", acknowledgement),
+}
+
 # those whose words stand in other packets too
 AMONG_OTHERS = (text_row, bulk_rows)
 
@@ -197,8 +219,8 @@ def main(words):
     with open(PACKETS, encoding="utf-8") as it:
         packets = [json.loads(line) for line in it]
     stale = []
-    files = [(TABLES, KINDS, kind) for kind in KINDS] + [(AUTH_TABLES, AUTH_KINDS, kind) for kind in AUTH_KINDS]
-    for folder, kinds, kind in files:
+    crates = ((TABLES, KINDS), (AUTH_TABLES, AUTH_KINDS), (REPL_TABLES, REPL_KINDS))
+    for folder, kinds, kind in ((folder, kinds, kind) for folder, kinds in crates for kind in kinds):
         path, wanted = f"{folder}/{kind}.rt", table(kinds, kind, packets)
         if words:
             with open(path, encoding="utf-8") as it:

@@ -57,6 +57,14 @@ fn strict_shown(alloc: Global, bytes: &[u8]) -> Result<String, Fail> {
     Ok(shown(alloc, &read)?)
 }
 
+/// How the dump from these bytes is written again.
+fn written_again(alloc: Global, bytes: &[u8]) -> Result<Vec<u8>, Fail> {
+    let read = lenient(alloc, bytes).ok().ok_or("a dump is refused")?;
+    let mut written = Vec::new(alloc);
+    read.serialize(&mut written)?;
+    Ok(written)
+}
+
 fn made(alloc: Global) -> Result<ComBinlogDumpGtid<'static>, Fail> {
     let tag = Tag::try_from("app").ok().ok_or("a tag")?;
     let first = Sid::new(FIRST)
@@ -93,13 +101,31 @@ fn the_lowest_byte_of_a_head_with_tags_is_ignored(rt: HostRuntime) -> Result<(),
     bytes[23] = 1;
     assert_eq!(rt; lenient_shown(rt.alloc(), &bytes)?.as_str(), SHOWN);
     assert_eq!(rt; strict_shown(rt.alloc(), &bytes)?.as_str(), SHOWN);
+    let written = written_again(rt.alloc(), &bytes)?;
+    assert_eq!(rt; written.as_slice(), TAGGED.as_slice());
+    Ok(())
+}
+
+/// A head with tags, whose lowest byte is 1, counts no sid.
+#[test]
+fn a_head_with_tags_and_no_sid(rt: HostRuntime) -> Result<(), Fail> {
+    let bytes =
+        *b"\x1e\x00\x00\x01\x00\x00\x00\x00\x00\x00\x00\x00\x00\x00\x00\x00\x00\x00\x00\x08\x00\x00\x00\
+\x01\x00\x00\x00\x00\x00\x00\x01";
+    assert_eq!(rt; lenient_shown(rt.alloc(), &bytes)?.as_str(), "1 0 0");
+    assert_eq!(rt; strict_shown(rt.alloc(), &bytes)?.as_str(), "1 0 0");
+    let mut zeros = bytes;
+    zeros[23] = 0;
+    zeros[30] = 0;
+    let written = written_again(rt.alloc(), &bytes)?;
+    assert_eq!(rt; written.as_slice(), zeros.as_slice());
     Ok(())
 }
 
 #[test]
 fn bytes_that_are_no_tag_are_refused(rt: HostRuntime) {
     let mut bytes = TAGGED;
-    bytes[48] = b'T';
+    bytes[48..51].copy_from_slice(b"TAG");
     let refused = lenient(rt.alloc(), &bytes);
     assert!(rt; refused.err() == Some(Fault::InvalidData("Invalid tag")));
     bytes[48] = 0xff;
@@ -113,6 +139,7 @@ fn a_count_past_the_block(rt: HostRuntime) {
         *b"\x1e\x00\x00\x01\x00\x00\x00\x00\x00\x00\x00\x00\x00\x00\x00\x00\x00\x00\x00\x20\x00\x00\x00\
 \x00\x00\x00\x00\x00\x01\x00\x00\x00\x00\x00\x00\x00\x00\x00\x00\x00\x00\x00\x00\x00\x00\x00\x00\x00\x00\x00\x00\x00\x00\x00\x00";
     assert!(rt; lenient(rt.alloc(), &bytes).err() == Some(Fault::UnexpectedEof));
+    assert!(rt; strict(rt.alloc(), &bytes).err() == Some(Fault::UnexpectedEof));
 }
 
 #[test]
@@ -138,6 +165,8 @@ fn bytes_behind_the_last_sid(rt: HostRuntime) -> Result<(), Fail> {
     bytes[..116].copy_from_slice(&TAGGED);
     bytes[19] = 0x5e;
     assert_eq!(rt; lenient_shown(rt.alloc(), &bytes)?.as_str(), SHOWN);
+    let written = written_again(rt.alloc(), &bytes)?;
+    assert_eq!(rt; written.as_slice(), TAGGED.as_slice());
     let refused = strict(rt.alloc(), &bytes);
     assert!(rt; refused.err() == Some(Fault::InvalidData("Bytes behind the last sid")));
     Ok(())
@@ -177,6 +206,15 @@ fn the_form_without_tags_drops_the_tag(rt: HostRuntime) -> Result<(), Fail> {
     assert!(rt; read.uuid() == sid.uuid());
     assert!(rt; read.intervals() == sid.intervals());
     Ok(())
+}
+
+/// A refusal of the strict reader puts the buffer back.
+#[test]
+fn a_refusal_puts_the_buffer_back(rt: HostRuntime) {
+    let mut buf = ParseBuf::new(rt.alloc(), &TAGGED[..115]);
+    let refused = ComBinlogDumpGtid::parse_strict(&mut buf);
+    assert!(rt; refused.err() == Some(Fault::UnexpectedEof));
+    assert_eq!(rt; buf.len(), 115);
 }
 
 /// Sids of the shape of the original's own cases: the i-th has i intervals, every other one a tag.

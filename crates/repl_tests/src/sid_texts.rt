@@ -56,6 +56,45 @@ fn which_texts_are_refused(rt: HostRuntime) -> Result<(), Fail> {
 }
 
 #[test]
+fn which_tags_of_a_text_are_refused(rt: HostRuntime) -> Result<(), Fail> {
+    let alloc = rt.alloc();
+    let first = refused(alloc, ":InvalidTag:23")?;
+    assert!(rt; first == Some(InvalidSid::Tag(InvalidTag::InvalidFirstChar('I'))));
+    let later = refused(alloc, ":a-b:23")?;
+    assert!(rt; later == Some(InvalidSid::Tag(InvalidTag::InvalidChar('-'))));
+    let long = refused(alloc, ":abcdefghijklmnopqrstuvwxyz1234567:23")?;
+    assert!(rt; long == Some(InvalidSid::Tag(InvalidTag::TooLong(33))));
+    assert!(rt; refused(alloc, ":1tag:23")? == Some(InvalidSid::Number));
+    Ok(())
+}
+
+/// Texts behind a uuid, and the words of their refusals.
+const WORDS: [(&str, &str); 9] = [
+    ("", "NoColon"),
+    (":", "Empty"),
+    (
+        ":Tag:2",
+        "invalid first character 'T' (must be lowercase letter or underscore)",
+    ),
+    (":a", "NoIntervals"),
+    (":1-2-3", "Parts"),
+    (":1-", "Number"),
+    (":18446744073709551615", "TooLarge"),
+    (":4-3", "start(4) >= end(4) in GnoInterval"),
+    (":0-3", "Gno can't be zero"),
+];
+
+#[test]
+fn the_words_of_refusals(rt: HostRuntime) -> Result<(), Fail> {
+    let alloc = rt.alloc();
+    for (behind, words) in WORDS {
+        let refusal = refused(alloc, behind)?.ok_or("no sid")?;
+        assert_eq!(rt; format!(in alloc; "{refusal}")?.as_str(), words);
+    }
+    Ok(())
+}
+
+#[test]
 fn texts_are_written_again(rt: HostRuntime) -> Result<(), Fail> {
     let alloc = rt.alloc();
     assert_eq!(rt;
@@ -99,6 +138,28 @@ fn the_intervals_of_a_text(rt: HostRuntime) -> Result<(), Fail> {
     let sid = Sid::from_str(alloc, text.as_str()).ok().ok_or("a sid")?;
     assert!(rt; sid.uuid() == *b"\x3e\x11\xfa\x47\x71\xca\x11\xe1\x9e\x33\xc8\x0a\xa9\x42\x95\x62");
     assert!(rt; sid.tag().is_none());
+    let wanted = [GnoInterval::new(1, 6), GnoInterval::new(10, 16)];
+    assert!(rt; sid.intervals() == wanted.as_slice());
+    Ok(())
+}
+
+#[test]
+fn a_number_behind_a_plus(rt: HostRuntime) -> Result<(), Fail> {
+    let alloc = rt.alloc();
+    let text = with_uuid(alloc, ":1:+5")?;
+    let sid = Sid::from_str(alloc, text.as_str()).ok().ok_or("a sid")?;
+    let wanted = [GnoInterval::new(1, 2), GnoInterval::new(5, 6)];
+    assert!(rt; sid.intervals() == wanted.as_slice());
+    Ok(())
+}
+
+#[test]
+fn the_tag_of_a_text(rt: HostRuntime) -> Result<(), Fail> {
+    let alloc = rt.alloc();
+    let text = with_uuid(alloc, ":_private_tag:1-5:10-15")?;
+    let sid = Sid::from_str(alloc, text.as_str()).ok().ok_or("a sid")?;
+    let tag = sid.tag().ok_or("a tag")?;
+    assert_eq!(rt; tag.as_str(), "_private_tag");
     let wanted = [GnoInterval::new(1, 6), GnoInterval::new(10, 16)];
     assert!(rt; sid.intervals() == wanted.as_slice());
     Ok(())

@@ -15,12 +15,16 @@ fn which_texts_are_tags(rt: HostRuntime) {
     assert!(rt; fault("a").is_none());
     assert!(rt; fault("_").is_none());
     assert!(rt; fault("domain_1").is_none());
+    assert!(rt; fault("_private").is_none());
+    assert!(rt; fault("a_b_c_1_2_3").is_none());
     assert!(rt; fault("abcdefghijklmnopqrstuvwxyz012345").is_none());
     assert!(rt; fault("abcdefghijklmnopqrstuvwxyz0123456") == Some(InvalidTag::TooLong(33)));
     assert!(rt; fault("tAg") == Some(InvalidTag::InvalidChar('A')));
     assert!(rt; fault("") == Some(InvalidTag::Empty));
     assert!(rt; fault("1a") == Some(InvalidTag::InvalidFirstChar('1')));
     assert!(rt; fault("Tag") == Some(InvalidTag::InvalidFirstChar('T')));
+    assert!(rt; fault("-tag") == Some(InvalidTag::InvalidFirstChar('-')));
+    assert!(rt; fault("tag.name") == Some(InvalidTag::InvalidChar('.')));
     assert!(rt; fault("a-b") == Some(InvalidTag::InvalidChar('-')));
     assert!(rt; fault("a\u{e4}") == Some(InvalidTag::InvalidChar('\u{e4}')));
 }
