@@ -9,3 +9,4 @@ pub mod Params
 pub mod ParamsEq
 pub mod ContentEq
 pub mod SentType
+pub mod Cells

@@ -145,6 +145,7 @@ impl MySerialize for DateTime {
     }
 
     #[tactic(auto, unfolding(mysql_wire::specs::Writing::le_bytes, crate::specs::Temporal::date_time_bytes, crate::specs::Temporal::day_bytes))]
+    #[inline(never)]
     fn append(&self, out: &mut Vec<u8>) {
         let len = self.len();
         out.push(len - 1).unwrap();
@@ -177,6 +178,7 @@ impl MySerialize for TimeSpan {
     }
 
     #[tactic(auto, unfolding(mysql_wire::specs::Writing::le_bytes, crate::specs::Temporal::time_span_bytes))]
+    #[inline(never)]
     fn append(&self, out: &mut Vec<u8>) {
         let len = self.len();
         out.push(len - 1).unwrap();

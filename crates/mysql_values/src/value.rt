@@ -92,6 +92,7 @@ impl MySerialize for Value {
         self.bin_len() as usize
     }
 
+    #[inline(always)]
     fn append(&self, out: &mut Vec<u8>) {
         match self {
             Value::NULL => {}

@@ -76,7 +76,8 @@ ghost use Rattle.mysql_values.specs.ValueDeserializer.{string_value, short_integ
 
 /// The content of a length-encoded string, on memory of its own.
 #[tactic(auto, using(mysql_wire::proofs::Tails::tails))]
-fn read_string<'s>(buf: &mut ParseBuf<'_>) -> Result<Value, FaultOf<'s>>
+#[inline(always)]
+pub(crate) fn read_string<'s>(buf: &mut ParseBuf<'_>) -> Result<Value, FaultOf<'s>>
     ensures value { Answers true (contents result) buf.new (string_value.reads buf.old) }
     ensures tail { OnErr result (IsTail buf.new buf.old) }
 {
@@ -84,6 +85,7 @@ fn read_string<'s>(buf: &mut ParseBuf<'_>) -> Result<Value, FaultOf<'s>>
     Ok(Value::Bytes(Vec::from_slice(buf.alloc(), content.as_bytes())?))
 }
 
+#[inline(never)]
 fn read_date<'s>(buf: &mut ParseBuf<'_>) -> Result<Value, FaultOf<'s>>
     ensures value { Answers false (contents result) buf.new (date_value.reads buf.old) }
     ensures tail { OnErr result (IsTail buf.new buf.old) }
@@ -100,6 +102,7 @@ fn read_date<'s>(buf: &mut ParseBuf<'_>) -> Result<Value, FaultOf<'s>>
     ))
 }
 
+#[inline(never)]
 fn read_time<'s>(buf: &mut ParseBuf<'_>) -> Result<Value, FaultOf<'s>>
     ensures value { Answers false (contents result) buf.new (time_value.reads buf.old) }
     ensures tail { OnErr result (IsTail buf.new buf.old) }
@@ -117,6 +120,7 @@ fn read_time<'s>(buf: &mut ParseBuf<'_>) -> Result<Value, FaultOf<'s>>
 
 /// An integer of one byte, with a sign unless the column has none.
 #[tactic(auto, unfolding(mysql_wire::specs::Int::raw))]
+#[inline(always)]
 fn read_tiny<'s>(is_unsigned: bool, buf: &mut ParseBuf<'_>) -> Result<Value, FaultOf<'s>>
     ensures value { Answers false (contents result) buf.new ((short_integer w8 1 is_unsigned).reads buf.old) }
     ensures tail { OnErr result (IsTail buf.new buf.old) }
@@ -131,6 +135,7 @@ fn read_tiny<'s>(is_unsigned: bool, buf: &mut ParseBuf<'_>) -> Result<Value, Fau
 
 /// An integer of two bytes, with a sign unless the column has none.
 #[tactic(auto, unfolding(mysql_wire::specs::Int::raw))]
+#[inline(always)]
 fn read_short<'s>(is_unsigned: bool, buf: &mut ParseBuf<'_>) -> Result<Value, FaultOf<'s>>
     ensures value { Answers false (contents result) buf.new ((short_integer w16 2 is_unsigned).reads buf.old) }
     ensures tail { OnErr result (IsTail buf.new buf.old) }
@@ -145,7 +150,8 @@ fn read_short<'s>(is_unsigned: bool, buf: &mut ParseBuf<'_>) -> Result<Value, Fa
 
 /// An integer of four bytes, with a sign unless the column has none.
 #[tactic(auto, unfolding(mysql_wire::specs::Int::raw))]
-fn read_long<'s>(is_unsigned: bool, buf: &mut ParseBuf<'_>) -> Result<Value, FaultOf<'s>>
+#[inline(always)]
+pub(crate) fn read_long<'s>(is_unsigned: bool, buf: &mut ParseBuf<'_>) -> Result<Value, FaultOf<'s>>
     ensures value { Answers false (contents result) buf.new ((short_integer w32 4 is_unsigned).reads buf.old) }
     ensures tail { OnErr result (IsTail buf.new buf.old) }
 {
@@ -159,6 +165,7 @@ fn read_long<'s>(is_unsigned: bool, buf: &mut ParseBuf<'_>) -> Result<Value, Fau
 
 /// An integer of eight bytes.
 #[tactic(auto, unfolding(mysql_wire::specs::Int::raw))]
+#[inline(always)]
 fn read_longlong<'s>(is_unsigned: bool, buf: &mut ParseBuf<'_>) -> Result<Value, FaultOf<'s>>
     ensures value { Answers false (contents result) buf.new ((long_integer is_unsigned).reads buf.old) }
     ensures tail { OnErr result (IsTail buf.new buf.old) }
@@ -173,7 +180,8 @@ fn read_longlong<'s>(is_unsigned: bool, buf: &mut ParseBuf<'_>) -> Result<Value,
 
 /// A value of a column's type. A string alone takes memory.
 #[tactic(auto, unfolding(mysql_wire::specs::Int::raw))]
-fn read_bin<'s>(
+#[inline(always)]
+pub(crate) fn read_bin<'s>(
     column_type: ColumnType,
     is_unsigned: bool,
     buf: &mut ParseBuf<'_>,
@@ -242,6 +250,7 @@ impl<'de> MyDeserialize<'de> for ValueDeserializer<BinValue> {
 
     ghost form = { λ column. unsized (bin_value column.0 (has column.1.0 UNSIGNED_FLAG)) };
 
+    #[inline(always)]
     fn deserialize<'s>(
         column: (ColumnType, ColumnFlags),
         buf: &mut ParseBuf<'de>,

@@ -1,0 +1,15 @@
+-- The cells of a row: a value for each column, if it is there.
+use Rattle.std.specs.Prelude.{◌≡◌, ℕ, ◌++◌, ◌∷◌, [], Bool, List, map, Option, Some, Result, Ok, Err, option_map}
+use Rattle.mysql_wire.specs.declared.fault.FaultOf.{FaultOf}
+use Rattle.mysql_wire.specs.Reading.{Reading, Faults, then_read}
+use Rattle.mysql_values.specs.declared.value.Value.{Value}
+use Rattle.mysql_values.specs.Value.{Content, content_of}
+
+-- what the values hold, whoever keeps their bytes
+abbrev pub held : List (Option Value) → List (Option Content)
+held cells = map (option_map content_of) cells
+
+-- what is read stands behind the cells before it, with these bytes left; or reading gives the fault, or memory ran out
+abbrev pub PutsOne : {E : Type 0} → (takes_memory : Bool) → Result E FaultOf → (before after : List (Option Content)) → List ℕ → Reading Content → Type 0
+PutsOne takes_memory (Ok x) before after rest read = then_read read (λ v left. Ok (before ++ Some v ∷ [], left)) ≡ Ok (after, rest)
+PutsOne takes_memory (Err e) before after rest read = Faults takes_memory e read

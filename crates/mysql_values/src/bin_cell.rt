@@ -1,0 +1,134 @@
+//! Values of a binary row, each put into its cell where it is read.
+
+ghost use Rattle.std.specs.Prelude.{◌≡◌, ◌+◌, ◌<◌, ◌≤◌, ◌++◌, ◌∷◌, [], Some, vec_len, vec_capacity, OnOk, OnErr};
+ghost use Rattle.mysql_wire.specs.FlagMasks.{UNSIGNED_FLAG};
+ghost use Rattle.mysql_wire.specs.Flags.{has};
+ghost use Rattle.mysql_wire.specs.Reading.{Answers};
+ghost use Rattle.mysql_values.specs.Cells.{held, PutsOne};
+ghost use Rattle.mysql_values.specs.ReadingBack.{is_string};
+ghost use Rattle.mysql_values.specs.Value.{content_of, contents};
+ghost use Rattle.mysql_values.specs.ValueDeserializer.{bin_value};
+
+use crate::value::Value;
+use crate::value_deserializer::{read_bin, read_long, read_string};
+use bitflags::Flags;
+use mysql_wire::{ColumnFlags, ColumnType, FaultOf, LeU64, ParseBuf, RawInt};
+
+/// Puts a value behind the others.
+#[inline(always)]
+fn put(value: Value, cells: &mut Vec<Option<Value>>)
+    requires { vec_len cells.old < vec_capacity cells.old }
+    ensures held { held cells.new.items ≡ held cells.old.items ++ Some (content_of value) ∷ [] }
+    ensures len { vec_len cells.new ≡ vec_len cells.old + 1 }
+    ensures room { vec_capacity cells.old ≤ vec_capacity cells.new }
+{
+    cells.push_reserved(Some(value));
+}
+
+/// A value of a column's type, by a call.
+#[inline(never)]
+fn read_other<'s>(
+    column_type: ColumnType,
+    is_unsigned: bool,
+    buf: &mut ParseBuf<'_>,
+) -> Result<Value, FaultOf<'s>>
+    ensures value { Answers (is_string column_type) (contents result) buf.new ((bin_value column_type is_unsigned).reads buf.old) }
+{
+    read_bin(column_type, is_unsigned, buf)
+}
+
+/// Reads a value by a call. The buffer that is handed on is another, so that the caller's own stays in registers.
+#[inline(always)]
+fn put_other<'s>(
+    column_type: ColumnType,
+    is_unsigned: bool,
+    buf: &mut ParseBuf<'_>,
+    cells: &mut Vec<Option<Value>>,
+) -> Result<(), FaultOf<'s>>
+    requires { vec_len cells.old < vec_capacity cells.old }
+    ensures value { PutsOne (is_string column_type) result (held cells.old.items) (held cells.new.items) buf.new ((bin_value column_type is_unsigned).reads buf.old) }
+    ensures len { OnOk result (vec_len cells.new ≡ vec_len cells.old + 1) }
+    ensures room { vec_capacity cells.old ≤ vec_capacity cells.new }
+    ensures err { OnErr result (cells.new.items ≡ cells.old.items) }
+{
+    let mut rest = buf.rest();
+    let value = read_other(column_type, is_unsigned, &mut rest)?;
+    *buf = rest;
+    put(value, cells);
+    Ok(())
+}
+
+/// A value of a column's type. What most columns hold is put by an arm of its own, so that its parts are written where
+/// they are to stay: where all came together in one value first, each would be taken apart and put together for it.
+#[inline(always)]
+#[tactic(auto, unfolding(mysql_wire::specs::Int::raw))]
+fn put_bin<'s>(
+    column_type: ColumnType,
+    is_unsigned: bool,
+    buf: &mut ParseBuf<'_>,
+    cells: &mut Vec<Option<Value>>,
+) -> Result<(), FaultOf<'s>>
+    requires { vec_len cells.old < vec_capacity cells.old }
+    ensures value { PutsOne (is_string column_type) result (held cells.old.items) (held cells.new.items) buf.new ((bin_value column_type is_unsigned).reads buf.old) }
+    ensures len { OnOk result (vec_len cells.new ≡ vec_len cells.old + 1) }
+    ensures room { vec_capacity cells.old ≤ vec_capacity cells.new }
+    ensures err { OnErr result (cells.new.items ≡ cells.old.items) }
+{
+    match column_type {
+        ColumnType::MYSQL_TYPE_DECIMAL
+        | ColumnType::MYSQL_TYPE_VARCHAR
+        | ColumnType::MYSQL_TYPE_BIT
+        | ColumnType::MYSQL_TYPE_VECTOR
+        | ColumnType::MYSQL_TYPE_JSON
+        | ColumnType::MYSQL_TYPE_NEWDECIMAL
+        | ColumnType::MYSQL_TYPE_ENUM
+        | ColumnType::MYSQL_TYPE_SET
+        | ColumnType::MYSQL_TYPE_TINY_BLOB
+        | ColumnType::MYSQL_TYPE_MEDIUM_BLOB
+        | ColumnType::MYSQL_TYPE_LONG_BLOB
+        | ColumnType::MYSQL_TYPE_BLOB
+        | ColumnType::MYSQL_TYPE_VAR_STRING
+        | ColumnType::MYSQL_TYPE_STRING
+        | ColumnType::MYSQL_TYPE_GEOMETRY => {
+            put(read_string(buf)?, cells);
+            Ok(())
+        }
+        ColumnType::MYSQL_TYPE_LONG | ColumnType::MYSQL_TYPE_INT24 => {
+            put(read_long(is_unsigned, buf)?, cells);
+            Ok(())
+        }
+        ColumnType::MYSQL_TYPE_LONGLONG => {
+            let number: RawInt<LeU64> = buf.parse(())?;
+            if is_unsigned {
+                put(Value::UInt(number.0), cells);
+                return Ok(());
+            }
+            put(Value::Int(number.0.cast_signed()), cells);
+            Ok(())
+        }
+        _ => put_other(column_type, is_unsigned, buf, cells),
+    }
+}
+
+/// Reads a value in the form of its column's type, as [`ValueDeserializer<BinValue>`](crate::ValueDeserializer) does, and
+/// puts it behind the cells, where there is room for one more. After a refusal the cells are as they were.
+#[inline(always)]
+pub fn read_bin_cell<'s>(
+    column: (ColumnType, ColumnFlags),
+    buf: &mut ParseBuf<'_>,
+    cells: &mut Vec<Option<Value>>,
+) -> Result<(), FaultOf<'s>>
+    requires { vec_len cells.old < vec_capacity cells.old }
+    ensures value { PutsOne (is_string column.0) result (held cells.old.items) (held cells.new.items) buf.new ((bin_value column.0 (has column.1.0 UNSIGNED_FLAG)).reads buf.old) }
+    ensures len { OnOk result (vec_len cells.new ≡ vec_len cells.old + 1) }
+    ensures room { vec_capacity cells.old ≤ vec_capacity cells.new }
+    ensures err { OnErr result (cells.new.items ≡ cells.old.items) }
+{
+    let (column_type, flags) = column;
+    put_bin(
+        column_type,
+        flags.contains(ColumnFlags::UNSIGNED_FLAG),
+        buf,
+        cells,
+    )
+}
