@@ -7,7 +7,7 @@ use Rattle.mysql_values.specs.contracts.value.ValuePartialEq.TheImpl as value
 use Rattle.mysql_values.specs.Value.{content_of}
 use Rattle.mysql_values.specs.ContentEq.{content_eq}
 use Rattle.mysql_values.proofs.ValueEq.{same_content}
-use Rattle.mysql_stmt.specs.Row.{held}
+use Rattle.mysql_values.specs.Cells.{held}
 
 same_cell : (x y : Option Value) → option_eq value.ghosts.eq x y ≡ option_eq content_eq (option_map content_of x) (option_map content_of y)
 same_cell None None = refl

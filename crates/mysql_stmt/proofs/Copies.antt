@@ -3,7 +3,7 @@ use Rattle.std.proofs.Common.{◌≡◌, List, [], ◌∷◌, Option, Some, None
 use Rattle.std.specs.List.{AllZip}
 use Rattle.mysql_values.specs.declared.value.Value.{Value}
 use Rattle.mysql_values.specs.Value.{content_of}
-use Rattle.mysql_stmt.specs.Row.{held}
+use Rattle.mysql_values.specs.Cells.{held}
 
 module _ (R : Option Value → Option Value → Type 0) (lost : (x : Value) → R (Some x) None → ⊥) (made : (y : Value) → R None (Some y) → ⊥) (same : (x y : Value) → R (Some x) (Some y) → content_of y ≡ content_of x) where
   -- each value and its copy hold the same

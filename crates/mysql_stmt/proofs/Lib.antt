@@ -5,3 +5,4 @@ pub mod Copies
 pub mod NullBits
 pub mod BitmapAgain
 pub mod CellsEq
+pub mod PutCells

@@ -1,8 +1,10 @@
 -- A bitmap of NULLs, as it is filled value by value.
+use Rattle.std.specs.List.{All}
 use Rattle.std.proofs.Common.{◌≡◌, ◌≢◌, inl, inr, ◌+◌, ◌<◌, ℕ, zero, suc, List, [], ◌∷◌, ◌++◌, length, take, replicate, get_or, refl, sym, ◌∙◌, ap, arith}
 use Rattle.std.specs.Int.{bit_at}
 use Rattle.std.proofs.lemmas.Nat.Bits.{bit_at-zero}
 use Rattle.std.proofs.lemmas.Bool.Decides.{eqb_tells}
+use Rattle.std.proofs.lemmas.List.Elements.{All-head, All-tail}
 use Rattle.std.proofs.lemmas.List.{take_more, length-take-le}
 use Rattle.mysql_wire.specs.Form.{le_value}
 use Rattle.mysql_values.specs.declared.value.Value.{Value}
@@ -18,6 +20,15 @@ value-zeros (suc n) = omega (arith, value-zeros n)
 -- a new bitmap has no bit set
 pub cell-zeros : (n k : ℕ) → cell (replicate n 0) k ≡ 0
 cell-zeros n k = ap (λ (m : ℕ). bit_at m k) (value-zeros n) ∙ bit_at-zero k
+
+value-clear : (bytes : List ℕ) → All (λ b. b ≡ 0) bytes → le_value bytes ≡ 0
+value-clear [] h = refl
+value-clear (b ∷ bytes) h =
+    omega (arith, All-head (λ b. b ≡ 0) b bytes h, value-clear bytes (All-tail (λ b. b ≡ 0) b bytes h))
+
+-- bytes of zeros have no bit set
+pub cell-clear : (bytes : List ℕ) → All (λ b. b ≡ 0) bytes → (k : ℕ) → cell bytes k ≡ 0
+cell-clear bytes h k = ap (λ (m : ℕ). bit_at m k) (value-clear bytes h) ∙ bit_at-zero k
 
 null-pushed : (params : List Value) (value : Value) → null_at (params ++ value ∷ []) (length params) ≡ null_bit (content_of value)
 null-pushed [] value = refl

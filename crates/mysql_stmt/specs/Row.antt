@@ -33,10 +33,6 @@ AllThere [] = Unit {0}
 AllThere (None ∷ cells) = ⊥
 AllThere (Some value ∷ cells) = AllThere cells
 
--- what the values hold, whoever keeps their bytes
-abbrev pub held : List (Option Value) → List (Option Content)
-held cells = map (option_map content_of) cells
-
 -- ---- conversions
 
 -- an answer where there is a value, and none where there is none

@@ -5,7 +5,8 @@ use Rattle.std.specs.Cmp.{IsPartialEquivalence, and_per, on_per, partial_equiv_f
 use Rattle.std.specs.Cmp.Lexicographic.{pointwise, lists_per, lists_equiv, options_equiv}
 use Rattle.mysql_replies.specs.declared.column.Column.{Column}
 use Rattle.mysql_values.specs.ContentEq.{content_eq, content_equiv}
-use Rattle.mysql_stmt.specs.Row.{Cells, held}
+use Rattle.mysql_values.specs.Cells.{held}
+use Rattle.mysql_stmt.specs.Row.{Cells}
 use Rattle.mysql_stmt.specs.RowForm.{RowContent}
 
 cells_per : IsPartialEquivalence (pointwise (option_eq content_eq))

@@ -14,7 +14,7 @@ use Rattle.mysql_values.specs.Value.{Content, NULL}
 use Rattle.mysql_values.specs.ValueDeserializer.{text_value, bin_value}
 use Rattle.mysql_stmt.specs.Bitmap.{cell}
 use Rattle.mysql_stmt.specs.NullBitmap.{null_bitmap}
-use Rattle.mysql_stmt.specs.Row.{held}
+use Rattle.mysql_values.specs.Cells.{held}
 
 -- what a row holds: of each column a value, if it is there
 pub record RowContent : Type 0 where

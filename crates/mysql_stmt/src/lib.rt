@@ -13,6 +13,7 @@ mod null_bitmap;
 mod row;
 mod row_deserializer;
 mod row_protocol;
+mod row_values;
 mod sent_values;
 mod stmt;
 

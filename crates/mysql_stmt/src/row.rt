@@ -4,7 +4,8 @@ ghost use Rattle.std.specs.Prelude.{◌≡◌, ◌<◌, ℕ, List, length, map, 
 ghost use Rattle.std.specs.Option.{option_copied};
 ghost use Rattle.std.specs.Rc.{rc_slice_items};
 ghost use Rattle.mysql_values.specs.declared.value.Value.{Value};
-ghost use Rattle.mysql_stmt.specs.Row.{AllThere, Answered, ConvertsTo, CopyConvertsTo, IsCopyAs, IsConvertible, IsConvertibleCopied, held, place_of_name, value_at, without};
+ghost use Rattle.mysql_values.specs.Cells.{held};
+ghost use Rattle.mysql_stmt.specs.Row.{AllThere, Answered, ConvertsTo, CopyConvertsTo, IsCopyAs, IsConvertible, IsConvertibleCopied, place_of_name, value_at, without};
 
 use crate::column_index::ColumnIndex;
 use mysql_replies::Column;
@@ -200,7 +201,7 @@ impl Row {
 }
 
 impl Clone for Row {
-    ghost use Rattle.mysql_stmt.specs.Row.{held};
+    ghost use Rattle.mysql_values.specs.Cells.{held};
 
     ghost is_clone = { λ row copy. (held copy.cells ≡ held row.cells) × (copy.columns ≡ row.columns) };
 

@@ -2,7 +2,7 @@
 
 ghost use Rattle.std.specs.Prelude.{true, ◌≡◌, refl, IfOk};
 ghost use Rattle.std.specs.Rc.{rc_slice_items};
-ghost use Rattle.mysql_stmt.specs.Row.{held};
+ghost use Rattle.mysql_values.specs.Cells.{held};
 
 use crate::row::{Row, new_row_raw};
 use crate::row_protocol::RowProtocol;
@@ -22,7 +22,7 @@ use std::rc::RcSlice;
 pub struct RowDeserializer<S, P>(Row, PhantomData<(S, P)>);
 
 impl<S, P> Model for RowDeserializer<S, P> {
-    ghost use Rattle.mysql_stmt.specs.Row.{held};
+    ghost use Rattle.mysql_values.specs.Cells.{held};
     ghost use Rattle.mysql_stmt.specs.RowForm.{RowContent};
 
     ghost Value = { RowContent };
@@ -85,6 +85,7 @@ impl<'de, S: SerializationSide, P: RowProtocol> MyDeserialize<'de> for RowDeseri
 
     ghost form = { λ columns. row_of (P.grammar S.BIT_OFFSET) (rc_slice_items columns) };
 
+    #[inline(always)]
     fn deserialize<'s>(
         columns: RcSlice<Column>,
         buf: &mut ParseBuf<'de>,

@@ -1,5 +1,5 @@
 use Rattle.std.proofs.Common.{◌∙◌, ap}
-use Rattle.mysql_stmt.specs.Row.{held}
+use Rattle.mysql_values.specs.Cells.{held}
 use Rattle.mysql_stmt.proofs.Copies.{held-copied}
 use Rattle.mysql_stmt.proofs.row.RowClone.clone.Goals as goal
 

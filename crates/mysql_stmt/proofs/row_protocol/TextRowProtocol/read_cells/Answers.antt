@@ -4,7 +4,7 @@ use Rattle.std.proofs.lemmas.Result.{err_from_is_err_and}
 use Rattle.std.specs.Prelude.{option_map}
 use Rattle.mysql_wire.specs.Reading.{Reading, then_read}
 use Rattle.mysql_values.specs.Value.{Content, content_of}
-use Rattle.mysql_stmt.specs.Row.{held}
+use Rattle.mysql_values.specs.Cells.{held}
 use Rattle.mysql_stmt.specs.RowForm.{text_cell}
 use Rattle.mysql_wire.proofs.Each.{next-one, one-fails, none-left, mapped-fails}
 use Rattle.mysql_stmt.proofs.row_protocol.TextRowProtocol.read_cells.Goals as goal

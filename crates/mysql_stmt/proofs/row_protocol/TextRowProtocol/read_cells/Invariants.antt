@@ -1,7 +1,7 @@
 use Rattle.std.proofs.Common.{◌≡◌, ◌≤◌, drop, length, vec_capacity}
 use Rattle.mysql_wire.specs.Each.{each}
 use Rattle.mysql_wire.proofs.Counted.{with_front}
-use Rattle.mysql_stmt.specs.Row.{held}
+use Rattle.mysql_values.specs.Cells.{held}
 use Rattle.mysql_stmt.specs.RowForm.{text_cell, text_row}
 use Rattle.mysql_stmt.proofs.row_protocol.TextRowProtocol.read_cells.Given as goal
 
