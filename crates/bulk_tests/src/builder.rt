@@ -4,8 +4,8 @@ use crate::cells::{Cell, bytes_of, row, rows, written};
 use crate::runs::{FIRST, builder};
 use indexmap::IndexMap;
 use mysql_bulk::{
-    BulkExecuteRequestBuilderError, BulkExecuteRequestError, ComStmtBulkExecuteRequest,
-    ComStmtBulkExecuteRequestBuilder,
+    BulkExecuteRequestBuilderError, BulkExecuteRequestError, BulkRowRefusal,
+    ComStmtBulkExecuteRequest, ComStmtBulkExecuteRequestBuilder,
 };
 use mysql_values::{Params, ParamsError, Value};
 use mysql_wire::StmtBulkExecuteFlags;
@@ -211,5 +211,52 @@ fn builders_are_equal_in_waiting_rows(rt: HostRuntime) -> Result<(), Fail> {
     assert!(rt; a.clone()? == a);
     assert!(rt; a.build().is_ok() && b.build().is_ok());
     assert!(rt; a == b);
+    Ok(())
+}
+
+/// A row of the number and a text, in place of what the row held.
+fn refill(row: &mut Vec<Value>, number: i64, text: &[u8]) -> Result<(), AllocError> {
+    let alloc = *row.allocator();
+    row.clear();
+    row.push(Value::Int(number))?;
+    Ok(row.push(Value::Bytes(Vec::from_slice(alloc, text)?))?)
+}
+
+/// What becomes of the row of the number and a text, which stays as it is.
+fn offered(
+    alloc: Global,
+    builder: &mut ComStmtBulkExecuteRequestBuilder<'_>,
+    number: i64,
+) -> Result<Result<bool, BulkRowRefusal>, AllocError> {
+    let mut row = Vec::new(alloc);
+    refill(&mut row, number, b"a")?;
+    Ok(builder.add_row_slice(row.as_slice()))
+}
+
+const TWO_COPIED: &[u8] =
+    b"\xfa\x01\0\0\0\x80\0\x08\0\xfd\0\0\x01\0\0\0\0\0\0\0\0\x01a\0\x02\0\0\0\0\0\0\0\0\x01a";
+
+#[test]
+fn copies_of_rows_wait(rt: HostRuntime) -> Result<(), Fail> {
+    let alloc = rt.alloc();
+    let mut builder = builder(alloc, 36);
+    for (number, waits) in [(1, true), (2, true), (3, false)] {
+        assert!(rt; offered(alloc, &mut builder, number)? == Ok(waits));
+    }
+    let request = bytes_of(alloc, builder.build())?;
+    assert!(rt; request.as_slice() == TWO_COPIED);
+    Ok(())
+}
+
+#[test]
+fn a_borrowed_row_is_refused_and_stays(rt: HostRuntime) -> Result<(), Fail> {
+    let alloc = rt.alloc();
+    let mut small = builder(alloc, 22);
+    assert!(rt; offered(alloc, &mut small, 1)? == Err(BulkRowRefusal::TooLarge));
+    assert!(rt; small == builder(alloc, 22));
+    let mut builder = builder(alloc, 36);
+    assert_accepted(&rt, &mut builder, row(alloc, &[Cell::Int(1)])?);
+    assert!(rt; offered(alloc, &mut builder, 1)? == Err(BulkRowRefusal::MixedArity));
+    assert_first(&rt, alloc, &mut builder)?;
     Ok(())
 }

@@ -1,6 +1,6 @@
 //! Requests and their values, read and written.
 
-use crate::cells::{Cell, bytes_of, row, rows};
+use crate::cells::{Cell, bytes_of, row, rows, written};
 use crate::runs::ONE_NULL;
 use mysql_bulk::{
     BulkExecuteRequestBuilderError, BulkExecuteRequestError, ComStmtBulkExecuteRequest,
@@ -93,6 +93,54 @@ fn cut_requests_are_refused(rt: HostRuntime) {
             Err(fault) => assert!(rt; n != 9 && fault == Fault::UnexpectedEof),
         }
     }
+}
+
+/// A request of rows with two columns that sends types, and ends before the second of them.
+const CUT_TYPES: &[u8] = b"\xfa\x01\0\0\0\x80\0\x15\0";
+
+#[test]
+fn missing_types_are_missed_before_one_is_looked_at(rt: HostRuntime) -> Result<(), Fail> {
+    let mut buf = ParseBuf::new(rt.alloc(), CUT_TYPES);
+    let rows: Result<Vec<Vec<Value>>, Fault> = read_bulk_rows(&[LONGLONG; 2], &mut buf);
+    assert!(rt; matches!(rows, Err(Fault::UnexpectedEof)));
+    let columns = vec![in rt.alloc(); LONGLONG, LONGLONG]?;
+    let one: Result<ComStmtBulkExecuteRequest, Fault> = buf.parse(columns);
+    assert!(rt; matches!(one, Err(Fault::UnexpectedEof)));
+    Ok(())
+}
+
+/// A request whose one value is its column's default.
+const DEFAULT_VALUE: &[u8] = b"\xfa\x01\0\0\0\x80\0\x06\0\x02";
+
+/// The request of one column that the bytes begin with.
+fn one_column(alloc: Global, bytes: &[u8]) -> Result<ComStmtBulkExecuteRequest, Fail> {
+    let columns = vec![in alloc; LONGLONG]?;
+    let mut buf = ParseBuf::new(alloc, bytes);
+    let one: Result<ComStmtBulkExecuteRequest, Fault> = buf.parse(columns);
+    Ok(one.ok().ok_or("the bytes are a request of one row")?)
+}
+
+#[test]
+fn a_request_has_the_indicators_that_were_read(rt: HostRuntime) -> Result<(), Fail> {
+    let default = one_column(rt.alloc(), DEFAULT_VALUE)?;
+    assert!(rt; default.indicator(0) == Some(MariadbBulkIndicator::BULK_INDICATOR_DEFAULT));
+    assert!(rt; default.indicator(1).is_none());
+    assert!(rt; default.values() == [Value::NULL].as_slice());
+    assert!(rt; written(rt.alloc(), &default)?.as_slice() == DEFAULT_VALUE);
+    assert!(rt; default.clone()? == default);
+    assert!(rt; default != one_column(rt.alloc(), ONE_NULL)?);
+    Ok(())
+}
+
+#[test]
+fn a_request_that_was_built_is_equal_to_the_one_that_is_read(rt: HostRuntime) -> Result<(), Fail> {
+    let flags = StmtBulkExecuteFlags::SEND_TYPES_TO_SERVER;
+    let null = rows(rt.alloc(), &[&[Cell::Null]])?;
+    let built = ComStmtBulkExecuteRequest::new(rt.alloc(), 1, flags, null);
+    let built = built.ok().ok_or("a row makes a request")?;
+    assert!(rt; built.indicator(0) == Some(MariadbBulkIndicator::BULK_INDICATOR_NULL));
+    assert!(rt; built == one_column(rt.alloc(), ONE_NULL)?);
+    Ok(())
 }
 
 /// The error has this text.

@@ -1,22 +1,23 @@
 -- How a builder stores the rows that wait, and the request that it makes of them.
-use Rattle.std.proofs.Common.{◌≡◌, ◌≢◌, ℕ, zero, suc, ◌+◌, ◌*◌, ◌<◌, ◌≤◌, ◌^◌, Bool, true, false, if◌then◌else◌, List, [], ◌∷◌, ◌++◌, length, drop, map, Option, Some, None, unwrap_or, refl, sym, ◌∙◌, ap, subst, ◌⊎◌, inl, inr, arith, length-append, sum_by}
+use Rattle.std.proofs.Common.{◌≡◌, ◌≢◌, ℕ, zero, suc, ◌+◌, ◌*◌, ◌<◌, ◌≤◌, ◌^◌, Bool, true, false, if◌then◌else◌, List, [], ◌∷◌, ◌++◌, length, drop, Option, Some, None, unwrap_or, refl, sym, ◌∙◌, ap, subst, ◌⊎◌, inl, inr, arith, sum_by}
+use Rattle.std.specs.List.{AllZip}
 use Rattle.std.specs.Prelude.{fold}
 use Rattle.std.proofs.Math.Nat.{suc-mul}
 use Rattle.std.proofs.lemmas.List.{length-drop, length-take-le, map-append, nil_from_length}
-use Rattle.std.proofs.lemmas.List.Sums.{sum_by-append, fold-append}
+use Rattle.std.proofs.lemmas.List.Sums.{fold-append}
 use Rattle.std.proofs.lemmas.List.FromFn.{length-map-range_with_len}
 use Rattle.mysql_wire.specs.Writing.{saturated}
 use Rattle.mysql_cuts.specs.Cut.{PartFits, rows_in, request_size}
 use Rattle.mysql_values.specs.declared.param_type.ParamType.{ParamType}
-use Rattle.mysql_values.specs.Value.{Content}
+use Rattle.mysql_values.specs.declared.value.Value.{Value}
+use Rattle.mysql_values.specs.Value.{Content, content_of, contents_of}
 use Rattle.mysql_bulk.specs.Builder.{BuilderState, packing, IsStoredAs, waiting_size, WaitingFits, TakesArity, RowFits, after_row, arity_after, IsConsistent}
 use Rattle.mysql_bulk.specs.DeclaredTypes.{declared_type, column_values, declared_types, types_with_row}
-use Rattle.mysql_bulk.specs.ParamValue.{ParamValue, with_indicator, contents}
-use Rattle.mysql_bulk.specs.Row.{param_size, row_size, first_length, EqualLengths}
-use Rattle.mysql_bulk.specs.WaitingRows.{rows_of, waiting_rows, IsFlat}
+use Rattle.mysql_bulk.specs.Row.{row_size, first_length, EqualLengths}
+use Rattle.mysql_bulk.specs.BuilderRows.{rows_of, waiting_rows}
 use Rattle.mysql_bulk.proofs.DeclaredTypes.{types_all, types_before}
-use Rattle.mysql_bulk.proofs.RequestBytes.{size_joined, contents_indicators}
-use Rattle.mysql_bulk.proofs.WaitingRows.{flat_values, flat_none, flat_rows, flat_more, length-rows_of}
+use Rattle.mysql_bulk.proofs.RequestBytes.{size-rows_in}
+use Rattle.mysql_bulk.proofs.BuilderRows.{flat_values, flat_none, flat_rows, flat_more}
 
 pub saturated_small : (n : ℕ) → n < 2 ^ 64 → n ≡ saturated n
 unfolding saturated
@@ -53,115 +54,114 @@ if_true : {X : Type 0} (b : Bool) (x y : X) → b ≡ true → (if b then x else
 if_true true x y e = refl
 if_true false x y e = cc
 
-pub contents_more : (values : List ParamValue) (row : List Content) → contents (values ++ map with_indicator row) ≡ contents values ++ row
-contents_more values row = map-append (λ v. v.content) values (map with_indicator row) ∙ ap (λ (l : List Content). contents values ++ l) (contents_indicators row)
+-- what a list of values holds after those of a row were put behind it
+pub held_after : (more values row : List Value) → more ≡ values ++ row → contents_of more ≡ contents_of values ++ contents_of row
+held_after more values row e = ap contents_of e ∙ map-append content_of values row
 
-module _ {s : BuilderState} {count size : ℕ} {values : List ParamValue} {types : List ParamType} (k : IsStoredAs s count size values types) where
-  pub keeps_rows : count ≢ 0 → s.waiting ≢ []
-  keeps_rows n e = n (flat_none s.arity count (contents values) (sym k.rows_is ∙ e))
+-- copies hold what the values hold
+pub held_by_copies : (values copies : List Value) → AllZip (λ value copy. content_of copy ≡ content_of value) values copies → contents_of copies ≡ contents_of values
+held_by_copies [] [] a = refl
+held_by_copies [] (y ∷ copies) a = absurd a
+held_by_copies (x ∷ values) [] a = absurd a
+held_by_copies (x ∷ values) (y ∷ copies) a = λ i. a.0 i ∷ held_by_copies values copies a.1 i
 
-  pub keeps_equal : EqualLengths (unwrap_or s.arity 0) s.waiting
-  keeps_equal = subst (EqualLengths (unwrap_or s.arity 0)) (sym k.rows_is) (equal_rows (unwrap_or s.arity 0) count (contents values) k.flat.lengths)
+module _ {s : BuilderState} {count size : ℕ} {values : List Content} {types : List ParamType} (k : IsStoredAs s count size values types) where
+  pub stored_rows : count ≢ 0 → s.waiting ≢ []
+  stored_rows n e = n (flat_none s.arity count values (sym k.rows_is ∙ e))
+
+  pub stored_equal : EqualLengths (unwrap_or s.arity 0) s.waiting
+  stored_equal = subst (EqualLengths (unwrap_or s.arity 0)) (sym k.rows_is) (equal_rows (unwrap_or s.arity 0) count values k.flat.lengths)
 
   -- the types are the declared ones
-  pub keeps_types : count ≢ 0 → types ≡ (if s.types_due then declared_types s.waiting else [])
-  keeps_types n =
+  pub stored_types : count ≢ 0 → types ≡ (if s.types_due then declared_types s.waiting else [])
+  stored_types n =
       k.types_is
-      ∙ if_same s.types_due (fold types_with_row [] s.waiting) (declared_types s.waiting) [] (types_all (unwrap_or s.arity 0) s.waiting (keeps_rows n) keeps_equal)
+      ∙ if_same s.types_due (fold types_with_row [] s.waiting) (declared_types s.waiting) [] (types_all (unwrap_or s.arity 0) s.waiting (stored_rows n) stored_equal)
 
   -- the values are those of the rows
-  pub keeps_values : values ≡ map with_indicator (rows_in s.waiting)
-  keeps_values = k.indicators ∙ ap (map with_indicator) (flat_values s.arity count size (contents values) k.flat ∙ ap rows_in (sym k.rows_is))
+  pub stored_values : values ≡ rows_in s.waiting
+  stored_values = flat_values s.arity count size values k.flat ∙ ap rows_in (sym k.rows_is)
 
   types_size : count ≢ 0 → 2 * length types ≡ (if s.types_due then 2 * unwrap_or s.arity 0 else 0)
   types_size n =
       let a = unwrap_or s.arity 0 in
-      ap (λ (l : List ParamType). 2 * length l) (keeps_types n)
-      ∙ length-if s.types_due a (declared_types s.waiting) (length-map-range_with_len (λ i. declared_type (column_values s.waiting i)) 0 (first_length s.waiting) ∙ first_long a s.waiting (keeps_rows n) keeps_equal)
+      ap (λ (l : List ParamType). 2 * length l) (stored_types n)
+      ∙ length-if s.types_due a (declared_types s.waiting) (length-map-range_with_len (λ i. declared_type (column_values s.waiting i)) 0 (first_length s.waiting) ∙ first_long a s.waiting (stored_rows n) stored_equal)
 
   rows_size : size ≡ sum_by row_size s.waiting
   rows_size = k.flat.size_is ∙ ap (sum_by row_size) (sym k.rows_is)
 
   -- the arity is the length of the rows that wait
-  pub keeps_arity : count ≢ 0 → unwrap_or s.arity 0 ≡ first_length s.waiting
-  keeps_arity n = sym (first_long (unwrap_or s.arity 0) s.waiting (keeps_rows n) keeps_equal)
+  pub stored_arity : count ≢ 0 → unwrap_or s.arity 0 ≡ first_length s.waiting
+  stored_arity n = sym (first_long (unwrap_or s.arity 0) s.waiting (stored_rows n) stored_equal)
 
   -- the bytes are those of the request
-  pub keeps_size : count ≢ 0 → 7 + 2 * length types + size ≡ waiting_size s
-  keeps_size n =
+  pub stored_size : count ≢ 0 → 7 + 2 * length types + size ≡ waiting_size s
+  stored_size n =
       let here : 7 + 2 * length types + size ≡ request_size (packing s (unwrap_or s.arity 0)) s.types_due s.waiting = omega (arith, types_size n, rows_size) in
-      here ∙ ap (λ a. request_size (packing s a) s.types_due s.waiting) (keeps_arity n)
+      here ∙ ap (λ a. request_size (packing s a) s.types_due s.waiting) (stored_arity n)
 
-  values_size : row_size (contents values) ≡ size
-  values_size = ap row_size (flat_values s.arity count size (contents values) k.flat) ∙ size_joined (waiting_rows s.arity count (contents values)) ∙ sym k.flat.size_is
+  values_size : row_size values ≡ size
+  values_size = ap row_size (flat_values s.arity count size values k.flat) ∙ size-rows_in (waiting_rows s.arity count values) ∙ sym k.flat.size_is
 
-  pub keeps_bytes : count ≢ 0 → 7 + 2 * length types + row_size (contents values) ≡ waiting_size s
-  keeps_bytes n = omega (arith, keeps_size n, values_size)
+  pub stored_bytes : count ≢ 0 → 7 + 2 * length types + row_size values ≡ waiting_size s
+  stored_bytes n = omega (arith, stored_size n, values_size)
 
   -- and allowed
-  pub keeps_allowed : count ≢ 0 → WaitingFits s
-  keeps_allowed n = let F : ℕ → Type 0 = λ a. PartFits (packing s a) s.types_due s.waiting in subst F (keeps_arity n) (k.fits (keeps_rows n))
+  pub stored_allowed : count ≢ 0 → WaitingFits s
+  stored_allowed n = let F : ℕ → Type 0 = λ a. PartFits (packing s a) s.types_due s.waiting in subst F (stored_arity n) (k.fits (stored_rows n))
 
-  pub keeps_bound : count ≢ 0 → waiting_size s ≤ s.limit
-  keeps_bound n = (keeps_allowed n).0
+  pub stored_bound : count ≢ 0 → waiting_size s ≤ s.limit
+  stored_bound n = (stored_allowed n).0
 
   -- before a row of the right length: there are as many types, or none
-  pub keeps_before : (row : List Content) → TakesArity s.arity (length row) → s.types_due ≡ true → (length types ≡ length row) ⊎ (types ≡ [])
-  keeps_before row t due =
+  pub stored_before : (row : List Content) → TakesArity s.arity (length row) → s.types_due ≡ true → (length types ≡ length row) ⊎ (types ≡ [])
+  stored_before row t due =
       let is : types ≡ fold types_with_row [] s.waiting = k.types_is ∙ if_true s.types_due (fold types_with_row [] s.waiting) [] due in
       let N : List (List Content) → Type 0 = λ l. types ≡ fold types_with_row [] l in
-      elim (types_before (unwrap_or s.arity 0) s.waiting keeps_equal) [
+      elim (types_before (unwrap_or s.arity 0) s.waiting stored_equal) [
         | inl long ↦ elim (as_many s.arity (length row) (length types) t (ap length is ∙ long)) [ inl same ↦ inl same | inr none ↦ inr (nil_from_length types none) ]
         | inr none ↦ inr (subst N none is)
       ]
 
   -- one more row waits
-  pub keeps_more : (total : ℕ) (row : List Content) → TakesArity s.arity (length row) → RowFits s row → total ≡ sum_by row_size (s.waiting ++ row ∷ [])
-      → IsStoredAs (after_row s row) (count + 1) total (values ++ map with_indicator row) (if s.types_due then types_with_row types row else types)
-  keeps_more total row t f e =
-      let rows = flat_rows s.arity count size (contents values) row k.flat t in
-      let flat = flat_more s.arity count size total (contents values) row k.flat t (e ∙ ap (λ (l : List (List Content)). sum_by row_size (l ++ row ∷ [])) k.rows_is) in
-      let I : List Content → Type 0 = IsFlat (Some (length row)) (count + 1) total in
-      let p = sym (contents_more values row) in
+  pub stored_more : (total : ℕ) (row : List Content) → TakesArity s.arity (length row) → RowFits s row → total ≡ sum_by row_size (s.waiting ++ row ∷ [])
+      → IsStoredAs (after_row s row) (count + 1) total (values ++ row) (if s.types_due then types_with_row types row else types)
+  stored_more total row t f e =
+      let rows = flat_rows s.arity count size values row k.flat t in
       record {
         limit_is = k.limit_is;
-        rows_is = ap (λ (l : List (List Content)). l ++ row ∷ []) k.rows_is ∙ sym rows ∙ ap (waiting_rows (Some (length row)) (count + 1)) p;
-        flat = subst I p flat;
-        indicators = ap (λ (l : List ParamValue). l ++ map with_indicator row) k.indicators ∙ sym (map-append with_indicator (contents values) row) ∙ ap (map with_indicator) p;
+        rows_is = ap (λ (l : List (List Content)). l ++ row ∷ []) k.rows_is ∙ sym rows;
+        flat = flat_more s.arity count size total values row k.flat t (e ∙ ap (λ (l : List (List Content)). sum_by row_size (l ++ row ∷ [])) k.rows_is);
         fits = λ n. f;
         types_is = types_step s.types_due types s.waiting row k.types_is;
       }
 
-  pub rows_more : (row : List Content) → TakesArity s.arity (length row) → waiting_rows (Some (length row)) (count + 1) (contents (values ++ map with_indicator row)) ≡ s.waiting ++ row ∷ []
-  rows_more row t =
-      ap (waiting_rows (Some (length row)) (count + 1)) (contents_more values row)
-      ∙ flat_rows s.arity count size (contents values) row k.flat t
-      ∙ ap (λ (l : List (List Content)). l ++ row ∷ []) (sym k.rows_is)
+  pub rows_more : (row : List Content) → TakesArity s.arity (length row) → waiting_rows (Some (length row)) (count + 1) (values ++ row) ≡ s.waiting ++ row ∷ []
+  rows_more row t = flat_rows s.arity count size values row k.flat t ∙ ap (λ (l : List (List Content)). l ++ row ∷ []) (sym k.rows_is)
 
-  abbrev pub with_row : ℕ → ℕ → List ParamValue → BuilderState
-  with_row a n more = record s { arity = Some a; waiting = waiting_rows (Some a) n (contents more) }
+  abbrev pub with_row : ℕ → ℕ → List Content → BuilderState
+  with_row a n more = record s { arity = Some a; waiting = waiting_rows (Some a) n more }
 
-  pub keeps_next : (total a n : ℕ) (row : List Content) (more : List ParamValue) (further : List ParamType) → TakesArity s.arity (length row) → RowFits s row
-      → total ≡ sum_by row_size (s.waiting ++ row ∷ []) → a ≡ length row → n ≡ count + 1 → more ≡ values ++ map with_indicator row → further ≡ (if s.types_due then types_with_row types row else types)
-      → IsStoredAs (with_row a n more) n total more further
-  keeps_next total a n row more further t f e la ln lm lf =
+  pub stored_next : (total a n : ℕ) (row more : List Content) (further : List ParamType) → TakesArity s.arity (length row) → RowFits s row → total ≡ sum_by row_size (s.waiting ++ row ∷ [])
+      → a ≡ length row → n ≡ count + 1 → more ≡ values ++ row → further ≡ (if s.types_due then types_with_row types row else types) → IsStoredAs (with_row a n more) n total more further
+  stored_next total a n row more further t f e la ln lm lf =
       let P : List (List Content) → Type 0 = λ w.
-      IsStoredAs (record s { arity = Some (length row); waiting = w }) (count + 1) total (values ++ map with_indicator row) (if s.types_due then types_with_row types row else types) in
-      rw (la, ln, lm, lf) (subst P (sym (rows_more row t)) (keeps_more total row t f e))
+      IsStoredAs (record s { arity = Some (length row); waiting = w }) (count + 1) total (values ++ row) (if s.types_due then types_with_row types row else types) in
+      rw (la, ln, lm, lf) (subst P (sym (rows_more row t)) (stored_more total row t f e))
 
-  pub state_next : (a n : ℕ) (row : List Content) (more : List ParamValue) → TakesArity s.arity (length row) → a ≡ length row → n ≡ count + 1 → more ≡ values ++ map with_indicator row
-      → with_row a n more ≡ after_row s row
+  pub state_next : (a n : ℕ) (row more : List Content) → TakesArity s.arity (length row) → a ≡ length row → n ≡ count + 1 → more ≡ values ++ row → with_row a n more ≡ after_row s row
   state_next a n row more t la ln lm = rw (la, ln, lm) (ap (λ (w : List (List Content)). record s { arity = Some (length row); waiting = w }) (rows_more row t))
 
-  pub keeps_fits : count ≢ 0 → 7 + 2 * length types + size < 2 ^ 64
-  keeps_fits n = omega (arith, keeps_size n, keeps_bound n, k.limit_is)
+  pub stored_fits : count ≢ 0 → 7 + 2 * length types + size < 2 ^ 64
+  stored_fits n = omega (arith, stored_size n, stored_bound n, k.limit_is)
 
   -- what holds of every builder
   pub consistent : IsConsistent s
   consistent = record {
-    one_length = one (unwrap_or s.arity 0) s.waiting keeps_equal;
-    arity = known s.arity s.waiting k.flat.none (λ c. k.rows_is ∙ ap (λ n. rows_of (unwrap_or s.arity 0) n (contents values)) c) keeps_equal;
-    fits = λ n. keeps_allowed (λ c. n (k.rows_is ∙ ap (λ m. rows_of (unwrap_or s.arity 0) m (contents values)) c));
+    one_length = one (unwrap_or s.arity 0) s.waiting stored_equal;
+    arity = known s.arity s.waiting k.flat.none (λ c. k.rows_is ∙ ap (λ n. rows_of (unwrap_or s.arity 0) n values) c) stored_equal;
+    fits = λ n. stored_allowed (λ c. n (k.rows_is ∙ ap (λ m. rows_of (unwrap_or s.arity 0) m values) c));
   }
     where
       one : (a : ℕ) (rows : List (List Content)) → EqualLengths a rows → EqualLengths (first_length rows) rows

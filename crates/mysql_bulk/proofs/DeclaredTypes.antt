@@ -1,4 +1,4 @@
--- The types of columns, as they are kept while rows come.
+-- The types of columns, while rows come one after another.
 use Rattle.std.proofs.Common.{◌≡◌, ◌≢◌, ◌⊎◌, inl, inr, ℕ, zero, suc, ◌+◌, ◌<◌, Bool, true, false, List, [], ◌∷◌, ◌++◌, length, take, get_or, refl, sym, ◌∙◌, ap, arith, add-one}
 use Rattle.std.specs.Prelude.{fold, ◌||◌}
 use Rattle.std.specs.List.{list_any}
@@ -73,16 +73,16 @@ null_first (Date t) values = refl
 null_first (Time t) values = refl
 
 -- the type so far of all values of a column is its declared type
-pub column_joined : (values : List Content) → fold type_with (type_of NULL) values ≡ declared_type values
-column_joined [] = refl
-column_joined (NULL ∷ values) = column_joined values ∙ null_first (first_not_null values) values
-column_joined (Bytes b ∷ values) = bytes_stay values
-column_joined (Int n ∷ values) = numbers_stay false values
-column_joined (UInt n ∷ values) = numbers_stay true values
-column_joined (Float n ∷ values) = floats_stay values
-column_joined (Double n ∷ values) = doubles_stay values
-column_joined (Date t ∷ values) = dates_stay values
-column_joined (Time t ∷ values) = times_stay values
+pub type_of_column : (values : List Content) → fold type_with (type_of NULL) values ≡ declared_type values
+type_of_column [] = refl
+type_of_column (NULL ∷ values) = type_of_column values ∙ null_first (first_not_null values) values
+type_of_column (Bytes b ∷ values) = bytes_stay values
+type_of_column (Int n ∷ values) = numbers_stay false values
+type_of_column (UInt n ∷ values) = numbers_stay true values
+type_of_column (Float n ∷ values) = floats_stay values
+type_of_column (Double n ∷ values) = doubles_stay values
+type_of_column (Date t ∷ values) = dates_stay values
+type_of_column (Time t ∷ values) = times_stay values
 
 -- ---- the columns of rows
 
@@ -97,11 +97,11 @@ pub first_more : (row : List Value) (i : ℕ) (d : Value) → i < length row
     → types_with_row [] (contents_of (take (i + 1) row)) ≡ types_with_row [] (contents_of (take i row)) ++ type_of (content_of (get_or row i d)) ∷ []
 first_more row i d h = rw add-one (first_next row i d h)
 
-length-joined : (types : List ParamType) (row : List Content) → length types ≡ length row → length (types_with_row types row) ≡ length row
-length-joined [] [] e = refl
-length-joined [] (v ∷ row) e = absurd (omega arith)
-length-joined (t ∷ types) [] e = absurd (omega arith)
-length-joined (t ∷ types) (v ∷ row) e = ap suc (length-joined types row (omega arith))
+length-types_with_row : (types : List ParamType) (row : List Content) → length types ≡ length row → length (types_with_row types row) ≡ length row
+length-types_with_row [] [] e = refl
+length-types_with_row [] (v ∷ row) e = absurd (omega arith)
+length-types_with_row (t ∷ types) [] e = absurd (omega arith)
+length-types_with_row (t ∷ types) (v ∷ row) e = ap suc (length-types_with_row types row (omega arith))
 
 pub length-first : (row : List Content) → length (types_with_row [] row) ≡ length row
 length-first [] = refl
@@ -111,15 +111,15 @@ length-first (v ∷ row) = ap suc (length-first row)
 length-more : (a : ℕ) (types : List ParamType) (rows : List (List Content)) → length types ≡ a → EqualLengths a rows → length (fold types_with_row types rows) ≡ a
 length-more a types [] e r = e
 length-more a types (row ∷ rows) e r =
-    length-more a (types_with_row types row) rows (length-joined types row (e ∙ sym r.0) ∙ r.0) r.1
+    length-more a (types_with_row types row) rows (length-types_with_row types row (e ∙ sym r.0) ∙ r.0) r.1
 
-get-joined : (types : List ParamType) (row : List Content) (i : ℕ) (d : ParamType) → length types ≡ length row → i < length row
+get-types_with_row : (types : List ParamType) (row : List Content) (i : ℕ) (d : ParamType) → length types ≡ length row → i < length row
     → get_or (types_with_row types row) i d ≡ type_with (get_or types i d) (get_or row i NULL)
-get-joined [] [] i d e h = absurd (omega arith)
-get-joined [] (v ∷ row) i d e h = absurd (omega arith)
-get-joined (t ∷ types) [] i d e h = absurd (omega arith)
-get-joined (t ∷ types) (v ∷ row) zero d e h = refl
-get-joined (t ∷ types) (v ∷ row) (suc i) d e h = get-joined types row i d (omega arith) (omega arith)
+get-types_with_row [] [] i d e h = absurd (omega arith)
+get-types_with_row [] (v ∷ row) i d e h = absurd (omega arith)
+get-types_with_row (t ∷ types) [] i d e h = absurd (omega arith)
+get-types_with_row (t ∷ types) (v ∷ row) zero d e h = refl
+get-types_with_row (t ∷ types) (v ∷ row) (suc i) d e h = get-types_with_row types row i d (omega arith) (omega arith)
 
 get-first : (row : List Content) (i : ℕ) (d : ParamType) → i < length row → get_or (types_with_row [] row) i d ≡ type_with (type_of NULL) (get_or row i NULL)
 get-first [] i d h = absurd (omega arith)
@@ -130,15 +130,15 @@ get-more : (a : ℕ) (types : List ParamType) (rows : List (List Content)) (i : 
     → get_or (fold types_with_row types rows) i d ≡ fold type_with (get_or types i d) (column_values rows i)
 get-more a types [] i d e r h = refl
 get-more a types (row ∷ rows) i d e r h =
-    get-more a (types_with_row types row) rows i d (length-joined types row (e ∙ sym r.0) ∙ r.0) r.1 h
-    ∙ ap (λ (t : ParamType). fold type_with t (column_values rows i)) (get-joined types row i d (e ∙ sym r.0) (let l = r.0 in omega arith))
+    get-more a (types_with_row types row) rows i d (length-types_with_row types row (e ∙ sym r.0) ∙ r.0) r.1 h
+    ∙ ap (λ (t : ParamType). fold type_with t (column_values rows i)) (get-types_with_row types row i d (e ∙ sym r.0) (let l = r.0 in omega arith))
 
 pub length-types : (a : ℕ) (types : List ParamType) (row : List Content) → length types ≡ a → length row ≡ a → length (types_with_row types row) ≡ a
-length-types a types row e r = length-joined types row (e ∙ sym r) ∙ r
+length-types a types row e r = length-types_with_row types row (e ∙ sym r) ∙ r
 
 -- the types so far of all rows are their declared types
-pub types_joined : (a : ℕ) (row : List Content) (rows : List (List Content)) → EqualLengths a (row ∷ rows) → fold types_with_row [] (row ∷ rows) ≡ declared_types (row ∷ rows)
-types_joined a row rows r =
+pub types_of_rows : (a : ℕ) (row : List Content) (rows : List (List Content)) → EqualLengths a (row ∷ rows) → fold types_with_row [] (row ∷ rows) ≡ declared_types (row ∷ rows)
+types_of_rows a row rows r =
     let d = type_of NULL in
     let first : length (types_with_row [] row) ≡ a = length-first row ∙ r.0 in
     let long : length (fold types_with_row (types_with_row [] row) rows) ≡ a = length-more a (types_with_row [] row) rows first r.1 in
@@ -147,12 +147,12 @@ types_joined a row rows r =
     (λ i h.
     get-more a (types_with_row [] row) rows i d first r.1 (omega (arith, long, h))
     ∙ ap (λ (t : ParamType). fold type_with t (column_values rows i)) (get-first row i d (let l = r.0 in omega (arith, long, h, l)))
-    ∙ column_joined (column_values (row ∷ rows) i)
+    ∙ type_of_column (column_values (row ∷ rows) i)
     ∙ sym (get_or-map-range_with_len f 0 (length row) i i d (let l = r.0 in omega (arith, long, h, l)) (omega arith)))
 
 pub types_all : (a : ℕ) (rows : List (List Content)) → rows ≢ [] → EqualLengths a rows → fold types_with_row [] rows ≡ declared_types rows
 types_all a [] n r = absurd (n refl)
-types_all a (row ∷ rows) n r = types_joined a row rows r
+types_all a (row ∷ rows) n r = types_of_rows a row rows r
 
 -- before a row of their length: there are as many types, or there was no row
 pub types_before : (a : ℕ) (rows : List (List Content)) → EqualLengths a rows → (length (fold types_with_row [] rows) ≡ a) ⊎ (rows ≡ [])

@@ -56,7 +56,7 @@ module _ {S : Type 0} (steps : S → Option Params → S → Type 0) where
         accepts = subst (Accepts s _) (sym a.1) k.accepts;
       }
 
-  -- a carried row is after_row first
+  -- a carried row is accepted first
   pub params_carried : (s m t : BuilderState) (row : Vec Value) (rows left : S) (r : Result (Option (Vec Value)) BulkExecuteRequestBuilderError) → Adds s row (Ok None) m
       → AcceptsParamsUntilFull steps m.names m None rows r t left → AcceptsParamsUntilFull steps s.names s (Some row) rows r t left
   params_carried s m t row rows left (Ok last) a f =

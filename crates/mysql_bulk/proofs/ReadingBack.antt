@@ -5,12 +5,9 @@ use Rattle.std.proofs.lemmas.Grind.{flat_map-append}
 use Rattle.std.proofs.lemmas.List.Elements.{All-map}
 use Rattle.std.proofs.lemmas.List.FromFn.{length-map-range_with_len}
 use Rattle.std.specs.List.{All, AllZip, flat_map, list_any, range_with_len}
-use Rattle.mysql_wire.specs.declared.codes.column_type.ColumnType.{ColumnType}
-use Rattle.mysql_wire.specs.declared.codes.mariadb_bulk_indicator.MariadbBulkIndicator.{MariadbBulkIndicator}
-use Rattle.mysql_wire.specs.declared.codes.mariadb_bulk_indicator.MariadbBulkIndicator.TheVariants.{BULK_INDICATOR_NONE, BULK_INDICATOR_NULL}
+use Rattle.mysql_wire.specs.FlagMasks.{UNSIGNED, UNSIGNED_FLAG}
 use Rattle.mysql_wire.specs.Each.{each}
 use Rattle.mysql_wire.specs.Flags.{has}
-use Rattle.mysql_wire.specs.Form.{give, either}
 use Rattle.mysql_wire.specs.ListAgain.{many-again}
 use Rattle.mysql_wire.specs.Many.{many}
 use Rattle.mysql_wire.specs.MariadbBulkIndicator.{mariadb_bulk_indicator-again}
@@ -21,13 +18,12 @@ use Rattle.mysql_values.specs.declared.param_type.ParamType.{ParamType}
 use Rattle.mysql_values.specs.ReadingBack.{Agrees}
 use Rattle.mysql_values.specs.SentType.{is_uint}
 use Rattle.mysql_values.specs.Value.{Content, NULL, Bytes, Int, UInt, Float, Double, Date, Time, bin}
-use Rattle.mysql_values.specs.ValueDeserializer.{bin_value}
 use Rattle.mysql_bulk.specs.Builder.{BuilderState, IsRequest}
 use Rattle.mysql_bulk.specs.DeclaredTypes.{first_not_null, type_from, declared_type, declared_types, column_values}
 use Rattle.mysql_bulk.specs.Head.{BulkHead, head, sends_types, value_columns, column_of_type}
-use Rattle.mysql_bulk.specs.ParamTypes.{TypesFor}
-use Rattle.mysql_bulk.specs.ParamValue.{ParamValue, with_indicator, param_value, param_value_bytes, values_bytes, value_follows}
-use Rattle.mysql_bulk.specs.ParamValues.{BulkColumn, value_of_column, values_of_columns}
+use Rattle.mysql_bulk.specs.HeadTypes.{TypesFor}
+use Rattle.mysql_bulk.specs.ParamValue.{ParamValue, with_indicator, param_value, param_value_bytes, values_bytes}
+use Rattle.mysql_bulk.specs.ParamValues.{BulkColumn, value_of_column}
 use Rattle.mysql_bulk.specs.ReadRows.{content_of_column, row_of_columns, bulk_rows}
 use Rattle.mysql_bulk.specs.ReadingBack.{AgreesWith, ParamValueAgrees, RequestFits, RowsFit, columns_read_by, PartAgrees}
 use Rattle.mysql_bulk.specs.Request.{BulkRequest, head_of, request_flags, request_bytes}
@@ -36,7 +32,7 @@ use Rattle.mysql_bulk.specs.Row.{first_length}
 
 -- ---- values
 
-pub param_value-again : (column : BulkColumn) (v : ParamValue) → ParamValueAgrees column v → IsSpelling (param_value column.0 (has column.1.0 32)) v (param_value_bytes v)
+pub param_value-again : (column : BulkColumn) (v : ParamValue) → ParamValueAgrees column v → IsSpelling (param_value column.0 (has column.1.0 UNSIGNED_FLAG)) v (param_value_bytes v)
 param_value-again column v a rest =
     rw append_assoc (
       record { 0 = v.indicator; 1 = record {} },
@@ -46,7 +42,7 @@ param_value-again column v a rest =
     )
 
 -- a value that agrees with its column's type agrees with its indicator
-pub indicated : (column : BulkColumn) (v : Content) → Agrees column.0 (has column.1.0 32) v → ParamValueAgrees column (with_indicator v)
+pub indicated : (column : BulkColumn) (v : Content) → Agrees column.0 (has column.1.0 UNSIGNED_FLAG) v → ParamValueAgrees column (with_indicator v)
 indicated column NULL a = λ rest. (refl, refl)
 indicated column (Bytes x) a = a
 indicated column (Int x) a = a
@@ -68,7 +64,7 @@ values-again place (column ∷ columns) (v ∷ values) a rest =
 
 -- ---- a row
 
-value_again : (place : ℕ) (column : BulkColumn) (v : Content) → Agrees column.0 (has column.1.0 32) v → IsSpelling (content_of_column place column) v (param_value_bytes (with_indicator v))
+value_again : (place : ℕ) (column : BulkColumn) (v : Content) → Agrees column.0 (has column.1.0 UNSIGNED_FLAG) v → IsSpelling (content_of_column place column) v (param_value_bytes (with_indicator v))
 value_again place column v a rest = (with_indicator v, refl, param_value-again column (with_indicator v) (indicated column v a) rest)
 
 -- the bytes of a row
@@ -159,7 +155,7 @@ flags_small true false = omega arith
 flags_small false true = omega arith
 flags_small false false = omega arith
 
-typed_small : (b : Bool) → (if b then 128 else 0) < 2 ^ 8
+typed_small : (b : Bool) → (if b then UNSIGNED else 0) < 2 ^ 8
 typed_small true = omega arith
 typed_small false = omega arith
 

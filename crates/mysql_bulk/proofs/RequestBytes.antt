@@ -1,6 +1,6 @@
 -- The bytes of a request, and how many they are.
-use Rattle.std.proofs.Common.{◌≡◌, ℕ, ◌+◌, ◌*◌, Bool, true, false, if◌then◌else◌, List, [], ◌∷◌, ◌++◌, length, map, refl, sym, ◌∙◌, ap, arith, length-append, sum_by}
-use Rattle.std.proofs.lemmas.List.{map-append}
+use Rattle.std.proofs.Common.{◌≡◌, ◌+◌, ◌*◌, Bool, true, false, if◌then◌else◌, List, [], ◌∷◌, ◌++◌, length, map, refl, ◌∙◌, ap, arith, length-append, sum_by}
+use Rattle.std.specs.List.{flat_map}
 use Rattle.std.proofs.lemmas.List.FromFn.{length-map-range_with_len}
 use Rattle.std.proofs.lemmas.List.Sums.{sum_by-append}
 use Rattle.mysql_wire.specs.MariadbBulkIndicator.{mariadb_bulk_indicator_code}
@@ -13,7 +13,7 @@ use Rattle.mysql_values.specs.Value.{Content, bin, content_of, contents_of, size
 use Rattle.mysql_bulk.specs.Builder.{BuilderState, packing, IsRequest}
 use Rattle.mysql_bulk.specs.DeclaredTypes.{declared_type, column_values, declared_types}
 use Rattle.mysql_bulk.specs.Head.{BulkHead, head}
-use Rattle.mysql_bulk.specs.ParamTypes.{types_bytes, length-types}
+use Rattle.mysql_bulk.specs.HeadTypes.{types_bytes, length-types}
 use Rattle.mysql_bulk.specs.ParamValue.{ParamValue, with_indicator, contents, param_value_bytes, values_bytes}
 use Rattle.mysql_bulk.specs.Request.{BulkRequest, head_of, request_bytes, written_size}
 use Rattle.mysql_bulk.specs.Row.{param_size, row_size, values_size, first_length}
@@ -29,6 +29,18 @@ length-values (v ∷ values) =
       length-bin v.content,
       length-append (le_bytes 1 (mariadb_bulk_indicator_code v.indicator)) (bin v.content),
       sum_by-append param_size (v.content ∷ []) (contents values),
+    )
+
+-- so many bytes without the indicators, which take one each
+pub length-values_alone : (values : List Value) → length (flat_map (λ (value : Value). bin (content_of value)) values) + length values ≡ row_size (contents_of values)
+length-values_alone [] = refl
+length-values_alone (v ∷ values) =
+    omega (
+      arith,
+      length-append (bin (content_of v)) (flat_map (λ (value : Value). bin (content_of value)) values),
+      length-values_alone values,
+      length-bin (content_of v),
+      sum_by-append param_size (content_of v ∷ []) (contents_of values),
     )
 
 length-head : (h : BulkHead) → length (head.bytes h) ≡ 7 + 2 * length h.types
@@ -59,9 +71,9 @@ pub contents_indicators : (values : List Content) → contents (map with_indicat
 contents_indicators [] = refl
 contents_indicators (v ∷ values) = ap (λ (l : List Content). v ∷ l) (contents_indicators values)
 
-pub size_joined : (rows : List (List Content)) → row_size (rows_in rows) ≡ sum_by row_size rows
-size_joined [] = refl
-size_joined (row ∷ rows) = omega (arith, sum_by-append param_size row (rows_in rows), size_joined rows, sum_by-append row_size (row ∷ []) rows)
+pub size-rows_in : (rows : List (List Content)) → row_size (rows_in rows) ≡ sum_by row_size rows
+size-rows_in [] = refl
+size-rows_in (row ∷ rows) = omega (arith, sum_by-append param_size row (rows_in rows), size-rows_in rows, sum_by-append row_size (row ∷ []) rows)
 
 types_size : (sent : Bool) (rows : List (List Content)) → 2 * length (if sent then declared_types rows else []) ≡ (if sent then 2 * first_length rows else 0)
 types_size true rows = ap (λ n. 2 * n) (length-map-range_with_len (λ i. declared_type (column_values rows i)) 0 (first_length rows))
@@ -71,5 +83,5 @@ types_size false rows = refl
 pub size_of_rows : (s : BuilderState) (rows : List (List Content)) (request : BulkRequest) → IsRequest s rows request → length (request_bytes request) ≡ request_size (packing s (first_length rows)) s.types_due rows
 size_of_rows s rows request i =
     let types : 2 * length request.types ≡ (if s.types_due then 2 * first_length rows else 0) = ap (λ (l : List ParamType). 2 * length l) i.types ∙ types_size s.types_due rows in
-    let values : row_size (contents request.values) ≡ sum_by row_size rows = ap (λ (l : List ParamValue). row_size (contents l)) i.values ∙ ap row_size (contents_indicators (rows_in rows)) ∙ size_joined rows in
+    let values : row_size (contents request.values) ≡ sum_by row_size rows = ap (λ (l : List ParamValue). row_size (contents l)) i.values ∙ ap row_size (contents_indicators (rows_in rows)) ∙ size-rows_in rows in
     omega (arith, length-request request, types, values)

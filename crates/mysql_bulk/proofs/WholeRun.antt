@@ -1,12 +1,12 @@
 -- A run over a list of rows: what was sent, what waits and what is still to come.
-use Rattle.std.proofs.Common.{◌≡◌, ◌≢◌, ℕ, ◌+◌, Bool, true, false, cond, if◌then◌else◌, map, List, [], ◌∷◌, ◌++◌, length, take, drop, Option, Some, None, Ok, Err, refl, sym, ◌∙◌, ap, subst, arith, length-append, append_assoc}
+use Rattle.std.proofs.Common.{◌≡◌, ◌≢◌, ℕ, ◌+◌, Bool, true, false, cond, if◌then◌else◌, List, [], ◌∷◌, ◌++◌, length, take, drop, Option, Some, None, Err, refl, sym, ◌∙◌, ap, subst, arith, length-append, append_assoc}
 use Rattle.std.proofs.lemmas.List.{append-nil, take-append-le, take-append-drop, take_at}
 use Rattle.std.proofs.lemmas.List.Sums.{take_while-cons}
 use Rattle.std.proofs.lemmas.Bool.{eqb-true, eq-eqb}
 use Rattle.std.specs.Prelude.{take_while, nat_eq, slice_get}
 use Rattle.std.specs.List.{prefix_len}
 use Rattle.std.specs.Global.{Vec}
-use Rattle.mysql_cuts.specs.Cut.{Packing, PartFits, rows_in, HasFittingCut, IsFewest, IsFullFromFront, NextDoesNotFit, types_after, ends_after}
+use Rattle.mysql_cuts.specs.Cut.{PartFits, rows_in, HasFittingCut, IsFewest, IsFullFromFront, NextDoesNotFit, types_after, ends_after}
 use Rattle.mysql_cuts.proofs.Packed.{IsPacked, packed_more, packed_close, packed_front, packed_fewest, packed_full, packed_fits, packed_stuck, fits_front, joined_push, open_packed}
 use Rattle.mysql_values.specs.declared.params.ParamsError.{ParamsError}
 use Rattle.mysql_values.specs.declared.value.Value.{Value}
@@ -17,10 +17,9 @@ use Rattle.mysql_bulk.specs.declared.error.BulkExecuteRequestError.{BulkExecuteR
 use Rattle.mysql_bulk.specs.declared.error.BulkExecuteRequestError.TheVariants.{MixedArity, RowTooLarge, MemoryRow, NoParams, Memory}
 use Rattle.mysql_bulk.specs.Builder.{BuilderState, packing, TakesArity, RowFits, after_row, Adds, IsRequest, BuildsRequest, after_request, arity_after, IsConsistent}
 use Rattle.mysql_bulk.specs.DeclaredTypes.{declared_types}
-use Rattle.mysql_bulk.specs.ParamValue.{with_indicator}
-use Rattle.mysql_bulk.specs.Refusal.{equal_front, measure, EachFrontFits, RefusalOfRows}
+use Rattle.mysql_bulk.specs.WholeRunRefusal.{equal_front, measure, RefusalOfRows}
 use Rattle.mysql_bulk.specs.Request.{BulkRequest, request_flags}
-use Rattle.mysql_bulk.specs.Row.{contents_of_row, rows_packing, first_length, EqualLengths}
+use Rattle.mysql_bulk.specs.Row.{contents_of_row, first_length, EqualLengths}
 use Rattle.mysql_bulk.specs.Run.{Accepts}
 use Rattle.mysql_bulk.specs.WholeRun.{IsNew, HadMemory, AreRequests, due_after, left_by, EndsBy, RefusalOfList, RunGives}
 

@@ -1,5 +1,5 @@
 -- A builder of bulk requests, and its steps.
-use Rattle.std.specs.Prelude.{◌≡◌, ◌≢◌, ℕ, ◌^◌, ◌<◌, Bool, if◌then◌else◌, List, [], ◌∷◌, ◌++◌, length, Option, Some, None, Result, Ok, Err, map, fold, unwrap_or}
+use Rattle.std.specs.Prelude.{◌≡◌, ◌≢◌, ℕ, ◌^◌, ◌<◌, Bool, true, false, if◌then◌else◌, List, [], ◌∷◌, ◌++◌, length, Option, Some, None, Result, Ok, Err, map, fold, unwrap_or}
 use Rattle.std.specs.Global.{Vec}
 use Rattle.mysql_cuts.specs.declared.rule.BulkRule.{BulkRule}
 use Rattle.mysql_cuts.specs.Cut.{Packing, PartFits, rows_in, request_size}
@@ -12,11 +12,13 @@ use Rattle.mysql_bulk.specs.declared.error.BulkExecuteRequestError.{BulkExecuteR
 use Rattle.mysql_bulk.specs.declared.error.BulkExecuteRequestError.TheVariants.{MixedArity, RowTooLarge, MemoryRow, NoParams, Memory}
 use Rattle.mysql_bulk.specs.declared.error.BulkExecuteRequestBuilderError.{BulkExecuteRequestBuilderError}
 use Rattle.mysql_bulk.specs.declared.error.BulkExecuteRequestBuilderError.TheVariants as refused
+use Rattle.mysql_bulk.specs.declared.error.BulkRowRefusal.{BulkRowRefusal}
+use Rattle.mysql_bulk.specs.declared.error.BulkRowRefusal.TheVariants as copy_refused
 use Rattle.mysql_bulk.specs.DeclaredTypes.{declared_types, types_with_row}
-use Rattle.mysql_bulk.specs.ParamValue.{ParamValue, with_indicator, contents}
+use Rattle.mysql_bulk.specs.ParamValue.{with_indicator}
 use Rattle.mysql_bulk.specs.Request.{BulkRequest, request_flags, request_bytes}
 use Rattle.mysql_bulk.specs.Row.{contents_of_row, first_length, OneLength, rows_packing}
-use Rattle.mysql_bulk.specs.WaitingRows.{IsFlat, waiting_rows}
+use Rattle.mysql_bulk.specs.BuilderRows.{IsFlat, waiting_rows}
 
 -- the settings of a builder, and what it holds
 pub record BuilderState : Type 0 where
@@ -68,6 +70,14 @@ abbrev pub AddsRow : BuilderState → Vec Value → Result (Option (Vec Value)) 
 AddsRow s row (Ok back) t = Adds s row (Ok back) t
 AddsRow s row (Err (refused.Request e)) t = Adds s row (Err e) t
 AddsRow s row (Err (refused.Params e)) t = ⊥
+
+-- a copy of a row is offered: it waits, or it does not fit with the rows that wait, or it is refused
+abbrev pub AddsCopy : BuilderState → List Content → Result Bool BulkRowRefusal → BuilderState → Type 0
+AddsCopy s row (Ok true) t = TakesArity s.arity (length row) × RowFits s row × (t ≡ after_row s row)
+AddsCopy s row (Ok false) t = TakesArity s.arity (length row) × (RowFits s row → ⊥) × (s.waiting ≢ []) × (t ≡ s)
+AddsCopy s row (Err copy_refused.MixedArity) t = (TakesArity s.arity (length row) → ⊥) × (t ≡ s)
+AddsCopy s row (Err copy_refused.TooLarge) t = TakesArity s.arity (length row) × (RowFits s row → ⊥) × (s.waiting ≡ []) × (t ≡ s)
+AddsCopy s row (Err copy_refused.Memory) t = TakesArity s.arity (length row) × RowFits s row × (t ≡ s)
 
 -- parameters are offered: their values are a row, or they are refused
 abbrev pub AddsParams : BuilderState → Params → Result (Option (Vec Value)) BulkExecuteRequestBuilderError → BuilderState → Type 0
@@ -133,10 +143,9 @@ pub record IsConsistent (s : BuilderState) : Type 0 where
   pub fits : s.waiting ≢ [] → WaitingFits s
 
 -- so many rows wait, of so many bytes: their values stand in one list, and beside it the types of their columns so far
-pub record IsStoredAs (s : BuilderState) (count size : ℕ) (values : List ParamValue) (types : List ParamType) : Type 0 where
+pub record IsStoredAs (s : BuilderState) (count size : ℕ) (values : List Content) (types : List ParamType) : Type 0 where
   pub limit_is : s.limit < 2 ^ 64
-  pub rows_is : s.waiting ≡ waiting_rows s.arity count (contents values)
-  pub flat : IsFlat s.arity count size (contents values)
-  pub indicators : values ≡ map with_indicator (contents values)
+  pub rows_is : s.waiting ≡ waiting_rows s.arity count values
+  pub flat : IsFlat s.arity count size values
   pub fits : s.waiting ≢ [] → PartFits (packing s (unwrap_or s.arity 0)) s.types_due s.waiting
   pub types_is : types ≡ (if s.types_due then fold types_with_row [] s.waiting else [])

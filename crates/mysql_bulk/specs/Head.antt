@@ -1,17 +1,13 @@
 -- What stands before the values of a bulk request.
-use Rattle.std.specs.Prelude.{◌≡◌, ℕ, ◌*◌, ◌<◌, ◌^◌, Bool, true, false, if◌then◌else◌, List, [], length, map, refl}
-use Rattle.std.specs.List.{All, flat_map}
+use Rattle.std.specs.Prelude.{ℕ, Bool, if◌then◌else◌, List, length, map, refl}
+use Rattle.mysql_wire.specs.FlagMasks.{SEND_TYPES_TO_SERVER, UNSIGNED, UNSIGNED_FLAG}
 use Rattle.mysql_wire.specs.declared.little_endian.LeU16.{LeU16}
 use Rattle.mysql_wire.specs.Flags.{StmtBulkExecuteFlags, has}
-use Rattle.mysql_wire.specs.Form as form
-use Rattle.mysql_wire.specs.Form.{Form}
-use Rattle.mysql_wire.specs.Seq.{seq}
 use Rattle.mysql_wire.specs.Codec.{Codec, Fields}
 use Rattle.mysql_wire.specs.Codecs.{◌>>=◌, give, field, packet, const_u8, u32, flags}
 use Rattle.mysql_values.specs.declared.param_type.ParamType.{ParamType}
-use Rattle.mysql_values.specs.ParamType.{param_type, typed}
 use Rattle.mysql_bulk.specs.declared.head.InvalidComStmtBulkExecuteHeader.{InvalidComStmtBulkExecuteHeader}
-use Rattle.mysql_bulk.specs.ParamTypes.{TypesFor, types_block, types_bytes, types-again}
+use Rattle.mysql_bulk.specs.HeadTypes.{TypesFor, types_block, types_bytes, types-again}
 use Rattle.mysql_bulk.specs.ParamValues.{BulkColumn}
 
 pub record BulkHead : Type 0 where
@@ -22,7 +18,7 @@ pub record BulkHead : Type 0 where
 
 -- types are sent with these flags
 abbrev pub sends_types : StmtBulkExecuteFlags → Bool
-sends_types flags = has flags.0 128
+sends_types flags = has flags.0 SEND_TYPES_TO_SERVER
 
 -- the types of so many columns, where they are sent
 abbrev pub column_types : Bool → Codec ℕ (List ParamType)
@@ -49,7 +45,7 @@ head = packet head_fields (λ h. refl)
 
 -- the column that a type tells of: it has no flag but the one for unsigned numbers
 abbrev pub column_of_type : ParamType → BulkColumn
-column_of_type t = (t.column_type, record { 0 = if has t.flags.0 128 then 32 else 0; 1 = record {} })
+column_of_type t = (t.column_type, record { 0 = if has t.flags.0 UNSIGNED then UNSIGNED_FLAG else 0; 1 = record {} })
 
 -- the columns of the values: those that the types tell of where they are sent, else those handed in
 abbrev pub value_columns : List BulkColumn → BulkHead → List BulkColumn

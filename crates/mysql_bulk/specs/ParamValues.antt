@@ -1,5 +1,6 @@
 -- The values of a row in a bulk request.
 use Rattle.std.specs.Prelude.{ℕ, List}
+use Rattle.mysql_wire.specs.FlagMasks.{UNSIGNED_FLAG}
 use Rattle.mysql_wire.specs.declared.codes.column_type.ColumnType.{ColumnType}
 use Rattle.mysql_wire.specs.Flags.{ColumnFlags, has}
 use Rattle.mysql_wire.specs.Form.{Form}
@@ -12,7 +13,7 @@ BulkColumn = ColumnType × ColumnFlags
 
 -- a value of a column, wherever that stands
 abbrev pub value_of_column : ℕ → BulkColumn → Form ParamValue
-value_of_column place column = param_value column.0 (has column.1.0 32)
+value_of_column place column = param_value column.0 (has column.1.0 UNSIGNED_FLAG)
 
 -- a value of each column
 abbrev pub values_of_columns : List BulkColumn → Form (List ParamValue)

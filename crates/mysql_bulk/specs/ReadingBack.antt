@@ -1,6 +1,7 @@
 -- Which rows are read again from the bytes of a request.
-use Rattle.std.specs.Prelude.{◌≡◌, ◌≢◌, ℕ, ◌<◌, ◌^◌, if◌then◌else◌, List, [], length, map}
+use Rattle.std.specs.Prelude.{◌≡◌, ◌≢◌, ◌<◌, ◌^◌, if◌then◌else◌, List, [], length, map}
 use Rattle.std.specs.List.{All, AllZip}
+use Rattle.mysql_wire.specs.FlagMasks.{UNSIGNED_FLAG}
 use Rattle.mysql_wire.specs.Flags.{has}
 use Rattle.mysql_cuts.specs.Cut.{rows_in}
 use Rattle.mysql_wire.specs.Form.{either, give}
@@ -13,17 +14,17 @@ use Rattle.mysql_bulk.specs.DeclaredTypes.{declared_types}
 use Rattle.mysql_bulk.specs.ParamValue.{ParamValue, with_indicator, value_follows}
 use Rattle.mysql_bulk.specs.ParamValues.{BulkColumn}
 use Rattle.mysql_bulk.specs.Head.{sends_types, value_columns, column_of_type}
-use Rattle.mysql_bulk.specs.ParamTypes.{TypesFor}
+use Rattle.mysql_bulk.specs.HeadTypes.{TypesFor}
 use Rattle.mysql_bulk.specs.Request.{BulkRequest, head_of}
 use Rattle.mysql_bulk.specs.Builder.{BuilderState}
 
 -- as many values as columns, each of which agrees with its column's type
 abbrev pub AgreesWith : List BulkColumn → List Content → Type 0
-AgreesWith columns row = AllZip (λ column value. Agrees column.0 (has column.1.0 32) value) columns row
+AgreesWith columns row = AllZip (λ column value. Agrees column.0 (has column.1.0 UNSIGNED_FLAG) value) columns row
 
 -- what stands behind the value's indicator, if anything, is read as the value, whatever follows
 abbrev pub ParamValueAgrees : BulkColumn → ParamValue → Type 0
-ParamValueAgrees column v = IsSpelling (either (value_follows v.indicator) (bin_value column.0 (has column.1.0 32)) (give NULL)) v.content (bin v.content)
+ParamValueAgrees column v = IsSpelling (either (value_follows v.indicator) (bin_value column.0 (has column.1.0 UNSIGNED_FLAG)) (give NULL)) v.content (bin v.content)
 
 -- the request has one value for each column that it tells of, or that is handed in, which agrees with it
 pub record RequestFits (columns : List BulkColumn) (request : BulkRequest) : Type 0 where

@@ -1,5 +1,6 @@
 -- Bulk requests.
 use Rattle.std.specs.Prelude.{ℕ, ◌+◌, ◌*◌, ◌++◌, Bool, if◌then◌else◌, List, [], length}
+use Rattle.mysql_wire.specs.FlagMasks.{SEND_TYPES_TO_SERVER, SEND_UNIT_RESULTS}
 use Rattle.mysql_wire.specs.Flags.{StmtBulkExecuteFlags}
 use Rattle.mysql_values.specs.declared.param_type.ParamType.{ParamType}
 use Rattle.mysql_bulk.specs.Head.{BulkHead, head}
@@ -17,7 +18,7 @@ pub record BulkRequest : Type 0 where
 
 -- SEND_TYPES_TO_SERVER where types are sent, SEND_UNIT_RESULTS where the results of each row are asked for
 abbrev pub request_flags : Bool → Bool → StmtBulkExecuteFlags
-request_flags types results = record { 0 = (if types then 128 else 0) + (if results then 64 else 0); 1 = record {} }
+request_flags types results = record { 0 = (if types then SEND_TYPES_TO_SERVER else 0) + (if results then SEND_UNIT_RESULTS else 0); 1 = record {} }
 
 -- what stands before the values of a request
 abbrev pub head_of : BulkRequest → BulkHead

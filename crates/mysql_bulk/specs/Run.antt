@@ -1,5 +1,5 @@
 -- A run over rows that an iterator gives: which rows were taken, and what became of them.
-use Rattle.std.specs.Prelude.{◌≡◌, ◌≢◌, Bool, true, false, List, [], ◌∷◌, length, Option, Some, None, Result, Ok, Err, is_none, IfSome, option_to_list, ◌⊎◌, ◌+◌}
+use Rattle.std.specs.Prelude.{◌≡◌, Bool, true, false, List, [], ◌∷◌, length, Option, Some, None, Result, Ok, Err, is_none, IfSome, option_to_list, ◌⊎◌, ◌+◌}
 use Rattle.std.specs.Global.{Vec}
 use Rattle.std.specs.Iterator.{YieldsThen, Count, count_unless, count_map}
 use Rattle.mysql_values.specs.declared.value.Value.{Value}

@@ -5,11 +5,11 @@ use Rattle.mysql_cuts.specs.Cut.{rows_in, NoneEmpty, FullFrom, IsFewest, IsFullF
 use Rattle.mysql_values.specs.declared.value.Value.{Value}
 use Rattle.mysql_values.specs.Value.{Content}
 use Rattle.mysql_bulk.specs.declared.error.BulkExecuteRequestError.{BulkExecuteRequestError}
-use Rattle.mysql_bulk.specs.declared.error.BulkExecuteRequestError.TheVariants.{MixedArity, RowTooLarge, MemoryRow, NoParams, Memory}
+use Rattle.mysql_bulk.specs.declared.error.BulkExecuteRequestError.TheVariants.{MemoryRow, Memory}
 use Rattle.mysql_bulk.specs.declared.error.BulkExecuteRequestBuilderError.{BulkExecuteRequestBuilderError}
 use Rattle.mysql_bulk.specs.declared.error.BulkExecuteRequestBuilderError.TheVariants.{Request, Params}
 use Rattle.mysql_bulk.specs.Builder.{BuilderState, IsRequest, Adds, BuildsRequest, after_request, arity_after}
-use Rattle.mysql_bulk.specs.Refusal.{RefusalOfRows, equal_front, measure}
+use Rattle.mysql_bulk.specs.WholeRunRefusal.{RefusalOfRows, equal_front, measure}
 use Rattle.mysql_bulk.specs.Request.{BulkRequest}
 use Rattle.mysql_bulk.specs.Row.{contents_of_row}
 

@@ -11,7 +11,6 @@ ghost use Rattle.mysql_bulk.specs.Row.{row_size, rows_packing};
 
 use crate::declared_types::join_row;
 use crate::error::{BulkExecuteRequestBuilderError, BulkExecuteRequestError};
-use crate::param_value::StmtBulkExecuteParamValue;
 use crate::request::ComStmtBulkExecuteRequest;
 use crate::row::{append_row, bulk_row_size, find_room};
 use crate::size::request_len;
@@ -21,6 +20,8 @@ use mysql_wire::{Flags, StmtBulkExecuteFlags};
 use std::alloc::{AllocError, Global};
 use std::marker::Model;
 use std::mem;
+
+mod borrowed;
 
 /// Collects rows for requests of a bulk execution, none of which is past the limit.
 ///
@@ -40,7 +41,7 @@ pub struct ComStmtBulkExecuteRequestBuilder<'a> {
     count: usize,
     size: u64,
     /// The values of the waiting rows, row after row.
-    values: Vec<StmtBulkExecuteParamValue>,
+    values: Vec<Value>,
     /// The types of the columns so far, while types are to be sent.
     types: Vec<ParamType>,
 }
@@ -48,8 +49,8 @@ pub struct ComStmtBulkExecuteRequestBuilder<'a> {
 impl<'a> Model for ComStmtBulkExecuteRequestBuilder<'a> {
     ghost use Rattle.std.specs.Option.{option_copied};
     ghost use Rattle.mysql_bulk.specs.Builder.{BuilderState, IsStoredAs};
-    ghost use Rattle.mysql_bulk.specs.WaitingRows.{waiting_rows};
-    ghost use Rattle.mysql_bulk.specs.ParamValue.{contents};
+    ghost use Rattle.mysql_bulk.specs.BuilderRows.{waiting_rows};
+    ghost use Rattle.mysql_values.specs.Value.{contents_of};
 
     ghost Value = { BuilderState };
 
@@ -61,7 +62,7 @@ impl<'a> Model for ComStmtBulkExecuteRequestBuilder<'a> {
       names = option_copied a.names;
       arity = a.arity;
       types_due = a.types_due;
-      waiting = waiting_rows a.arity a.count (contents a.values.items);
+      waiting = waiting_rows a.arity a.count (contents_of a.values.items);
     } };
 
     ghost invariant = { λ a. IsStoredAs (record {
@@ -72,8 +73,8 @@ impl<'a> Model for ComStmtBulkExecuteRequestBuilder<'a> {
       names = option_copied a.names;
       arity = a.arity;
       types_due = a.types_due;
-      waiting = waiting_rows a.arity a.count (contents a.values.items);
-    }) a.count a.size a.values.items a.types.items };
+      waiting = waiting_rows a.arity a.count (contents_of a.values.items);
+    }) a.count a.size (contents_of a.values.items) a.types.items };
 }
 
 impl<'a> Clone for ComStmtBulkExecuteRequestBuilder<'a> {
@@ -319,7 +320,7 @@ impl<'a> ComStmtBulkExecuteRequestBuilder<'a> {
 
     /// Offers a row. Where it fits with the rows that wait, it waits too, and the answer is `Ok(None)`.
     ///
-    /// A row that does not fit with those that wait is with_indicator back as `Ok(Some(row))`; a request is built then. Of the
+    /// A row that does not fit with those that wait is handed back as `Ok(Some(row))`; a request is built then. Of the
     /// refusals, `MixedArity` drops the row; `RowTooLarge` (it does not fit where nothing waits) and `MemoryRow` hand
     /// it back. Where the row does not wait, the builder stays as it was.
     pub fn add_row(
@@ -371,6 +372,7 @@ impl<'a> ComStmtBulkExecuteRequestBuilder<'a> {
             bulk_flags,
             types,
             values,
+            indicators: Vec::new(self.alloc),
             size: size as usize,
         })
     }

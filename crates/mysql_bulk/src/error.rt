@@ -23,6 +23,20 @@ pub enum BulkExecuteRequestError {
     Memory,
 }
 
+/// Why a row that was borrowed was refused. The caller still has it.
+#[derive(Clone, Copy, Debug, PartialEq, Eq, Error)]
+pub enum BulkRowRefusal {
+    /// The row has not as many values as the rows before it.
+    #[error("Mixed statement arity")]
+    MixedArity,
+    /// The row alone is past the limit of a request.
+    #[error("Got row bigger than max payload length")]
+    TooLarge,
+    /// Memory for a copy of the row was refused.
+    #[error("Memory")]
+    Memory,
+}
+
 /// Why the builder refused parameters.
 #[derive(Clone, Debug, PartialEq, Drop, Error)]
 pub enum BulkExecuteRequestBuilderError {

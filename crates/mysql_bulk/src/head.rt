@@ -5,7 +5,7 @@ ghost use Rattle.std.specs.Prelude.{true, ◌≡◌, length, IfOk, OnErr, map};
 ghost use Rattle.mysql_wire.specs.Reading.{Answers};
 ghost use Rattle.mysql_wire.specs.Seq.{items_of};
 ghost use Rattle.mysql_bulk.specs.Head.{head, value_columns, column_of_type, sends_types};
-ghost use Rattle.mysql_bulk.specs.ParamTypes.{types_block};
+ghost use Rattle.mysql_bulk.specs.HeadTypes.{types_block};
 
 use mysql_values::ParamType;
 use mysql_wire::{

@@ -5,6 +5,7 @@ ghost use Rattle.std.specs.List.{AllZip};
 ghost use Rattle.mysql_cuts.specs.declared.rule.BulkRule.{BulkRule};
 ghost use Rattle.mysql_cuts.specs.Cut.{IsFewest, ends_after, request_size};
 ghost use Rattle.mysql_cuts.specs.Fewest.{weights, NamesFewest};
+ghost use Rattle.mysql_wire.specs.FlagMasks.{UNSIGNED_FLAG};
 ghost use Rattle.mysql_wire.specs.Flags.{has};
 ghost use Rattle.mysql_values.specs.declared.params.ParamsError.{ParamsError};
 ghost use Rattle.mysql_values.specs.ReadingBack.{Agrees};
@@ -12,7 +13,7 @@ ghost use Rattle.mysql_values.specs.Value.{Content};
 ghost use Rattle.mysql_bulk.specs.declared.error.BulkExecuteRequestBuilderError.TheVariants as refused;
 ghost use Rattle.mysql_bulk.specs.declared.error.BulkExecuteRequestError.{BulkExecuteRequestError};
 ghost use Rattle.mysql_bulk.specs.Builder.{BuilderState, IsConsistent, IsRequest, packing};
-ghost use Rattle.mysql_bulk.specs.Loop.{WholeLoop, SentAllRows, RefusedRow, RefusedParams};
+ghost use Rattle.mysql_bulk.specs.RunLoop.{WholeLoop, SentAllRows, RefusedRow, RefusedParams};
 ghost use Rattle.mysql_bulk.specs.ParamValue.{ParamValue, with_indicator, param_value, param_value_bytes, values_bytes};
 ghost use Rattle.mysql_bulk.specs.ParamValues.{BulkColumn, values_of_columns};
 ghost use Rattle.mysql_bulk.specs.ParamsRun.{Names, GivesRowOfParams, NextRequestOfParams};
@@ -24,9 +25,24 @@ ghost use Rattle.mysql_bulk.specs.Row.{first_length, row_size, rows_packing};
 ghost use Rattle.mysql_bulk.specs.Run.{RunState, NextRequest};
 ghost use Rattle.mysql_bulk.specs.WholeRun.{IsNew};
 
+use crate::param_value::StmtBulkExecuteParamValue;
+use crate::param_values::StmtBulkExecuteParamValues;
+use crate::request::ComStmtBulkExecuteRequest;
 use mysql_values::{Params, Value};
+use mysql_wire::MyDeserialize;
 
 // ---- sizes
+
+/// Neither a value behind its indicator, nor the values of a row, nor a request has a constant size.
+pub fn nothing_read_has_a_constant_size() -> (Option<usize>, Option<usize>, Option<usize>)
+    ensures { result ≡ record { 0 = None; 1 = None; 2 = None } }
+{
+    (
+        <StmtBulkExecuteParamValue as MyDeserialize>::SIZE,
+        <StmtBulkExecuteParamValues as MyDeserialize>::SIZE,
+        <ComStmtBulkExecuteRequest as MyDeserialize>::SIZE,
+    )
+}
 
 /// A request is as long as its size says.
 pub fn request_has_its_size()
@@ -88,11 +104,11 @@ pub fn params_loop_that_refuses_params<I: Iterator<Item = Params>>()
 
 /// What is written of a value is read again, whatever follows, where it agrees with its column's type.
 pub fn param_value_again()
-    ensures agrees { (column : BulkColumn) (value : Content) → Agrees column.0 (has column.1.0 32) value → ParamValueAgrees column (with_indicator value) }
+    ensures agrees { (column : BulkColumn) (value : Content) → Agrees column.0 (has column.1.0 UNSIGNED_FLAG) value → ParamValueAgrees column (with_indicator value) }
     ensures spelled { (column : BulkColumn) (value : ParamValue) (rest : List ℕ) → ParamValueAgrees column value →
-        (param_value column.0 (has column.1.0 32)).Spells value (param_value_bytes value ++ rest) rest }
+        (param_value column.0 (has column.1.0 UNSIGNED_FLAG)).Spells value (param_value_bytes value ++ rest) rest }
     ensures read { (column : BulkColumn) (value : ParamValue) (rest : List ℕ) → ParamValueAgrees column value →
-        (param_value column.0 (has column.1.0 32)).reads (param_value_bytes value ++ rest) ≡ Ok (value, rest) }
+        (param_value column.0 (has column.1.0 UNSIGNED_FLAG)).reads (param_value_bytes value ++ rest) ≡ Ok (value, rest) }
 {}
 
 /// What is written of the values of a row is read again, whatever follows, where there is one for each column and each

@@ -14,11 +14,12 @@ mod read_rows;
 mod request;
 mod row;
 mod run;
+mod sent_values;
 mod size;
 mod whole_run;
 
 pub use builder::ComStmtBulkExecuteRequestBuilder;
-pub use error::{BulkExecuteRequestBuilderError, BulkExecuteRequestError};
+pub use error::{BulkExecuteRequestBuilderError, BulkExecuteRequestError, BulkRowRefusal};
 pub use head::{ComStmtBulkExecuteHeader, InvalidComStmtBulkExecuteHeader};
 pub use mysql_values::ParamType as StmtBulkExecuteParamType;
 pub use param_value::StmtBulkExecuteParamValue;

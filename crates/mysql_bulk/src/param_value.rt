@@ -42,7 +42,7 @@ impl StmtBulkExecuteParamValue {
         StmtBulkExecuteParamValue { indicator, value }
     }
 
-    /// How the value is with_indicator.
+    /// How the value is given.
     pub fn indicator(&self) -> MariadbBulkIndicator
         ensures value { result ≡ self.now.indicator }
     {
@@ -98,10 +98,11 @@ impl<'de> MyDeserialize<'de> for StmtBulkExecuteParamValue {
 
     type Ctx = (ColumnType, ColumnFlags);
 
+    ghost use Rattle.mysql_wire.specs.FlagMasks.{UNSIGNED_FLAG};
     ghost use Rattle.mysql_wire.specs.Flags.{has};
     ghost use Rattle.mysql_bulk.specs.ParamValue.{param_value};
 
-    ghost form = { λ column. param_value column.0 (has column.1.0 32) };
+    ghost form = { λ column. param_value column.0 (has column.1.0 UNSIGNED_FLAG) };
 
     #[tactic(auto, using(mysql_wire::proofs::Tails::tails))]
     fn deserialize<'s>(

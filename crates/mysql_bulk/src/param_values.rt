@@ -8,7 +8,6 @@ ghost use Rattle.mysql_bulk.specs.ParamValue.{with_indicator};
 ghost use Rattle.mysql_bulk.specs.ParamValues.{values_of_columns};
 
 use crate::param_value::StmtBulkExecuteParamValue;
-use crate::row::append_row;
 use mysql_values::Value;
 use mysql_wire::{
     AnyWidth, ColumnFlags, ColumnType, FaultOf, MyDeserialize, MySerialize, ParseBuf, append_items,
@@ -57,7 +56,9 @@ impl StmtBulkExecuteParamValues {
         ensures value { IfOk result (λ row. row ≡ map with_indicator (contents_of values.items)) }
     {
         let mut row = Vec::with_capacity(alloc, values.len())?;
-        append_row(&mut row, values);
+        for value in values {
+            row.push_reserved(StmtBulkExecuteParamValue::new(value));
+        }
         Ok(StmtBulkExecuteParamValues { values: row })
     }
 }

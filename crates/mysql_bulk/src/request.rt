@@ -1,31 +1,40 @@
 //! A bulk request.
 
-ghost use Rattle.std.specs.Prelude.{true, ◌≡◌, ◌≤◌, ◌+◌, ◌*◌, ◌++◌, length, List, ℕ, None, refl, IfOk, if◌then◌else◌, fold, map, []};
+ghost use Rattle.std.specs.Prelude.{true, ◌≡◌, ◌≤◌, ◌+◌, ◌*◌, ◌++◌, length, List, ℕ, None, refl, IfOk, if◌then◌else◌, fold, [], slice_get};
+ghost use Rattle.std.specs.Option.{option_map};
 ghost use Rattle.mysql_wire.specs.Writing.{saturated};
 ghost use Rattle.mysql_cuts.specs.Cut.{rows_in};
 ghost use Rattle.mysql_bulk.specs.DeclaredTypes.{types_with_row};
-ghost use Rattle.mysql_bulk.specs.NewRequest.{MakesRequest};
-ghost use Rattle.mysql_bulk.specs.ParamValue.{with_indicator, contents};
+ghost use Rattle.mysql_bulk.specs.RequestNew.{MakesRequest};
+ghost use Rattle.mysql_bulk.specs.ParamValue.{ParamValue, contents};
 ghost use Rattle.mysql_bulk.specs.RequestForm.{with_head};
 ghost use Rattle.mysql_bulk.specs.Row.{row_size, contents_of_rows, EqualLengths};
+ghost use Rattle.mysql_bulk.specs.SentValues.{sent_values};
+ghost use Rattle.mysql_values.specs.Value.{contents_of};
 
 use crate::declared_types::join_row;
 use crate::error::BulkExecuteRequestError;
 use crate::head::{ComStmtBulkExecuteHeader, Head, read_head, sends_types};
-use crate::param_value::StmtBulkExecuteParamValue;
 use crate::param_values::read_values;
 use crate::row::{append_row, equally_long, find_room};
+use crate::sent_values::{SentValues, part_from_indicators, same_values, sent_len};
 use mysql_values::{ParamType, Value};
 use mysql_wire::{
-    AnyWidth, ColumnFlags, ColumnType, Const, FaultOf, LeU16, LeU32, MyDeserialize, MySerialize,
-    ParseBuf, RawInt, Seq, StmtBulkExecuteFlags, Unknown, items_len, parts,
+    AnyWidth, ColumnFlags, ColumnType, Const, FaultOf, LeU16, LeU32, MariadbBulkIndicator,
+    MyDeserialize, MySerialize, ParseBuf, RawInt, Seq, StmtBulkExecuteFlags, Unknown, items_len,
+    parts,
 };
 use std::alloc::{AllocError, Global};
 use std::marker::Model;
 
-/// The request of a head and its values.
-fn with_head(head: Head, values: Vec<StmtBulkExecuteParamValue>) -> ComStmtBulkExecuteRequest
-    ensures { result ≡ with_head head values.items }
+/// The request of a head and its values, with the indicators that were read of them, if any were.
+#[tactic(auto, using(crate::proofs::SentValues::contents_of_sent))]
+fn with_head(
+    head: Head,
+    values: Vec<Value>,
+    indicators: Vec<MariadbBulkIndicator>,
+) -> ComStmtBulkExecuteRequest
+    ensures { result ≡ with_head head (sent_values indicators.items (contents_of values.items)) }
 {
     let size = written_len(head.types.as_slice(), values.as_slice());
     ComStmtBulkExecuteRequest {
@@ -33,17 +42,18 @@ fn with_head(head: Head, values: Vec<StmtBulkExecuteParamValue>) -> ComStmtBulkE
         bulk_flags: head.bulk_flags,
         types: head.types,
         values,
+        indicators,
         size,
     }
 }
 
 /// How many bytes a request is written as, or `usize::MAX` where that is less.
 #[tactic(auto, using(crate::proofs::RequestBytes::request_lengths), unfolding(mysql_wire::specs::Writing::saturated))]
-fn written_len(types: &[ParamType], values: &[StmtBulkExecuteParamValue]) -> usize
-    ensures { result ≡ saturated (7 + 2 * length types.now + row_size (contents values.now)) }
+fn written_len(types: &[ParamType], values: &[Value]) -> usize
+    ensures { result ≡ saturated (7 + 2 * length types.now + row_size (contents_of values.now)) }
 {
     items_len(types)
-        .saturating_add(items_len(values))
+        .saturating_add(sent_len(values))
         .saturating_add(7)
 }
 
@@ -51,7 +61,7 @@ fn written_len(types: &[ParamType], values: &[StmtBulkExecuteParamValue]) -> usi
 #[derive(Drop)]
 struct Parts {
     types: Vec<ParamType>,
-    values: Vec<StmtBulkExecuteParamValue>,
+    values: Vec<Value>,
 }
 
 /// Takes the values out of rows of one length, and the types of the columns where they are sent.
@@ -63,7 +73,7 @@ fn gather(
 ) -> Result<Parts, AllocError>
     requires { EqualLengths arity (contents_of_rows rows.items) }
     ensures types { IfOk result (λ parts. parts.types.items ≡ (if sent then fold types_with_row [] (contents_of_rows rows.items) else [])) }
-    ensures values { IfOk result (λ parts. parts.values.items ≡ map with_indicator (rows_in (contents_of_rows rows.items))) }
+    ensures values { IfOk result (λ parts. contents_of parts.values.items ≡ rows_in (contents_of_rows rows.items)) }
 {
     let mut types = Vec::new(alloc);
     let mut values = Vec::new(alloc);
@@ -81,7 +91,9 @@ pub struct ComStmtBulkExecuteRequest {
     pub(crate) stmt_id: u32,
     pub(crate) bulk_flags: StmtBulkExecuteFlags,
     pub(crate) types: Vec<ParamType>,
-    pub(crate) values: Vec<StmtBulkExecuteParamValue>,
+    pub(crate) values: Vec<Value>,
+    /// The indicators that were read with the values: none where the request was built.
+    pub(crate) indicators: Vec<MariadbBulkIndicator>,
     /// How many bytes the request is written as, or `usize::MAX` where that is less.
     pub(crate) size: usize,
 }
@@ -89,7 +101,9 @@ pub struct ComStmtBulkExecuteRequest {
 impl Model for ComStmtBulkExecuteRequest {
     ghost use Rattle.std.specs.Prelude.{◌≡◌};
     ghost use Rattle.mysql_wire.specs.Writing.{saturated};
+    ghost use Rattle.mysql_values.specs.Value.{contents_of};
     ghost use Rattle.mysql_bulk.specs.Request.{BulkRequest, written_size};
+    ghost use Rattle.mysql_bulk.specs.SentValues.{sent_values};
 
     ghost Value = { BulkRequest };
 
@@ -97,14 +111,14 @@ impl Model for ComStmtBulkExecuteRequest {
       stmt_id = a.stmt_id;
       bulk_flags = a.bulk_flags;
       types = a.types.items;
-      values = a.values.items;
+      values = sent_values a.indicators.items (contents_of a.values.items);
     } };
 
     ghost invariant = { λ a. a.size ≡ saturated (written_size (record {
       stmt_id = a.stmt_id;
       bulk_flags = a.bulk_flags;
       types = a.types.items;
-      values = a.values.items;
+      values = sent_values a.indicators.items (contents_of a.values.items);
     })) };
 }
 
@@ -112,7 +126,7 @@ impl ComStmtBulkExecuteRequest {
     /// The request of some rows, with the types of their columns where the flags say that types are sent.
     ///
     /// `NoParams` where there is no row, else `MixedArity` where two rows differ in length; else `Memory` where a growth
-    /// was refused. The rows are with_indicator up in each case.
+    /// was refused. The rows are dropped in each case.
     pub fn new(
         alloc: Global,
         stmt_id: u32,
@@ -136,6 +150,7 @@ impl ComStmtBulkExecuteRequest {
                     types: parts.types,
                 },
                 parts.values,
+                Vec::new(alloc),
             )),
             Err(_) => Err(BulkExecuteRequestError::Memory),
         }
@@ -163,10 +178,33 @@ impl ComStmtBulkExecuteRequest {
     }
 
     /// The values, row after row.
-    pub fn values(&self) -> &[StmtBulkExecuteParamValue]
-        ensures value { result.now ≡ self.now.values }
+    pub fn values(&self) -> &[Value]
+        ensures value { contents_of result.now ≡ contents self.now.values }
     {
         self.values.as_slice()
+    }
+
+    /// The indicator that the value at this place stands behind: the one that was read, or else the value's own,
+    /// `BULK_INDICATOR_NULL` for `NULL` and `BULK_INDICATOR_NONE` for others. `None` past the last value.
+    pub fn indicator(&self, place: usize) -> Option<MariadbBulkIndicator>
+        ensures value { result ≡ option_map (λ (v : ParamValue). v.indicator) (slice_get self.now.values place) }
+    {
+        if place < self.values.len() {
+            Some(self.sent().at(place).indicator())
+        } else {
+            None
+        }
+    }
+
+    /// The values, each behind its indicator.
+    #[inline(always)]
+    fn sent(&self) -> SentValues<'_>
+        ensures { sent_values result.indicators.now (contents_of result.values.now) ≡ self.now.values }
+    {
+        SentValues {
+            values: self.values.as_slice(),
+            indicators: self.indicators.as_slice(),
+        }
     }
 }
 
@@ -179,6 +217,7 @@ impl Clone for ComStmtBulkExecuteRequest {
             bulk_flags: self.bulk_flags,
             types: self.types.clone()?,
             values: self.values.clone()?,
+            indicators: self.indicators.clone()?,
             size: self.size,
         })
     }
@@ -189,15 +228,15 @@ impl PartialEq for ComStmtBulkExecuteRequest {
     ghost use Rattle.mysql_values.specs.contracts.param_type.ParamTypePartialEq.TheImpl.Laws as of_types;
     ghost use Rattle.mysql_bulk.specs.contracts.param_value.StmtBulkExecuteParamValuePartialEq.TheImpl.Laws as of_values;
 
-    ghost eq = { request_eq ⟦<ParamType as PartialEq>⟧.eq ⟦<StmtBulkExecuteParamValue as PartialEq>⟧.eq };
+    ghost eq = { request_eq ⟦<ParamType as PartialEq>⟧.eq ⟦<crate::param_value::StmtBulkExecuteParamValue as PartialEq>⟧.eq };
 
-    ghost laws = { request_per ⟦<ParamType as PartialEq>⟧.eq ⟦<StmtBulkExecuteParamValue as PartialEq>⟧.eq of_types.laws-law of_values.laws-law };
+    ghost laws = { request_per ⟦<ParamType as PartialEq>⟧.eq ⟦<crate::param_value::StmtBulkExecuteParamValue as PartialEq>⟧.eq of_types.laws-law of_values.laws-law };
 
     fn eq(&self, other: &Self) -> bool {
         self.stmt_id == other.stmt_id
             && self.bulk_flags == other.bulk_flags
             && self.types == other.types
-            && self.values == other.values
+            && same_values(&self.sent(), &other.sent())
     }
 }
 
@@ -227,8 +266,9 @@ impl<'de> MyDeserialize<'de> for ComStmtBulkExecuteRequest {
         let head = read_head(columns.len(), &mut rest)?;
         let columns = head.value_columns(buf.alloc(), columns.as_slice())?;
         let values = read_values(columns.as_slice(), &mut rest)?;
+        let parts = part_from_indicators(buf.alloc(), values)?;
         *buf = rest;
-        Ok(with_head(head, values))
+        Ok(with_head(head, parts.values, parts.indicators))
     }
 
     ghost size_is = { λ _. refl };
@@ -249,7 +289,7 @@ impl MySerialize for ComStmtBulkExecuteRequest {
         let stmt_id = RawInt::<LeU32>::new(self.stmt_id);
         let bulk_flags = Const::<StmtBulkExecuteFlags, LeU16>::new(self.bulk_flags);
         let types = Seq::<ParamType, Unknown>::borrowed(self.types.as_slice());
-        let values = Seq::<StmtBulkExecuteParamValue, Unknown>::borrowed(self.values.as_slice());
+        let values = self.sent();
         parts!(parts!(header, stmt_id, bulk_flags, types), values).append(out);
     }
 }

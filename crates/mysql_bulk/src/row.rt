@@ -1,13 +1,11 @@
 //! Rows of a bulk request: their sizes, their lengths and their values.
 
-ghost use Rattle.std.specs.Prelude.{◌≡◌, ◌+◌, ◌≤◌, ◌^◌, ◌++◌, ◌↔◌, length, map, true, IsTrue, OnOk, MatchOption, vec_len, vec_capacity};
-ghost use Rattle.mysql_values.specs.Value.{contents_of};
-ghost use Rattle.mysql_bulk.specs.ParamValue.{with_indicator};
+ghost use Rattle.std.specs.Prelude.{◌≡◌, ◌+◌, ◌≤◌, ◌^◌, ◌++◌, ◌↔◌, length, true, IsTrue, IfOk, OnOk, OnErr, MatchOption, vec_len, vec_capacity};
+ghost use Rattle.mysql_values.specs.Value.{content_of, contents_of};
 ghost use Rattle.mysql_bulk.specs.Row.{row_size, values_size, contents_of_rows, EqualLengths};
 
-use crate::param_value::StmtBulkExecuteParamValue;
 use mysql_values::{ParamType, Value};
-use std::alloc::AllocError;
+use std::alloc::{AllocError, Global};
 
 /// How many bytes a row has in a request: of each value its indicator, and its own. `None` where that is past
 /// `u64::MAX`, and so past the limit of every request. It takes no memory.
@@ -41,9 +39,9 @@ pub(crate) fn equally_long(rows: &[Vec<Value>], arity: usize) -> bool
     true
 }
 
-/// Finds room for a row, and for the types of its columns where they are to be kept.
+/// Finds room for a row, and for the types of its columns where they are due.
 pub(crate) fn find_room(
-    values: &mut Vec<StmtBulkExecuteParamValue>,
+    values: &mut Vec<Value>,
     types: &mut Vec<ParamType>,
     types_due: bool,
     arity: usize,
@@ -61,11 +59,43 @@ pub(crate) fn find_room(
 }
 
 /// Moves the values of a row to the end, where there is room.
-pub(crate) fn append_row(values: &mut Vec<StmtBulkExecuteParamValue>, row: Vec<Value>)
+pub(crate) fn append_row(values: &mut Vec<Value>, row: Vec<Value>)
     requires { vec_len values.old + length row.items ≤ vec_capacity values.old }
-    ensures { values.new.items ≡ values.old.items ++ map with_indicator (contents_of row.items) }
+    ensures { values.new.items ≡ values.old.items ++ row.items }
 {
-    for value in row {
-        values.push_reserved(StmtBulkExecuteParamValue::new(value));
+    let mut row = row;
+    values.append(&mut row).unwrap();
+}
+
+/// A copy of a value. Of bytes it is made in one piece.
+fn copy_of(alloc: Global, value: &Value) -> Result<Value, AllocError>
+    ensures { IfOk result (λ copy. content_of copy ≡ content_of value.now) }
+{
+    match value {
+        Value::Bytes(bytes) => Ok(Value::Bytes(Vec::from_slice(alloc, bytes.as_slice())?)),
+        _ => value.clone(),
     }
+}
+
+/// Puts copies of the values of a row at the end, where there is room, or none where memory for one was refused.
+pub(crate) fn append_copies(
+    alloc: Global,
+    values: &mut Vec<Value>,
+    row: &[Value],
+) -> Result<(), AllocError>
+    requires { vec_len values.old + length row.now ≤ vec_capacity values.old }
+    ensures ok { OnOk result (contents_of values.new.items ≡ contents_of values.old.items ++ contents_of row.now) }
+    ensures err { OnErr result (values.new.items ≡ values.old.items) }
+{
+    let before = values.len();
+    for value in row {
+        match copy_of(alloc, value) {
+            Ok(copy) => values.push_reserved(copy),
+            Err(e) => {
+                values.truncate(before);
+                return Err(e);
+            }
+        }
+    }
+    Ok(())
 }

@@ -1,10 +1,10 @@
 //! Laws over cuts of rows of any kind, each a function that does nothing.
 
-ghost use Rattle.std.specs.Prelude.{◌≡◌, ◌↔◌, ℕ, List, length, map, take, true, false};
+ghost use Rattle.std.specs.Prelude.{◌≡◌, ◌↔◌, ℕ, List, length, map, take, true};
 ghost use Rattle.mysql_cuts.specs.Cut.{Packing, HasFittingCut, IsFittingCut, IsFewest, IsFullFromFront, RowsFitAlone, ends_after};
 ghost use Rattle.mysql_cuts.specs.Fewest.{weighed, NamesFewest};
 
-use crate::rule::BulkRule;
+pub use crate::rule::plain_rule_sends_types_once;
 
 /// A fitting cut exists exactly where each row fits alone in its place: the first row with types, a later one as the
 /// rule says.
@@ -30,10 +30,4 @@ pub fn full_cut_is_fewest<Row>()
 /// Two fewest cuts of the same rows have the same number of requests.
 pub fn fewest_cuts_have_one_length<Row>()
     ensures { (k : Packing Row) (rows : List Row) (one other : List (List Row)) → IsFewest k rows one → IsFewest k rows other → length one ≡ length other }
-{}
-
-/// [`BulkRule::PLAIN`](crate::BulkRule::PLAIN) sends types in the first request alone, and any number of rows.
-pub fn plain_rule_sends_types_once()
-    ensures types_once { BulkRule.PLAIN.types_always ≡ false }
-    ensures any_rows { BulkRule.PLAIN.max_rows ≡ None }
 {}

@@ -1,5 +1,7 @@
 //! Which requests send types, and how many rows one may have.
 
+ghost use Rattle.std.specs.Prelude.{◌≡◌, None, false};
+
 /// When types are sent, and how many rows a request may have.
 #[derive(Clone, Copy, Debug, PartialEq, Eq)]
 pub struct BulkRule {
@@ -16,3 +18,9 @@ impl BulkRule {
         max_rows: None,
     };
 }
+
+/// [`BulkRule::PLAIN`] sends types in the first request alone, and any number of rows.
+pub fn plain_rule_sends_types_once()
+    ensures types_once { BulkRule.PLAIN.types_always ≡ false }
+    ensures any_rows { BulkRule.PLAIN.max_rows ≡ None }
+{}

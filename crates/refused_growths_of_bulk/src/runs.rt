@@ -88,7 +88,7 @@ fn count_sent(requests: &[ComStmtBulkExecuteRequest]) -> Option<usize> {
     for request in requests {
         for value in request.values() {
             count = count.checked_add(1)?;
-            if *value.value() != Value::Int(i64::try_from(count).ok()?) {
+            if *value != Value::Int(i64::try_from(count).ok()?) {
                 return None;
             }
         }

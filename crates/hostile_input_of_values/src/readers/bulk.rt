@@ -48,7 +48,7 @@ fn request_is_read_again(request: &ComStmtBulkExecuteRequest) -> bool {
     let types = request.types();
     request.values().iter().enumerate().all(|(i, value)| {
         match types.get(i) {
-            Some(sent) => is_read_again(value.value(), sent.column_type()),
+            Some(sent) => is_read_again(value, sent.column_type()),
             None => true,
         }
     })

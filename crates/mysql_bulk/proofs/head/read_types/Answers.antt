@@ -1,10 +1,9 @@
-use Rattle.std.proofs.Common.{◌≡◌, ◌*◌, List, Ok, arith, subst, ◌∙◌, sym}
+use Rattle.std.proofs.Common.{◌≡◌, List, Ok, arith, subst, sym}
 use Rattle.mysql_wire.specs.Form.{give}
-use Rattle.mysql_wire.specs.Reading.{Reading}
 use Rattle.mysql_wire.specs.Seq.{seq}
 use Rattle.mysql_values.specs.declared.param_type.ParamType.{ParamType}
 use Rattle.mysql_values.specs.ParamType.{param_type}
-use Rattle.mysql_bulk.proofs.ParamTypesBlock.{types_read, types_short}
+use Rattle.mysql_bulk.proofs.HeadTypes.{types_read, types_short}
 use Rattle.mysql_bulk.proofs.head.read_types.Goals as goal
 
 pub returns-then-len-count : goal.returns-then-len-count

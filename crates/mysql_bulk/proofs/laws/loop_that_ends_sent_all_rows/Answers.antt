@@ -1,5 +1,5 @@
 use Rattle.mysql_bulk.specs.Run.{NextRequest}
-use Rattle.mysql_bulk.proofs.Loop.{sent_all}
+use Rattle.mysql_bulk.proofs.RunLoop.{sent_all}
 use Rattle.mysql_bulk.proofs.laws.loop_that_ends_sent_all_rows.Goals as goal
 
 pub returns : goal.returns

@@ -1,5 +1,5 @@
 use Rattle.mysql_bulk.specs.Run.{NextRequest}
-use Rattle.mysql_bulk.proofs.Loop.{refused_row}
+use Rattle.mysql_bulk.proofs.RunLoop.{refused_row}
 use Rattle.mysql_bulk.proofs.laws.loop_that_refuses_a_row.Goals as goal
 
 pub returns : goal.returns

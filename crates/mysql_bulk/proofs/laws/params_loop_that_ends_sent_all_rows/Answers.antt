@@ -1,4 +1,4 @@
-use Rattle.mysql_bulk.proofs.Loop.{sent_all_params}
+use Rattle.mysql_bulk.proofs.RunLoop.{sent_all_params}
 use Rattle.mysql_bulk.proofs.laws.params_loop_that_ends_sent_all_rows.Goals as goal
 
 pub returns : goal.returns

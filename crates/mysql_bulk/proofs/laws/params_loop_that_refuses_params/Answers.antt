@@ -1,4 +1,4 @@
-use Rattle.mysql_bulk.proofs.Loop.{refused_params}
+use Rattle.mysql_bulk.proofs.RunLoop.{refused_params}
 use Rattle.mysql_bulk.proofs.laws.params_loop_that_refuses_params.Goals as goal
 
 pub returns : goal.returns

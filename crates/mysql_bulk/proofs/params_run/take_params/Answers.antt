@@ -25,15 +25,15 @@ pub loop-entry-preserved : goal.loop-entry-preserved
 loop-entry-preserved g c =
     let A : Option (Vec Value) → Type 0 = λ o. AddsParams c.loop-entry.builder c.in-Some.entry (Ok o) c.add_params.new.self in
     let a = subst A c.in_default-2.is c.in_ok-row.ensures in
-    let goes = c.in-Some.ensures.goes.on c.loop-entry.invariant.ends in
+    let calls_to_end = c.in-Some.ensures.goes.on c.loop-entry.invariant.ends in
     let lengths : length c.add_params.new.self.waiting ≡ length (c.loop-entry.builder.waiting ++ (contents_of_row a.0) ∷ []) = ap (λ (s : BuilderState). length s.waiting) a.2.2 in
     let less = c.loop-entry.invariant.less in
     record {
-      can = goes.0;
-      ends = goes.1;
+      can = calls_to_end.0;
+      ends = calls_to_end.1;
       so_far = params_more g.I.Iterator.next_gives c.args.builder.now c.loop-entry.builder c.add_params.new.self c.args.params.now c.loop-entry.params c.next.new.self c.in-Some.entry
           c.loop-entry.invariant.so_far c.in-Some.ensures.steps a;
-      less = omega (arith, less, lengths, goes.2, length-append c.loop-entry.builder.waiting ((contents_of_row a.0) ∷ []));
+      less = omega (arith, less, lengths, calls_to_end.2, length-append c.loop-entry.builder.waiting ((contents_of_row a.0) ∷ []));
     }
 
 pub returns-clause-accepts : goal.returns-clause-accepts

@@ -24,15 +24,15 @@ pub loop-row-preserved : goal.loop-row-preserved
 loop-row-preserved g c =
     let A : Option (Vec Value) → Type 0 = λ o. Adds c.loop-row.builder c.in-Some.row (Ok o) c.add.new.self in
     let a = subst A c.in_default-2.is c.in_ok-row.ensures in
-    let goes = c.in-Some.ensures.goes.on c.loop-row.invariant.ends in
+    let calls_to_end = c.in-Some.ensures.goes.on c.loop-row.invariant.ends in
     let lengths : length c.add.new.self.waiting ≡ length (c.loop-row.builder.waiting ++ (contents_of_row c.in-Some.row) ∷ []) = ap (λ (s : BuilderState). length s.waiting) a.2 in
     let less = c.loop-row.invariant.less in
     record {
-      can = goes.0;
-      ends = goes.1;
+      can = calls_to_end.0;
+      ends = calls_to_end.1;
       so_far = taken_more g.I.Iterator.next_gives c.args.builder.now c.loop-row.builder c.add.new.self c.args.rows.now c.loop-row.rows c.next.new.self c.in-Some.row
           c.loop-row.invariant.so_far c.in-Some.ensures.steps a;
-      less = omega (arith, less, lengths, goes.2, length-append c.loop-row.builder.waiting ((contents_of_row c.in-Some.row) ∷ []));
+      less = omega (arith, less, lengths, calls_to_end.2, length-append c.loop-row.builder.waiting ((contents_of_row c.in-Some.row) ∷ []));
     }
 
 pub returns-clause-accepts : goal.returns-clause-accepts

@@ -2,7 +2,7 @@ use Rattle.std.proofs.Common.{◌≡◌, Ok, subst}
 use Rattle.mysql_values.specs.Params as given_by
 use Rattle.mysql_bulk.specs.Row.{contents_of_row}
 use Rattle.mysql_bulk.specs.Builder.{BuilderState}
-use Rattle.mysql_bulk.proofs.AddParams.{adds_params}
+use Rattle.mysql_bulk.proofs.BuilderParams.{adds_params}
 use Rattle.mysql_bulk.proofs.builder.ComStmtBulkExecuteRequestBuilder.add_params.Goals as goal
 
 pub returns-in-Ok : goal.returns-in-Ok

@@ -2,41 +2,41 @@ use Rattle.std.proofs.Common.{◌≡◌, ◌≢◌, [], ap, rules}
 use Rattle.std.specs.Vec.Iter.{into_iter_items}
 use Rattle.mysql_bulk.specs.Builder.{BuilderState}
 use Rattle.mysql_bulk.proofs.RunSteps.{none_waits, none_from}
-use Rattle.mysql_bulk.proofs.RowsOfVec.{stands_none, stands_accepts, stands_sends, accepts_end, accepts_empty, ends_refused, ends_done, ends_memory}
+use Rattle.mysql_bulk.proofs.WholeRunOfVec.{run_begins, run_accepts, run_sends, accepts_end, accepts_empty, ends_refused, ends_done, ends_memory}
 use Rattle.mysql_bulk.proofs.builder.ComStmtBulkExecuteRequestBuilder.send_rows.Goals as goal
 
 pub rows-init : goal.rows-init
 rows-init c =
     let same : into_iter_items c.into_iter-input.result ≡ c.args.rows.items = search rules in
-    stands_none c.args.self.now c.args.rows.items c.into_iter-input.result c.args.requests.now.items c.args.ends.now.items c.is_consistent.ensures same c.requires.no_requests c.requires.no_ends
+    run_begins c.args.self.now c.args.rows.items c.into_iter-input.result c.args.requests.now.items c.args.ends.now.items c.is_consistent.ensures same c.requires.no_requests c.requires.no_ends
 
 pub returns-in-Err : goal.returns-in-Err
 returns-in-Err c = ends_refused c.rows.invariant c.fill.new.builder c.fill.new.rows c.in-Err.e c.in-Err.ensures.accepts
 
 pub returns-then-not-has_rows : goal.returns-then-not-has_rows
 returns-then-not-has_rows c =
-    let stands = stands_accepts c.rows.invariant c.fill.new.builder c.in-Ok.last c.fill.new.rows c.in-Ok.ensures.accepts in
+    let stands = run_accepts c.rows.invariant c.fill.new.builder c.in-Ok.last c.fill.new.rows c.in-Ok.ensures.accepts in
     let none = none_waits c.fill.new.builder.waiting c.if-not-has_rows.ensures.1 in
     ends_done stands (accepts_empty c.rows.self c.fill.new.builder c.rows.carried c.in-Ok.last c.rows.input c.fill.new.rows c.in-Ok.ensures.accepts none) none
 
 pub returns-in-Err-send : goal.returns-in-Err-send
 returns-in-Err-send c =
-    let stands = stands_accepts c.rows.invariant c.fill.new.builder c.in-Ok.last c.fill.new.rows c.in-Ok.ensures.accepts in
+    let stands = run_accepts c.rows.invariant c.fill.new.builder c.in-Ok.last c.fill.new.rows c.in-Ok.ensures.accepts in
     let some : c.fill.new.builder.waiting ≢ [] = search rules in
     let same = c.in-Err-send.ensures.unchanged in
     ends_memory stands c.send.new.builder c.send.new.requests.items c.send.new.ends.items some same.0 same.1 same.2
 
 pub returns-then-is_none : goal.returns-then-is_none
 returns-then-is_none c =
-    let stands = stands_accepts c.rows.invariant c.fill.new.builder c.in-Ok.last c.fill.new.rows c.in-Ok.ensures.accepts in
+    let stands = run_accepts c.rows.invariant c.fill.new.builder c.in-Ok.last c.fill.new.rows c.in-Ok.ensures.accepts in
     let end = accepts_end c.rows.self c.fill.new.builder c.rows.carried c.in-Ok.last c.rows.input c.fill.new.rows c.in-Ok.ensures.accepts in
     let sent = c.in-Ok-send.ensures in
-    let behind = stands_sends stands c.send.new.builder c.send.new.requests.items c.send.new.ends.items c.in-Ok-send.end c.in-Ok.ensures.accepts.3 end sent.requests sent.ends sent.end in
+    let behind = run_sends stands c.send.new.builder c.send.new.requests.items c.send.new.ends.items c.in-Ok-send.end c.in-Ok.ensures.accepts.3 end sent.requests sent.ends sent.end in
     ends_done behind (end (none_from c.in-Ok.last c.if-is_none.ensures)) (ap (λ (b : BuilderState). b.waiting) sent.requests.2.left)
 
 pub rows-preserved : goal.rows-preserved
 rows-preserved c =
-    let stands = stands_accepts c.rows.invariant c.fill.new.builder c.in-Ok.last c.fill.new.rows c.in-Ok.ensures.accepts in
+    let stands = run_accepts c.rows.invariant c.fill.new.builder c.in-Ok.last c.fill.new.rows c.in-Ok.ensures.accepts in
     let end = accepts_end c.rows.self c.fill.new.builder c.rows.carried c.in-Ok.last c.rows.input c.fill.new.rows c.in-Ok.ensures.accepts in
     let sent = c.in-Ok-send.ensures in
-    stands_sends stands c.send.new.builder c.send.new.requests.items c.send.new.ends.items c.in-Ok-send.end c.in-Ok.ensures.accepts.3 end sent.requests sent.ends sent.end
+    run_sends stands c.send.new.builder c.send.new.requests.items c.send.new.ends.items c.in-Ok-send.end c.in-Ok.ensures.accepts.3 end sent.requests sent.ends sent.end

@@ -1,15 +1,20 @@
 use Rattle.std.proofs.Common.{◌≢◌, [], List, rules, if◌then◌else◌, ◌∙◌, ap, subst}
 use Rattle.std.specs.Global.{Vec}
+use Rattle.mysql_wire.specs.FlagMasks.{SEND_TYPES_TO_SERVER}
 use Rattle.mysql_values.specs.declared.value.Value.{Value}
 use Rattle.mysql_values.specs.declared.param_type.ParamType.{ParamType}
 use Rattle.mysql_wire.specs.Flags.{has}
 use Rattle.mysql_bulk.specs.DeclaredTypes.{declared_types}
+use Rattle.mysql_cuts.specs.Cut.{rows_in}
+use Rattle.mysql_values.specs.Value.{contents_of}
 use Rattle.mysql_bulk.specs.ParamValue.{ParamValue}
+use Rattle.mysql_bulk.specs.SentValues.{sent_values}
+use Rattle.mysql_bulk.proofs.SentValues.{built_values}
 use Rattle.mysql_bulk.specs.Row.{EqualLengths}
 use Rattle.mysql_bulk.specs.Request.{BulkRequest}
 use Rattle.mysql_bulk.specs.Row.{contents_of_rows}
 use Rattle.mysql_bulk.specs.Row.{OneLength}
-use Rattle.mysql_bulk.proofs.NewRequest.{all_types, some_rows, one_length}
+use Rattle.mysql_bulk.proofs.RequestNew.{all_types, some_rows, one_length}
 use Rattle.mysql_bulk.proofs.request.ComStmtBulkExecuteRequest.new.Goals as goal
 
 pub returns-in-Ok : goal.returns-in-Ok
@@ -24,6 +29,8 @@ returns-in-Ok c =
       some,
       one,
       c.with_head.ensures
-          ∙ ap (λ (t : List ParamType). R t c.in-Ok.parts.values.items) (c.in-Ok.ensures.types ∙ all_types c.sends_types.result (has c.args.bulk_flags.0 128) c.len-arity.result rows c.sends_types.ensures some equal)
-          ∙ ap (λ (v : List ParamValue). R (if has c.args.bulk_flags.0 128 then declared_types rows else []) v) c.in-Ok.ensures.values,
+          ∙ ap (λ (t : List ParamType). R t (sent_values c.new.result.items (contents_of c.in-Ok.parts.values.items)))
+          (c.in-Ok.ensures.types ∙ all_types c.sends_types.result (has c.args.bulk_flags.0 SEND_TYPES_TO_SERVER) c.len-arity.result rows c.sends_types.ensures some equal)
+          ∙ ap (λ (v : List ParamValue). R (if has c.args.bulk_flags.0 SEND_TYPES_TO_SERVER then declared_types rows else []) v)
+          (built_values c.new.result.items (contents_of c.in-Ok.parts.values.items) (rows_in rows) (search rules) c.in-Ok.ensures.values),
     )

@@ -1,13 +1,12 @@
 -- The types of a request are read from a block of two bytes for each.
-use Rattle.std.proofs.Common.{◌≡◌, ℕ, zero, suc, ◌+◌, ◌*◌, ◌<◌, true, List, [], length, Ok, Err, refl, sym, ◌∙◌, ap, subst, arith}
+use Rattle.std.proofs.Common.{◌≡◌, ℕ, zero, suc, ◌+◌, ◌*◌, ◌<◌, true, List, length, Ok, Err, refl, ap, arith}
 use Rattle.mysql_wire.proofs.Blocks.{block_length, ended_whole}
 use Rattle.mysql_wire.specs.declared.fault.FaultKind.TheVariants as kind
-use Rattle.mysql_wire.specs.Form.{Form, bytes, give}
-use Rattle.mysql_wire.specs.Reading.{Reading}
+use Rattle.mysql_wire.specs.Form.{bytes, give}
 use Rattle.mysql_wire.specs.Seq.{counted, seq}
 use Rattle.mysql_values.specs.declared.param_type.ParamType.{ParamType}
 use Rattle.mysql_values.specs.ParamType.{param_type}
-use Rattle.mysql_bulk.specs.ParamTypes.{types_block}
+use Rattle.mysql_bulk.specs.HeadTypes.{types_block}
 
 one_takes : (t : ParamType) (old rest : List ℕ) → (param_type.form tt).Spells t old rest → length old ≡ 2 + length rest
 unfolding param_type bytes

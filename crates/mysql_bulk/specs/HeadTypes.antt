@@ -1,8 +1,7 @@
 -- The types of the columns of a bulk request, in its bytes.
-use Rattle.std.specs.Prelude.{◌≡◌, ℕ, zero, suc, ◌*◌, ◌+◌, ◌++◌, ◌<◌, ◌^◌, Bool, true, false, List, [], ◌∷◌, length, refl}
+use Rattle.std.specs.Prelude.{◌≡◌, ℕ, ◌*◌, ◌++◌, ◌<◌, ◌^◌, Bool, true, false, List, [], ◌∷◌, length, refl}
 use Rattle.std.specs.List.{All, flat_map}
-use Rattle.std.proofs.Common.{ap, sym, ◌∙◌, subst, arith, length-append}
-use Rattle.std.proofs.Math.Nat.{suc-mul}
+use Rattle.std.proofs.Common.{ap, ◌∙◌, subst, arith, length-append}
 use Rattle.std.proofs.lemmas.List.{append-nil}
 use Rattle.mysql_wire.specs.Form.{Form, either, give, block}
 use Rattle.mysql_wire.specs.ListAgain.{seq-again}

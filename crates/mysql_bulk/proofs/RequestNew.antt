@@ -1,12 +1,10 @@
 -- A request that is made of rows.
-use Rattle.std.proofs.Common.{◌≡◌, ◌≢◌, ◌⊎◌, inl, inr, ℕ, Bool, true, false, if◌then◌else◌, List, [], ◌∷◌, ◌++◌, length, map, refl, sym, ◌∙◌, ap, subst, append_assoc}
-use Rattle.std.proofs.lemmas.List.{map-append}
+use Rattle.std.proofs.Common.{◌≡◌, ◌≢◌, ◌⊎◌, inl, inr, ℕ, Bool, true, false, if◌then◌else◌, List, [], ◌∷◌, ◌++◌, length, refl, sym, ◌∙◌, ap, subst, append_assoc}
 use Rattle.std.specs.Prelude.{fold}
 use Rattle.mysql_cuts.specs.Cut.{rows_in}
 use Rattle.mysql_values.specs.Value.{Content}
 use Rattle.mysql_values.specs.declared.param_type.ParamType.{ParamType}
 use Rattle.mysql_bulk.specs.DeclaredTypes.{declared_types, types_with_row}
-use Rattle.mysql_bulk.specs.ParamValue.{ParamValue, with_indicator}
 use Rattle.std.specs.Global.{Vec}
 use Rattle.mysql_values.specs.declared.value.Value.{Value}
 use Rattle.mysql_bulk.specs.Row.{contents_of_rows}
@@ -30,13 +28,8 @@ next_before true a types more row e r b s = elim (b refl) [
 ]
 
 -- the values after one more row
-pub next_values : (values more : List ParamValue) (row : List Content) (rest : List (List Content)) (all : List ParamValue) → more ≡ values ++ map with_indicator row
-    → values ++ map with_indicator (rows_in (row ∷ rest)) ≡ all → more ++ map with_indicator (rows_in rest) ≡ all
-next_values values more row rest all e h =
-    ap (λ (l : List ParamValue). l ++ map with_indicator (rows_in rest)) e
-    ∙ append_assoc values (map with_indicator row) (map with_indicator (rows_in rest))
-    ∙ ap (λ (l : List ParamValue). values ++ l) (sym (map-append with_indicator row (rows_in rest)))
-    ∙ h
+pub next_values : (values more row : List Content) (rest : List (List Content)) (all : List Content) → more ≡ values ++ row → values ++ rows_in (row ∷ rest) ≡ all → more ++ rows_in rest ≡ all
+next_values values more row rest all e h = ap (λ (l : List Content). l ++ rows_in rest) e ∙ append_assoc values row (rows_in rest) ∙ h
 
 -- the types of all rows are the declared ones
 pub all_types : (sent flag : Bool) (a : ℕ) (rows : List (List Content)) → sent ≡ flag → rows ≢ [] → EqualLengths a rows

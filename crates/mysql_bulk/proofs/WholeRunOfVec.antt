@@ -13,7 +13,7 @@ use Rattle.mysql_bulk.specs.declared.error.BulkExecuteRequestBuilderError.TheVar
 use Rattle.mysql_bulk.specs.declared.error.BulkExecuteRequestError.TheVariants.{Memory}
 use Rattle.mysql_bulk.specs.declared.error.BulkExecuteRequestError.{BulkExecuteRequestError}
 use Rattle.mysql_bulk.specs.Builder.{BuilderState, Adds, IsConsistent}
-use Rattle.mysql_bulk.specs.Refusal.{measure}
+use Rattle.mysql_bulk.specs.WholeRunRefusal.{measure}
 use Rattle.mysql_bulk.specs.Request.{BulkRequest}
 use Rattle.mysql_bulk.specs.Row.{contents_of_row, contents_of_rows}
 use Rattle.mysql_bulk.specs.Run.{NextRowAfter, NextRow, AcceptsUntilFull}
@@ -55,21 +55,21 @@ came c s taken last t y =
     (comes_all c s taken y.0.0 y.0.1 y.1 ∙ ap (λ (l : List (Vec Value)). taken ++ l) end.0, end.1)
 
 -- where a run over all these rows stands: what it carries and what its input holds are still to come
-pub record Stands (s : BuilderState) (all : List (List Content)) (requests : List BulkRequest) (ends : List ℕ) (sent : ℕ) (b : BuilderState) (carried : Option (Vec Value)) (input : Input) : Type 0 where
+pub record RunSoFar (s : BuilderState) (all : List (List Content)) (requests : List BulkRequest) (ends : List ℕ) (sent : ℕ) (b : BuilderState) (carried : Option (Vec Value)) (input : Input) : Type 0 where
   pub running : Running s all requests ends sent b (contents_of_rows (held carried input))
 
-pub stands_none : (s : BuilderState) (rows : List (Vec Value)) (input : Input) (requests : List BulkRequest) (ends : List ℕ) → IsConsistent s → into_iter_items input ≡ rows → requests ≡ [] → ends ≡ []
-    → Stands s (s.waiting ++ contents_of_rows rows) requests ends 0 s None input
-stands_none s rows input requests ends c e q n =
-    let P : List (Vec Value) → Type 0 = λ r. Stands s (s.waiting ++ contents_of_rows r) requests ends 0 s None input in
+pub run_begins : (s : BuilderState) (rows : List (Vec Value)) (input : Input) (requests : List BulkRequest) (ends : List ℕ) → IsConsistent s → into_iter_items input ≡ rows → requests ≡ [] → ends ≡ []
+    → RunSoFar s (s.waiting ++ contents_of_rows rows) requests ends 0 s None input
+run_begins s rows input requests ends c e q n =
+    let P : List (Vec Value) → Type 0 = λ r. RunSoFar s (s.waiting ++ contents_of_rows r) requests ends 0 s None input in
     let Q : List BulkRequest → Type 0 = λ q. Running s (s.waiting ++ contents_of_rows (into_iter_items input)) q ends 0 s (contents_of_rows (into_iter_items input)) in
     let E : List ℕ → Type 0 = λ n. Running s (s.waiting ++ contents_of_rows (into_iter_items input)) [] n 0 s (contents_of_rows (into_iter_items input)) in
     subst P e (record { running = subst Q (sym q) (subst E (sym n) (running_none s (contents_of_rows (into_iter_items input)) c)) })
 
-module _ {s : BuilderState} {all : List (List Content)} {requests : List BulkRequest} {ends : List ℕ} {sent : ℕ} {b : BuilderState} {carried : Option (Vec Value)} {input : Input} (w : Stands s all requests ends sent b carried input) where
+module _ {s : BuilderState} {all : List (List Content)} {requests : List BulkRequest} {ends : List ℕ} {sent : ℕ} {b : BuilderState} {carried : Option (Vec Value)} {input : Input} (w : RunSoFar s all requests ends sent b carried input) where
   -- rows were accepted
-  pub stands_accepts : (m : BuilderState) (last : Option (Vec Value)) (left : Input) → AcceptsUntilFull into_iter_steps b carried input (Ok last) m left → Stands s all requests ends sent m last left
-  stands_accepts m last left f =
+  pub run_accepts : (m : BuilderState) (last : Option (Vec Value)) (left : Input) → AcceptsUntilFull into_iter_steps b carried input (Ok last) m left → RunSoFar s all requests ends sent m last left
+  run_accepts m last left f =
       let came_is = came carried input f.0 last left f.1 in
       let seam : contents_of_rows (held carried input) ≡ contents_of_rows f.0 ++ contents_of_rows (held last left) = ap contents_of_rows came_is.0 ∙ map-append contents_of_row f.0 (held last left) in
       let P : List (List Content) → Type 0 = Running s all requests ends sent b in
@@ -108,9 +108,9 @@ module _ {s : BuilderState} {all : List (List Content)} {requests : List BulkReq
       at (Some row) r a e = λ f. a.1 (fits_from (contents_of_row row) (contents_of_rows (into_iter_items input)) r (next_long (contents_of_row row) (contents_of_rows (into_iter_items input)) r a.0) f)
 
   -- the waiting rows were sent
-  pub stands_sends : (t : BuilderState) (more : List BulkRequest) (further : List ℕ) (end : ℕ) → IfSome carried (λ row. Adds b row (Ok (Some row)) b) → (carried ≡ None → held carried input ≡ [])
-      → PutsRequest b requests more t → further ≡ ends ++ end ∷ [] → end ≡ sent + length b.waiting → Stands s all more further end t carried input
-  stands_sends t more further end a e put named count =
+  pub run_sends : (t : BuilderState) (more : List BulkRequest) (further : List ℕ) (end : ℕ) → IfSome carried (λ row. Adds b row (Ok (Some row)) b) → (carried ≡ None → held carried input ≡ [])
+      → PutsRequest b requests more t → further ≡ ends ++ end ∷ [] → end ≡ sent + length b.waiting → RunSoFar s all more further end t carried input
+  run_sends t more further end a e put named count =
       let r = w.running in
       let k = running_sends t (contents_of_rows (held carried input)) put.0 r put.2 (next_does_not_fit a e) in
       let same : length (rows_in r.cut ++ b.waiting) ≡ end = length-append (rows_in r.cut) b.waiting ∙ ap (λ n. n + length b.waiting) (sym r.count) ∙ sym count in

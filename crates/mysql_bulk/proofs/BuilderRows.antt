@@ -1,4 +1,4 @@
--- Rows of one length, kept as one list of values.
+-- Rows of one length, whose values stand in one list.
 use Rattle.std.proofs.Common.{◌≡◌, ℕ, zero, suc, ◌+◌, ◌*◌, ◌≤◌, List, [], ◌∷◌, ◌++◌, length, take, drop, Option, Some, None, unwrap_or, refl, sym, ◌∙◌, ap, subst, arith, length-append, add-one, sum_by}
 use Rattle.std.proofs.Math.Nat.{suc-mul, add-mul}
 use Rattle.std.proofs.lemmas.List.{nil_from_length, take_all, take-append-le, drop-append-le, length-drop, take-append-drop}
@@ -6,7 +6,7 @@ use Rattle.mysql_values.specs.Value.{Content}
 use Rattle.mysql_cuts.specs.Cut.{rows_in}
 use Rattle.mysql_bulk.specs.Row.{row_size}
 use Rattle.mysql_bulk.specs.Builder.{TakesArity}
-use Rattle.mysql_bulk.specs.WaitingRows.{rows_of, waiting_rows, IsFlat}
+use Rattle.mysql_bulk.specs.BuilderRows.{rows_of, waiting_rows, IsFlat}
 
 pub length-rows_of : (a n : ℕ) (values : List Content) → length (rows_of a n values) ≡ n
 length-rows_of a zero values = refl
@@ -26,15 +26,15 @@ rows_of-push a (suc n) values row h r =
     here ∙ ap (λ (l : List Content). l ∷ rows_of a (suc n) (drop a (values ++ row))) first ∙ ap (λ (l : List (List Content)). take a values ∷ l) others
 
 -- the values are those of the rows
-pub joined-rows_of : (a n : ℕ) (values : List Content) → length values ≡ n * a → rows_in (rows_of a n values) ≡ values
-joined-rows_of a zero values h = sym (nil_from_length values (omega (arith, h)))
-joined-rows_of a (suc n) values h =
+pub rows_in-rows_of : (a n : ℕ) (values : List Content) → length values ≡ n * a → rows_in (rows_of a n values) ≡ values
+rows_in-rows_of a zero values h = sym (nil_from_length values (omega (arith, h)))
+rows_in-rows_of a (suc n) values h =
     let more : suc n * a ≡ n * a + a = suc-mul n a in
     let rest : length (drop a values) ≡ n * a = omega (arith, h, more, length-drop a values) in
-    ap (λ (l : List Content). take a values ++ l) (joined-rows_of a n (drop a values) rest) ∙ take-append-drop a values
+    ap (λ (l : List Content). take a values ++ l) (rows_in-rows_of a n (drop a values) rest) ∙ take-append-drop a values
 
 pub flat_values : (arity : Option ℕ) (count size : ℕ) (values : List Content) → IsFlat arity count size values → values ≡ rows_in (waiting_rows arity count values)
-flat_values arity count size values f = sym (joined-rows_of (unwrap_or arity 0) count values f.lengths)
+flat_values arity count size values f = sym (rows_in-rows_of (unwrap_or arity 0) count values f.lengths)
 
 -- one more row
 pub flat_rows : (arity : Option ℕ) (count size : ℕ) (values row : List Content) → IsFlat arity count size values → TakesArity arity (length row)

@@ -14,11 +14,11 @@ use Rattle.mysql_bulk.specs.declared.error.BulkExecuteRequestBuilderError.TheVar
 use Rattle.mysql_bulk.specs.declared.error.BulkExecuteRequestError.{BulkExecuteRequestError}
 use Rattle.mysql_values.specs.Params as given_by
 use Rattle.mysql_bulk.specs.Builder.{BuilderState, TakesArity, RowFits, IsConsistent}
-use Rattle.mysql_bulk.specs.Loop.{GivesRequests, WholeLoop, SentAllRows, RefusedRow, RefusedParams, last_answer}
+use Rattle.mysql_bulk.specs.RunLoop.{GivesRequests, WholeLoop, SentAllRows, RefusedRow, RefusedParams}
 use Rattle.mysql_bulk.specs.ParamsRun.{Names, GivesRowOfParams, NextRequestOfParams}
 use Rattle.mysql_bulk.specs.Request.{BulkRequest}
 use Rattle.mysql_bulk.specs.Row.{contents_of_row, contents_of_rows}
-use Rattle.mysql_bulk.specs.Run.{NextRow, RunState, Accepts, AcceptedUntilFull, SendsRequest, NextRequest}
+use Rattle.mysql_bulk.specs.Run.{NextRow, RunState, Accepts, SendsRequest, NextRequest}
 use Rattle.mysql_bulk.specs.WholeRun.{RunGives}
 use Rattle.mysql_bulk.proofs.WholeRun.{Running, running_none, running_accepts, running_sends, next_long, fits_from, gives_all, gives_refused, gives_params}
 
@@ -37,32 +37,32 @@ module _ {S : Type 0} (steps : S → Option (Vec Value) → S → Type 0) where
     pub carried_first : (row : Vec Value) (rows : S) → Last (Some row, rows) → (rest : List (List Content)) → Rest rest → (behind : List (List Content)) × (rest ≡ contents_of_row row ∷ behind)
 
   module _ {Last : Option (Vec Value) × S → Type 0} {Rest : List (List Content) → Type 0} (l : IsLast Last Rest) where
-    -- what is known of calls from s to the end of the loop, where the builder is m: the rows that came, and how a run over a list that has come to s goes on
-    pub record Goes (s₀ : BuilderState) (s : RunState S) (requests : List BulkRequest) (m : BuilderState) : Type 0 where
+    -- what is known of calls from s to the end of the loop, where the builder is m: the rows that came, and how a run over a list that has come to s calls_to_end on
+    pub record CallsToEnd (s₀ : BuilderState) (s : RunState S) (requests : List BulkRequest) (m : BuilderState) : Type 0 where
       pub rows : List (Vec Value)
       pub place : Option (Vec Value) × S
       pub came : Yields (NextRow steps) (s.carried, s.rows) rows place
       pub last : Last place
-      pub goes_on : (rest : List (List Content)) → Rest rest → (all : List (List Content)) (before : List BulkRequest) (ends : List ℕ) (sent : ℕ) → Running s₀ all before ends sent s.builder (contents_of_rows rows ++ rest)
+      pub run_over_list : (rest : List (List Content)) → Rest rest → (all : List (List Content)) (before : List BulkRequest) (ends : List ℕ) (sent : ℕ) → Running s₀ all before ends sent s.builder (contents_of_rows rows ++ rest)
           → (further : List ℕ) × ((n : ℕ) × Running s₀ all (before ++ requests) further n m rest)
 
     -- the last call takes rows, and builds nothing
-    pub goes_last : (s₀ : BuilderState) (s : RunState S) (m : BuilderState) (taken : List (Vec Value)) (place : Option (Vec Value) × S) → Yields (NextRow steps) (s.carried, s.rows) taken place → Last place
-        → Accepts s.builder (contents_of_rows taken) m → Goes s₀ s [] m
-    goes_last s₀ s m taken place came last a = record {
+    pub last_call_takes_rows : (s₀ : BuilderState) (s : RunState S) (m : BuilderState) (taken : List (Vec Value)) (place : Option (Vec Value) × S) → Yields (NextRow steps) (s.carried, s.rows) taken place → Last place
+        → Accepts s.builder (contents_of_rows taken) m → CallsToEnd s₀ s [] m
+    last_call_takes_rows s₀ s m taken place came last a = record {
       rows = taken;
       place = place;
       came = came;
       last = last;
-      goes_on = λ rest is_rest all before ends sent r.
+      run_over_list = λ rest is_rest all before ends sent r.
           let Q : List BulkRequest → Type 0 = λ q. Running s₀ all q ends sent m rest in
           (ends, (sent, subst Q (sym (append-nil before)) (running_accepts m (contents_of_rows taken) rest r a)));
     }
 
     -- a request, with which the input has ended
-    goes_ended : (s₀ : BuilderState) (s t : RunState S) (request : BulkRequest) (f : SendsRequest steps s request t) → t.carried ≡ None → ((rest : List (List Content)) → Rest rest → rest ≡ [])
-        → ((mid : Option (Vec Value) × S) → NextRow steps mid None (None, t.rows) → Last mid) → Goes s₀ s (request ∷ []) t.builder
-    goes_ended s₀ s t request f c none ended =
+    last_request : (s₀ : BuilderState) (s t : RunState S) (request : BulkRequest) (f : SendsRequest steps s request t) → t.carried ≡ None → ((rest : List (List Content)) → Rest rest → rest ≡ [])
+        → ((mid : Option (Vec Value) × S) → NextRow steps mid None (None, t.rows) → Last mid) → CallsToEnd s₀ s (request ∷ []) t.builder
+    last_request s₀ s t request f c none ended =
         let C : Option (Vec Value) → Type 0 = λ o. YieldsThen (NextRow steps) (s.carried, s.rows) f.accepted.taken o (None, t.rows) in
         let upto = subst C c f.accepted.came in
         record {
@@ -70,7 +70,7 @@ module _ {S : Type 0} (steps : S → Option (Vec Value) → S → Type 0) where
           place = upto.0;
           came = upto.1;
           last = ended upto.0 upto.2;
-          goes_on = λ rest is_rest all before ends sent r.
+          run_over_list = λ rest is_rest all before ends sent r.
               let E : List (List Content) → Type 0 = λ l. Running s₀ all before ends sent s.builder (contents_of_rows f.accepted.taken ++ l) in
               let R : List (List Content) → Type 0 = λ l. (further : List ℕ) × ((n : ℕ) × Running s₀ all (before ++ request ∷ []) further n t.builder l) in
               let here = running_accepts f.full (contents_of_rows f.accepted.taken) [] (subst E (none rest is_rest) r) f.accepted.accepts in
@@ -85,13 +85,13 @@ module _ {S : Type 0} (steps : S → Option (Vec Value) → S → Type 0) where
         (contents_of_rows xs ++ rest, ap (λ (r : Vec Value). contents_of_row r ∷ (contents_of_rows xs ++ rest)) y.1.0)
 
     -- rows up to a place where a row was taken to be carried, and then those from there on
-    joins : (s : Option (Vec Value) × S) (row : Vec Value) (rows : S) (taken xs : List (Vec Value)) (place : Option (Vec Value) × S) → YieldsThen (NextRow steps) s taken (Some row) (None, rows)
+    rows_across_requests : (s : Option (Vec Value) × S) (row : Vec Value) (rows : S) (taken xs : List (Vec Value)) (place : Option (Vec Value) × S) → YieldsThen (NextRow steps) s taken (Some row) (None, rows)
         → Yields (NextRow steps) (Some row, rows) xs place → Last place → (there : Option (Vec Value) × S) × Yields (NextRow steps) s (taken ++ xs) there × Last there
-    joins s row rows taken [] place upto y last =
+    rows_across_requests s row rows taken [] place upto y last =
         let P : Option (Vec Value) × S → Type 0 = Last in
         let T : List (Vec Value) → Type 0 = λ l. Yields (NextRow steps) s l upto.0 in
         (upto.0, subst T (sym (append-nil taken)) upto.1, l.carried_later row rows upto.0 (subst P (sym y) last) upto.2)
-    joins s row rows taken (x ∷ xs) place upto y last =
+    rows_across_requests s row rows taken (x ∷ xs) place upto y last =
         let same : y.0 ≡ (None, rows) = ap (λ (o : Option (Vec Value)). (o, y.0.1)) y.1.1 ∙ ap (λ (r : S). (None, r)) y.1.2 in
         let N : Option (Vec Value) × S → Type 0 = λ j. NextRow steps upto.0 (Some row) j in
         let X : Vec Value → Type 0 = λ r. NextRow steps upto.0 (Some r) y.0 in
@@ -99,21 +99,21 @@ module _ {S : Type 0} (steps : S → Option (Vec Value) → S → Type 0) where
         (place, Yields-append s upto.0 place taken (x ∷ xs) upto.1 (y.0, first, y.2), last)
 
     -- a request, behind which a row is carried
-    goes_on_later : (s₀ : BuilderState) (s t : RunState S) (request : BulkRequest) (requests : List BulkRequest) (m : BuilderState) (row : Vec Value) (f : SendsRequest steps s request t) → t.carried ≡ Some row
-        → Goes s₀ t requests m → Goes s₀ s (request ∷ requests) m
-    goes_on_later s₀ s t request requests m row f c later =
+    request_before_others : (s₀ : BuilderState) (s t : RunState S) (request : BulkRequest) (requests : List BulkRequest) (m : BuilderState) (row : Vec Value) (f : SendsRequest steps s request t) → t.carried ≡ Some row
+        → CallsToEnd s₀ t requests m → CallsToEnd s₀ s (request ∷ requests) m
+    request_before_others s₀ s t request requests m row f c later =
         let Y : Option (Vec Value) → Type 0 = λ o. Yields (NextRow steps) (o, t.rows) later.rows later.place in
         let C : Option (Vec Value) → Type 0 = λ o. YieldsThen (NextRow steps) (s.carried, s.rows) f.accepted.taken o (None, t.rows) in
         let G : Option (Vec Value) → Type 0 = λ o. IfSome o (λ row. TakesArity f.full.arity (length (contents_of_row row)) × (RowFits f.full (contents_of_row row) → ⊥)) in
         let came = subst Y c later.came in
         let full = subst G c f.accepted.full in
-        let all_rows = joins (s.carried, s.rows) row t.rows f.accepted.taken later.rows later.place (subst C c f.accepted.came) came later.last in
+        let all_rows = rows_across_requests (s.carried, s.rows) row t.rows f.accepted.taken later.rows later.place (subst C c f.accepted.came) came later.last in
         record {
           rows = f.accepted.taken ++ later.rows;
           place = all_rows.0;
           came = all_rows.1;
           last = all_rows.2;
-          goes_on = λ rest is_rest all before ends sent r.
+          run_over_list = λ rest is_rest all before ends sent r.
               let first = begins row t.rows later.rows later.place came later.last rest is_rest in
               let P : List (List Content) → Type 0 = Running s₀ all before ends sent s.builder in
               let seam : contents_of_rows (f.accepted.taken ++ later.rows) ++ rest ≡ contents_of_rows f.accepted.taken ++ (contents_of_row row ∷ first.0) =
@@ -124,7 +124,7 @@ module _ {S : Type 0} (steps : S → Option (Vec Value) → S → Type 0) where
               let there = running_sends t.builder (contents_of_row row ∷ first.0) request here f.builds
               (λ g. full.1 (fits_from (contents_of_row row) first.0 here (next_long (contents_of_row row) first.0 here full.0) g)) in
               let V : List (List Content) → Type 0 = Running s₀ all (before ++ request ∷ []) (ends ++ length (rows_in here.cut ++ f.full.waiting) ∷ []) (length (rows_in here.cut ++ f.full.waiting)) t.builder in
-              let end = later.goes_on rest is_rest all (before ++ request ∷ []) (ends ++ length (rows_in here.cut ++ f.full.waiting) ∷ []) (length (rows_in here.cut ++ f.full.waiting)) (subst V (sym first.1) there) in
+              let end = later.run_over_list rest is_rest all (before ++ request ∷ []) (ends ++ length (rows_in here.cut ++ f.full.waiting) ∷ []) (length (rows_in here.cut ++ f.full.waiting)) (subst V (sym first.1) there) in
               let Q : List BulkRequest → Type 0 = λ q. Running s₀ all q end.0 end.1.0 m rest in
               (end.0, (end.1.0, subst Q (append_assoc before (request ∷ []) requests) end.1.1));
         }
@@ -132,7 +132,7 @@ module _ {S : Type 0} (steps : S → Option (Vec Value) → S → Type 0) where
     -- ---- calls up to the last, with which the loop ends in u
 
     module _ (next : RunState S → Option (Result BulkRequest BulkExecuteRequestBuilderError) → RunState S → Type 0) (sends : (s t : RunState S) (request : BulkRequest) → next s (Some (Ok request)) t → SendsRequest steps s request t)
-        (last u : RunState S) (at_last : (s₀ : BuilderState) → last.ended ≡ false → Goes s₀ last [] u.builder)
+        (last u : RunState S) (at_last : (s₀ : BuilderState) → last.ended ≡ false → CallsToEnd s₀ last [] u.builder)
         (when_ended : last.ended ≡ true → (u ≡ last) × ((rest : List (List Content)) → Rest rest → rest ≡ []) × ((mid : Option (Vec Value) × S) → NextRow steps mid None (None, last.rows) → Last mid)) where
       over : (v : RunState S) (requests : List BulkRequest) → v.ended ≡ true → GivesRequests next v requests last
           → (requests ≡ []) × (u ≡ v) × ((rest : List (List Content)) → Rest rest → rest ≡ []) × ((mid : Option (Vec Value) × S) → NextRow steps mid None (None, v.rows) → Last mid)
@@ -142,17 +142,17 @@ module _ {S : Type 0} (steps : S → Option (Vec Value) → S → Type 0) where
       over v (q ∷ qs) e g = two_ways v.ended e (sends v g.0 q g.1).accepted.going
 
       after : (s₀ : BuilderState) (s t : RunState S) (request : BulkRequest) (requests : List BulkRequest) (o : Option (Vec Value)) → t.carried ≡ o → SendsRequest steps s request t
-          → GivesRequests next t requests last → (t.ended ≡ false → Goes s₀ t requests u.builder) → Goes s₀ s (request ∷ requests) u.builder
+          → GivesRequests next t requests last → (t.ended ≡ false → CallsToEnd s₀ t requests u.builder) → CallsToEnd s₀ s (request ∷ requests) u.builder
       after s₀ s t request requests None c f g later =
           let stopped : t.ended ≡ true = f.ended ∙ ap (is_none {T = Vec Value}) c in
           let end = over t requests stopped g in
-          let P : List BulkRequest → RunState S → Type 0 = λ q w. Goes s₀ s (request ∷ q) w.builder in
-          subst (λ q. P q u) (sym end.0) (subst (P []) (sym end.1) (goes_ended s₀ s t request f c end.2 end.3))
-      after s₀ s t request requests (Some row) c f g later = goes_on_later s₀ s t request requests u.builder row f c (later (f.ended ∙ ap (is_none {T = Vec Value}) c))
+          let P : List BulkRequest → RunState S → Type 0 = λ q w. CallsToEnd s₀ s (request ∷ q) w.builder in
+          subst (λ q. P q u) (sym end.0) (subst (P []) (sym end.1) (last_request s₀ s t request f c end.2 end.3))
+      after s₀ s t request requests (Some row) c f g later = request_before_others s₀ s t request requests u.builder row f c (later (f.ended ∙ ap (is_none {T = Vec Value}) c))
 
-      pub goes : (s₀ : BuilderState) (requests : List BulkRequest) (s : RunState S) → s.ended ≡ false → GivesRequests next s requests last → Goes s₀ s requests u.builder
-      goes s₀ [] s e g = let P : RunState S → Type 0 = λ w. Goes s₀ w [] u.builder in subst P (sym g) (at_last s₀ (sym (ap (λ (v : RunState S). v.ended) g) ∙ e))
-      goes s₀ (request ∷ requests) s e g = after s₀ s g.0 request requests g.0.carried refl (sends s g.0 request g.1) g.2 (λ e. goes s₀ requests g.0 e g.2)
+      pub calls_to_end : (s₀ : BuilderState) (requests : List BulkRequest) (s : RunState S) → s.ended ≡ false → GivesRequests next s requests last → CallsToEnd s₀ s requests u.builder
+      calls_to_end s₀ [] s e g = let P : RunState S → Type 0 = λ w. CallsToEnd s₀ w [] u.builder in subst P (sym g) (at_last s₀ (sym (ap (λ (v : RunState S). v.ended) g) ∙ e))
+      calls_to_end s₀ (request ∷ requests) s e g = after s₀ s g.0 request requests g.0.carried refl (sends s g.0 request g.1) g.2 (λ e. calls_to_end s₀ requests g.0 e g.2)
 
   -- ---- the ways in which a loop ends
 
@@ -196,21 +196,21 @@ module _ {S : Type 0} (steps : S → Option (Vec Value) → S → Type 0) where
         ap (λ (v : RunState S). v.builder.waiting) n.1 ∙ waits_none next sends requests g.0 last (ap (λ (b : BuilderState). b.waiting) (sends s g.0 request g.1).builds.left) g.2
 
     -- a loop from its start
-    started : {Last : Option (Vec Value) × S → Type 0} {Rest : List (List Content) → Type 0} (l : IsLast Last Rest) (s : RunState S) (requests : List BulkRequest) (m : BuilderState) (g : Goes l s.builder s requests m)
+    started : {Last : Option (Vec Value) × S → Type 0} {Rest : List (List Content) → Type 0} (l : IsLast Last Rest) (s : RunState S) (requests : List BulkRequest) (m : BuilderState) (g : CallsToEnd l s.builder s requests m)
         → IsConsistent s.builder → (rest : List (List Content)) → Rest rest
         → (further : List ℕ) × ((n : ℕ) × Running s.builder (s.builder.waiting ++ (contents_of_rows g.rows ++ rest)) requests further n m rest)
-    started l s requests m g c rest is = g.goes_on rest is (s.builder.waiting ++ (contents_of_rows g.rows ++ rest)) [] [] 0 (running_none s.builder (contents_of_rows g.rows ++ rest) c)
+    started l s requests m g c rest is = g.run_over_list rest is (s.builder.waiting ++ (contents_of_rows g.rows ++ rest)) [] [] 0 (running_none s.builder (contents_of_rows g.rows ++ rest) c)
 
     from_start : {Last : Option (Vec Value) × S → Type 0} {Rest : List (List Content) → Type 0} (l : IsLast Last Rest) (s : RunState S) (requests : List BulkRequest) (m : BuilderState) → s.carried ≡ None
-        → (g : Goes l s.builder s requests m) → Yields (NextRow steps) (None, s.rows) g.rows g.place
+        → (g : CallsToEnd l s.builder s requests m) → Yields (NextRow steps) (None, s.rows) g.rows g.place
     from_start l s requests m c g = let Y : Option (Vec Value) → Type 0 = λ o. Yields (NextRow steps) (o, s.rows) g.rows g.place in subst Y c g.came
 
-    last_empty : (last u : RunState S) → NextRequest steps last None u → (s₀ : BuilderState) → last.ended ≡ false → Goes (ends_input u.rows) s₀ last [] u.builder
+    last_empty : (last u : RunState S) → NextRequest steps last None u → (s₀ : BuilderState) → last.ended ≡ false → CallsToEnd (ends_input u.rows) s₀ last [] u.builder
     last_empty last u (inl e) s₀ g = two_ways last.ended e.0 g
     last_empty last u (inr e) s₀ g =
         let C : Option (Vec Value) → Type 0 = λ o. YieldsThen (NextRow steps) (last.carried, last.rows) e.accepted.taken o (None, u.rows) in
         let upto = subst C e.carried e.accepted.came in
-        goes_last (ends_input u.rows) s₀ last u.builder e.accepted.taken upto.0 upto.1 upto.2 e.accepted.accepts
+        last_call_takes_rows (ends_input u.rows) s₀ last u.builder e.accepted.taken upto.0 upto.1 upto.2 e.accepted.accepts
 
     had_ended : (last u : RunState S) → NextRequest steps last None u → last.ended ≡ true
         → (u ≡ last) × ((rest : List (List Content)) → NoRest rest → rest ≡ []) × ((mid : Option (Vec Value) × S) → NextRow steps mid None (None, last.rows) → EndOfInput u.rows mid)
@@ -221,7 +221,7 @@ module _ {S : Type 0} (steps : S → Option (Vec Value) → S → Type 0) where
     pub sent_all : (s u : RunState S) (requests : List BulkRequest) (w : WholeLoop next s requests None u) → NextRequest steps w.last None u → SentAllRows steps s requests u
     sent_all s u requests w n =
         let l = ends_input u.rows in
-        let g = goes l next sends w.last u (last_empty w.last u n) (had_ended w.last u n) s.builder requests s w.going w.gave in
+        let g = calls_to_end l next sends w.last u (last_empty w.last u n) (had_ended w.last u n) s.builder requests s w.going w.gave in
         let end = started l s requests u.builder g w.consistent [] refl in
         let R : List (List Content) → Type 0 = λ rows. RunGives s.builder (s.builder.waiting ++ rows) requests end.0 None u.builder in
         record {
@@ -236,8 +236,8 @@ module _ {S : Type 0} (steps : S → Option (Vec Value) → S → Type 0) where
         → NextRequest steps w.last (Some (Err (refused.Request e))) u → RefusedRow steps s requests e u
     refused_row s u requests e w r =
         let l = at_row r.row u.rows in
-        let at_last : (s₀ : BuilderState) → w.last.ended ≡ false → Goes l s₀ w.last [] u.builder = λ s₀ h. goes_last l s₀ w.last u.builder r.taken r.came.0 r.came.1 r.came.2 r.accepts in
-        let g = goes l next sends w.last u at_last (λ h. two_ways w.last.ended h r.going) s.builder requests s w.going w.gave in
+        let at_last : (s₀ : BuilderState) → w.last.ended ≡ false → CallsToEnd l s₀ w.last [] u.builder = λ s₀ h. last_call_takes_rows l s₀ w.last u.builder r.taken r.came.0 r.came.1 r.came.2 r.accepts in
+        let g = calls_to_end l next sends w.last u at_last (λ h. two_ways w.last.ended h r.going) s.builder requests s w.going w.gave in
         record {
           rows = g.rows;
           row = r.row;
@@ -273,9 +273,9 @@ module _ {S : Type 0} (steps : S → Option Params → S → Type 0) (names : Na
   refused_params s u requests e w =
       let r = w.ends.no_row in
       let l = at_params e u.rows in
-      let at_last : (s₀ : BuilderState) → w.last.ended ≡ false → Goes (GivesRowOfParams steps names) l s₀ w.last [] u.builder =
-      λ s₀ h. goes_last (GivesRowOfParams steps names) l s₀ w.last u.builder r.taken (None, r.before) r.came (refl, (r.params, r.given, r.refused)) r.accepts in
-      let g = goes (GivesRowOfParams steps names) l (NextRequestOfParams steps names) sends_params w.last u at_last (λ h. two_ways w.last.ended h w.ends.going) s.builder requests s w.going w.gave in
+      let at_last : (s₀ : BuilderState) → w.last.ended ≡ false → CallsToEnd (GivesRowOfParams steps names) l s₀ w.last [] u.builder =
+      λ s₀ h. last_call_takes_rows (GivesRowOfParams steps names) l s₀ w.last u.builder r.taken (None, r.before) r.came (refl, (r.params, r.given, r.refused)) r.accepts in
+      let g = calls_to_end (GivesRowOfParams steps names) l (NextRequestOfParams steps names) sends_params w.last u at_last (λ h. two_ways w.last.ended h w.ends.going) s.builder requests s w.going w.gave in
       let end = started (GivesRowOfParams steps names) (NextRequestOfParams steps names) sends_params l s requests u.builder g w.consistent [] refl in
       let R : List (List Content) → Type 0 = λ rows. RunGives s.builder (s.builder.waiting ++ rows) requests end.0 (Some (refused.Params e)) u.builder in
       let P : Option (Vec Value) → Type 0 = λ o. Yields (NextRow (GivesRowOfParams steps names)) (None, s.rows) g.rows (o, g.place.1) in
