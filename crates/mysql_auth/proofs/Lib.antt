@@ -1,4 +1,12 @@
 mod Rounds
 mod HandshakeFits
+mod HandshakeResponseFits
+mod ChangeUserFits
 mod Scanner
 mod Once
+mod Merging
+mod Options
+mod NameRead
+mod ResponseRead
+mod PairsRead
+mod PairsWritten

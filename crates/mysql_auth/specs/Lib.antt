@@ -12,3 +12,7 @@ pub mod LastName
 pub mod Handshake
 pub mod Version
 pub mod Scan
+pub mod PluginName
+pub mod Attributes
+pub mod HandshakeResponse
+pub mod ComChangeUser

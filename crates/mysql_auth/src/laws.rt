@@ -12,6 +12,12 @@ ghost use Rattle.mysql_auth.specs.declared.public_key_request.PublicKeyRequest.{
 ghost use Rattle.mysql_auth.specs.declared.public_key_response.PublicKeyResponse.{PublicKeyResponse};
 ghost use Rattle.mysql_auth.specs.declared.ssl_request.SslRequest.{SslRequest};
 ghost use Rattle.mysql_auth.specs.declared.handshake.HandshakePacket.{HandshakePacket};
+ghost use Rattle.mysql_auth.specs.declared.com_change_user.ComChangeUser.{ComChangeUser};
+ghost use Rattle.mysql_auth.specs.declared.com_change_user_more_data.ComChangeUserMoreData.{ComChangeUserMoreData};
+ghost use Rattle.mysql_auth.specs.declared.handshake_response.HandshakeResponse.{HandshakeResponse};
+ghost use Rattle.mysql_wire.specs.Flags.{CapabilityFlags};
+ghost use Rattle.mysql_auth.specs.ComChangeUser.{change_user, ChangeUserFits, more_data, MoreDataFits};
+ghost use Rattle.mysql_auth.specs.HandshakeResponse.{handshake_response, HandshakeResponseFits};
 ghost use Rattle.mysql_auth.specs.Version.{HasVersion, HasMariadbVersion};
 ghost use Rattle.mysql_auth.specs.Handshake.{handshake, HandshakeFits};
 ghost use Rattle.mysql_auth.specs.AuthMoreData.{auth_more_data};
@@ -74,6 +80,42 @@ pub fn handshake_again()
 #[tactic(auto, using(crate::proofs::HandshakeFits::handshakes))]
 pub fn handshake_fits()
     ensures fits { (p : HandshakePacket) (rest : List ℕ) → HandshakeFits p rest → handshake.fits tt p rest }
+{}
+
+/// What is written of a response to a handshake is read again.
+pub fn handshake_response_again()
+    ensures spelled { (p : HandshakeResponse) (rest : List ℕ) → handshake_response.fits tt p rest → (handshake_response.form tt).Spells p (handshake_response.bytes p ++ rest) rest }
+    ensures read { (p : HandshakeResponse) (rest : List ℕ) → handshake_response.fits tt p rest → (handshake_response.form tt).reads (handshake_response.bytes p ++ rest) ≡ Ok (p, rest) }
+{}
+
+/// What makes a response to a handshake be read again, in plain words.
+#[tactic(auto, using(crate::proofs::HandshakeResponseFits::responses))]
+pub fn handshake_response_fits()
+    ensures fits { (p : HandshakeResponse) (rest : List ℕ) → HandshakeResponseFits p → handshake_response.fits tt p rest }
+{}
+
+/// What is written of a change of user is read again, under the flags that both sides know.
+pub fn change_user_again()
+    ensures spelled { (c : CapabilityFlags) (p : ComChangeUser) (rest : List ℕ) → change_user.fits c p rest → (change_user.form c).Spells p (change_user.bytes p ++ rest) rest }
+    ensures read { (c : CapabilityFlags) (p : ComChangeUser) (rest : List ℕ) → change_user.fits c p rest → (change_user.form c).reads (change_user.bytes p ++ rest) ≡ Ok (p, rest) }
+{}
+
+/// What makes a change of user be read again, in plain words.
+#[tactic(auto, using(crate::proofs::ChangeUserFits::changes))]
+pub fn change_user_fits()
+    ensures fits { (c : CapabilityFlags) (p : ComChangeUser) (rest : List ℕ) → ChangeUserFits c p rest → change_user.fits c p rest }
+{}
+
+/// What is written of a change of user's more data is read again, under the flags that both sides know.
+pub fn more_data_again()
+    ensures spelled { (c : CapabilityFlags) (p : ComChangeUserMoreData) (rest : List ℕ) → more_data.fits c p rest → (more_data.form c).Spells p (more_data.bytes p ++ rest) rest }
+    ensures read { (c : CapabilityFlags) (p : ComChangeUserMoreData) (rest : List ℕ) → more_data.fits c p rest → (more_data.form c).reads (more_data.bytes p ++ rest) ≡ Ok (p, rest) }
+{}
+
+/// What makes more data be read again, in plain words.
+#[tactic(auto, using(crate::proofs::ChangeUserFits::changes))]
+pub fn more_data_fits()
+    ensures fits { (c : CapabilityFlags) (p : ComChangeUserMoreData) (rest : List ℕ) → MoreDataFits c p → more_data.fits c p rest }
 {}
 
 /// A text begins with at most one version.

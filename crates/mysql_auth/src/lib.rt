@@ -2,16 +2,22 @@
 //! the switches to another plugin, the packets with keys and further data, and the change of a session's user.
 #![tactic(auto)]
 
+mod attributes;
 mod auth_more_data;
 mod auth_plugin;
 mod auth_plugin_data;
 mod auth_switch_request;
+mod com_change_user;
+mod com_change_user_more_data;
 mod handshake;
 mod handshake_head;
+mod handshake_response;
 mod last_name;
 pub mod laws;
 mod old_auth_switch_request;
+mod optional_bytes;
 mod parsec;
+mod plugin_name;
 mod public_key_request;
 mod public_key_response;
 mod ssl_request;
@@ -24,7 +30,10 @@ pub use auth_plugin_data::AuthPluginData;
 pub use auth_switch_request::{
     AuthSwitchRequest, AuthSwitchRequestHeader, InvalidAuthSwitchRequestHeader,
 };
+pub use com_change_user::{ComChangeUser, ComChangeUserHeader, InvalidComChangeUserHeader};
+pub use com_change_user_more_data::ComChangeUserMoreData;
 pub use handshake::HandshakePacket;
+pub use handshake_response::HandshakeResponse;
 pub use last_name::LastName;
 pub use old_auth_switch_request::OldAuthSwitchRequest;
 pub use parsec::parse_parsec_salt;

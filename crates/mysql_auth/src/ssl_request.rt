@@ -78,6 +78,14 @@ impl SslRequest {
     {
         self.character_set.0
     }
+
+    /// What a MariaDB client can do besides.
+    #[inline]
+    pub(crate) fn mariadb_capabilities(&self) -> MariadbCapabilities
+        ensures value { result ≡ spec.mariadb_capabilities self.now }
+    {
+        self.mariadb_capabilities.0
+    }
 }
 
 impl<'de> MyDeserialize<'de> for SslRequest {

@@ -1,0 +1,83 @@
+-- A loop that reads pairs into a map.
+use Rattle.std.proofs.Common.{◌≡◌, ◌≢◌, ℕ, ◌+◌, ◌<◌, ◌≤◌, List, [], ◌∷◌, length, Ok, Err, Bool, true, refl, sym, ap, ◌∙◌, arith}
+use Rattle.std.proofs.lemmas.Bool.{lt-ltb}
+use Rattle.std.proofs.lemmas.List.{length-append}
+use Rattle.std.specs.Cmp.Lexicographic.{pointwise}
+use Rattle.std.specs.Prelude.{nat_eq}
+use Rattle.indexmap.specs.IndexMap.{insert_entry, insert_all}
+use Rattle.mysql_wire.specs.declared.fault.FaultOf.{FaultOf}
+use Rattle.mysql_wire.specs.declared.fault.FaultOf.TheVariants as fault
+use Rattle.mysql_wire.specs.declared.fault.FaultKind.{FaultKind}
+use Rattle.mysql_wire.specs.Reading.{Reading, IsTail, then_read, Faults}
+use Rattle.mysql_wire.specs.Form.{Form, bytes, number}
+use Rattle.mysql_wire.specs.Int.{raw, byte}
+use Rattle.mysql_wire.specs.LenEnc.{lenenc, lenenc_from, lenenc_string}
+use Rattle.mysql_wire.specs.Many.{many, value_and_more}
+use Rattle.mysql_wire.specs.ManyLaws.{many-next}
+use Rattle.mysql_auth.specs.Attributes.{Attribute, attribute}
+
+abbrev same : List ℕ → List ℕ → Bool
+same = pointwise nat_eq
+
+-- the pairs that are read put into a map behind these entries
+abbrev pub put_behind : List Attribute → Reading (List Attribute) → Reading (List Attribute)
+put_behind entries read = then_read read (λ pairs rest. Ok (insert_all same entries pairs, rest))
+
+tail-not-longer : (tail bytes : List ℕ) → IsTail tail bytes → length tail ≤ length bytes
+tail-not-longer tail bytes t = let e : length bytes ≡ length t.front + length tail = ap length t.parts ∙ length-append t.front tail in omega (arith, e)
+
+-- a length-encoded string takes at least a byte
+number-shorter : (n : ℕ) (bytes rest : List ℕ) → lenenc.Spells n bytes rest → length rest < length bytes
+unfolding lenenc raw number bytes
+number-shorter n bytes rest s =
+    let first = byte.sized.exact s.0 bytes s.1 (byte.only s.0 bytes s.1 s.2) in
+    let behind = (lenenc_from s.0.0).front n s.1 rest ((lenenc_from s.0.0).only n s.1 rest s.3) in
+    omega (arith, first, tail-not-longer rest s.1 behind)
+
+string-shorter : (content bytes rest : List ℕ) → lenenc_string.Spells content bytes rest → length rest < length bytes
+unfolding lenenc_string raw bytes
+string-shorter content bytes rest s =
+    let content_behind : length s.1 ≡ length content + length rest = ap length s.3.1 ∙ length-append content rest in
+    omega (arith, number-shorter _ bytes s.1 s.2.2.2, content_behind)
+
+-- and so does a pair
+pub pair-shorter : (p : Attribute) (bytes rest : List ℕ) → (attribute.form tt).reads bytes ≡ Ok (p, rest) → length rest < length bytes
+unfolding attribute
+pair-shorter p bytes rest e =
+    let s = (attribute.form tt).found p bytes rest e in
+    omega (arith, string-shorter s.0 bytes s.1 s.2, string-shorter s.3.0 s.1 s.3.1 s.3.2, ap length s.3.3.1)
+
+abbrev f : Form Attribute
+f = attribute.form tt
+
+opened : (bytes : List ℕ) → bytes ≢ [] → (many f).reads bytes ≡ then_read (f.reads bytes) (value_and_more (length bytes) (many f).reads)
+unfolding many
+opened [] some = absurd (some refl)
+opened (b ∷ bs) some = many-next f b bs
+
+regroup : (entries : List Attribute) (p : Attribute) (read : Reading (List Attribute))
+    → put_behind entries (then_read read (λ pairs rest. Ok (p ∷ pairs, rest))) ≡ put_behind (insert_entry same entries p.0 p.1) read
+regroup entries p (Ok x) = refl
+regroup entries p (Err e) = refl
+
+-- one pair, and those behind it
+pub one-pair : (entries : List Attribute) (p : Attribute) (bytes after : List ℕ) → bytes ≢ [] → f.reads bytes ≡ Ok (p, after)
+    → put_behind (insert_entry same entries p.0 p.1) ((many f).reads after) ≡ put_behind entries ((many f).reads bytes)
+one-pair entries p bytes after some e = sym (rw (opened bytes some, e, lt-ltb _ _ (pair-shorter p bytes after e)) (regroup entries p ((many f).reads after)))
+
+-- no byte is left
+pub no-pair : (entries : List Attribute) → put_behind entries ((many f).reads []) ≡ Ok (entries, [])
+unfolding many
+no-pair entries = refl
+
+pair-fails : (entries : List Attribute) (bytes : List ℕ) (e : FaultKind) → bytes ≢ [] → f.reads bytes ≡ Err e → put_behind entries ((many f).reads bytes) ≡ Err e
+pair-fails entries bytes e some h = rw (opened bytes some, h) refl
+
+-- the first pair that has a fault
+pub pair-faults : (entries : List Attribute) (bytes : List ℕ) (b : Bool) (e : FaultOf) → bytes ≢ [] → Faults b e (f.reads bytes) → Faults true e (put_behind entries ((many f).reads bytes))
+pair-faults entries bytes b fault.Memory some h = refl
+pair-faults entries bytes b fault.UnexpectedEof some h = pair-fails entries bytes _ some h
+pair-faults entries bytes b (fault.InvalidData text) some h = pair-fails entries bytes _ some h
+pair-faults entries bytes b (fault.InvalidInput text) some h = pair-fails entries bytes _ some h
+
+pub ruleset pair_loops = (one-pair, no-pair, pair-faults, pair-shorter)

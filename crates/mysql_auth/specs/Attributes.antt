@@ -1,0 +1,91 @@
+-- Attributes of a connection: keys with their values, each key once, in the order of their first places.
+use Rattle.std.specs.Prelude.{◌≡◌, ℕ, ◌<◌, ◌^◌, Bool, ◌&&◌, nat_eq, List, [], ◌++◌, length, map, string_bytes, None, refl}
+use Rattle.std.specs.Cmp.Lexicographic.{pointwise}
+use Rattle.std.specs.List.{flat_map}
+use Rattle.std.specs.Global.{Global}
+use Rattle.std.specs.declared.string.String.{String}
+use Rattle.indexmap.specs.IndexMap.{insert_all}
+use Rattle.mysql_wire.specs.Again.{lenenc_string-again}
+use Rattle.mysql_wire.specs.Codec.{Codec, Fields}
+use Rattle.mysql_wire.specs.CodecAgain.{some-lenenc, some-then, many-again}
+use Rattle.mysql_wire.specs.CodecFits.{each_fits}
+use Rattle.mysql_wire.specs.Codecs.{◌>>=◌, give, field, packet, string_lenenc}
+use Rattle.mysql_wire.specs.Form as form
+use Rattle.mysql_wire.specs.LenEnc.{lenenc_string, lenenc_string_bytes}
+use Rattle.mysql_wire.specs.Many.{many}
+use Rattle.mysql_wire.specs.Text.{lossy_text}
+use Rattle.std.proofs.lemmas.List.{append-nil}
+
+abbrev pub Attribute : Type 0
+Attribute = List ℕ × List ℕ
+
+-- The pairs put into a map one after another: a key that is there keeps its place and takes the value, a new one goes last.
+abbrev pub merged : List Attribute → List Attribute
+merged pairs = insert_all (pointwise nat_eq) [] pairs
+
+-- the same key with the same value
+abbrev pub attribute_eq : Attribute → Attribute → Bool
+attribute_eq p q = pointwise nat_eq p.0 q.0 && pointwise nat_eq p.1 q.1
+
+-- the bytes of a pair of texts
+abbrev pub text_pair : String Global × String Global → Attribute
+text_pair p = (string_bytes p.0, string_bytes p.1)
+
+-- a pair as texts, with U+FFFD for what is not UTF-8
+abbrev pub lossy_pair : Attribute → Attribute
+lossy_pair p = (lossy_text p.0, lossy_text p.1)
+
+-- the pairs as texts: where two keys become one text, it keeps the first place and takes the later value
+abbrev pub lossy_pairs : List Attribute → List Attribute
+lossy_pairs pairs = merged (map lossy_pair pairs)
+
+-- ---- the layout
+
+-- a key and its value, each length-encoded
+abbrev pub attribute_fields : Fields (Unit {0}) Attribute Attribute
+attribute_fields = do
+  key ← field (λ p. p.0) string_lenenc
+  value ← field (λ p. p.1) string_lenenc
+  give (key, value)
+
+unfoldable pub attribute : Codec (Unit {0}) Attribute
+attribute = packet attribute_fields (λ p. refl)
+
+some-attribute : (p : Attribute) → 0 < attribute.len p
+unfolding attribute
+some-attribute p = some-then _ (some-lenenc p.0)
+
+-- what is inside: pairs to the end
+abbrev pub pairs_bytes : List Attribute → List ℕ
+pairs_bytes pairs = flat_map attribute.bytes pairs
+
+abbrev pub pairs : form.Form (List Attribute)
+pairs = form.map merged (many (attribute.form tt))
+
+-- each key stands once, as in every map, and the length of all pairs fits a number of eight bytes
+pub record AttributesFit (attributes : List Attribute) : Type 0 where
+  pub once : merged attributes ≡ attributes
+  pub each : each_fits attribute tt attributes []
+  pub short : length (pairs_bytes attributes) < 2 ^ 64
+
+pub attributes-again : (attributes : List Attribute) (rest : List ℕ) → AttributesFit attributes
+    → (form.within lenenc_string pairs).Spells attributes (lenenc_string_bytes (pairs_bytes attributes) ++ rest) rest
+attributes-again attributes rest h =
+    let inside : (many (attribute.form tt)).Spells attributes (pairs_bytes attributes) [] =
+    rw append-nil at (many-again attribute some-attribute tt attributes [] (refl, h.each)) in
+    (pairs_bytes attributes, lenenc_string-again (pairs_bytes attributes) h.short rest, (attributes, h.once, inside))
+
+-- the length of all pairs, length-encoded, and the pairs in that many bytes
+unfoldable pub attributes : Codec (Unit {0}) (List Attribute)
+attributes = record {
+  form = λ c. form.within lenenc_string pairs;
+  bytes = λ attributes. lenenc_string_bytes (pairs_bytes attributes);
+  len = λ attributes. length (lenenc_string_bytes (pairs_bytes attributes));
+  fits = λ c attributes rest. AttributesFit attributes;
+  exact = λ c attributes rest h. refl;
+  again = λ c attributes rest h. attributes-again attributes rest h;
+}
+
+pub size-attributes : (attributes.form tt).size ≡ None
+unfolding attributes lenenc_string
+size-attributes = refl

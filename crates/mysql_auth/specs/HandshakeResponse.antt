@@ -1,0 +1,146 @@
+-- The answer to a handshake.
+use Rattle.std.specs.Prelude.{◌≡◌, ℕ, ◌<◌, ◌^◌, ◌==◌, ◌&&◌, ◌||◌, nat_lt, nat_le, List, length, Option, Some, None, Bool, true, false, if◌then◌else◌, refl}
+use Rattle.mysql_wire.specs.Codec.{Codec, Fields}
+use Rattle.mysql_wire.specs.Codecs.{◌>>=◌, give, field, packet, when, string_null, string_u8, string_lenenc}
+use Rattle.mysql_wire.specs.FlagMasks.{CLIENT_CONNECT_WITH_DB, CLIENT_SECURE_CONNECTION, CLIENT_PLUGIN_AUTH, CLIENT_CONNECT_ATTRS, CLIENT_PLUGIN_AUTH_LENENC_CLIENT_DATA}
+use Rattle.mysql_wire.specs.Flags.{CapabilityFlags, MariadbCapabilities, has}
+use Rattle.mysql_wire.specs.Null.{HasNoZero}
+use Rattle.mysql_auth.specs.Attributes.{Attribute, AttributesFit, attributes}
+use Rattle.mysql_auth.specs.PluginName.{PluginFits, plugin_null_or_eof}
+use Rattle.mysql_auth.specs.SslRequest as ssl
+use Rattle.mysql_auth.specs.SslRequest.{ssl_request}
+use Rattle.mysql_auth.specs.declared.auth_plugin.AuthPlugin.{AuthPlugin}
+use Rattle.mysql_auth.specs.declared.handshake_response.HandshakeResponse.{HandshakeResponse}
+use Rattle.mysql_auth.specs.declared.ssl_request.SslRequest.{SslRequest}
+
+-- ---- the packet's values
+
+abbrev pub capabilities : HandshakeResponse → CapabilityFlags
+capabilities p = ssl.capabilities p.head
+
+abbrev pub max_packet_size : HandshakeResponse → ℕ
+max_packet_size p = ssl.max_packet_size p.head
+
+abbrev pub collation : HandshakeResponse → ℕ
+collation p = ssl.character_set p.head
+
+abbrev pub mariadb_ext_capabilities : HandshakeResponse → MariadbCapabilities
+mariadb_ext_capabilities p = ssl.mariadb_capabilities p.head
+
+abbrev pub user : HandshakeResponse → List ℕ
+user p = p.user
+
+abbrev pub scramble_buf : HandshakeResponse → List ℕ
+scramble_buf p = p.scramble_buf
+
+abbrev pub db_name : HandshakeResponse → Option (List ℕ)
+db_name p = p.db_name
+
+abbrev pub auth_plugin : HandshakeResponse → Option AuthPlugin
+auth_plugin p = p.auth_plugin
+
+abbrev pub connect_attributes : HandshakeResponse → Option (List Attribute)
+connect_attributes p = p.connect_attributes
+
+-- the response with these capabilities of MariaDB's own
+abbrev pub with_mariadb : MariadbCapabilities → HandshakeResponse → HandshakeResponse
+with_mariadb mariadb p = record p { head = ssl.with_mariadb mariadb p.head }
+
+-- utf8mb4_general_ci from version 5.5.3 on, and utf8mb3_general_ci before
+abbrev pub collation_for : ℕ × ℕ × ℕ → ℕ
+collation_for version =
+    if nat_lt 5 version.0 || (version.0 == 5 && (nat_lt 5 version.1 || (version.1 == 5 && nat_le 3 version.2)))
+    then 45
+    else 33
+
+-- ---- what is there, by the flags
+
+abbrev pub sends_database : SslRequest → Bool
+sends_database head = has (ssl.capabilities head).0 CLIENT_CONNECT_WITH_DB
+
+abbrev pub sends_plugin : SslRequest → Bool
+sends_plugin head = has (ssl.capabilities head).0 CLIENT_PLUGIN_AUTH
+
+abbrev pub sends_attributes : SslRequest → Bool
+sends_attributes head = has (ssl.capabilities head).0 CLIENT_CONNECT_ATTRS
+
+abbrev pub counts_by_lenenc : SslRequest → Bool
+counts_by_lenenc head = has (ssl.capabilities head).0 CLIENT_PLUGIN_AUTH_LENENC_CLIENT_DATA
+
+abbrev pub counts_by_byte : SslRequest → Bool
+counts_by_byte head = has (ssl.capabilities head).0 CLIENT_SECURE_CONNECTION
+
+-- ---- the layout
+
+-- the one codec or the other
+abbrev pub one_of : {C A : Type 0} → Bool → Codec C A → Codec C A → Codec C A
+one_of true left right = left
+one_of false left right = right
+
+-- Length-encoded under CLIENT_PLUGIN_AUTH_LENENC_CLIENT_DATA; else behind a length of one byte under
+-- CLIENT_SECURE_CONNECTION; else up to a zero.
+unfoldable pub scramble : SslRequest → Codec (Unit {0}) (List ℕ)
+scramble head = one_of (counts_by_lenenc head) string_lenenc (one_of (counts_by_byte head) string_u8 string_null)
+
+-- the database's name, the plugin and the attributes, each where its flag is set
+unfoldable pub database : SslRequest → Codec (Unit {0}) (Option (List ℕ))
+database head = when (λ c. sends_database head) string_null
+
+unfoldable pub plugin : SslRequest → Codec (Unit {0}) (Option AuthPlugin)
+plugin head = when (λ c. sends_plugin head) plugin_null_or_eof
+
+unfoldable pub told_attributes : SslRequest → Codec (Unit {0}) (Option (List Attribute))
+told_attributes head = when (λ c. sends_attributes head) attributes
+
+-- 32 bytes as of a request for TLS; the user; the scramble; the database, the plugin's name and the attributes, each
+-- under its flag
+abbrev pub handshake_response_fields : Fields (Unit {0}) HandshakeResponse HandshakeResponse
+handshake_response_fields = do
+  head ← field (λ p. p.head) ssl_request
+  user ← field user string_null
+  scramble_buf ← field scramble_buf (scramble head)
+  db_name ← field db_name (database head)
+  auth_plugin ← field auth_plugin (plugin head)
+  connect_attributes ← field connect_attributes (told_attributes head)
+  give (
+      record {
+        head = head;
+        user = user;
+        scramble_buf = scramble_buf;
+        db_name = db_name;
+        auth_plugin = auth_plugin;
+        connect_attributes = connect_attributes;
+      }
+      )
+
+unfoldable pub handshake_response : Codec (Unit {0}) HandshakeResponse
+handshake_response = packet handshake_response_fields (λ p. refl)
+
+pub size-handshake_response : (handshake_response.form tt).size ≡ None
+unfolding handshake_response
+size-handshake_response = refl
+
+-- ---- when a response is read again, in plain words
+
+-- a part is there where it is sent, and fits
+abbrev pub PartFits : {A : Type 0} → (A → Type 0) → Bool → Option A → Type 0
+PartFits Fits sent None = sent ≡ false
+PartFits Fits sent (Some part) = (sent ≡ true) × Fits part
+
+-- a length that its form can tell, or no zero
+abbrev pub ScrambleFits : (by_lenenc by_byte : Bool) → List ℕ → Type 0
+ScrambleFits true by_byte scramble = length scramble < 2 ^ 64
+ScrambleFits false true scramble = length scramble < 2 ^ 8
+ScrambleFits false false scramble = HasNoZero scramble
+
+-- numbers that have their widths, as they always have; and the parts, whatever follows
+pub record HandshakeResponseFits (p : HandshakeResponse) : Type 0 where
+  pub capabilities : (capabilities p).0 < 2 ^ 32
+  pub max_packet_size : max_packet_size p < 2 ^ 32
+  pub collation : collation p < 2 ^ 8
+  pub mariadb_ext_capabilities : (mariadb_ext_capabilities p).0 < 2 ^ 32
+  pub user : HasNoZero (user p)
+  pub scramble_buf : ScrambleFits (counts_by_lenenc p.head) (counts_by_byte p.head) (scramble_buf p)
+  pub db_name : PartFits HasNoZero (sends_database p.head) (db_name p)
+  pub auth_plugin : PartFits PluginFits (sends_plugin p.head) (auth_plugin p)
+  pub connect_attributes : PartFits AttributesFit (sends_attributes p.head) (connect_attributes p)

@@ -1,0 +1,62 @@
+-- A plugin's name, up to a zero.
+use Rattle.std.specs.Prelude.{◌≡◌, ℕ, zero, suc, List, [], ◌∷◌, ◌++◌, length, Bool, true, false, refl}
+use Rattle.std.proofs.Common.{append_assoc}
+use Rattle.mysql_wire.specs.Codec.{Codec}
+use Rattle.mysql_wire.specs.Form.{Form, map, all_left, looking, either}
+use Rattle.mysql_wire.specs.Null.{HasNoZero, null_string}
+use Rattle.mysql_auth.specs.AuthPlugin.{auth_plugin, plugin_name, plugin_of}
+use Rattle.mysql_auth.specs.declared.auth_plugin.AuthPlugin.{AuthPlugin}
+
+-- a plugin that its name tells whole: no zero is in the name, and the plugin is that of the name
+pub record PluginFits (p : AuthPlugin) : Type 0 where
+  pub no_zero : HasNoZero (plugin_name p)
+  pub named : plugin_of (plugin_name p) ≡ p
+
+-- ---- up to a zero
+
+pub plugin_null-again : (p : AuthPlugin) (rest : List ℕ) → PluginFits p → (map plugin_of null_string).Spells p (auth_plugin.bytes p ++ rest) rest
+unfolding auth_plugin null_string
+plugin_null-again p rest h = (plugin_name p, h.named, (h.no_zero, append_assoc (plugin_name p) (0 ∷ []) rest))
+
+-- the plugin of a name that ends in a zero
+unfoldable pub plugin_null : Codec (Unit {0}) AuthPlugin
+plugin_null = record {
+  form = λ c. map plugin_of null_string;
+  bytes = auth_plugin.bytes;
+  len = λ p. length (auth_plugin.bytes p);
+  fits = λ c p rest. PluginFits p;
+  exact = λ c p rest h. refl;
+  again = λ c p rest h. plugin_null-again p rest h;
+}
+
+-- ---- up to a zero, or to the end where there is none
+
+abbrev pub has_zero : List ℕ → Bool
+has_zero [] = false
+has_zero (zero ∷ bytes) = true
+has_zero (suc b ∷ bytes) = has_zero bytes
+
+-- the bytes up to a zero, which is taken; where there is none, all that is left
+abbrev pub name_to_zero_or_end : Form (List ℕ)
+name_to_zero_or_end = looking (λ bytes. either (has_zero bytes) null_string all_left)
+
+zero-there : (content rest : List ℕ) → has_zero ((content ++ 0 ∷ []) ++ rest) ≡ true
+zero-there [] rest = refl
+zero-there (zero ∷ content) rest = refl
+zero-there (suc b ∷ content) rest = zero-there content rest
+
+pub plugin_null_or_eof-again : (p : AuthPlugin) (rest : List ℕ) → PluginFits p → (map plugin_of name_to_zero_or_end).Spells p (auth_plugin.bytes p ++ rest) rest
+unfolding auth_plugin null_string
+plugin_null_or_eof-again p rest h =
+    rw (zero-there (plugin_name p) rest) (plugin_name p, h.named, (h.no_zero, append_assoc (plugin_name p) (0 ∷ []) rest))
+
+-- the plugin of a name that ends in a zero, or at the end of the bytes; it is written with the zero
+unfoldable pub plugin_null_or_eof : Codec (Unit {0}) AuthPlugin
+plugin_null_or_eof = record {
+  form = λ c. map plugin_of name_to_zero_or_end;
+  bytes = auth_plugin.bytes;
+  len = λ p. length (auth_plugin.bytes p);
+  fits = λ c p rest. PluginFits p;
+  exact = λ c p rest h. refl;
+  again = λ c p rest h. plugin_null_or_eof-again p rest h;
+}

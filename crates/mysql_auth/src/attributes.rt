@@ -1,0 +1,216 @@
+//! Attributes of a connection.
+#![tactic(auto, using(mysql_wire::proofs::Packets::packets), unfolding(crate::specs::Attributes::attributes, crate::specs::Attributes::attribute))]
+
+ghost use Rattle.std.specs.Prelude.{true, false, vec_len, vec_capacity, ◌≡◌, ◌+◌, ◌++◌, ◌≤◌, ◌<◌, [], List, ℕ, length, map, option_map, IfOk, refl};
+ghost use Rattle.mysql_wire.specs.Reading.{Answers};
+ghost use Rattle.mysql_wire.specs.Writing.{saturated};
+ghost use Rattle.mysql_auth.specs.Attributes as spec;
+
+use indexmap::IndexMap;
+use mysql_wire::{
+    AnyWidth, BytesRepr, FaultOf, IntRepr, LenEnc, MyDeserialize, MySerialize, ParseBuf, RawBytes,
+    RawInt, parts,
+};
+use std::alloc::{AllocError, Global};
+use std::borrow::CowSlice;
+use std::fmt;
+use std::fmt::Debug;
+use std::marker::Model;
+
+/// What a client tells of itself: keys with their values, each key once, in the order of their first places.
+///
+/// On the wire it is one length-encoded string, whose content is the pairs one after another: the key and the value, each
+/// a length-encoded string. Where a key comes again, it keeps its first place and takes the last value.
+///
+/// In contracts it is the list of the pairs.
+#[derive(Drop)]
+pub(crate) struct Attributes<'a>(IndexMap<RawBytes<'a, LenEnc>, RawBytes<'a, LenEnc>>);
+
+impl<'a> Model for Attributes<'a> {
+    ghost use Rattle.std.specs.Prelude.{ℕ, List};
+
+    ghost Value = { List (List ℕ × List ℕ) };
+
+    ghost view = { λ a. a.0.entries };
+}
+
+/// A key and its value.
+fn read_attribute<'s, 'a>(
+    buf: &mut ParseBuf<'a>,
+) -> Result<(RawBytes<'a, LenEnc>, RawBytes<'a, LenEnc>), FaultOf<'s>>
+    ensures value { Answers false result buf.new ((spec.attribute.form tt).reads buf.old) }
+{
+    let key = buf.parse(())?;
+    let value = buf.parse(())?;
+    Ok((key, value))
+}
+
+/// The attributes that these bytes are the pairs of.
+#[tactic(auto, using(crate::proofs::PairsRead::pair_loops))]
+fn read_pairs<'s, 'a>(mut inside: ParseBuf<'a>) -> Result<Attributes<'a>, FaultOf<'s>>
+    ensures value { Answers true result [] (spec.pairs.reads inside.entry) }
+{
+    let mut map = IndexMap::new(inside.alloc());
+    while !inside.is_empty() {
+        let (key, value) = read_attribute(&mut inside)?;
+        map.insert(key, value)?;
+    }
+    Ok(Attributes(map))
+}
+
+impl<'a> Attributes<'a> {
+    /// The attributes of these texts.
+    #[tactic(auto, using(crate::proofs::Merging::merges))]
+    pub(crate) fn from_texts(
+        alloc: Global,
+        texts: IndexMap<String, String>,
+    ) -> Result<Attributes<'static>, AllocError>
+        ensures value { IfOk result (λ a. a ≡ map spec.text_pair texts.entries) }
+    {
+        let mut map = IndexMap::with_capacity(alloc, texts.len())?;
+        for (key, value) in texts {
+            let key = RawBytes::new(CowSlice::Owned(key.into_bytes()));
+            let value = RawBytes::new(CowSlice::Owned(value.into_bytes()));
+            map.insert(key, value)?;
+        }
+        Ok(Attributes(map))
+    }
+
+    /// The attributes as texts, with U+FFFD for what is not UTF-8. Where two keys become one text, it keeps the first
+    /// place and takes the later value.
+    #[tactic(auto, using(crate::proofs::Merging::merges))]
+    pub(crate) fn texts(&self, alloc: Global) -> Result<IndexMap<String, String>, AllocError>
+        ensures value { IfOk result (λ texts. map spec.text_pair texts.entries ≡ spec.lossy_pairs self.now) }
+        ensures once { spec.merged self.now ≡ self.now }
+    {
+        let mut texts = IndexMap::with_capacity(alloc, self.0.len())?;
+        for (key, value) in self.0.iter() {
+            let key = key.as_str(alloc)?.into_owned(alloc)?;
+            let value = value.as_str(alloc)?.into_owned(alloc)?;
+            texts.insert(key, value)?;
+        }
+        Ok(texts)
+    }
+
+    /// The same, on memory of their own.
+    #[tactic(auto, using(crate::proofs::Merging::merges))]
+    pub(crate) fn into_owned(self, alloc: Global) -> Result<Attributes<'static>, AllocError>
+        ensures value { IfOk result (λ owned. owned ≡ self.entry) }
+    {
+        let mut map = IndexMap::with_capacity(alloc, self.0.len())?;
+        for (key, value) in self.0 {
+            let key = key.into_owned(alloc)?;
+            let value = value.into_owned(alloc)?;
+            map.insert(key, value)?;
+        }
+        Ok(Attributes(map))
+    }
+
+    /// How many bytes the pairs are written as, or `usize::MAX` where that is less.
+    #[tactic(auto, using(crate::proofs::PairsWritten::pair_lengths), unfolding(mysql_wire::specs::Writing::saturated, mysql_wire::specs::Writing::saturating_sum, crate::specs::Attributes::attribute))]
+    fn pairs_len(&self) -> usize
+        ensures value { result ≡ saturated (length (spec.pairs_bytes self.now)) }
+    {
+        let mut total: usize = 0;
+        for (key, value) in self.0.iter() {
+            total = total.saturating_add(parts!(*key, *value).defined_len());
+        }
+        total
+    }
+
+    /// Writes the pairs to the end of a buffer that has room for them.
+    #[tactic(auto, using(crate::proofs::PairsWritten::pair_writes), unfolding(crate::specs::Attributes::attribute))]
+    fn append_pairs(&self, out: &mut Vec<u8>)
+        requires { vec_len out.old + length (spec.pairs_bytes self.now) ≤ vec_capacity out.old }
+        ensures items { out.new.items ≡ out.old.items ++ spec.pairs_bytes self.now }
+        ensures room { vec_capacity out.old ≤ vec_capacity out.new }
+    {
+        for (key, value) in self.0.iter() {
+            parts!(*key, *value).append(out);
+        }
+    }
+}
+
+/// The attributes of these texts, where there are any.
+pub(crate) fn attributes_of(
+    alloc: Global,
+    texts: Option<IndexMap<String, String>>,
+) -> Result<Option<Attributes<'static>>, AllocError>
+    ensures value { IfOk result (λ a. a ≡ option_map (λ texts. map spec.text_pair texts.entries) texts) }
+{
+    match texts {
+        Some(texts) => Ok(Some(Attributes::from_texts(alloc, texts)?)),
+        None => Ok(None),
+    }
+}
+
+impl Clone for Attributes<'_> {
+    ghost is_clone = { λ a copy. copy ≡ a };
+
+    fn clone(&self) -> Result<Self, AllocError> {
+        Ok(Attributes(self.0.clone()?))
+    }
+}
+
+impl PartialEq for Attributes<'_> {
+    ghost use Rattle.std.specs.Cmp.{and_per, on_per, partial_equiv_from_equiv};
+    ghost use Rattle.std.specs.Cmp.Lexicographic.{pointwise, lists_per, nat_list_eq_equiv};
+
+    ghost eq = { pointwise spec.attribute_eq };
+
+    ghost laws = { let texts = partial_equiv_from_equiv nat_list_eq_equiv in lists_per (and_per (on_per (λ p. p.0) texts) (on_per (λ p. p.1) texts)) };
+
+    /// The same pairs in the same order.
+    fn eq(&self, other: &Self) -> bool {
+        self.0.as_slice() == other.0.as_slice()
+    }
+}
+
+impl Eq for Attributes<'_> {
+    ghost use Rattle.std.specs.Cmp.{and_equiv, on_equiv};
+    ghost use Rattle.std.specs.Cmp.Lexicographic.{lists_equiv, nat_list_eq_equiv};
+
+    ghost laws = { lists_equiv (and_equiv (on_equiv (λ p. p.0) nat_list_eq_equiv) (on_equiv (λ p. p.1) nat_list_eq_equiv)) };
+}
+
+impl Debug for Attributes<'_> {
+    fn fmt<W: fmt::Write>(&self, f: &mut fmt::Formatter<W>) -> fmt::Result {
+        self.0.fmt(f)
+    }
+}
+
+impl<'de> MyDeserialize<'de> for Attributes<'de> {
+    const SIZE: Option<usize> = None;
+
+    type Size = AnyWidth;
+
+    ghost takes_memory = { true };
+
+    type Ctx = ();
+
+    ghost form = { spec.attributes.form };
+
+    #[tactic(auto, using(mysql_wire::proofs::Packets::packets), unfolding(crate::specs::Attributes::attributes, mysql_wire::specs::LenEnc::lenenc_string))]
+    fn deserialize<'s>(_ctx: (), buf: &mut ParseBuf<'de>) -> Result<Self, FaultOf<'s>> {
+        let length: RawInt<LenEnc> = buf.parse(())?;
+        let inside = buf.parse(length.0 as usize)?;
+        read_pairs(inside)
+    }
+
+    ghost size_is = { λ _. spec.size-attributes };
+}
+
+impl MySerialize for Attributes<'_> {
+    ghost bytes = { spec.attributes.bytes };
+
+    #[tactic(auto, using(crate::proofs::PairsWritten::counted_lengths), unfolding(crate::specs::Attributes::attributes))]
+    fn defined_len(&self) -> usize {
+        let inside = self.pairs_len();
+        <LenEnc as IntRepr>::written_len(inside as u64).saturating_add(inside)
+    }
+
+    fn append(&self, out: &mut Vec<u8>) {
+        <LenEnc as IntRepr>::append(self.pairs_len() as u64, out);
+        self.append_pairs(out);
+    }
+}

@@ -1,0 +1,210 @@
+//! The change of a session's user.
+#![tactic(auto, using(mysql_wire::proofs::Packets::packets), unfolding(crate::specs::ComChangeUser::change_user))]
+
+ghost use Rattle.std.specs.Prelude.{true, [], ◌≡◌, IfOk, None};
+ghost use Rattle.std.specs.Cow.{cow_slice_items};
+ghost use Rattle.std.specs.Option.{option_map_or};
+ghost use Rattle.mysql_wire.specs.Reading.{Answers};
+ghost use Rattle.mysql_auth.specs.ComChangeUser as spec;
+
+use crate::com_change_user_more_data::ComChangeUserMoreData;
+use crate::optional_bytes::bytes_or_empty;
+use mysql_wire::{
+    AnyWidth, CapabilityFlags, ConstFault, ConstU8, FaultOf, MyDeserialize, NullBytes, ParseBuf,
+    Parts, RawBytes, Sink, U8Bytes, parts,
+};
+use std::alloc::{AllocError, Global};
+use std::borrow::CowSlice;
+use thiserror::Error;
+
+/// The first byte of a change of user is not `11`.
+#[derive(Clone, Copy, Debug, Default, PartialEq, Eq, Hash, Error)]
+#[error("Invalid COM_CHANGE_USER header")]
+pub struct InvalidComChangeUserHeader;
+
+impl ConstFault for InvalidComChangeUserHeader {
+    const MESSAGE: &'static str = "Invalid COM_CHANGE_USER header";
+}
+
+/// The first byte of a change of user: `11`.
+pub type ComChangeUserHeader = ConstU8<InvalidComChangeUserHeader, 0x11>;
+
+/// `COM_CHANGE_USER`: another user takes over the session, which is made new.
+///
+/// The byte `11`; the user's name, which ends in a zero; the answer to the scramble, behind a length of one byte; the
+/// database's name, which ends in a zero; and, where bytes are left, [`ComChangeUserMoreData`].
+///
+/// A packet that begins with another byte is `InvalidData`; missing bytes are `UnexpectedEof`. Of an answer the first 255
+/// bytes are written, of a name those up to its first zero.
+#[derive(Clone, Debug, PartialEq, Eq, Drop)]
+pub struct ComChangeUser<'a> {
+    header: ComChangeUserHeader,
+    user: RawBytes<'a, NullBytes>,
+    auth_plugin_data: RawBytes<'a, U8Bytes>,
+    database: RawBytes<'a, NullBytes>,
+    more_data: Option<ComChangeUserMoreData<'a>>,
+}
+
+impl<'a> ComChangeUser<'a> {
+    /// A change to a user without a name, with an empty answer, no database and no more data.
+    pub fn new() -> Self
+        ensures value { result ≡ spec.change_of [] [] [] None }
+    {
+        ComChangeUser {
+            header: ConstU8::new(),
+            user: RawBytes::default(),
+            auth_plugin_data: RawBytes::default(),
+            database: RawBytes::default(),
+            more_data: None,
+        }
+    }
+
+    /// The same with this user; with none it is empty.
+    pub fn with_user(self, user: Option<CowSlice<'a, u8>>) -> Self
+        ensures value { result ≡ spec.change_of (option_map_or cow_slice_items user.entry []) (spec.auth_plugin_data self.entry) (spec.database self.entry) (spec.more_data_in self.entry) }
+    {
+        ComChangeUser {
+            header: self.header,
+            user: bytes_or_empty(user),
+            auth_plugin_data: self.auth_plugin_data,
+            database: self.database,
+            more_data: self.more_data,
+        }
+    }
+
+    /// The same with this database; with none it is empty.
+    pub fn with_database(self, database: Option<CowSlice<'a, u8>>) -> Self
+        ensures value { result ≡ spec.change_of (spec.user self.entry) (spec.auth_plugin_data self.entry) (option_map_or cow_slice_items database.entry []) (spec.more_data_in self.entry) }
+    {
+        ComChangeUser {
+            header: self.header,
+            user: self.user,
+            auth_plugin_data: self.auth_plugin_data,
+            database: bytes_or_empty(database),
+            more_data: self.more_data,
+        }
+    }
+
+    /// The same with this answer to the scramble; with none it is empty.
+    pub fn with_auth_plugin_data(self, auth_plugin_data: Option<CowSlice<'a, u8>>) -> Self
+        ensures value { result ≡ spec.change_of (spec.user self.entry) (option_map_or cow_slice_items auth_plugin_data.entry []) (spec.database self.entry) (spec.more_data_in self.entry) }
+    {
+        ComChangeUser {
+            header: self.header,
+            user: self.user,
+            auth_plugin_data: bytes_or_empty(auth_plugin_data),
+            database: self.database,
+            more_data: self.more_data,
+        }
+    }
+
+    /// The same with more data, or without.
+    pub fn with_more_data(self, more_data: Option<ComChangeUserMoreData<'a>>) -> Self
+        ensures value { result ≡ spec.change_of (spec.user self.entry) (spec.auth_plugin_data self.entry) (spec.database self.entry) more_data.entry }
+    {
+        ComChangeUser {
+            header: self.header,
+            user: self.user,
+            auth_plugin_data: self.auth_plugin_data,
+            database: self.database,
+            more_data,
+        }
+    }
+
+    /// The same, on memory of its own.
+    pub fn into_owned(self, alloc: Global) -> Result<ComChangeUser<'static>, AllocError>
+        ensures value { IfOk result (λ owned. owned ≡ self.entry) }
+    {
+        let ComChangeUser {
+            header,
+            user,
+            auth_plugin_data,
+            database,
+            more_data,
+        } = self;
+        let more_data = match more_data {
+            Some(more_data) => Some(more_data.into_owned(alloc)?),
+            None => None,
+        };
+        Ok(ComChangeUser {
+            header,
+            user: user.into_owned(alloc)?,
+            auth_plugin_data: auth_plugin_data.into_owned(alloc)?,
+            database: database.into_owned(alloc)?,
+            more_data,
+        })
+    }
+}
+
+impl Default for ComChangeUser<'_> {
+    ghost is_default = { λ p. p ≡ spec.change_of [] [] [] None };
+
+    fn default() -> Self {
+        ComChangeUser::new()
+    }
+}
+
+/// More data, where bytes are left.
+#[tactic(auto, unfolding(crate::specs::ComChangeUser::last_part))]
+fn read_more_data<'s, 'a>(
+    capabilities: CapabilityFlags,
+    buf: &mut ParseBuf<'a>,
+) -> Result<Option<ComChangeUserMoreData<'a>>, FaultOf<'s>>
+    ensures value { Answers true result buf.new ((spec.last_part.form capabilities).reads buf.old) }
+{
+    if buf.first().is_none() {
+        return Ok(None);
+    }
+    Ok(Some(buf.parse(capabilities)?))
+}
+
+impl<'de> MyDeserialize<'de> for ComChangeUser<'de> {
+    const SIZE: Option<usize> = None;
+
+    type Size = AnyWidth;
+
+    ghost takes_memory = { true };
+
+    /// What both sides can do.
+    type Ctx = CapabilityFlags;
+
+    ghost form = { spec.change_user.form };
+
+    fn deserialize<'s>(
+        capabilities: CapabilityFlags,
+        buf: &mut ParseBuf<'de>,
+    ) -> Result<Self, FaultOf<'s>> {
+        let mut rest = buf.rest();
+        let header = rest.parse(())?;
+        let user = rest.parse(())?;
+        let auth_plugin_data = rest.parse(())?;
+        let database = rest.parse(())?;
+        let more_data = read_more_data(capabilities, &mut rest)?;
+        *buf = rest;
+        Ok(ComChangeUser {
+            header,
+            user,
+            auth_plugin_data,
+            database,
+            more_data,
+        })
+    }
+
+    ghost size_is = { spec.size-change_user };
+}
+
+#[tactic(auto, using(mysql_wire::proofs::Packets::packets), unfolding(crate::specs::ComChangeUser::change_user, crate::specs::ComChangeUser::last_part))]
+impl Parts for ComChangeUser<'_> {
+    ghost bytes = { spec.change_user.bytes };
+
+    #[inline(always)]
+    fn put<S: Sink>(&self, sink: &mut S) {
+        sink.part(&parts!(
+            self.header,
+            self.user,
+            self.auth_plugin_data,
+            self.database,
+            self.more_data
+        ));
+    }
+}

@@ -1,0 +1,173 @@
+//! What a change of a session's user tells besides.
+#![tactic(auto, using(mysql_wire::proofs::Packets::packets), unfolding(crate::specs::ComChangeUser::more_data))]
+
+ghost use Rattle.std.specs.Prelude.{true, false, ◌≡◌, IfOk, None, map, option_map};
+ghost use Rattle.mysql_wire.specs.Reading.{Answers};
+ghost use Rattle.mysql_auth.specs.Attributes.{text_pair};
+ghost use Rattle.mysql_auth.specs.ComChangeUser as spec;
+
+use crate::attributes::{Attributes, attributes_of};
+use crate::auth_plugin::AuthPlugin;
+use crate::plugin_name::plugin_to_zero;
+use bitflags::Flags;
+use indexmap::IndexMap;
+use mysql_wire::{
+    AnyWidth, CapabilityFlags, FaultOf, LeU16, LenEnc, MyDeserialize, ParseBuf, Parts, RawBytes,
+    RawInt, Sink, parts,
+};
+use std::alloc::{AllocError, Global};
+
+/// What a change of a session's user tells besides: the character set in two bytes, the low one first; under
+/// `CLIENT_PLUGIN_AUTH` the plugin's name, which ends in a zero; under `CLIENT_CONNECT_ATTRS` the attributes, as in a
+/// [`HandshakeResponse`](crate::HandshakeResponse).
+///
+/// A writer isn't told the flags: it writes a plugin where one is given, and attributes always, empty where none are
+/// given. Reading takes memory for the attributes alone.
+#[derive(Clone, Debug, PartialEq, Eq, Drop)]
+pub struct ComChangeUserMoreData<'a> {
+    character_set: RawInt<LeU16>,
+    auth_plugin: Option<AuthPlugin<'a>>,
+    connect_attributes: Option<Attributes<'a>>,
+}
+
+impl<'a> ComChangeUserMoreData<'a> {
+    /// This character set, without a plugin and without attributes.
+    pub fn new(character_set: u16) -> Self
+        ensures value { result ≡ spec.more_data_of character_set None None }
+    {
+        ComChangeUserMoreData {
+            character_set: RawInt::new(character_set),
+            auth_plugin: None,
+            connect_attributes: None,
+        }
+    }
+
+    /// The same with this plugin, or without one.
+    pub fn with_auth_plugin(self, auth_plugin: Option<AuthPlugin<'a>>) -> Self
+        ensures value { result ≡ spec.more_data_of (spec.character_set self.entry) auth_plugin.entry (spec.connect_attributes self.entry) }
+    {
+        ComChangeUserMoreData {
+            character_set: self.character_set,
+            auth_plugin,
+            connect_attributes: self.connect_attributes,
+        }
+    }
+
+    /// The same with the attributes of these texts, or without attributes.
+    pub fn with_connect_attributes(
+        self,
+        alloc: Global,
+        connect_attributes: Option<IndexMap<String, String>>,
+    ) -> Result<Self, AllocError>
+        ensures value { IfOk result (λ p. p ≡ spec.more_data_of (spec.character_set self.entry) (spec.auth_plugin self.entry)
+            (option_map (λ texts. map text_pair texts.entries) connect_attributes)) }
+    {
+        let connect_attributes = attributes_of(alloc, connect_attributes)?;
+        Ok(ComChangeUserMoreData {
+            character_set: self.character_set,
+            auth_plugin: self.auth_plugin,
+            connect_attributes,
+        })
+    }
+
+    /// The same, on memory of its own.
+    pub fn into_owned(self, alloc: Global) -> Result<ComChangeUserMoreData<'static>, AllocError>
+        ensures value { IfOk result (λ owned. owned ≡ self.entry) }
+    {
+        let ComChangeUserMoreData {
+            character_set,
+            auth_plugin,
+            connect_attributes,
+        } = self;
+        let auth_plugin = match auth_plugin {
+            Some(plugin) => Some(plugin.into_owned(alloc)?),
+            None => None,
+        };
+        let connect_attributes = match connect_attributes {
+            Some(attributes) => Some(attributes.into_owned(alloc)?),
+            None => None,
+        };
+        Ok(ComChangeUserMoreData {
+            character_set,
+            auth_plugin,
+            connect_attributes,
+        })
+    }
+}
+
+/// The plugin, where the flags say that it is named.
+#[tactic(auto, unfolding(crate::specs::ComChangeUser::named_plugin))]
+fn read_plugin<'s, 'a>(
+    capabilities: CapabilityFlags,
+    buf: &mut ParseBuf<'a>,
+) -> Result<Option<AuthPlugin<'a>>, FaultOf<'s>>
+    ensures value { Answers false result buf.new ((spec.named_plugin.form capabilities).reads buf.old) }
+{
+    if !capabilities.contains(CapabilityFlags::CLIENT_PLUGIN_AUTH) {
+        return Ok(None);
+    }
+    Ok(Some(plugin_to_zero(buf)?))
+}
+
+/// The attributes, where the flags say that they are there.
+#[tactic(auto, unfolding(crate::specs::ComChangeUser::written_attributes))]
+fn read_attributes<'s, 'a>(
+    capabilities: CapabilityFlags,
+    buf: &mut ParseBuf<'a>,
+) -> Result<Option<Attributes<'a>>, FaultOf<'s>>
+    ensures value { Answers true result buf.new ((spec.written_attributes.form capabilities).reads buf.old) }
+{
+    if !capabilities.contains(CapabilityFlags::CLIENT_CONNECT_ATTRS) {
+        return Ok(None);
+    }
+    Ok(Some(buf.parse(())?))
+}
+
+impl<'de> MyDeserialize<'de> for ComChangeUserMoreData<'de> {
+    const SIZE: Option<usize> = None;
+
+    type Size = AnyWidth;
+
+    ghost takes_memory = { true };
+
+    /// What both sides can do.
+    type Ctx = CapabilityFlags;
+
+    ghost form = { spec.more_data.form };
+
+    fn deserialize<'s>(
+        capabilities: CapabilityFlags,
+        buf: &mut ParseBuf<'de>,
+    ) -> Result<Self, FaultOf<'s>> {
+        let mut rest = buf.rest();
+        let character_set = rest.parse(())?;
+        let auth_plugin = read_plugin(capabilities, &mut rest)?;
+        let connect_attributes = read_attributes(capabilities, &mut rest)?;
+        *buf = rest;
+        Ok(ComChangeUserMoreData {
+            character_set,
+            auth_plugin,
+            connect_attributes,
+        })
+    }
+
+    ghost size_is = { spec.size-more_data };
+}
+
+#[tactic(auto, using(mysql_wire::proofs::Packets::packets), unfolding(crate::specs::ComChangeUser::more_data, crate::specs::ComChangeUser::named_plugin, crate::specs::ComChangeUser::written_attributes, crate::specs::PluginName::plugin_null, crate::specs::Attributes::attributes))]
+impl Parts for ComChangeUserMoreData<'_> {
+    ghost bytes = { spec.more_data.bytes };
+
+    #[inline(always)]
+    fn put<S: Sink>(&self, sink: &mut S) {
+        match &self.connect_attributes {
+            Some(attributes) => {
+                sink.part(&parts!(self.character_set, self.auth_plugin, *attributes));
+            }
+            None => {
+                let none: RawBytes<'_, LenEnc> = RawBytes::default();
+                sink.part(&parts!(self.character_set, self.auth_plugin, none));
+            }
+        }
+    }
+}

@@ -1,0 +1,368 @@
+//! The answer to a handshake.
+#![tactic(auto, using(mysql_wire::proofs::Packets::packets), unfolding(crate::specs::HandshakeResponse::handshake_response))]
+
+ghost use Rattle.std.specs.Prelude.{true, false, [], ◌≡◌, ◌≢◌, ◌<◌, ℕ, List, Ok, Option, Some, None, Bool, IfOk, map, option_map, is_some};
+ghost use Rattle.std.specs.Cow.{cow_slice_items};
+ghost use Rattle.std.specs.Int.{bit_at};
+ghost use Rattle.std.specs.Option.{option_map_or};
+ghost use Rattle.mysql_wire.specs.Either.{either_bytes};
+ghost use Rattle.mysql_wire.specs.FlagMasks.{CLIENT_CONNECT_WITH_DB, CLIENT_PLUGIN_AUTH, CLIENT_CONNECT_ATTRS};
+ghost use Rattle.mysql_wire.specs.Flags.{has};
+ghost use Rattle.mysql_wire.specs.CountedBytes.{u8_string_bytes};
+ghost use Rattle.mysql_wire.specs.LenEnc.{lenenc_string_bytes};
+ghost use Rattle.mysql_wire.specs.Null.{null_bytes};
+ghost use Rattle.mysql_wire.specs.Reading.{Answers};
+ghost use Rattle.mysql_auth.specs.Attributes.{Attribute, merged, text_pair, lossy_pairs};
+ghost use Rattle.mysql_auth.specs.HandshakeResponse as spec;
+
+use crate::attributes::{Attributes, attributes_of};
+use crate::auth_plugin::AuthPlugin;
+use crate::optional_bytes::bytes_or_empty;
+use crate::plugin_name::plugin_to_zero_or_end;
+use crate::ssl_request::SslRequest;
+use bitflags::Flags;
+use indexmap::IndexMap;
+use mysql_wire::{
+    AnyWidth, BytesRepr, CapabilityFlags, Either, EofBytes, FaultOf, LenEnc, MariadbCapabilities,
+    MyDeserialize, NullBytes, ParseBuf, Parts, RawBytes, Sink, U8Bytes, parts,
+};
+use std::alloc::{AllocError, Global};
+use std::borrow::CowSlice;
+
+/// A client's answer to a handshake (`Protocol::HandshakeResponse41`).
+///
+/// The first 32 bytes are those of an [`SslRequest`]. Behind them stand
+///
+/// | Field | In the bytes |
+/// |---|---|
+/// | `user` | up to a zero |
+/// | `scramble_buf` | under `CLIENT_PLUGIN_AUTH_LENENC_CLIENT_DATA` behind a length-encoded length; else under `CLIENT_SECURE_CONNECTION` behind a length of one byte; else up to a zero |
+/// | `db_name` | under `CLIENT_CONNECT_WITH_DB`: up to a zero |
+/// | `auth_plugin` | under `CLIENT_PLUGIN_AUTH`: its name, up to a zero or the end; it is written with the zero |
+/// | `connect_attributes` | under `CLIENT_CONNECT_ATTRS`: a length-encoded string, whose content is length-encoded keys and values, one after another |
+///
+/// Missing bytes are `UnexpectedEof`; a length that begins with `fb` or `ff` is `InvalidData`. Reading takes memory for
+/// the attributes alone.
+#[derive(Clone, Debug, PartialEq, Eq, Drop)]
+pub struct HandshakeResponse<'a> {
+    head: SslRequest,
+    user: RawBytes<'a, NullBytes>,
+    scramble_buf: RawBytes<'a, EofBytes>,
+    db_name: Option<RawBytes<'a, NullBytes>>,
+    auth_plugin: Option<AuthPlugin<'a>>,
+    connect_attributes: Option<Attributes<'a>>,
+}
+
+/// A scramble in the form that it is written in.
+type WrittenScramble<'a> = Either<
+    RawBytes<'a, LenEnc>,
+    Either<RawBytes<'a, U8Bytes>, RawBytes<'a, NullBytes>>,
+>;
+
+/// The flags, of which each of the three is set exactly if its option is given.
+#[tactic(auto)]
+fn with_options(
+    mut capabilities: CapabilityFlags,
+    database: bool,
+    plugin: bool,
+    attributes: bool,
+) -> CapabilityFlags
+    ensures database { has result.0 CLIENT_CONNECT_WITH_DB ≡ database }
+    ensures plugin { has result.0 CLIENT_PLUGIN_AUTH ≡ plugin }
+    ensures attributes { has result.0 CLIENT_CONNECT_ATTRS ≡ attributes }
+    ensures others { (i : ℕ) → i < 32 → i ≢ 3 → i ≢ 19 → i ≢ 20 → bit_at result.0 i ≡ bit_at capabilities.0 i }
+{
+    capabilities.set(CapabilityFlags::CLIENT_CONNECT_WITH_DB, database);
+    capabilities.set(CapabilityFlags::CLIENT_PLUGIN_AUTH, plugin);
+    capabilities.set(CapabilityFlags::CLIENT_CONNECT_ATTRS, attributes);
+    capabilities
+}
+
+/// The collation that a server of this version knows: `utf8mb4_general_ci` from 5.5.3 on, else `utf8mb3_general_ci`.
+fn collation_for(server_version: (u16, u16, u16)) -> u8
+    ensures value { result ≡ spec.collation_for server_version }
+{
+    let (major, minor, patch) = server_version;
+    if major > 5 || major == 5 && (minor > 5 || minor == 5 && patch >= 3) {
+        45
+    } else {
+        33
+    }
+}
+
+impl<'a> HandshakeResponse<'a> {
+    /// A response of these, without capabilities of MariaDB's own.
+    ///
+    /// The flags that say whether a database, a plugin and attributes are there are set exactly if these are given; the
+    /// other flags are as handed in. No scramble is an empty one, and no user too. The collation is the one that a
+    /// server of that version knows: 45 from 5.5.3 on, else 33.
+    pub fn new(
+        alloc: Global,
+        scramble_buf: Option<CowSlice<'a, u8>>,
+        server_version: (u16, u16, u16),
+        user: Option<CowSlice<'a, u8>>,
+        db_name: Option<CowSlice<'a, u8>>,
+        auth_plugin: Option<AuthPlugin<'a>>,
+        capabilities: CapabilityFlags,
+        connect_attributes: Option<IndexMap<String, String>>,
+        max_packet_size: u32,
+    ) -> Result<Self, AllocError>
+        ensures scramble_buf { IfOk result (λ p. spec.scramble_buf p ≡ option_map_or cow_slice_items scramble_buf.entry []) }
+        ensures collation { IfOk result (λ p. spec.collation p ≡ spec.collation_for server_version) }
+        ensures user { IfOk result (λ p. spec.user p ≡ option_map_or cow_slice_items user.entry []) }
+        ensures db_name { IfOk result (λ p. spec.db_name p ≡ option_map cow_slice_items db_name.entry) }
+        ensures auth_plugin { IfOk result (λ p. spec.auth_plugin p ≡ auth_plugin.entry) }
+        ensures connect_attributes { IfOk result (λ p. spec.connect_attributes p ≡ option_map (λ texts. map text_pair texts.entries) connect_attributes) }
+        ensures max_packet_size { IfOk result (λ p. spec.max_packet_size p ≡ max_packet_size) }
+        ensures mariadb_ext_capabilities { IfOk result (λ p. (spec.mariadb_ext_capabilities p).0 ≡ 0) }
+        ensures database_flag { IfOk result (λ p. has (spec.capabilities p).0 CLIENT_CONNECT_WITH_DB ≡ is_some db_name.entry) }
+        ensures plugin_flag { IfOk result (λ p. has (spec.capabilities p).0 CLIENT_PLUGIN_AUTH ≡ is_some auth_plugin.entry) }
+        ensures attributes_flag { IfOk result (λ p. has (spec.capabilities p).0 CLIENT_CONNECT_ATTRS ≡ is_some connect_attributes) }
+        ensures other_flags { IfOk result (λ p. (i : ℕ) → i < 32 → i ≢ 3 → i ≢ 19 → i ≢ 20 → bit_at (spec.capabilities p).0 i ≡ bit_at capabilities.0 i) }
+    {
+        let capabilities = with_options(
+            capabilities,
+            db_name.is_some(),
+            auth_plugin.is_some(),
+            connect_attributes.is_some(),
+        );
+        let connect_attributes = attributes_of(alloc, connect_attributes)?;
+        Ok(HandshakeResponse {
+            head: SslRequest::new(capabilities, max_packet_size, collation_for(server_version)),
+            user: bytes_or_empty(user),
+            scramble_buf: bytes_or_empty(scramble_buf),
+            db_name: match db_name {
+                Some(name) => Some(RawBytes::new(name)),
+                None => None,
+            },
+            auth_plugin,
+            connect_attributes,
+        })
+    }
+
+    /// The same response with these capabilities of MariaDB's own.
+    pub fn with_mariadb_ext_capabilities(self, flags: MariadbCapabilities) -> Self
+        ensures value { result ≡ spec.with_mariadb flags self.entry }
+    {
+        HandshakeResponse {
+            head: self.head.with_mariadb_capabilities(flags),
+            user: self.user,
+            scramble_buf: self.scramble_buf,
+            db_name: self.db_name,
+            auth_plugin: self.auth_plugin,
+            connect_attributes: self.connect_attributes,
+        }
+    }
+
+    /// What the client can do.
+    #[inline]
+    pub fn capabilities(&self) -> CapabilityFlags
+        ensures value { result ≡ spec.capabilities self.now }
+    {
+        self.head.capabilities()
+    }
+
+    /// What a MariaDB client can do besides.
+    #[inline]
+    pub fn mariadb_ext_capabilities(&self) -> MariadbCapabilities
+        ensures value { result ≡ spec.mariadb_ext_capabilities self.now }
+    {
+        self.head.mariadb_capabilities()
+    }
+
+    /// The number of the client's collation.
+    #[inline]
+    pub fn collation(&self) -> u8
+        ensures value { result ≡ spec.collation self.now }
+    {
+        self.head.character_set()
+    }
+
+    /// What the client answers to the scramble.
+    #[inline]
+    pub fn scramble_buf(&self) -> &[u8]
+        ensures value { result.now ≡ spec.scramble_buf self.now }
+    {
+        self.scramble_buf.as_bytes()
+    }
+
+    /// The user's name.
+    #[inline]
+    pub fn user(&self) -> &[u8]
+        ensures value { result.now ≡ spec.user self.now }
+    {
+        self.user.as_bytes()
+    }
+
+    /// The database's name, where one was sent.
+    pub fn db_name(&self) -> Option<&[u8]>
+        ensures value { option_map (λ s. s.now) result ≡ spec.db_name self.now }
+    {
+        match &self.db_name {
+            Some(name) => Some(name.as_bytes()),
+            None => None,
+        }
+    }
+
+    /// The plugin that made the answer, where one was named.
+    #[inline]
+    pub fn auth_plugin(&self) -> Option<&AuthPlugin<'a>>
+        ensures value { option_map (λ s. s.now) result ≡ spec.auth_plugin self.now }
+    {
+        self.auth_plugin.as_ref()
+    }
+
+    /// The attributes in their order, where they were sent, as text with U+FFFD for what is not UTF-8.
+    ///
+    /// Where two keys become one text, it keeps the first place and takes the later value.
+    pub fn connect_attributes(
+        &self,
+        alloc: Global,
+    ) -> Result<Option<IndexMap<String, String>>, AllocError>
+        ensures value { IfOk result (λ texts. option_map (λ texts. map text_pair texts.entries) texts ≡ option_map lossy_pairs (spec.connect_attributes self.now)) }
+        ensures none { spec.connect_attributes self.now ≡ None → result ≡ Ok None }
+        // Each key stands once among the attributes, as reading back asks.
+        ensures once { (pairs : List Attribute) → spec.connect_attributes self.now ≡ Some pairs → merged pairs ≡ pairs }
+    {
+        match &self.connect_attributes {
+            Some(attributes) => Ok(Some(attributes.texts(alloc)?)),
+            None => Ok(None),
+        }
+    }
+
+    /// The scramble in the form that the flags ask for.
+    #[tactic(auto, unfolding(crate::specs::HandshakeResponse::scramble))]
+    fn written_scramble(&self) -> WrittenScramble<'_>
+        ensures bytes { either_bytes lenenc_string_bytes (either_bytes u8_string_bytes null_bytes) result ≡ (spec.scramble self.now.head).bytes (spec.scramble_buf self.now) }
+    {
+        let content = CowSlice::Borrowed(self.scramble_buf.as_bytes());
+        let capabilities = self.head.capabilities();
+        if capabilities.contains(CapabilityFlags::CLIENT_PLUGIN_AUTH_LENENC_CLIENT_DATA) {
+            Either::Left(RawBytes::new(content))
+        } else if capabilities.contains(CapabilityFlags::CLIENT_SECURE_CONNECTION) {
+            Either::Right(Either::Left(RawBytes::new(content)))
+        } else {
+            Either::Right(Either::Right(RawBytes::new(content)))
+        }
+    }
+}
+
+/// A scramble in the form that the flags ask for.
+#[tactic(auto, unfolding(crate::specs::HandshakeResponse::scramble))]
+fn read_scramble<'s, 'a>(
+    head: &SslRequest,
+    buf: &mut ParseBuf<'a>,
+) -> Result<RawBytes<'a, EofBytes>, FaultOf<'s>>
+    ensures value { Answers false result buf.new (((spec.scramble head.now).form tt).reads buf.old) }
+{
+    let capabilities = head.capabilities();
+    let mut content: ParseBuf<'a> = if capabilities.contains(
+        CapabilityFlags::CLIENT_PLUGIN_AUTH_LENENC_CLIENT_DATA,
+    ) {
+        <LenEnc as BytesRepr>::deserialize((), buf)?
+    } else if capabilities.contains(CapabilityFlags::CLIENT_SECURE_CONNECTION) {
+        <U8Bytes as BytesRepr>::deserialize((), buf)?
+    } else {
+        <NullBytes as BytesRepr>::deserialize((), buf)?
+    };
+    Ok(RawBytes::new(CowSlice::Borrowed(content.eat_all())))
+}
+
+/// The database's name, where it was sent.
+#[tactic(auto, unfolding(crate::specs::HandshakeResponse::database))]
+fn read_database<'s, 'a>(
+    head: &SslRequest,
+    buf: &mut ParseBuf<'a>,
+) -> Result<Option<RawBytes<'a, NullBytes>>, FaultOf<'s>>
+    ensures value { Answers false result buf.new (((spec.database head.now).form tt).reads buf.old) }
+{
+    if !head
+        .capabilities()
+        .contains(CapabilityFlags::CLIENT_CONNECT_WITH_DB)
+    {
+        return Ok(None);
+    }
+    Ok(Some(buf.parse(())?))
+}
+
+/// The plugin, where it was named.
+#[tactic(auto, unfolding(crate::specs::HandshakeResponse::plugin))]
+fn read_plugin<'a>(head: &SslRequest, buf: &mut ParseBuf<'a>) -> Option<AuthPlugin<'a>>
+    ensures value { ((spec.plugin head.now).form tt).reads buf.old ≡ Ok (result, buf.new) }
+{
+    if !head
+        .capabilities()
+        .contains(CapabilityFlags::CLIENT_PLUGIN_AUTH)
+    {
+        return None;
+    }
+    Some(plugin_to_zero_or_end(buf))
+}
+
+/// The attributes, where they were sent.
+#[tactic(auto, unfolding(crate::specs::HandshakeResponse::told_attributes))]
+fn read_attributes<'s, 'a>(
+    head: &SslRequest,
+    buf: &mut ParseBuf<'a>,
+) -> Result<Option<Attributes<'a>>, FaultOf<'s>>
+    ensures value { Answers true result buf.new (((spec.told_attributes head.now).form tt).reads buf.old) }
+{
+    if !head
+        .capabilities()
+        .contains(CapabilityFlags::CLIENT_CONNECT_ATTRS)
+    {
+        return Ok(None);
+    }
+    Ok(Some(buf.parse(())?))
+}
+
+impl<'de> MyDeserialize<'de> for HandshakeResponse<'de> {
+    const SIZE: Option<usize> = None;
+
+    type Size = AnyWidth;
+
+    ghost takes_memory = { true };
+
+    type Ctx = ();
+
+    ghost form = { spec.handshake_response.form };
+
+    fn deserialize<'s>(_ctx: (), buf: &mut ParseBuf<'de>) -> Result<Self, FaultOf<'s>> {
+        let mut rest = buf.rest();
+        let head: SslRequest = rest.parse(())?;
+        let user = rest.parse(())?;
+        let scramble_buf = read_scramble(&head, &mut rest)?;
+        let db_name = read_database(&head, &mut rest)?;
+        let auth_plugin = read_plugin(&head, &mut rest);
+        let connect_attributes = read_attributes(&head, &mut rest)?;
+        *buf = rest;
+        Ok(HandshakeResponse {
+            head,
+            user,
+            scramble_buf,
+            db_name,
+            auth_plugin,
+            connect_attributes,
+        })
+    }
+
+    ghost size_is = { λ _. spec.size-handshake_response };
+}
+
+#[tactic(auto, using(mysql_wire::proofs::Packets::packets), unfolding(crate::specs::HandshakeResponse::handshake_response, crate::specs::HandshakeResponse::database, crate::specs::HandshakeResponse::plugin, crate::specs::HandshakeResponse::told_attributes, crate::specs::PluginName::plugin_null_or_eof))]
+impl Parts for HandshakeResponse<'_> {
+    ghost bytes = { spec.handshake_response.bytes };
+
+    #[inline(always)]
+    fn put<S: Sink>(&self, sink: &mut S) {
+        let scramble = self.written_scramble();
+        sink.part(&parts!(
+            self.head,
+            self.user,
+            scramble,
+            self.db_name,
+            self.auth_plugin,
+            self.connect_attributes
+        ));
+    }
+}
