@@ -28,9 +28,9 @@ pub use long_data::{
 };
 pub use mysql_bulk::{
     BulkExecuteRequestBuilderError, BulkExecuteRequestError, BulkParamsRequests, BulkRequests,
-    BulkRun, ComStmtBulkExecuteHeader, ComStmtBulkExecuteRequest, ComStmtBulkExecuteRequestBuilder,
-    InvalidComStmtBulkExecuteHeader, StmtBulkExecuteParamType, StmtBulkExecuteParamValue,
-    StmtBulkExecuteParamValues, bulk_row_size, read_bulk_rows,
+    BulkRowRefusal, BulkRun, ComStmtBulkExecuteHeader, ComStmtBulkExecuteRequest,
+    ComStmtBulkExecuteRequestBuilder, InvalidComStmtBulkExecuteHeader, StmtBulkExecuteParamType,
+    StmtBulkExecuteParamValue, StmtBulkExecuteParamValues, bulk_row_size, read_bulk_rows,
 };
 pub use mysql_cuts::{BulkRule, cut_is_fewest};
 pub use null_bitmap::NullBitmap;
