@@ -1,5 +1,5 @@
 -- Attributes of a connection: keys with their values, each key once, in the order of their first places.
-use Rattle.std.specs.Prelude.{◌≡◌, ℕ, ◌<◌, ◌^◌, Bool, ◌&&◌, nat_eq, List, [], ◌++◌, length, map, string_bytes, None, refl}
+use Rattle.std.specs.Prelude.{◌≡◌, ℕ, ◌<◌, ◌≤◌, ◌^◌, Bool, ◌&&◌, nat_eq, List, [], ◌∷◌, ◌++◌, length, map, string_bytes, None, refl}
 use Rattle.std.specs.Cmp.Lexicographic.{pointwise}
 use Rattle.std.specs.List.{flat_map}
 use Rattle.std.specs.Global.{Global}
@@ -11,10 +11,11 @@ use Rattle.mysql_wire.specs.CodecAgain.{some-lenenc, some-then, many-again}
 use Rattle.mysql_wire.specs.CodecFits.{each_fits}
 use Rattle.mysql_wire.specs.Codecs.{◌>>=◌, give, field, packet, string_lenenc}
 use Rattle.mysql_wire.specs.Form as form
-use Rattle.mysql_wire.specs.LenEnc.{lenenc_string, lenenc_string_bytes}
+use Rattle.mysql_wire.specs.LenEnc.{lenenc_string, lenenc_string_bytes, lenenc_bytes}
 use Rattle.mysql_wire.specs.Many.{many}
 use Rattle.mysql_wire.specs.Text.{lossy_text}
-use Rattle.std.proofs.lemmas.List.{append-nil}
+use Rattle.std.proofs.Common.{arith}
+use Rattle.std.proofs.lemmas.List.{append-nil, length-append}
 
 abbrev pub Attribute : Type 0
 Attribute = List ℕ × List ℕ
@@ -65,14 +66,30 @@ pairs = form.map merged (many (attribute.form tt))
 -- each key stands once, as in every map, and the length of all pairs fits a number of eight bytes
 pub record AttributesFit (attributes : List Attribute) : Type 0 where
   pub once : merged attributes ≡ attributes
-  pub each : each_fits attribute tt attributes []
   pub short : length (pairs_bytes attributes) < 2 ^ 64
+
+string-within : (content : List ℕ) → length content ≤ length (lenenc_string_bytes content)
+unfolding lenenc_string_bytes
+string-within content = omega (arith, length-append (lenenc_bytes (length content)) content)
+
+-- so does the length of each key and of each value
+each-short : (attributes : List Attribute) → length (pairs_bytes attributes) < 2 ^ 64 → each_fits attribute tt attributes []
+unfolding attribute
+each-short [] short = tt
+each-short (p ∷ attributes) short =
+    let value = lenenc_string_bytes p.1 ++ [] in
+    let pair = length-append (lenenc_string_bytes p.0) value in
+    let all = length-append (lenenc_string_bytes p.0 ++ value) (pairs_bytes attributes) in
+    let behind = length-append (lenenc_string_bytes p.1) [] in (
+      (omega (arith, short, pair, all, string-within p.0), (omega (arith, short, pair, all, behind, string-within p.1), tt)),
+      each-short attributes (omega (arith, short, pair, all)),
+    )
 
 pub attributes-again : (attributes : List Attribute) (rest : List ℕ) → AttributesFit attributes
     → (form.within lenenc_string pairs).Spells attributes (lenenc_string_bytes (pairs_bytes attributes) ++ rest) rest
 attributes-again attributes rest h =
     let inside : (many (attribute.form tt)).Spells attributes (pairs_bytes attributes) [] =
-    rw append-nil at (many-again attribute some-attribute tt attributes [] (refl, h.each)) in
+    rw append-nil at (many-again attribute some-attribute tt attributes [] (refl, each-short attributes h.short)) in
     (pairs_bytes attributes, lenenc_string-again (pairs_bytes attributes) h.short rest, (attributes, h.once, inside))
 
 -- the length of all pairs, length-encoded, and the pairs in that many bytes
