@@ -71,7 +71,7 @@ impl<T, const VALUE: u8> MySerialize for ConstU8<T, VALUE> {
 
     #[inline(always)]
     fn append(&self, out: &mut Vec<u8>) {
-        out.push(VALUE).unwrap();
+        out.push_reserved(VALUE);
     }
 }
 

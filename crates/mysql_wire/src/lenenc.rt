@@ -70,17 +70,17 @@ impl IntRepr for LenEnc {
     #[tactic(auto, unfolding(crate::specs::Writing::le_bytes, crate::specs::LenEnc::lenenc_bytes))]
     fn append(value: u64, out: &mut Vec<u8>) {
         match value {
-            0..251 => out.push(value as u8).unwrap(),
+            0..251 => out.push_reserved(value as u8),
             251..0x1_0000 => {
-                out.push(252).unwrap();
+                out.push_reserved(252);
                 <LeU16 as IntRepr>::append(value as u16, out);
             }
             0x1_0000..0x100_0000 => {
-                out.push(253).unwrap();
+                out.push_reserved(253);
                 <LeU24 as IntRepr>::append(value as u32, out);
             }
             _ => {
-                out.push(254).unwrap();
+                out.push_reserved(254);
                 <LeU64 as IntRepr>::append(value, out);
             }
         }

@@ -52,7 +52,7 @@ impl BytesRepr for NullBytes {
     #[inline(always)]
     fn append(content: &[u8], out: &mut Vec<u8>) {
         out.extend_from_slice(Self::kept(content)).unwrap();
-        out.push(0).unwrap();
+        out.push_reserved(0);
     }
 
     ghost size_is = { λ _. size-null_string };

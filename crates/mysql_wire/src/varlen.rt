@@ -40,7 +40,7 @@ impl IntRepr for VarLen {
     fn append(value: u64, out: &mut Vec<u8>) {
         let size = varlen_uint_size(value);
         if size == 9 {
-            out.push(0xff).unwrap();
+            out.push_reserved(0xff);
             <LeU64 as IntRepr>::append(value, out);
         } else {
             let word = above_ones(value, size);

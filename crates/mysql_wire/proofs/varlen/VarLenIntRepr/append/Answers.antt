@@ -5,6 +5,6 @@ use Rattle.mysql_wire.proofs.varlen.VarLenIntRepr.append.Goals as goal
 
 pub returns-then-size-eq9-clause-items : goal.returns-then-size-eq9-clause-items
 returns-then-size-eq9-clause-items c =
-    let pushed : c.push.new.self.items ≡ c.args.out.now.items ++ 255 ∷ [] = search rules in
+    let pushed : c.push_reserved.new.self.items ≡ c.args.out.now.items ++ 255 ∷ [] = search rules in
     rw (bytes_nine c.args.value (sym c.varlen_uint_size-size.ensures.value ∙ c.if-size-eq9.true), c.append.ensures.items, pushed)
     (append_assoc c.args.out.now.items (255 ∷ []) (le_bytes 8 c.args.value))
