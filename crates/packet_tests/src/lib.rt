@@ -8,4 +8,6 @@ mod ok_kind;
 #[cfg(test)]
 mod replies;
 #[cfg(test)]
+mod session;
+#[cfg(test)]
 mod tour;

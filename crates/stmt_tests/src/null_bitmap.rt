@@ -1,5 +1,6 @@
 use mysql_stmt::NullBitmap;
 use mysql_values::{ClientSide, ServerSide};
+use mysql_wire::{Fault, MySerialize, ParseBuf};
 use std::borrow::CowSlice;
 use std::test::Fail;
 
@@ -37,5 +38,21 @@ fn borrowed_bytes_are_copied_before_a_bit_is_set(rt: HostRuntime) -> Result<(), 
     bitmap.set(rt.alloc(), 1, false)?;
     assert_eq!(rt; bitmap.as_bytes(), [0xfd, 1].as_slice());
     assert_eq!(rt; bytes.as_slice(), [0xff, 1].as_slice());
+    Ok(())
+}
+
+/// The bitmap of nine values of a client, of which the last is NULL, and a byte behind it.
+const NINE: [u8; 3] = [0, 1, 7];
+
+#[test]
+fn a_bitmap_is_read_and_written(rt: HostRuntime) -> Result<(), Fail> {
+    let mut buf = ParseBuf::new(rt.alloc(), &NINE);
+    let read: Result<NullBitmap<'_, ClientSide>, Fault> = buf.parse(9);
+    let bitmap = read.ok().ok_or("the bytes are a bitmap")?;
+    assert_eq!(rt; buf.len(), 1);
+    assert_eq!(rt; bitmap.as_bytes(), &NINE[..2]);
+    let mut out = Vec::new(rt.alloc());
+    bitmap.serialize(&mut out)?;
+    assert_eq!(rt; out.as_slice(), &NINE[..2]);
     Ok(())
 }

@@ -110,13 +110,28 @@ fn rows_as_they_are_read_are_equal_where_they_hold_the_same(rt: HostRuntime) -> 
 
 #[test]
 fn a_binary_row(rt: HostRuntime) -> Result<(), Fail> {
-    let mut row = read_number_and_null(rt.alloc())?;
+    let row = read_number_and_null(rt.alloc())?;
     assert_eq!(rt; row.len(), 2);
     assert!(rt; row.as_ref(0) == Some(&Value::Int(42)));
     assert!(rt; row.as_ref(1) == Some(&Value::NULL));
     assert!(rt; row.as_ref(2) == None);
-    assert!(rt; row.take::<Value, _>("a") == Some(Value::Int(42)));
-    assert!(rt; row.take::<Value, _>("a") == None);
+    Ok(())
+}
+
+/// The number that is taken out of the column `a`.
+fn taken(row: &mut Row) -> Option<i64> {
+    match row.take::<Value, _>("a") {
+        Some(Value::Int(number)) => Some(number),
+        _ => None,
+    }
+}
+
+#[test]
+fn a_value_is_taken_once(rt: HostRuntime) -> Result<(), Fail> {
+    let mut row = read_number_and_null(rt.alloc())?;
+    assert_eq!(rt; taken(&mut row), Some(42));
+    assert!(rt; row.as_ref(0) == None);
+    assert_eq!(rt; taken(&mut row), None);
     assert!(rt; row.as_ref(1) == Some(&Value::NULL));
     Ok(())
 }
