@@ -4,7 +4,8 @@ Each reading takes a Buf, and what the reader is told; it gives the record, or r
 """
 import re
 
-PROTOCOL_41, SECURE_CONNECTION, PLUGIN_AUTH, SESSION_TRACK, PROGRESS_OBSOLETE = (1 << n for n in (9, 15, 19, 23, 29))
+CONNECT_WITH_DB, PROTOCOL_41, SECURE_CONNECTION, PLUGIN_AUTH = 1 << 3, 1 << 9, 1 << 15, 1 << 19
+CONNECT_ATTRS, LENENC_CLIENT_DATA, SESSION_TRACK, PROGRESS_OBSOLETE = 1 << 20, 1 << 21, 1 << 23, 1 << 29
 SESSION_STATE_CHANGED = 1 << 14
 UNSIGNED = 32
 
@@ -295,10 +296,45 @@ def handshake(buf):
     return (protocol, version, connection, scramble_1, scramble_2, capabilities, collation, status, block.number(4), name)
 
 
-# what a replica sends
-
 def u8_string(buf):
     return buf.take(buf.number(1))
+
+
+def attributes(buf):
+    """Keys with their last values, each at its key's first place."""
+    return list(dict(to_the_end(buf.block(buf.lenenc()), system_variable)).items())
+
+
+def scramble(buf, capabilities):
+    if capabilities & LENENC_CLIENT_DATA:
+        return buf.string()
+    return u8_string(buf) if capabilities & SECURE_CONNECTION else buf.null_string()
+
+
+def handshake_response(buf):
+    (capabilities, packet_size, collation), mariadb = ssl_request(buf)
+    user, data = buf.null_string(), scramble(buf, capabilities)
+    database = buf.null_string() if capabilities & CONNECT_WITH_DB else None
+    plugin = None
+    if capabilities & PLUGIN_AUTH:
+        plugin = buf.null_string() if 0 in buf.data else buf.all()
+    told = attributes(buf) if capabilities & CONNECT_ATTRS else None
+    return capabilities, packet_size, collation, mariadb, user, data, database, plugin, told
+
+
+def change_user(buf, capabilities):
+    buf.const(b"\x11")
+    names = buf.null_string(), u8_string(buf), buf.null_string()
+    return names, more_data(buf, capabilities) if buf.data else None
+
+
+def more_data(buf, capabilities):
+    collation = buf.number(2)
+    plugin = buf.null_string() if capabilities & PLUGIN_AUTH else None
+    return collation, plugin, attributes(buf) if capabilities & CONNECT_ATTRS else None
+
+
+# what a replica sends
 
 
 def register_slave(buf):
@@ -432,6 +468,9 @@ READERS = {
     "AuthSwitchRequest": auth_switch_request,
     "SslRequest": ssl_request,
     "HandshakePacket": handshake,
+    "HandshakeResponse": handshake_response,
+    "ComChangeUser": change_user,
+    "ComChangeUserMoreData": more_data,
     "GnoInterval": gno_interval,
     "Sid": lambda b: sid(b, False),
     "ComRegisterSlave": register_slave,
@@ -476,6 +515,20 @@ def switch_fields(record):
     return plugin_fields(name) + [("plugin_data", data[:-1] if data.endswith(b"\0") else data)]
 
 
+def response_fields(record):
+    capabilities, _size, collation, mariadb, user, data, database, plugin, _attributes = record
+    named = [("capabilities", capabilities), ("collation", collation), ("mariadb_ext_capabilities", mariadb),
+             ("user", user), ("scramble_buf", data), ("db_name", database)]
+    return named + ([("plugin", None)] if plugin is None else plugin_fields(plugin))
+
+
+def change_user_fields(record):
+    """The bytes that are written of a change of user without more data."""
+    (user, data, database), more = record
+    assert more is None
+    return [("written", b"\x11" + user + b"\0" + bytes([len(data)]) + data + database + b"\0")]
+
+
 def named(*names):
     return lambda record: zip(names, record)
 
@@ -498,6 +551,8 @@ FIELDS = {
     "HandshakePacket": named("protocol_version", "server_version", "connection_id", "scramble_1", "scramble_2",
                              "capabilities", "default_collation", "status_flags", "mariadb_ext_capabilities",
                              "auth_plugin_name"),
+    "HandshakeResponse": response_fields,
+    "ComChangeUser": change_user_fields,
     "ComBinlogDump": named("pos", "flags", "server_id", "filename"),
     "SemiSyncAckPacket": named("position", "filename"),
 }

@@ -4,7 +4,7 @@ use crate::readers;
 use hostile_input_lines::{Met, TableReader};
 use std::alloc::{AllocError, Global};
 
-/// A reader.
+/// A reader. The numbers are words of capabilities.
 #[derive(Clone, Copy)]
 pub enum Reader {
     LastName,
@@ -16,6 +16,9 @@ pub enum Reader {
     AuthSwitchRequest,
     SslRequest,
     HandshakePacket,
+    HandshakeResponse,
+    ComChangeUser(u32),
+    ComChangeUserMoreData(u32),
 }
 
 impl TableReader for Reader {
@@ -30,6 +33,13 @@ impl TableReader for Reader {
             Reader::AuthSwitchRequest => readers::auth_switch_request(alloc, bytes, vector),
             Reader::SslRequest => readers::ssl_request(alloc, bytes, vector),
             Reader::HandshakePacket => readers::handshake(alloc, bytes, vector),
+            Reader::HandshakeResponse => readers::handshake_response(alloc, bytes, vector),
+            Reader::ComChangeUser(capabilities) => {
+                readers::change_user(alloc, bytes, vector, capabilities)
+            }
+            Reader::ComChangeUserMoreData(capabilities) => {
+                readers::change_user_more_data(alloc, bytes, vector, capabilities)
+            }
         })
     }
 
@@ -41,6 +51,10 @@ impl TableReader for Reader {
             Reader::PublicKeyResponse => readers::public_key_response_named(alloc, bytes),
             Reader::AuthSwitchRequest => readers::auth_switch_request_named(alloc, bytes),
             Reader::HandshakePacket => readers::handshake_named(alloc, bytes),
+            Reader::HandshakeResponse => readers::handshake_response_named(alloc, bytes),
+            Reader::ComChangeUser(capabilities) => {
+                readers::change_user_named(alloc, bytes, capabilities)
+            }
             _ => Ok(String::new(alloc)),
         }
     }

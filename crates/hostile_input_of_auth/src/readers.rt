@@ -2,10 +2,11 @@
 
 use hostile_input_lines::{Fields, Met, named, read_and_write};
 use mysql_auth::{
-    AuthMoreData, AuthPlugin, AuthSwitchRequest, HandshakePacket, LastName, OldAuthSwitchRequest,
-    PublicKeyRequest, PublicKeyResponse, SslRequest,
+    AuthMoreData, AuthPlugin, AuthSwitchRequest, ComChangeUser, ComChangeUserMoreData,
+    HandshakePacket, HandshakeResponse, LastName, OldAuthSwitchRequest, PublicKeyRequest,
+    PublicKeyResponse, SslRequest,
 };
-use mysql_wire::{CapabilityFlags, Flags, RawBytes};
+use mysql_wire::{CapabilityFlags, Flags, MySerialize, RawBytes};
 use std::alloc::{AllocError, Global};
 
 fn has_no_zero(bytes: &[u8]) -> bool {
@@ -138,4 +139,60 @@ fn tell_handshake(packet: &HandshakePacket<'_>, fields: &mut Fields) -> Result<(
 
 pub fn handshake_named(alloc: Global, bytes: &[u8]) -> Result<String, AllocError> {
     named::<HandshakePacket<'_>, _>(alloc, bytes, (), tell_handshake)
+}
+
+pub fn handshake_response(alloc: Global, bytes: &[u8], vector: &[u8]) -> Met {
+    read_and_write!(alloc, bytes, vector; HandshakeResponse<'_>, ())
+}
+
+fn tell_response(packet: &HandshakeResponse<'_>, fields: &mut Fields) -> Result<(), AllocError> {
+    fields.number("capabilities", u64::from(packet.capabilities().bits()))?;
+    fields.number("collation", u64::from(packet.collation()))?;
+    fields.number(
+        "mariadb_ext_capabilities",
+        u64::from(packet.mariadb_ext_capabilities().bits()),
+    )?;
+    fields.bytes("user", packet.user())?;
+    fields.bytes("scramble_buf", packet.scramble_buf())?;
+    fields.maybe_bytes("db_name", packet.db_name())?;
+    match packet.auth_plugin() {
+        Some(plugin) => tell_plugin(plugin, fields),
+        None => fields.word("plugin", "none"),
+    }
+}
+
+pub fn handshake_response_named(alloc: Global, bytes: &[u8]) -> Result<String, AllocError> {
+    named::<HandshakeResponse<'_>, _>(alloc, bytes, (), tell_response)
+}
+
+pub fn change_user(alloc: Global, bytes: &[u8], vector: &[u8], capabilities: u32) -> Met {
+    read_and_write!(alloc, bytes, vector; ComChangeUser<'_>, CapabilityFlags::from_bits_retain(capabilities))
+}
+
+/// Its defined bytes: a change of user has no getters.
+fn tell_change(
+    alloc: Global,
+    packet: &ComChangeUser<'_>,
+    fields: &mut Fields,
+) -> Result<(), AllocError> {
+    let mut out = Vec::new(alloc);
+    packet.serialize(&mut out)?;
+    fields.bytes("written", out.as_slice())
+}
+
+pub fn change_user_named(
+    alloc: Global,
+    bytes: &[u8],
+    capabilities: u32,
+) -> Result<String, AllocError> {
+    named::<ComChangeUser<'_>, _>(
+        alloc,
+        bytes,
+        CapabilityFlags::from_bits_retain(capabilities),
+        |packet, fields| tell_change(alloc, packet, fields),
+    )
+}
+
+pub fn change_user_more_data(alloc: Global, bytes: &[u8], vector: &[u8], capabilities: u32) -> Met {
+    read_and_write!(alloc, bytes, vector; ComChangeUserMoreData<'_>, CapabilityFlags::from_bits_retain(capabilities))
 }

@@ -6,6 +6,11 @@
 use crate::reader::Reader;
 use hostile_input_lines::Vector;
 
+// Words of capabilities, by their bits.
+const CONNECT_ATTRS: u32 = 0x10_0000;
+
+const CONNECT_ATTRS_AND_PLUGIN_AUTH: u32 = 0x18_0000;
+
 /// A vector for each of these readers, or more.
 pub const VECTORS: &[Vector<Reader>] = &[
     // a cut name is a shorter one
@@ -68,5 +73,37 @@ pub const VECTORS: &[Vector<Reader>] = &[
         Reader::HandshakePacket,
         b"\x0a5.5.5-10.11.19-MariaDB-0+deb12u1-log\0\x9a\0\0\0t{.plMx9\0\xfe\xf7\x2d\x02\0\xff\x81\x15\0\0\0\0\0\0\x1d\0\0\0Qi?<NT=p?'Ef\0mysql_native_password\0",
         &[(82, 103)],
+    ),
+    // at 38 the plugin's name is empty
+    (
+        "response",
+        Reader::HandshakeResponse,
+        b"\x05\xa2\xae\x81\0\0\0\x01-\0\0\0\0\0\0\0\0\0\0\0\0\0\0\0\0\0\0\0\0\0\0\0root\0\0mysql_native_password\0",
+        &[(38, 59)],
+    ),
+    (
+        "captured response with a database and attributes",
+        Reader::HandshakeResponse,
+        b"\x8c\xa2\xbf\0\0\0\x10\0-\0\0\0\0\0\0\0\0\0\0\0\0\0\0\0\0\0\0\0\x1d\0\0\0u_empty\0\0vec\0mysql_native_password\0l\x03_os\x05Linux\x0c_client_name\x0alibmariadb\x04_pid\x0515147\x0f_client_version\x063.3.20\x09_platform\x06x86_64\x0c_server_host\x09127.0.0.1",
+        &[],
+    ),
+    // at 8 there are no more data
+    (
+        "change of user",
+        Reader::ComChangeUser(CONNECT_ATTRS),
+        b"\x11root\0\0\0\x2d\0\0",
+        &[(8, 8)],
+    ),
+    (
+        "captured change of user",
+        Reader::ComChangeUser(CONNECT_ATTRS_AND_PLUGIN_AUTH),
+        b"\x11u_native\0\x14\x9am\xa0\x09\x1a\xde\xa6\x01\xa1\x03\xca\xc1\xf05.\x04E\x7f.\xbdvec2\0-\0mysql_native_password\0,\x0c_client_name\x07mysqlnd\x0c_server_host\x09127.0.0.1",
+        &[(36, 36)],
+    ),
+    (
+        "more data",
+        Reader::ComChangeUserMoreData(CONNECT_ATTRS),
+        b"\x2d\0\x0c\x01a\x011\x01b\x012\x01a\x013",
+        &[],
     ),
 ];

@@ -1,8 +1,8 @@
 //! The texts of errors.
 
 use mysql_auth::{
-    InvalidAuthMoreDataHeader, InvalidAuthSwitchRequestHeader, InvalidPublicKeyRequest,
-    InvalidPublicKeyResponse,
+    InvalidAuthMoreDataHeader, InvalidAuthSwitchRequestHeader, InvalidComChangeUserHeader,
+    InvalidPublicKeyRequest, InvalidPublicKeyResponse,
 };
 use mysql_bulk::{
     BulkExecuteRequestBuilderError, BulkExecuteRequestError, InvalidComStmtBulkExecuteHeader,
@@ -50,6 +50,7 @@ pub fn print_markers(rt: &impl Print) -> io::Result<()> {
         "InvalidAuthSwitchRequestHeader",
         InvalidAuthSwitchRequestHeader,
     )?;
+    show(rt, "InvalidComChangeUserHeader", InvalidComChangeUserHeader)?;
     show(rt, "InvalidStmtPacketStatus", InvalidStmtPacketStatus)?;
     show(rt, "InvalidIterationCount", InvalidIterationCount)?;
     show(

@@ -1,7 +1,8 @@
 //! The texts of the faults that bytes are refused with.
 
 use mysql_auth::{
-    AuthMoreDataHeader, AuthSwitchRequestHeader, PublicKeyRequestHeader, PublicKeyResponseHeader,
+    AuthMoreDataHeader, AuthSwitchRequestHeader, ComChangeUserHeader, PublicKeyRequestHeader,
+    PublicKeyResponseHeader,
 };
 use mysql_bulk::ComStmtBulkExecuteHeader;
 use mysql_repl::{
@@ -107,6 +108,7 @@ pub fn print_markers(rt: &(impl Print + AllocGlobal)) -> io::Result<()> {
     refused::<AuthMoreDataHeader>(rt, "AuthMoreDataHeader", NINES, ())?;
     refused::<PublicKeyResponseHeader>(rt, "PublicKeyResponseHeader", NINES, ())?;
     refused::<AuthSwitchRequestHeader>(rt, "AuthSwitchRequestHeader", NINES, ())?;
+    refused::<ComChangeUserHeader>(rt, "ComChangeUserHeader", NINES, ())?;
     refused::<StmtPacket>(rt, "StmtPacket", NINES, ())?;
     refused::<IterationCount>(rt, "IterationCount", NINES, ())?;
     refused::<SemiSyncAckPacketPacketHeader>(rt, "SemiSyncAckPacketPacketHeader", NINES, ())?;
