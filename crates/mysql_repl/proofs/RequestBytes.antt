@@ -1,5 +1,5 @@
 -- What is written of the command that a request makes.
-use Rattle.std.proofs.Common.{◌≡◌, List, ◌++◌, Bool, true, false, refl, ap, ◌∙◌, append_assoc}
+use Rattle.std.proofs.Common.{◌≡◌, Bool, true, false, refl, append_assoc}
 use Rattle.std.proofs.lemmas.List.{append-nil}
 use Rattle.mysql_wire.specs.Either.{either_bytes}
 use Rattle.mysql_repl.specs.declared.binlog_request.BinlogRequest.{BinlogRequest}

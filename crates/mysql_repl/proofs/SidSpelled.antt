@@ -1,5 +1,5 @@
 -- A text that spells a sid is read as that sid.
-use Rattle.std.proofs.Common.{◌≡◌, ◌⊎◌, inl, inr, ℕ, ◌+◌, ◌<◌, ◌≤◌, ◌^◌, ◌==◌, List, [], ◌∷◌, ◌++◌, length, get_or, Option, Some, None, Result, Ok, Err, Bool, true, false, ◌&&◌, codes, if◌then◌else◌, refl, sym, ap, subst, ◌∙◌, arith, append_assoc}
+use Rattle.std.proofs.Common.{◌≡◌, ◌⊎◌, inl, inr, ℕ, ◌+◌, ◌<◌, ◌≤◌, ◌^◌, ◌==◌, List, [], ◌∷◌, ◌++◌, length, get_or, Option, Some, None, Result, Ok, Err, Bool, true, false, ◌&&◌, codes, if◌then◌else◌, refl, sym, ap, subst, ◌∙◌, arith}
 use Rattle.std.specs.Char.{is_ascii_digit}
 use Rattle.std.specs.List.{list_all}
 use Rattle.std.specs.Str.Parse.{IsNumeral, AllDigits, without_leading_plus}
@@ -12,10 +12,10 @@ use Rattle.mysql_repl.specs.declared.gno_interval.GnoInterval.{GnoInterval}
 use Rattle.mysql_repl.specs.declared.sid.Sid.{Sid}
 use Rattle.mysql_repl.specs.declared.sid_text.InvalidSid.{InvalidSid}
 use Rattle.mysql_repl.specs.declared.sid_text.InvalidSid.TheVariants as fault
-use Rattle.mysql_repl.specs.GnoInterval.{start, end, interval_of}
-use Rattle.mysql_repl.specs.SidText.{colon, hyphen, has, before, behind, number_of, checked, from_numbers, read_interval, read_each, parts_of, read_intervals, sid_with, read_tagged, read_behind, read_with, read_sid, tag_text}
+use Rattle.mysql_repl.specs.GnoInterval.{start, interval_of}
+use Rattle.mysql_repl.specs.SidText.{colon, hyphen, has, before, behind, number_of, checked, from_numbers, read_interval, read_intervals, sid_with, read_tagged, read_behind, read_with, read_sid, tag_text}
 use Rattle.mysql_repl.specs.ProperSid.{ProperInterval}
-use Rattle.mysql_repl.specs.SidGrammar.{AreDigitsOf, SpellsNumber, SpellsOne, SpellsTwo, SpellsInterval, SpellsEach, DigitBehindColon, SpellsSid}
+use Rattle.mysql_repl.specs.SidGrammar.{SpellsNumber, SpellsOne, SpellsTwo, SpellsInterval, SpellsEach, DigitBehindColon, SpellsSid}
 use Rattle.mysql_repl.specs.TagString.{OptionalTag}
 use Rattle.mysql_repl.specs.Tag.{is_first, is_later, IsTag, tag_fault}
 use Rattle.mysql_repl.proofs.SidCuts.{Lacks, lacks-append, no-cut, has-cut, before-cut, behind-cut, no_colon-lacks}

@@ -1,6 +1,5 @@
 -- The text that is written of a sid spells that sid.
-use Rattle.std.proofs.Common.{◌≡◌, ◌≢◌, inl, inr, ℕ, ◌+◌, ◌-◌, ◌<◌, ◌≤◌, ◌^◌, ◌==◌, List, [], ◌∷◌, ◌++◌, length, get_or, Option, Some, None, Ok, Bool, true, false, codes, if◌then◌else◌, refl, sym, ap, subst, ◌∙◌, arith, append_assoc}
-use Rattle.std.specs.Char.{is_ascii_digit}
+use Rattle.std.proofs.Common.{◌≡◌, ◌≢◌, inl, inr, ℕ, ◌+◌, ◌-◌, ◌<◌, ◌≤◌, ◌^◌, ◌==◌, List, [], ◌∷◌, ◌++◌, length, Ok, Bool, true, false, codes, if◌then◌else◌, refl, sym, ap, subst, arith, append_assoc}
 use Rattle.std.specs.Fmt.{decimal}
 use Rattle.std.specs.List.{flat_map}
 use Rattle.std.specs.Str.Parse.{IsNumeral}
@@ -16,7 +15,7 @@ use Rattle.mysql_repl.specs.declared.sid.Sid.{Sid}
 use Rattle.mysql_repl.specs.GnoInterval.{start, end}
 use Rattle.mysql_repl.specs.SidText.{read_sid, interval_text, sid_text}
 use Rattle.mysql_repl.specs.ProperSid.{ProperInterval, AllProper, ProperIntervals, ProperSid}
-use Rattle.mysql_repl.specs.SidGrammar.{AreDigitsOf, SpellsNumber, SpellsOne, SpellsTwo, SpellsInterval, SpellsEach, DigitBehindColon, NoColon, SpellsSid}
+use Rattle.mysql_repl.specs.SidGrammar.{SpellsNumber, SpellsTwo, SpellsInterval, SpellsEach, DigitBehindColon, NoColon, SpellsSid}
 use Rattle.mysql_repl.proofs.SidCuts.{no_colon-from}
 use Rattle.mysql_repl.proofs.SidSpelled.{sid-spelled}
 

@@ -17,7 +17,7 @@ use Rattle.mysql_repl.specs.declared.sid_text.InvalidSid.TheVariants as fault
 use Rattle.mysql_repl.specs.declared.tag.InvalidTag.{InvalidTag}
 use Rattle.mysql_repl.specs.GnoInterval.{interval_of, start, end}
 use Rattle.mysql_repl.specs.ProperSid.{ProperInterval, AllProper, ProperIntervals, IsSidValue}
-use Rattle.mysql_repl.specs.SidGrammar.{AreDigitsOf, SpellsNumber, SpellsOne, SpellsTwo, SpellsInterval, SpellsEach, DigitBehindColon, SpellsSid}
+use Rattle.mysql_repl.specs.SidGrammar.{AreDigitsOf, SpellsNumber, SpellsTwo, SpellsInterval, SpellsEach, DigitBehindColon, SpellsSid}
 use Rattle.mysql_repl.specs.SidText.{Answered, colon, hyphen, is, has, before, behind, number_of, checked, from_numbers, read_interval, onto, read_each, parts_of, read_intervals, sid_with, read_tagged, read_behind, read_with, read_sid, tag_text, sid_text}
 use Rattle.mysql_repl.specs.Tag.{tag_fault}
 use Rattle.mysql_repl.specs.TagString.{OptionalTag}
