@@ -6,15 +6,16 @@ pub mod session_state_change;
 
 pub use mysql_auth::{
     AuthMoreData, AuthMoreDataHeader, AuthPlugin, AuthPluginData, AuthSwitchRequest,
-    AuthSwitchRequestHeader, HandshakePacket, InvalidAuthMoreDataHeader,
-    InvalidAuthSwitchRequestHeader, InvalidPublicKeyResponse, OldAuthSwitchRequest,
-    PublicKeyResponse, PublicKeyResponseHeader, SslRequest, parse_parsec_salt,
+    AuthSwitchRequestHeader, ComChangeUser, ComChangeUserHeader, ComChangeUserMoreData,
+    HandshakePacket, HandshakeResponse, InvalidAuthMoreDataHeader, InvalidAuthSwitchRequestHeader,
+    InvalidComChangeUserHeader, InvalidPublicKeyResponse, OldAuthSwitchRequest, PublicKeyResponse,
+    PublicKeyResponseHeader, SslRequest, parse_parsec_salt,
 };
 pub use mysql_bulk::{
     BulkExecuteRequestBuilderError, BulkExecuteRequestError, BulkParamsRequests, BulkRequests,
-    BulkRun, ComStmtBulkExecuteHeader, ComStmtBulkExecuteRequest, ComStmtBulkExecuteRequestBuilder,
-    InvalidComStmtBulkExecuteHeader, StmtBulkExecuteParamType, StmtBulkExecuteParamValue,
-    StmtBulkExecuteParamValues, bulk_row_size, read_bulk_rows,
+    BulkRowRefusal, BulkRun, ComStmtBulkExecuteHeader, ComStmtBulkExecuteRequest,
+    ComStmtBulkExecuteRequestBuilder, InvalidComStmtBulkExecuteHeader, StmtBulkExecuteParamType,
+    StmtBulkExecuteParamValue, StmtBulkExecuteParamValues, bulk_row_size, read_bulk_rows,
 };
 pub use mysql_cuts::{BulkRule, cut_is_fewest};
 pub use mysql_repl::{
