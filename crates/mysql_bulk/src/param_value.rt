@@ -1,6 +1,8 @@
 //! A value in a bulk request, with its indicator.
 
 ghost use Rattle.std.specs.Prelude.{true, ◌≡◌, ◌≤◌, ◌+◌, ◌++◌, length, List, ℕ, Option, Some, None, refl};
+ghost use Rattle.mysql_bulk.specs.ParamValue.{indicator_of};
+ghost use Rattle.mysql_values.specs.Value.{content_of};
 
 use mysql_values::{BinValue, Value, ValueDeserializer};
 use mysql_wire::{
@@ -9,6 +11,17 @@ use mysql_wire::{
 };
 use std::alloc::AllocError;
 use std::marker::Model;
+
+/// The indicator of a value that none was read for: `BULK_INDICATOR_NULL` for `NULL`, else `BULK_INDICATOR_NONE`.
+#[inline(always)]
+pub(crate) fn indicator_of(value: &Value) -> MariadbBulkIndicator
+    ensures { result ≡ indicator_of (content_of value.now) }
+{
+    match value {
+        Value::NULL => MariadbBulkIndicator::BULK_INDICATOR_NULL,
+        _ => MariadbBulkIndicator::BULK_INDICATOR_NONE,
+    }
+}
 
 /// A value in a bulk request: the indicator in a byte, and after `BULK_INDICATOR_NONE` the value's binary form.
 #[derive(Debug, Drop)]
@@ -35,10 +48,7 @@ impl StmtBulkExecuteParamValue {
     pub fn new(value: Value) -> Self
         ensures { result ≡ with_indicator (content_of value) }
     {
-        let indicator = match &value {
-            Value::NULL => MariadbBulkIndicator::BULK_INDICATOR_NULL,
-            _ => MariadbBulkIndicator::BULK_INDICATOR_NONE,
-        };
+        let indicator = indicator_of(&value);
         StmtBulkExecuteParamValue { indicator, value }
     }
 

@@ -3,27 +3,15 @@
 ghost use Rattle.std.specs.Prelude.{◌≡◌, ◌+◌, ◌<◌, ◌≤◌, ◌++◌, length, List, ℕ, IfOk, Some, slice_get};
 ghost use Rattle.std.specs.Cmp.Lexicographic.{pointwise};
 ghost use Rattle.mysql_wire.specs.Writing.{saturated};
-ghost use Rattle.mysql_values.specs.Value.{content_of, contents_of};
-ghost use Rattle.mysql_bulk.specs.ParamValue.{indicator_of};
+ghost use Rattle.mysql_values.specs.Value.{contents_of};
 ghost use Rattle.mysql_bulk.specs.Row.{row_size};
 ghost use Rattle.mysql_bulk.specs.SentValues.{sent_values};
 
-use crate::param_value::StmtBulkExecuteParamValue;
+use crate::param_value::{StmtBulkExecuteParamValue, indicator_of};
 use mysql_values::Value;
 use mysql_wire::{Const, MariadbBulkIndicator, MySerialize, Parts, Sink, items_len, parts};
 use std::alloc::{AllocError, Global};
 use std::marker::Model;
-
-/// The indicator of a value that none was read for: `BULK_INDICATOR_NULL` for `NULL`, else `BULK_INDICATOR_NONE`.
-#[inline(always)]
-pub(crate) fn indicator_of(value: &Value) -> MariadbBulkIndicator
-    ensures { result ≡ indicator_of (content_of value.now) }
-{
-    match value {
-        Value::NULL => MariadbBulkIndicator::BULK_INDICATOR_NULL,
-        _ => MariadbBulkIndicator::BULK_INDICATOR_NONE,
-    }
-}
 
 /// How many bytes values take behind their indicators, or `usize::MAX` where that is less.
 #[tactic(auto, using(crate::proofs::RequestBytes::request_lengths), unfolding(mysql_wire::specs::Writing::saturated))]
