@@ -39,7 +39,7 @@ run_case() {
     answer=$(REFUSED_GROWTH=$2 LD_PRELOAD=./refuse.so "$program" "$1" 2>report </dev/null)
     status=$?
     growths=
-    read -r _ growths _ largest <report
+    read -r _ growths _ largest < <(grep '^growths ' report)
 }
 
 # is_one_of TEXT TEXTS: whether it is one of the texts, which ' / ' parts
