@@ -67,7 +67,7 @@ impl Clone for Value {
     fn clone(&self) -> Result<Self, AllocError> {
         Ok(match self {
             Value::NULL => Value::NULL,
-            Value::Bytes(_) => return Err(AllocError),
+            Value::Bytes(bytes) => Value::Bytes(bytes.clone()?),
             Value::Int(n) => Value::Int(*n),
             Value::UInt(n) => Value::UInt(*n),
             Value::Float(bits) => Value::Float(*bits),
