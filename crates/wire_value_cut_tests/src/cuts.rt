@@ -26,24 +26,28 @@ fn judges_odd_numbers(rt: HostRuntime) {
     assert!(rt; !cut_is_fewest(plain, u64::MAX, usize::MAX, &[0], &[1]));
 }
 
+const TYPES_ALWAYS: BulkRule = BulkRule {
+    types_always: true,
+    max_rows: None,
+};
+
+const ONE_ROW: BulkRule = BulkRule {
+    types_always: false,
+    max_rows: Some(1),
+};
+
+const NO_ROW: BulkRule = BulkRule {
+    types_always: false,
+    max_rows: Some(0),
+};
+
 #[test]
 fn judges_by_a_rule(rt: HostRuntime) {
-    let types = BulkRule {
-        types_always: true,
-        max_rows: None,
-    };
-    assert!(rt; cut_is_fewest(types, 27, 1, &[9; 5], &[2, 4, 5]));
-    assert!(rt; !cut_is_fewest(types, 27, 1, &[9; 5], &[1, 2, 4, 5]));
-    let one = BulkRule {
-        types_always: false,
-        max_rows: Some(1),
-    };
-    assert!(rt; cut_is_fewest(one, 27, 1, &[9; 5], &[1, 2, 3, 4, 5]));
-    assert!(rt; !cut_is_fewest(one, 27, 1, &[9; 5], &[2, 4, 5]));
-    let none = BulkRule {
-        types_always: false,
-        max_rows: Some(0),
-    };
-    assert!(rt; cut_is_fewest(none, 27, 1, &[], &[]));
-    assert!(rt; !cut_is_fewest(none, 27, 1, &[9], &[1]));
+    let nines = [9; 5];
+    assert!(rt; cut_is_fewest(TYPES_ALWAYS, 27, 1, &nines, &[2, 4, 5]));
+    assert!(rt; !cut_is_fewest(TYPES_ALWAYS, 27, 1, &nines, &[1, 2, 4, 5]));
+    assert!(rt; cut_is_fewest(ONE_ROW, 27, 1, &nines, &[1, 2, 3, 4, 5]));
+    assert!(rt; !cut_is_fewest(ONE_ROW, 27, 1, &nines, &[2, 4, 5]));
+    assert!(rt; cut_is_fewest(NO_ROW, 27, 1, &[], &[]));
+    assert!(rt; !cut_is_fewest(NO_ROW, 27, 1, &[9], &[1]));
 }

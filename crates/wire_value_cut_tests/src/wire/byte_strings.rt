@@ -27,21 +27,21 @@ const NULL_STRINGS: [(&[u8], Option<(&[u8], usize)>); 5] = [
     (b"ab\0c\0", Some((b"ab", 2))),
 ];
 
+/// Whether the bytes are read as that null string, or are refused and stay.
+fn is_null_string(alloc: Global, bytes: &[u8], expected: Option<(&[u8], usize)>) -> bool {
+    let mut buf = ParseBuf::new(alloc, bytes);
+    let read = buf.parse::<RawBytes<NullBytes>>(());
+    match (&read, expected) {
+        (Ok(content), Some((wanted, left))) => content.as_bytes() == wanted && buf.len() == left,
+        (Err(fault), None) => *fault == Fault::UnexpectedEof && buf.len() == bytes.len(),
+        _ => false,
+    }
+}
+
 #[test]
 fn a_null_string_ends_at_its_zero(rt: HostRuntime) {
     for (bytes, expected) in NULL_STRINGS {
-        let mut buf = ParseBuf::new(rt.alloc(), bytes);
-        match (buf.parse::<RawBytes<NullBytes>>(()), expected) {
-            (Ok(content), Some((wanted, left))) => {
-                assert_eq!(rt; content.as_bytes(), wanted);
-                assert_eq!(rt; buf.len(), left);
-            }
-            (Err(fault), None) => {
-                assert_eq!(rt; fault, Fault::UnexpectedEof);
-                assert_eq!(rt; buf.len(), bytes.len());
-            }
-            _ => assert!(rt; false),
-        }
+        assert!(rt; is_null_string(rt.alloc(), bytes, expected));
     }
 }
 
@@ -54,25 +54,43 @@ fn a_null_string_is_written_to_its_first_zero(rt: HostRuntime) -> Result<(), Fai
     Ok(())
 }
 
+/// Whether what is written of the content is a byte that counts what is kept, and this, and is read again.
+fn is_kept_behind_its_count(
+    alloc: Global,
+    content: &[u8],
+    kept: &[u8],
+) -> Result<bool, AllocError> {
+    let out = written::<U8Bytes>(alloc, content)?;
+    let mut buf = ParseBuf::new(alloc, &out);
+    let is_again = match buf.parse::<RawBytes<U8Bytes>>(()) {
+        Ok(again) => again.as_bytes() == kept && buf.is_empty(),
+        Err(_) => false,
+    };
+    let is_counted = match out.as_slice().split_first() {
+        Some((count, rest)) => usize::from(*count) == kept.len() && rest == kept,
+        None => false,
+    };
+    Ok(is_again && is_counted)
+}
+
 #[test]
 fn a_count_of_one_byte_tells_255_bytes(rt: HostRuntime) -> Result<(), Fail> {
     let long = [b'x'; 256];
     for n in [254, 255, 256] {
-        let content = &long[..n];
         let kept = &long[..n.min(255)];
-        let out = written::<U8Bytes>(rt.alloc(), content)?;
-        assert_eq!(rt;
-            out.as_slice().split_first(),
-            Some((&(kept.len() as u8), kept))
-        );
-        assert_eq!(rt; borrowed::<U8Bytes>(content).len(), kept.len());
-        assert_eq!(rt; borrowed::<U8Bytes>(content).defined_len(), kept.len() + 1);
-        let mut buf = ParseBuf::new(rt.alloc(), &out);
-        let again: RawBytes<U8Bytes> = buf.parse(()).ok().ok_or("a string")?;
-        assert_eq!(rt; again.as_bytes(), kept);
-        assert!(rt; buf.is_empty());
+        assert!(rt; is_kept_behind_its_count(rt.alloc(), &long[..n], kept)?);
     }
     Ok(())
+}
+
+#[test]
+fn lengths_of_what_a_count_of_one_byte_tells(rt: HostRuntime) {
+    let long = [b'x'; 256];
+    for n in [254, 255, 256] {
+        let text = borrowed::<U8Bytes>(&long[..n]);
+        assert_eq!(rt; text.len(), n.min(255));
+        assert_eq!(rt; text.defined_len(), n.min(255) + 1);
+    }
 }
 
 #[test]
@@ -148,14 +166,19 @@ impl ConstBytesValue<4> for Marker {
 #[test]
 fn strings_of_one_length(rt: HostRuntime) -> Result<(), Fail> {
     let mut buf = ParseBuf::new(rt.alloc(), b"\x03defabc");
-    let marker: ConstBytes<Marker, 4> = buf.parse(()).ok().ok_or("the marker")?;
+    let _: ConstBytes<Marker, 4> = buf.parse(()).ok().ok_or("the marker")?;
     let name: [u8; 2] = buf.parse(()).ok().ok_or("two bytes")?;
     assert_eq!(rt; name, *b"ab");
     assert_eq!(rt; buf.parse::<[u8; 2]>(()).err(), Some(Fault::UnexpectedEof));
     assert_eq!(rt; buf.len(), 1);
+    Ok(())
+}
+
+#[test]
+fn strings_of_one_length_are_written_bare(rt: HostRuntime) -> Result<(), Fail> {
     let mut out = Vec::new(rt.alloc());
-    marker.serialize(&mut out)?;
-    name.serialize(&mut out)?;
+    ConstBytes::<Marker, 4>::new().serialize(&mut out)?;
+    (*b"ab").serialize(&mut out)?;
     assert_eq!(rt; out.as_slice(), b"\x03defab".as_slice());
     Ok(())
 }

@@ -25,12 +25,18 @@ const NUMBERS: [(u64, &[u8]); 9] = [
 ];
 
 #[test]
-fn a_number_has_its_shortest_spelling(rt: HostRuntime) -> Result<(), Fail> {
+fn a_shortest_spelling_is_read(rt: HostRuntime) -> Result<(), Fail> {
     for (number, bytes) in NUMBERS {
         let mut buf = ParseBuf::new(rt.alloc(), bytes);
         assert_eq!(rt; buf.parse::<RawInt<LenEnc>>(())?.0, number);
         assert!(rt; buf.is_empty());
+    }
+    Ok(())
+}
 
+#[test]
+fn a_number_has_its_shortest_spelling(rt: HostRuntime) -> Result<(), Fail> {
+    for (number, bytes) in NUMBERS {
         let mut out = Vec::new(rt.alloc());
         RawInt::<LenEnc>::new(number).serialize(&mut out)?;
         assert_eq!(rt; out.as_slice(), bytes);
