@@ -16,8 +16,10 @@
 typedef uint64_t call(const uint8_t *bytes, size_t len);
 
 call bench_statements_read, bench_statements_written, bench_columns_read, bench_columns_written,
-    bench_ok_packets_read, bench_errors_read, bench_errors_written, bench_rows_read, bench_executions_written,
-    bench_bulk_rows_made, bench_bulk_rows_written;
+    bench_ok_packets_read, bench_errors_read, bench_errors_written, bench_rows_read, bench_rows_counted,
+    bench_executions_written, bench_bulk_rows_made, bench_bulk_rows_written, bench_bulk_rows_offered,
+    bench_handshakes_read, bench_handshakes_written, bench_responses_written, bench_registrations_written, bench_gtid_dumps_read,
+    bench_gtid_dumps_written;
 
 struct batch {
     uint8_t *bytes;
@@ -191,6 +193,153 @@ static void put_bulk_row(struct batch *batch)
         put_number(batch, 'a' + varied() % 26, 1);
 }
 
+/* a handshake of MariaDB 10.11, whose scrambles and numbers vary: 31 bytes behind the version, then the second scramble
+ * and the plugin's name, which end in a zero */
+static void fill_handshake(struct batch *batch)
+{
+    static const char version[] = "5.5.5-10.11.19-MariaDB-0+deb12u1-log";
+    static const char plugin[] = "mysql_native_password";
+    put_number(batch, 10, 1);
+    put(batch, version, sizeof version);
+    put_number(batch, varied(), 4);
+    put_number(batch, varied(), 8);
+    put_number(batch, 0, 1);
+    put_number(batch, 0xf7fe, 2);
+    put_number(batch, 45, 1);
+    put_number(batch, 2, 2);
+    put_number(batch, 0x81ff, 2);
+    put_number(batch, 21, 1);
+    put_number(batch, 0, 6);
+    put_number(batch, 0x1d, 4);
+    put_number(batch, varied(), 8);
+    put_number(batch, varied(), 4);
+    put_number(batch, 0, 1);
+    put(batch, plugin, sizeof plugin);
+}
+
+static void put_handshake(struct batch *batch)
+{
+    put_framed(batch, fill_handshake);
+}
+
+static void put_text(struct batch *batch, const char *text)
+{
+    put_number(batch, strlen(text), 1);
+    put(batch, text, strlen(text));
+}
+
+/* a response of MariaDB's Connector/C, whose scramble varies: 32 bytes, the user, the scramble, the plugin's name, and
+ * attributes of the connection behind their length */
+static void fill_response(struct batch *batch)
+{
+    static const char *const attributes[] = { "_os", "Linux", "_client_name", "libmariadb", "_pid", "15147",
+        "_client_version", "3.3.20", "_platform", "x86_64", "_server_host", "127.0.0.1" };
+    size_t len = 0;
+    put_number(batch, 0x00bfa284, 4);
+    put_number(batch, 1 << 24, 4);
+    put_number(batch, 45, 1);
+    for (int i = 0; i < 19; i++)
+        put_number(batch, 0, 1);
+    put_number(batch, 0x1d, 4);
+    put(batch, "u_native", 9);
+    put_number(batch, 20, 1);
+    put_number(batch, varied(), 8);
+    put_number(batch, varied(), 8);
+    put_number(batch, varied(), 4);
+    put(batch, "mysql_native_password", 22);
+    for (size_t i = 0; i < sizeof attributes / sizeof *attributes; i++)
+        len += 1 + strlen(attributes[i]);
+    put_number(batch, len, 1);
+    for (size_t i = 0; i < sizeof attributes / sizeof *attributes; i++)
+        put_text(batch, attributes[i]);
+}
+
+static void put_response(struct batch *batch)
+{
+    put_framed(batch, fill_response);
+}
+
+static void fill_registration(struct batch *batch)
+{
+    put_number(batch, 0x15, 1);
+    put_number(batch, varied(), 4);
+    for (int i = 0; i < 3; i++)
+        put_string(batch, 20);
+    put_number(batch, varied(), 2);
+    put_number(batch, 0, 4);
+    put_number(batch, varied(), 4);
+}
+
+static void put_registration(struct batch *batch)
+{
+    put_framed(batch, fill_registration);
+}
+
+/* a dump by GTID set, of sids without tags that have so many intervals each */
+static void fill_gtid_dump(struct batch *batch, size_t sids, size_t intervals)
+{
+    put_number(batch, 0x1e, 1);
+    put_number(batch, 4, 2);
+    put_number(batch, varied(), 4);
+    put_number(batch, 11, 4);
+    put(batch, "mbin.000001", 11);
+    put_number(batch, 4, 8);
+    put_number(batch, 8 + sids * (24 + 16 * intervals), 4);
+    put_number(batch, sids, 8);
+    for (size_t i = 0; i < sids; i++) {
+        uint64_t first = 1;
+        put_number(batch, varied(), 8);
+        put_number(batch, varied(), 8);
+        put_number(batch, intervals, 8);
+        for (size_t j = 0; j < intervals; j++) {
+            uint64_t end = first + 1 + varied() % 1000;
+            put_number(batch, first, 8);
+            put_number(batch, end, 8);
+            first = end + 1 + varied() % 1000;
+        }
+    }
+}
+
+static void fill_two_sids(struct batch *batch)
+{
+    fill_gtid_dump(batch, 2, 2);
+}
+
+static void put_two_sids(struct batch *batch)
+{
+    put_framed(batch, fill_two_sids);
+}
+
+static void fill_interval(struct batch *batch)
+{
+    fill_gtid_dump(batch, 1, 1);
+}
+
+static void put_interval(struct batch *batch)
+{
+    put_framed(batch, fill_interval);
+}
+
+static void fill_ten_intervals(struct batch *batch)
+{
+    fill_gtid_dump(batch, 1, 10);
+}
+
+static void put_ten_intervals(struct batch *batch)
+{
+    put_framed(batch, fill_ten_intervals);
+}
+
+static void fill_thousand_intervals(struct batch *batch)
+{
+    fill_gtid_dump(batch, 1, 1000);
+}
+
+static void put_thousand_intervals(struct batch *batch)
+{
+    put_framed(batch, fill_thousand_intervals);
+}
+
 static const struct operation {
     const char *name;
     size_t count;
@@ -206,9 +355,20 @@ static const struct operation {
     { "errors_read", 10000, "error, read", put_error, bench_errors_read },
     { "errors_written", 10000, "error, read and written", put_error, bench_errors_written },
     { "rows_read", 10000, "binary row of 10 columns, read", put_row, bench_rows_read },
+    { "rows_counted", 10000, "binary row of 10 columns, read in a second place", put_row, bench_rows_counted },
     { "executions_written", 10000, "execution of 10 values, built and written", put_numbers, bench_executions_written },
     { "bulk_rows_made", 1000000, "bulk row, made and dropped", put_bulk_row, bench_bulk_rows_made },
     { "bulk_rows_written", 1000000, "bulk row, made, built into requests and written", put_bulk_row, bench_bulk_rows_written },
+    { "bulk_rows_offered", 1000000, "bulk row, made, offered as a slice, built into requests and written", put_bulk_row, bench_bulk_rows_offered },
+    { "handshakes_read", 10000, "handshake, read", put_handshake, bench_handshakes_read },
+    { "handshakes_written", 10000, "handshake, read and written", put_handshake, bench_handshakes_written },
+    { "responses_written", 10000, "response to a handshake, read and written", put_response, bench_responses_written },
+    { "registrations_written", 10000, "registration of a replica, read and written", put_registration, bench_registrations_written },
+    { "gtid_dumps_read", 10000, "GTID dump of 2 sids, read", put_two_sids, bench_gtid_dumps_read },
+    { "gtid_dumps_written", 10000, "GTID dump of 2 sids, read and written", put_two_sids, bench_gtid_dumps_written },
+    { "gtid_1_written", 10000, "GTID dump of 1 interval, read and written", put_interval, bench_gtid_dumps_written },
+    { "gtid_10_written", 10000, "GTID dump of 10 intervals, read and written", put_ten_intervals, bench_gtid_dumps_written },
+    { "gtid_1000_written", 100, "GTID dump of 1,000 intervals, read and written", put_thousand_intervals, bench_gtid_dumps_written },
 };
 
 __attribute__((noinline)) uint64_t measured(call *run, const struct batch *batch)

@@ -54,3 +54,40 @@ pub extern "C" fn bench_bulk_rows_written(alloc: Global, batch: &[u8]) -> u64 {
     }
     sum
 }
+
+/// Builds a request of the rows that wait, writes it, and answers how many bytes were written.
+fn written(builder: &mut ComStmtBulkExecuteRequestBuilder<'_>, out: &mut Vec<u8>) -> u64 {
+    out.clear();
+    if let Ok(request) = builder.build() {
+        let _ = request.serialize(out);
+    }
+    out.len() as u64
+}
+
+/// Offers each row as a slice, and builds and writes a request wherever the next row does not fit.
+fn offered(alloc: Global, batch: &[u8]) -> Result<u64, AllocError> {
+    let mut out = Vec::new(alloc);
+    let mut sum = 0u64;
+    let mut builder = ComStmtBulkExecuteRequestBuilder::new(alloc, 1, MAX_ALLOWED_PACKET);
+    for bytes in batch.chunks_exact(28) {
+        if let Some((number, text)) = bytes.split_first_chunk::<8>() {
+            let row = [
+                Value::Int(i64::from_le_bytes(*number)),
+                Value::Bytes(Vec::from_slice(alloc, text)?),
+                Value::NULL,
+            ];
+            if let Ok(false) = builder.add_row_slice(&row) {
+                sum = sum.wrapping_add(written(&mut builder, &mut out));
+                let _ = builder.add_row_slice(&row);
+            }
+        }
+    }
+    Ok(sum.wrapping_add(written(&mut builder, &mut out)))
+}
+
+/// Makes rows of 28 bytes each, one at a time and without a list of its own, offers each as a slice, builds the requests
+/// and writes these, and answers how many bytes were written.
+#[unsafe(no_mangle)]
+pub extern "C" fn bench_bulk_rows_offered(alloc: Global, batch: &[u8]) -> u64 {
+    offered(alloc, batch).unwrap_or(0)
+}
