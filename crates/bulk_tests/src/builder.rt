@@ -1,7 +1,7 @@
 //! The builder's calls, one by one.
 
 use crate::cells::{Cell, bytes_of, row, rows, written};
-use crate::runs::{FIRST, builder};
+use crate::runs::{FIRST, builder, run_over};
 use indexmap::IndexMap;
 use mysql_bulk::{
     BulkExecuteRequestBuilderError, BulkExecuteRequestError, BulkRowRefusal,
@@ -24,8 +24,8 @@ fn assert_accepted(
 
 /// The bytes of the one request of a run over the rows.
 fn run_alone(rt: &impl Abort, alloc: Global, cells: &[&[Cell]]) -> Result<Vec<u8>, AllocError> {
-    let run = builder(alloc, 996).build_all(rows(alloc, cells)?);
-    assert_eq!(rt; run.requests.len(), 1);
+    let run = run_over(alloc, &mut builder(alloc, 996), cells)?;
+    assert!(rt; run.requests.len() == 1);
     match run.requests.as_slice().first() {
         Some(request) => written(alloc, request),
         None => Ok(Vec::new(alloc)),

@@ -62,7 +62,7 @@ fn ruled(alloc: Global, limit: u16, rule: BulkRule) -> ComStmtBulkExecuteRequest
 }
 
 /// The run over the rows: a call of its own, so that the proof of a test does not look at what `build_all` promises.
-fn run_over(
+pub fn run_over(
     alloc: Global,
     builder: &mut ComStmtBulkExecuteRequestBuilder<'_>,
     cells: &[&[Cell]],
