@@ -152,6 +152,23 @@ def acknowledgement(packet):
     return []
 
 
+def database(given):
+    return "none" if "db" in given and given["db"] is None else text(given.get("db"))
+
+
+def answered(packet):
+    """A response to a handshake: what was handed in, and what the API told of it."""
+    given, api = input_of(packet), api_of(packet)
+    attributes = [text(it) for pair in api.get("client_attrs", {}).items() for it in pair]
+    flags = numbers(api, "client_capabilities", "charset_id")
+    return [*flags, text(given.get("user")), database(given), ",".join(attributes) or UNREPORTED]
+
+
+def another_user(packet):
+    given = input_of(packet)
+    return [number(int(packet["caps"], 16)), text(given.get("user")), database(given)]
+
+
 OK_WORDS = " ".join(["capabilities affected_rows last_insert_id status_flags warnings info", *CHANGES])
 
 # the file and its kind of packet; what the words behind the payload are; how they are made
@@ -184,6 +201,8 @@ AUTH_KINDS = {
     "auth_switch_request_old": ("", old_switch),
     "auth_more_data": ("data", further_data),
     "ssl_request": ("capabilities", tls),
+    "handshake_response": ("capabilities collation user db_name connect_attributes", answered),
+    "change_user": ("capabilities_of_both user database", another_user),
 }
 
 # the same of what a replica sends

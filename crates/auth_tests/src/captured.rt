@@ -5,8 +5,11 @@
 mod auth_more_data;
 mod auth_switch_request;
 mod auth_switch_request_old;
+mod change_user;
 mod greetings;
 mod handshake;
+mod handshake_response;
 mod reported;
+mod responses;
 mod ssl_request;
 mod switches;

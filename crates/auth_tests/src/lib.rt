@@ -4,8 +4,12 @@
 #[cfg(test)]
 mod captured;
 #[cfg(test)]
+mod changes;
+#[cfg(test)]
 mod handshakes;
 #[cfg(test)]
 mod plugins;
 #[cfg(test)]
 mod requests;
+#[cfg(test)]
+mod responses;
