@@ -1,9 +1,10 @@
 //! The builder's calls for one row.
 
-use crate::told::{Offered, asked, offered, refused};
+use crate::told::{asked, offered, refused};
 use indexmap::IndexMap;
 use mysql_bulk::{
-    BulkExecuteRequestBuilderError, BulkExecuteRequestError, ComStmtBulkExecuteRequestBuilder,
+    BulkExecuteRequestBuilderError, BulkExecuteRequestError, BulkRowRefusal,
+    ComStmtBulkExecuteRequestBuilder,
 };
 use mysql_values::{Params, Value};
 use refused_growths_cases::{Cases, counted};
@@ -12,6 +13,7 @@ use std::alloc::{AllocError, Global};
 pub fn all(cases: &mut Cases) -> Result<(), AllocError> {
     cases.case("bulk_add_empty_rows", add_empty_rows)?;
     cases.case("bulk_add_row", add_row)?;
+    cases.case("bulk_add_row_slice", add_row_slice)?;
     cases.case("bulk_add_params_of_names", add_params_of_names)?;
     cases.case("bulk_add_params_in_order", add_params_in_order)?;
     cases.case("bulk_build", build)?;
@@ -32,9 +34,8 @@ fn add_empty_rows(alloc: Global) -> Result<String, AllocError> {
 fn after(
     alloc: Global,
     builder: &mut ComStmtBulkExecuteRequestBuilder<'_>,
-    answer: &Offered,
+    first: &str,
 ) -> Result<String, AllocError> {
-    let first = offered(alloc, answer)?;
     let waits = if builder.has_rows() {
         "waits"
     } else {
@@ -49,7 +50,22 @@ fn add_row(alloc: Global) -> Result<String, AllocError> {
     let mut builder = ComStmtBulkExecuteRequestBuilder::new(alloc, 1, 64);
     let row = vec![in alloc; Value::Int(1), Value::Int(2)]?;
     let answer = counted!(alloc; builder.add_row(row));
-    after(alloc, &mut builder, &answer)
+    let first = offered(alloc, &answer)?;
+    after(alloc, &mut builder, first.as_str())
+}
+
+/// The lists, and a copy of the bytes of a value.
+fn add_row_slice(alloc: Global) -> Result<String, AllocError> {
+    let mut builder = ComStmtBulkExecuteRequestBuilder::new(alloc, 1, 64);
+    let text = Value::Bytes(Vec::from_slice(alloc, b"ab")?);
+    let row = vec![in alloc; Value::Int(1), text]?;
+    let first = match counted!(alloc; builder.add_row_slice(row.as_slice())) {
+        Ok(true) => "accepted",
+        Ok(false) => "no room",
+        Err(BulkRowRefusal::Memory) => "Memory",
+        Err(_) => "refused",
+    };
+    after(alloc, &mut builder, first)
 }
 
 /// The row of the values in the order of the names, and then room for it.
@@ -65,7 +81,8 @@ fn add_params_of_names(alloc: Global) -> Result<String, AllocError> {
         names.as_slice(),
     ));
     let answer = counted!(alloc; builder.add_params(Params::Named(values)));
-    after(alloc, &mut builder, &answer)
+    let first = offered(alloc, &answer)?;
+    after(alloc, &mut builder, first.as_str())
 }
 
 /// The values are the row.
@@ -73,7 +90,8 @@ fn add_params_in_order(alloc: Global) -> Result<String, AllocError> {
     let mut builder = ComStmtBulkExecuteRequestBuilder::new(alloc, 1, 64);
     let values = vec![in alloc; Value::Int(1), Value::Int(2)]?;
     let answer = counted!(alloc; builder.add_params(Params::Positional(values)));
-    after(alloc, &mut builder, &answer)
+    let first = offered(alloc, &answer)?;
+    after(alloc, &mut builder, first.as_str())
 }
 
 /// What was collected is the request.
