@@ -14,7 +14,7 @@ mod ok_packets;
 mod ok_terminator;
 mod prepared;
 mod progress;
-pub mod reported;
+mod reported;
 mod rows;
 mod statements;
 mod stmt_bulk_execute;

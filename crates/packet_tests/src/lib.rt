@@ -6,8 +6,6 @@ mod captured;
 #[cfg(test)]
 mod ok_kind;
 #[cfg(test)]
-mod replies;
-#[cfg(test)]
-mod session;
+mod ok_packets;
 #[cfg(test)]
 mod tour;

@@ -1,6 +1,6 @@
 //! Entries of a state string, and the changes that they tell.
 
-use crate::captured::reported::is_written_as;
+use crate::written::is_written_as;
 use mysql_replies::SessionStateInfo;
 use mysql_session::{SessionStateChange, SystemVariable, SystemVariables};
 use mysql_wire::{Fault, ParseBuf, SessionStateType};

@@ -1,6 +1,6 @@
 //! The request for a local file.
 
-use crate::captured::reported::is_written_as;
+use crate::written::is_written_as;
 use mysql_replies::LocalInfilePacket;
 use mysql_wire::{Fault, ParseBuf};
 use std::alloc::Global;

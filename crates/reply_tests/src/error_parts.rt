@@ -1,6 +1,6 @@
 //! The parts of errors, each alone, and progress reports.
 
-use crate::captured::reported::is_written_as;
+use crate::written::is_written_as;
 use mysql_replies::{ProgressReport, ServerError, SqlState};
 use mysql_wire::{Fault, ParseBuf};
 use std::alloc::Global;

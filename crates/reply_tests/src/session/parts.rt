@@ -1,6 +1,6 @@
 //! The parts of changes, each alone.
 
-use crate::captured::reported::is_written_as;
+use crate::written::is_written_as;
 use mysql_session::{
     Gtids, Schema, SystemVariable, SystemVariables, TransactionCharacteristics, TransactionState,
     Unsupported,

@@ -1,0 +1,17 @@
+//! Tests of what a server answers, and of what it says of the session: examples with their bytes.
+#![tactic(auto)]
+
+#[cfg(test)]
+mod columns;
+#[cfg(test)]
+mod error_parts;
+#[cfg(test)]
+mod errors;
+#[cfg(test)]
+mod local_infile;
+#[cfg(test)]
+mod session;
+#[cfg(test)]
+mod sizes;
+#[cfg(test)]
+mod written;
