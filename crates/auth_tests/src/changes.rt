@@ -48,6 +48,28 @@ fn a_change_of_user_is_written_and_read(rt: HostRuntime) -> Result<(), Fail> {
     Ok(())
 }
 
+/// The change to the user `root` that says this too.
+fn to_root(more: ComChangeUserMoreData<'_>) -> ComChangeUser<'_> {
+    ComChangeUser::new()
+        .with_user(Some(CowSlice::Borrowed(b"root")))
+        .with_more_data(Some(more))
+}
+
+#[test]
+fn no_attributes_are_written_as_an_empty_list(rt: HostRuntime) -> Result<(), Fail> {
+    let alloc = rt.alloc();
+    let wanted: &[u8] = b"\x11root\0\0\0\x2d\0\0";
+    let mut bytes = Vec::new(alloc);
+    to_root(ComChangeUserMoreData::new(45)).serialize(&mut bytes)?;
+    assert_eq!(rt; bytes.as_slice(), wanted);
+    let none = ComChangeUserMoreData::new(45).with_connect_attributes(
+        alloc,
+        Some(IndexMap::new(alloc)),
+    )?;
+    assert!(rt; read(alloc, CLIENT_CONNECT_ATTRS, wanted)? == to_root(none));
+    Ok(())
+}
+
 #[test]
 fn what_is_left_out_is_empty(rt: HostRuntime) -> Result<(), Fail> {
     let alloc = rt.alloc();

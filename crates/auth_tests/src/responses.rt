@@ -2,7 +2,7 @@
 
 use indexmap::IndexMap;
 use mysql_auth::{AuthPlugin, HandshakeResponse};
-use mysql_wire::{CapabilityFlags, Fault, Flags, MySerialize, ParseBuf};
+use mysql_wire::{CapabilityFlags, Fault, Flags, MariadbCapabilities, MySerialize, ParseBuf};
 use std::alloc::{AllocError, Global};
 use std::borrow::CowSlice;
 use std::test::Fail;
@@ -188,5 +188,21 @@ fn a_plugin_ends_at_a_zero_or_at_the_end(rt: HostRuntime) -> Result<(), Fail> {
     let mut written = Vec::new(alloc);
     packet.serialize(&mut written)?;
     assert!(rt; written.ends_with(b"u\0\0client_ed25519\0"));
+    Ok(())
+}
+
+#[test]
+fn the_capabilities_of_mariadb_stand_in_front_of_the_user(rt: HostRuntime) -> Result<(), Fail> {
+    let alloc = rt.alloc();
+    let packet = of_root(alloc, (8, 0, 35), None, FLAGS)?.with_mariadb_ext_capabilities(
+        MariadbCapabilities::from_bits_retain(0x0102_0014),
+    );
+    assert_eq!(rt; packet.mariadb_ext_capabilities().bits(), 0x0102_0014);
+    let mut bytes = Vec::new(alloc);
+    packet.serialize(&mut bytes)?;
+    assert_eq!(rt;
+        bytes.as_slice().get(28..37),
+        Some(b"\x14\0\x02\x01root\0".as_slice())
+    );
     Ok(())
 }
