@@ -33,7 +33,7 @@ def quoted(page):
 
 def sources():
     """The files of the crate that are quoted."""
-    for part in ("src", "specs"):
+    for part in ("src", "specs", "wrong-bodies"):
         for name in sorted(os.listdir(f"{TOP}/{CRATE}/{part}")):
             yield f"{CRATE}/{part}/{name}"
 
