@@ -3,6 +3,7 @@
 use indexmap::IndexMap;
 use mysql_auth::HandshakeResponse;
 use mysql_wire::{CapabilityFlags, Fault, Flags, ParseBuf};
+use refused_growths_cases::readings::is_short;
 use refused_growths_cases::{Cases, counted, shown};
 use std::alloc::{AllocError, Global};
 use std::borrow::CowSlice;
@@ -18,6 +19,10 @@ pub fn all(cases: &mut Cases) -> Result<(), AllocError> {
         "handshake_response_read_without_attributes",
         response_read_alone,
     )?;
+    cases.case(
+        "handshake_response_read_of_false_lengths",
+        response_read_false,
+    )?;
     cases.case("handshake_response_connect_attributes", response_attributes)?;
     cases.case("handshake_response_clone", response_clone)?;
     cases.case("handshake_response_serialize", response_serialize)
@@ -30,6 +35,12 @@ const BYTES: &[u8] =
 /// A response without attributes.
 const BYTES_ALONE: &[u8] =
     b"\0\0\0\0\0\0\0\x01\x2d\0\0\0\0\0\0\0\0\0\0\0\0\0\0\0\0\0\0\0\0\0\0\0u\0\0";
+
+/// A response whose attributes say that they take 2^64 - 1 bytes; one with the attribute a, whose value says so.
+const BYTES_OF_FALSE_LENGTHS: [&[u8]; 2] = [
+    b"\0\0\x10\0\0\0\0\x01\x2d\0\0\0\0\0\0\0\0\0\0\0\0\0\0\0\0\0\0\0\0\0\0\0u\0\0\xfe\xff\xff\xff\xff\xff\xff\xff\xff\x01a\x011",
+    b"\0\0\x10\0\0\0\0\x01\x2d\0\0\0\0\0\0\0\0\0\0\0\0\0\0\0\0\0\0\0\0\0\0\0u\0\0\x0c\x01a\xfe\xff\xff\xff\xff\xff\xff\xff\xff1",
+];
 
 /// The attributes k=v and l=w, as texts.
 pub fn texts(alloc: Global) -> Result<IndexMap<String, String>, AllocError> {
@@ -86,6 +97,17 @@ fn response_read_alone(alloc: Global) -> Result<String, AllocError> {
     let mut buf = ParseBuf::new(alloc, BYTES_ALONE);
     let read: Result<HandshakeResponse<'_>, Fault> = counted!(alloc; buf.parse(()));
     shown::read(alloc, read, buf.len())
+}
+
+fn response_read_false(alloc: Global) -> Result<String, AllocError> {
+    let [of_attributes, of_a_value] = BYTES_OF_FALSE_LENGTHS;
+    counted::start(alloc);
+    let short = [
+        is_short::<HandshakeResponse<'_>>(alloc, of_attributes, ()),
+        is_short::<HandshakeResponse<'_>>(alloc, of_a_value, ()),
+    ];
+    counted::stop(alloc);
+    shown::count(alloc, &short)
 }
 
 /// The pairs of some texts, with a comma behind each.
