@@ -12,6 +12,8 @@ import random
 import sys
 from pathlib import Path
 
+from stdout_lines import differences, judged
+
 CRATE = Path(__file__).resolve().parent.parent / "crates" / "builder_calls"
 SEQUENCES = 500
 
@@ -254,16 +256,11 @@ def main():
     if sys.argv[1:] == ["--expected"]:
         print("\n".join(expected))
         return 0
-    given = (CRATE / "stdout").read_text().splitlines()
-    failures = [f"stdout has\n  {a}\nand the model answers\n  {b}" for a, b in zip(given, expected) if a != b]
-    if len(given) != len(expected):
-        failures.append(f"stdout has {len(given)} lines, and not {len(expected)}")
+    failures = list(differences(CRATE, expected, "the model answers"))
+    passed = len(expected) - len(failures)
     if sum(line.startswith("random-") for line in calls) < SEQUENCES:
         failures.append(f"stdin has fewer than {SEQUENCES} lines of calls at random")
-    for failure in failures:
-        print(f"builder_machine: {failure}")
-    print(f"{len(expected)} passed, {len(failures)} failed")
-    return 1 if failures else 0
+    return judged("builder_machine", passed, failures)
 
 
 if __name__ == "__main__":

@@ -16,6 +16,7 @@ from pathlib import Path
 
 import second_reading as second
 from second_reading import Buf, Eof, Invalid
+from stdout_lines import differences, judged
 
 TOP = Path(__file__).resolve().parent.parent
 # the programs: the crates of that name that have a table
@@ -156,16 +157,6 @@ def expected(rows):
     return [line for row in rows for line in Row(*row).lines()]
 
 
-def differences(program, lines):
-    """Where a program's stdout has other lines."""
-    written = (program / "stdout").read_text().splitlines()
-    for a, b in zip(written, lines):
-        if a != b:
-            yield f"{program.name}: stdout has\n  {a}\nand a second reading gives\n  {b}"
-    if len(written) != len(lines):
-        yield f"{program.name}: stdout has {len(written)} lines, and not {len(lines)}"
-
-
 def main():
     if sys.argv[1:2] == ["--expected"]:
         print("\n".join(expected(table(TOP / "crates" / sys.argv[2]))))
@@ -175,14 +166,11 @@ def main():
     passed = len(set(readers()))
     for program, rows in tables.items():
         lines = expected(rows)
-        wrong = list(differences(program, lines))
+        wrong = list(differences(program, lines, "a second reading gives"))
         wrong += [f"{program.name}: {line}" for line in lines if "WRONG" in line]
         passed += len(lines) - len(wrong)
         failures += wrong
-    for failure in failures:
-        print(f"hostile_input: {failure}")
-    print(f"{passed} passed, {len(failures)} failed")
-    return 1 if failures else 0
+    return judged("hostile_input", passed, failures)
 
 
 if __name__ == "__main__":
