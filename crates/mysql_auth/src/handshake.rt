@@ -1,10 +1,10 @@
 //! What a server says first.
 #![tactic(auto, using(mysql_wire::proofs::Packets::packets), unfolding(crate::specs::Handshake::handshake, crate::specs::Handshake::handshake_head, crate::specs::Handshake::handshake_block, crate::specs::Handshake::data_length))]
 
-ghost use Rattle.std.specs.Prelude.{false, true, [], is_ok, IsUtf8, ◌≡◌, ◌++◌, ℕ, List, Option, Some, None, IfOk, IfSome, IfNone, option_map};
+ghost use Rattle.std.specs.Prelude.{false, [], ◌≡◌, ◌++◌, ℕ, List, Option, Some, None, IfOk, IfSome, IfNone, option_map};
 ghost use Rattle.std.specs.Option.{unwrap_or};
-ghost use Rattle.std.specs.Cow.{cow_slice_items, cow_str_bytes, IsOwnedStr};
-ghost use Rattle.mysql_wire.specs.Text.{lossy_text};
+ghost use Rattle.std.specs.Cow.{cow_slice_items, cow_str_bytes};
+ghost use Rattle.mysql_wire.specs.Text.{lossy_text, BorrowsUtf8, OptionBorrowsUtf8};
 ghost use Rattle.mysql_auth.specs.Handshake as spec;
 ghost use Rattle.mysql_auth.specs.Version.{HasVersion, IsMariadbVersion};
 
@@ -154,7 +154,7 @@ impl<'a> HandshakePacket<'a> {
     /// The server's version as text, with U+FFFD for what is not UTF-8. UTF-8 is borrowed.
     pub fn server_version_str(&self, alloc: Global) -> Result<CowStr<'_>, AllocError>
         ensures text { IfOk result (λ text. cow_str_bytes text ≡ lossy_text (spec.server_version self.now)) }
-        ensures utf8 { IsUtf8 (spec.server_version self.now) → (is_ok result ≡ true) × IfOk result (λ text. IsOwnedStr text → ⊥) }
+        ensures utf8 { BorrowsUtf8 (spec.server_version self.now) result }
     {
         self.head.server_version.as_str(alloc)
     }
@@ -267,8 +267,7 @@ impl<'a> HandshakePacket<'a> {
     /// The plugin's name as text, where one was sent, with U+FFFD for what is not UTF-8. UTF-8 is borrowed.
     pub fn auth_plugin_name_str(&self, alloc: Global) -> Result<Option<CowStr<'_>>, AllocError>
         ensures text { IfOk result (λ text. option_map cow_str_bytes text ≡ option_map lossy_text (spec.auth_plugin_name self.now)) }
-        ensures none { spec.auth_plugin_name self.now ≡ None → is_ok result ≡ true }
-        ensures utf8 { (name : List ℕ) → spec.auth_plugin_name self.now ≡ Some name → IsUtf8 name → (is_ok result ≡ true) × IfOk result (λ text. IfSome text (λ text. IsOwnedStr text → ⊥)) }
+        ensures utf8 { OptionBorrowsUtf8 (spec.auth_plugin_name self.now) result }
     {
         match &self.auth_plugin_name {
             Some(name) => Ok(Some(name.as_str(alloc)?)),

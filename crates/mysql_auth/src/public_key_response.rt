@@ -1,9 +1,9 @@
 //! A server's public key.
 #![tactic(auto, using(mysql_wire::proofs::Packets::packets), unfolding(crate::specs::PublicKeyResponse::public_key_response))]
 
-ghost use Rattle.std.specs.Prelude.{false, true, is_ok, IsUtf8, ◌≡◌, IfOk};
-ghost use Rattle.std.specs.Cow.{cow_slice_items, cow_str_bytes, IsOwnedStr};
-ghost use Rattle.mysql_wire.specs.Text.{lossy_text};
+ghost use Rattle.std.specs.Prelude.{false, ◌≡◌, IfOk};
+ghost use Rattle.std.specs.Cow.{cow_slice_items, cow_str_bytes};
+ghost use Rattle.mysql_wire.specs.Text.{lossy_text, BorrowsUtf8};
 ghost use Rattle.mysql_auth.specs.PublicKeyResponse as spec;
 
 use mysql_wire::{
@@ -51,7 +51,7 @@ impl<'a> PublicKeyResponse<'a> {
     /// The key as text (PEM), with U+FFFD for what is not UTF-8. UTF-8 is borrowed.
     pub fn rsa_key(&self, alloc: Global) -> Result<CowStr<'_>, AllocError>
         ensures text { IfOk result (λ text. cow_str_bytes text ≡ lossy_text (spec.rsa_key self.now)) }
-        ensures utf8 { IsUtf8 (spec.rsa_key self.now) → (is_ok result ≡ true) × IfOk result (λ text. IsOwnedStr text → ⊥) }
+        ensures utf8 { BorrowsUtf8 (spec.rsa_key self.now) result }
     {
         self.rsa_key.as_str(alloc)
     }

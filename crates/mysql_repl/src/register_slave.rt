@@ -1,10 +1,10 @@
 //! The registration of a replica.
 #![tactic(auto, using(mysql_wire::proofs::Packets::packets), unfolding(crate::specs::RegisterSlave::register_slave))]
 
-ghost use Rattle.std.specs.Prelude.{false, ◌≡◌, true, is_ok, IfOk, IsUtf8, OnErr};
+ghost use Rattle.std.specs.Prelude.{false, ◌≡◌, IfOk, OnErr};
 ghost use Rattle.mysql_wire.specs.Reading.{Answers, IsTail};
-ghost use Rattle.std.specs.Cow.{cow_slice_items, cow_str_bytes, IsOwnedStr};
-ghost use Rattle.mysql_wire.specs.Text.{lossy_text};
+ghost use Rattle.std.specs.Cow.{cow_slice_items, cow_str_bytes};
+ghost use Rattle.mysql_wire.specs.Text.{lossy_text, BorrowsUtf8};
 ghost use Rattle.mysql_repl.specs.RegisterSlave as spec;
 
 use mysql_wire::{
@@ -139,7 +139,7 @@ impl<'a> ComRegisterSlave<'a> {
     /// The replica's name or address as text, with U+FFFD for what is not UTF-8. UTF-8 is borrowed.
     pub fn hostname(&self, alloc: Global) -> Result<CowStr<'_>, AllocError>
         ensures text { IfOk result (λ text. cow_str_bytes text ≡ lossy_text (spec.hostname self.now)) }
-        ensures utf8 { IsUtf8 (spec.hostname self.now) → (is_ok result ≡ true) × IfOk result (λ text. IsOwnedStr text → ⊥) }
+        ensures utf8 { BorrowsUtf8 (spec.hostname self.now) result }
     {
         self.hostname.as_str(alloc)
     }
@@ -155,7 +155,7 @@ impl<'a> ComRegisterSlave<'a> {
     /// The account's name as text, with U+FFFD for what is not UTF-8. UTF-8 is borrowed.
     pub fn user(&self, alloc: Global) -> Result<CowStr<'_>, AllocError>
         ensures text { IfOk result (λ text. cow_str_bytes text ≡ lossy_text (spec.user self.now)) }
-        ensures utf8 { IsUtf8 (spec.user self.now) → (is_ok result ≡ true) × IfOk result (λ text. IsOwnedStr text → ⊥) }
+        ensures utf8 { BorrowsUtf8 (spec.user self.now) result }
     {
         self.user.as_str(alloc)
     }
@@ -171,7 +171,7 @@ impl<'a> ComRegisterSlave<'a> {
     /// The password as text, with U+FFFD for what is not UTF-8. UTF-8 is borrowed.
     pub fn password(&self, alloc: Global) -> Result<CowStr<'_>, AllocError>
         ensures text { IfOk result (λ text. cow_str_bytes text ≡ lossy_text (spec.password self.now)) }
-        ensures utf8 { IsUtf8 (spec.password self.now) → (is_ok result ≡ true) × IfOk result (λ text. IsOwnedStr text → ⊥) }
+        ensures utf8 { BorrowsUtf8 (spec.password self.now) result }
     {
         self.password.as_str(alloc)
     }

@@ -1,9 +1,9 @@
 //! The acknowledgement of a position.
 #![tactic(auto, using(mysql_wire::proofs::Packets::packets), unfolding(crate::specs::SemiSyncAck::semi_sync_ack))]
 
-ghost use Rattle.std.specs.Prelude.{false, ◌≡◌, true, is_ok, IfOk, IsUtf8};
-ghost use Rattle.std.specs.Cow.{cow_slice_items, cow_str_bytes, IsOwnedStr};
-ghost use Rattle.mysql_wire.specs.Text.{lossy_text};
+ghost use Rattle.std.specs.Prelude.{false, ◌≡◌, IfOk};
+ghost use Rattle.std.specs.Cow.{cow_slice_items, cow_str_bytes};
+ghost use Rattle.mysql_wire.specs.Text.{lossy_text, BorrowsUtf8};
 ghost use Rattle.mysql_repl.specs.SemiSyncAck as spec;
 
 use mysql_wire::{
@@ -86,7 +86,7 @@ impl<'a> SemiSyncAckPacket<'a> {
     /// The log's name as text, with U+FFFD for what is not UTF-8. UTF-8 is borrowed.
     pub fn filename(&self, alloc: Global) -> Result<CowStr<'_>, AllocError>
         ensures text { IfOk result (λ text. cow_str_bytes text ≡ lossy_text (spec.filename self.now)) }
-        ensures utf8 { IsUtf8 (spec.filename self.now) → (is_ok result ≡ true) × IfOk result (λ text. IsOwnedStr text → ⊥) }
+        ensures utf8 { BorrowsUtf8 (spec.filename self.now) result }
     {
         self.filename.as_str(alloc)
     }
