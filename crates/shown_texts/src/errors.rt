@@ -5,7 +5,8 @@ use mysql_auth::{
     InvalidPublicKeyRequest, InvalidPublicKeyResponse,
 };
 use mysql_bulk::{
-    BulkExecuteRequestBuilderError, BulkExecuteRequestError, InvalidComStmtBulkExecuteHeader,
+    BulkExecuteRequestBuilderError, BulkExecuteRequestError, BulkRowRefusal,
+    InvalidComStmtBulkExecuteHeader,
 };
 use mysql_repl::{
     InvalidComBinlogDumpGtidHeader, InvalidComBinlogDumpHeader, InvalidComRegisterSlaveHeader,
@@ -138,6 +139,14 @@ pub fn print_values(rt: &(impl Print + AllocGlobal)) -> io::Result<()> {
         "Params",
         BulkExecuteRequestBuilderError::Params(ParamsError::NamedForPositional),
     )?;
+    Ok(())
+}
+
+/// Of rows that stay with the caller.
+pub fn print_rows(rt: &impl Print) -> io::Result<()> {
+    show(rt, "BulkRowRefusal::MixedArity", BulkRowRefusal::MixedArity)?;
+    show(rt, "BulkRowRefusal::TooLarge", BulkRowRefusal::TooLarge)?;
+    show(rt, "BulkRowRefusal::Memory", BulkRowRefusal::Memory)?;
     Ok(())
 }
 

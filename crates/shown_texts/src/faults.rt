@@ -4,7 +4,7 @@ use mysql_auth::{
     AuthMoreDataHeader, AuthSwitchRequestHeader, ComChangeUserHeader, PublicKeyRequestHeader,
     PublicKeyResponseHeader,
 };
-use mysql_bulk::ComStmtBulkExecuteHeader;
+use mysql_bulk::{ComStmtBulkExecuteHeader, read_bulk_rows};
 use mysql_repl::{
     ComBinlogDumpGtid, ComBinlogDumpGtidHeader, ComBinlogDumpHeader, ComRegisterSlaveHeader,
     ComTableDumpHeader, SemiSyncAckPacketPacketHeader,
@@ -17,7 +17,7 @@ use mysql_stmt::{ComStmtExecuteHeader, ComStmtSendLongDataHeader, IterationCount
 use mysql_values::{BinValue, ValueDeserializer};
 use mysql_wire::{
     CapabilityFlags, ColumnFlags, ColumnType, Const, FaultOf, Flags, LenEnc, MariadbBulkIndicator,
-    MyDeserialize, ParseBuf, RawInt, SessionStateType,
+    MyDeserialize, ParseBuf, RawInt, SessionStateType, Skip, read_all,
 };
 use std::io;
 
@@ -32,6 +32,9 @@ const UNKNOWN: &[u8] = b"\x1e\0\0\x01\0\0\0\0\0\0\0\0\0\0\0\0\0\0\0\x08\0\0\0\0\
 
 /// A dump by GTID set without a sid, with a byte where they end.
 const BEHIND: &[u8] = b"\x1e\0\0\x01\0\0\0\0\0\0\0\0\0\0\0\0\0\0\0\x09\0\0\0\0\0\0\0\0\0\0\0\0";
+
+/// A bulk request that sends no types, with a byte behind its head.
+const ROWS: &[u8] = b"\xfa\x01\0\0\0\0\0\0";
 
 /// Bytes that begin with no constant.
 const NINES: &[u8] = &[9; 12];
@@ -80,6 +83,21 @@ pub fn print_parts(rt: &(impl Print + AllocGlobal)) -> io::Result<()> {
     strictly(rt, "an unknown block of sids", UNKNOWN)?;
     strictly(rt, "a byte behind the sids", BEHIND)?;
     Ok(())
+}
+
+/// What is read without taking a byte, where bytes are left.
+pub fn print_lists(rt: &(impl Print + AllocGlobal)) -> io::Result<()> {
+    let mut byte = ParseBuf::new(rt.alloc(), b"\0");
+    let values: Result<Vec<Skip<0>>, FaultOf<'_>> = read_all(&mut byte);
+    match values {
+        Ok(_) => println!(rt; "values without bytes are read")?,
+        Err(fault) => println!(rt; "values without bytes: {fault}")?,
+    }
+    let mut request = ParseBuf::new(rt.alloc(), ROWS);
+    match read_bulk_rows(&[], &mut request) {
+        Ok(_) => println!(rt; "rows without columns are read"),
+        Err(fault) => println!(rt; "rows without columns: {fault}"),
+    }
 }
 
 /// Prints the text of the fault that a dump by GTID set is strictly refused with.
