@@ -96,6 +96,39 @@ pub fn is_least(n: u64, a: u64, b: u64) -> bool
         false
     }
 }
+
+pub mod sizes;
+"""
+
+SIZES = """//! Constants of traits: no clause is tied to that of a text, and the law that answers it is of the module.
+
+ghost use Rattle.std.specs.Prelude.{◌≡◌};
+
+/// A type whose values take so many bytes.
+pub trait Width {
+    const SIZE: u64;
+}
+
+/// A byte.
+pub struct Byte;
+
+impl Width for Byte {
+    const SIZE: u64 = 1;
+}
+
+/// A text of three bytes.
+pub struct Text<'a>(&'a [u8]);
+
+impl<'a> Width for Text<'a> {
+    const SIZE: u64 = 3;
+}
+
+/// A text takes three bytes.
+pub fn text_size() -> u64
+    ensures { result ≡ 3 }
+{
+    <Text as Width>::SIZE
+}
 """
 
 
@@ -190,20 +223,24 @@ returns-else-is_below c = search
 
 BODIES = {
     "below_or_equal": ("    n < most", "    n <= most"),
+    "byte_of_two": ("SIZE: u64 = 1", "SIZE: u64 = 2"),
     "least_by_another_name": ("if is_below(n, a) {", "if n < a {"),
     "next_by_two": ("    n + 1", "    n + 2"),
     "next_is_right": ("    n + 1", "    1 + n"),
     "next_not_there": ("n - 1", "n + 2"),
     "next_unread": ("    n + 1", "    n + one"),
+    "text_of_four": ("SIZE: u64 = 3", "SIZE: u64 = 4"),
 }
 
 OUTCOMES = (
     ("tiny/below_or_equal", "refused: is_below: the search did not prove `returns`"),
+    ("tiny/byte_of_two", "FAILED: NOT REFUSED: it is proved"),
     ("tiny/least_by_another_name", "FAILED: refused for a missing name alone"),
     ("tiny/next_by_two", "refused: next: the search did not prove `returns`"),
     ("tiny/next_is_right", "FAILED: NOT REFUSED: it is proved"),
     ("tiny/next_not_there", "FAILED: it cannot be applied: its old text stands 0 times"),
     ("tiny/next_unread", "FAILED: it cannot be read: src/lib.rt:"),
+    ("tiny/text_of_four", "refused: sizes::text_size: the search did not prove `returns`"),
     ("tiny/wrong-bodies/notes.txt", "FAILED: it is no wrong body"),
 )
 
@@ -221,11 +258,13 @@ class WholeRun(unittest.TestCase):
         crate = f"{self.top}/crates/tiny"
         write(f"{self.top}/crates.txt", "tiny:  # alone\n")
         write(f"{crate}/src/lib.rt", LIBRARY)
+        write(f"{crate}/src/sizes.rt", SIZES)
         write(f"{crate}/proofs/is_least/Answers.antt", ANSWERS)
         write(f"{crate}/wrong-bodies/notes.txt", "")
         for name, (old, new) in BODIES.items():
             folder = "must-fail" if name.startswith("below") else "wrong-bodies"
-            write(f"{crate}/{folder}/{name}.edit", f"file: src/lib.rt\nold: {old}\nnew: {new}\n")
+            file = "src/sizes.rt" if "SIZE" in old else "src/lib.rt"
+            write(f"{crate}/{folder}/{name}.edit", f"file: {file}\nold: {old}\nnew: {new}\n")
 
     def run_on(self, *words):
         ran = subprocess.run([f"{HERE}/wrong_bodies.py", "--top", self.top, *words], capture_output=True, text=True)
@@ -237,8 +276,8 @@ class WholeRun(unittest.TestCase):
         self.assertEqual(sorted(said), sorted(name for name, _ in OUTCOMES), lines)
         for name, wanted in OUTCOMES:
             self.assertTrue(said[name].startswith(wanted), said[name])
-        self.assertEqual((status, lines[-1]), (1, "2 passed, 5 failed"))
-        self.assertTrue(lines[-2].endswith(" s of processors: tiny 7"), lines[-2])
+        self.assertEqual((status, lines[-1]), (1, "3 passed, 6 failed"))
+        self.assertTrue(lines[-2].endswith(" s of processors: tiny 9"), lines[-2])
 
     def test_no_body_is_no_success(self):
         self.assertEqual(self.run_on("--only", "none.edit")[0], 1)

@@ -25,6 +25,8 @@ class Body:
     # the functions' names below the crate; none where it changes something else, as a type or a constant
     functions: set = field(default_factory=set)
     modules: set = field(default_factory=set)
+    # the modules of the constants of traits' impls among these functions
+    constants: set = field(default_factory=set)
 
     def stands_alone(self):
         """Whether the functions that it changes are not known, so that no other body can be tried beside it."""
@@ -33,6 +35,10 @@ class Body:
     def asked(self):
         """What a check is asked for."""
         return self.functions or self.modules
+
+    def judge_by(self, modules):
+        """Judges it by all functions of these modules, and not by those that it changes."""
+        self.modules, self.functions = modules, set()
 
 
 def files_of(folder):
@@ -139,6 +145,8 @@ def find_functions(body, texts, homes):
             raise Unfit(f"it changes how {item.name} is declared, and not its body")
         else:
             body.functions.add(full_name(item, path, homes))
+            if item.is_constant():
+                body.constants |= {module_of(path)} - {""}
         made[path] = text[:at] + new + text[at + len(old) :]
     if "" in body.modules:
         raise Unfit("it changes the root file outside functions")

@@ -98,6 +98,10 @@ class Trial:
                 self.say(body.name, True, refused)
             elif len(found) > 1:
                 self.try_round([body])
+            elif body.constants and body.functions:
+                # (a constant that no clause is tied to: the law that answers it stands in its module)
+                body.judge_by(body.constants)
+                self.try_round([body])
             else:
                 self.say(body.name, False, verdicts.shortcoming(names, report))
 
@@ -105,7 +109,7 @@ class Trial:
         """Where a check did not reach the prover: the bodies whose text was refused by themselves, and the others again."""
         if len(found) == 1 and report.unknown in found[0].functions:
             # (a function of another name than it should have: all functions of the file are checked)
-            found[0].modules, found[0].functions = {bodies.module_of(path) for path, _, _ in found[0].changes}, set()
+            found[0].judge_by({bodies.module_of(path) for path, _, _ in found[0].changes})
             self.try_round(found)
             return
         if len(found) == 1:

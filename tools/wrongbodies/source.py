@@ -41,6 +41,10 @@ class Item:
     end: int
     of_type: str = ""
 
+    def is_constant(self):
+        """Whether it is a constant, all of whose text may be changed."""
+        return self.body == self.start
+
 
 @dataclass
 class Source:
