@@ -1,6 +1,6 @@
 use Rattle.std.proofs.Common.{◌≡◌, ◌++◌, ◌≤◌, take, vec_capacity}
 use Rattle.std.specs.List.{flat_map}
-use Rattle.mysql_wire.proofs.items.append_items.Given as goal
+use Rattle.mysql_wire.proofs.items.append_each.Given as goal
 
 abbrev pub invariant-loop-value : goal.invariant-loop-value
 invariant-loop-value g l =

@@ -2,7 +2,7 @@ use Rattle.std.proofs.Common.{◌≡◌, length, get_or, take, ap, ◌∙◌, ar
 use Rattle.std.specs.List.{flat_map}
 use Rattle.std.proofs.lemmas.List.{length-append}
 use Rattle.std.proofs.lemmas.List.Folds.{length-flat_map-take}
-use Rattle.mysql_wire.proofs.items.append_items.Goals as goal
+use Rattle.mysql_wire.proofs.items.append_each.Goals as goal
 
 pub append-requires : goal.append-requires
 append-requires g c =
