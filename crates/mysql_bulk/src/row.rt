@@ -1,6 +1,6 @@
 //! Rows of a bulk request: their sizes, their lengths and their values.
 
-ghost use Rattle.std.specs.Prelude.{◌≡◌, ◌+◌, ◌≤◌, ◌^◌, ◌++◌, ◌↔◌, length, true, IsTrue, IfOk, OnOk, OnErr, MatchOption, vec_len, vec_capacity};
+ghost use Rattle.std.specs.Prelude.{◌≡◌, ◌+◌, ◌≤◌, ◌^◌, ◌++◌, ◌∷◌, ◌↔◌, [], length, take, true, IsTrue, IfOk, OnOk, OnErr, MatchOption, vec_len, vec_capacity};
 ghost use Rattle.mysql_values.specs.Value.{content_of, contents_of};
 ghost use Rattle.mysql_bulk.specs.Row.{row_size, values_size, contents_of_rows, EqualLengths};
 
@@ -67,14 +67,26 @@ pub(crate) fn append_row(values: &mut Vec<Value>, row: Vec<Value>)
     values.append(&mut row).unwrap();
 }
 
-/// A copy of a value. Of bytes it is made in one piece.
-fn copy_of(alloc: Global, value: &Value) -> Result<Value, AllocError>
-    ensures { IfOk result (λ copy. content_of copy ≡ content_of value.now) }
+/// Puts a copy of a value at the end, where there is room, or none where memory for it was refused. Of bytes it is made in
+/// one piece.
+// (each kind is pushed where it is known: through one value for all kinds a row of three takes some 100 instructions more)
+fn push_copy(alloc: Global, values: &mut Vec<Value>, value: &Value) -> Result<(), AllocError>
+    requires { vec_len values.old + 1 ≤ vec_capacity values.old }
+    ensures ok { OnOk result (contents_of values.new.items ≡ contents_of values.old.items ++ content_of value.now ∷ []) }
+    ensures kept { OnOk result (take (vec_len values.old) values.new.items ≡ values.old.items) }
+    ensures count { OnOk result (vec_len values.new ≡ vec_len values.old + 1) }
+    ensures err { OnErr result (values.new.items ≡ values.old.items) }
+    ensures room { vec_capacity values.old ≤ vec_capacity values.new }
 {
     match value {
-        Value::Bytes(bytes) => Ok(Value::Bytes(Vec::from_slice(alloc, bytes.as_slice())?)),
-        _ => value.clone(),
+        Value::NULL => values.push_reserved(Value::NULL),
+        Value::Int(n) => values.push_reserved(Value::Int(*n)),
+        Value::Bytes(bytes) => {
+            values.push_reserved(Value::Bytes(Vec::from_slice(alloc, bytes.as_slice())?))
+        }
+        _ => values.push_reserved(value.clone()?),
     }
+    Ok(())
 }
 
 /// Puts copies of the values of a row at the end, where there is room, or none where memory for one was refused.
@@ -89,12 +101,9 @@ pub(crate) fn append_copies(
 {
     let before = values.len();
     for value in row {
-        match copy_of(alloc, value) {
-            Ok(copy) => values.push_reserved(copy),
-            Err(e) => {
-                values.truncate(before);
-                return Err(e);
-            }
+        if let Err(e) = push_copy(alloc, values, value) {
+            values.truncate(before);
+            return Err(e);
         }
     }
     Ok(())

@@ -7,6 +7,6 @@ use Rattle.mysql_bulk.proofs.sent_values.SentValuesMySerialize.append.Given as g
 abbrev pub invariant-loop-place : goal.invariant-loop-place
 invariant-loop-place l =
     record {
-      items : l.out.items ≡ l.initial.out.items ++ values_bytes (take l.place (sent_values l.self.indicators.now (contents_of l.self.values.now)));
-      room : vec_capacity l.initial.out ≤ vec_capacity l.out;
+      items : l.bytes.items ≡ l.fn.out.items ++ values_bytes (take l.place (sent_values l.self.indicators.now (contents_of l.self.values.now)));
+      room : vec_capacity l.fn.out ≤ vec_capacity l.bytes;
     }
