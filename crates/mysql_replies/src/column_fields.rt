@@ -79,6 +79,13 @@ impl<'de> MyDeserialize<'de> for ColumnFields {
     ghost size_is = { λ _. spec.size-column_fields };
 }
 
+/// The fixed fields of a column take 13 bytes.
+pub fn column_fields_size() -> Option<usize>
+    ensures value { result ≡ Some 13 }
+{
+    <ColumnFields as MyDeserialize>::SIZE
+}
+
 impl Parts for ColumnFields {
     ghost bytes = { spec.column_fields.bytes };
 

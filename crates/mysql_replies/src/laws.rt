@@ -20,7 +20,14 @@ ghost use Rattle.mysql_replies.specs.ServerError.{server_error};
 ghost use Rattle.mysql_replies.specs.SessionStateInfo.{session_state_info, state_string};
 ghost use Rattle.mysql_replies.specs.SqlState.{sql_state};
 
-use mysql_wire::MyDeserialize;
+pub use crate::column::column_has_no_constant_size;
+pub use crate::column_fields::column_fields_size;
+pub use crate::err_packet::err_packet_has_no_constant_size;
+pub use crate::local_infile::local_infile_has_no_constant_size;
+pub use crate::progress_report::progress_report_has_no_constant_size;
+pub use crate::server_error::server_error_has_no_constant_size;
+pub use crate::session_state_info::session_state_info_has_no_constant_size;
+pub use crate::sql_state::sql_state_size;
 use std::hash::Hash;
 
 /// What is written of a request for a local file is read again, where nothing follows.
@@ -32,13 +39,6 @@ pub fn local_infile_again()
 pub fn sql_state_again()
     ensures spelled { (s : SqlState) (rest : List ℕ) → sql_state.fits tt s rest → (sql_state.form tt).Spells s (sql_state.bytes s ++ rest) rest }
 {}
-
-/// An SQL state takes 6 bytes.
-pub fn sql_state_size() -> Option<usize>
-    ensures value { result ≡ Some 6 }
-{
-    <crate::sql_state::SqlState as MyDeserialize>::SIZE
-}
 
 /// Equal SQL states hash equally.
 pub fn equal_sql_states_hash_equally()

@@ -112,6 +112,13 @@ impl<'de> MyDeserialize<'de> for ServerError<'de> {
     ghost size_is = { spec.size-server_error };
 }
 
+/// An error has no constant size.
+pub fn server_error_has_no_constant_size() -> Option<usize>
+    ensures value { result ≡ None }
+{
+    <ServerError<'static> as MyDeserialize>::SIZE
+}
+
 impl Parts for ServerError<'_> {
     ghost bytes = { spec.server_error.bytes };
 

@@ -83,6 +83,13 @@ impl<'de> MyDeserialize<'de> for SessionStateInfo<'de> {
     ghost size_is = { λ _. spec.size-session_state_info };
 }
 
+/// An entry of a state string has no constant size.
+pub fn session_state_info_has_no_constant_size() -> Option<usize>
+    ensures value { result ≡ None }
+{
+    <SessionStateInfo<'static> as MyDeserialize>::SIZE
+}
+
 impl Parts for SessionStateInfo<'_> {
     ghost bytes = { spec.session_state_info.bytes };
 

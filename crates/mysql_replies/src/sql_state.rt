@@ -86,6 +86,13 @@ impl<'de> MyDeserialize<'de> for SqlState {
     ghost size_is = { λ _. spec.size-sql_state };
 }
 
+/// An SQL state takes 6 bytes.
+pub fn sql_state_size() -> Option<usize>
+    ensures value { result ≡ Some 6 }
+{
+    <SqlState as MyDeserialize>::SIZE
+}
+
 impl Parts for SqlState {
     ghost bytes = { spec.sql_state.bytes };
 
