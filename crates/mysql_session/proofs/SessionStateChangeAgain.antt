@@ -32,3 +32,5 @@ never-unsupported kind.SESSION_TRACK_STATE_CHANGE u bytes rest s = absurd (let e
 never-unsupported kind.SESSION_TRACK_GTIDS u bytes rest s = absurd (let e = s.1 in cc)
 never-unsupported kind.SESSION_TRACK_TRANSACTION_CHARACTERISTICS u bytes rest s = absurd (let e = s.1 in cc)
 never-unsupported kind.SESSION_TRACK_TRANSACTION_STATE u bytes rest s = absurd (let e = s.1 in cc)
+
+pub ruleset session_changes = (session_state_change-again, never-unsupported)

@@ -5,10 +5,11 @@ use Rattle.mysql_wire.specs.declared.codes.session_state_type.SessionStateType.{
 use Rattle.mysql_wire.specs.declared.codes.session_state_type.SessionStateType.TheVariants as kind
 use Rattle.mysql_wire.specs.Form.{Form, map}
 use Rattle.mysql_wire.specs.LenEnc.{lenenc_string, size-lenenc_string}
+use Rattle.mysql_wire.specs.Many.{size-many}
 use Rattle.mysql_session.specs.declared.session_state_change.SessionStateChange.{SessionStateChange}
 use Rattle.mysql_session.specs.declared.session_state_change.SessionStateChange.TheVariants as change
 use Rattle.mysql_session.specs.SessionText.{lenenc_text, gtids}
-use Rattle.mysql_session.specs.SystemVariables.{system_variables, size-system_variables}
+use Rattle.mysql_session.specs.SystemVariables.{system_variables}
 
 -- the content is `1`
 abbrev pub is_one : List ℕ → Bool
@@ -27,8 +28,8 @@ session_state_change kind.SESSION_TRACK_TRANSACTION_CHARACTERISTICS = map change
 session_state_change kind.SESSION_TRACK_TRANSACTION_STATE = map change.TransactionState (lenenc_text.form tt)
 
 pub size-session_state_change : (k : SessionStateType) → (session_state_change k).size ≡ None
-unfolding session_state_change lenenc_text gtids
-size-session_state_change kind.SESSION_TRACK_SYSTEM_VARIABLES = size-system_variables
+unfolding session_state_change lenenc_text gtids system_variables
+size-session_state_change kind.SESSION_TRACK_SYSTEM_VARIABLES = size-many _
 size-session_state_change kind.SESSION_TRACK_SCHEMA = refl
 size-session_state_change kind.SESSION_TRACK_STATE_CHANGE = size-lenenc_string
 size-session_state_change kind.SESSION_TRACK_GTIDS = refl

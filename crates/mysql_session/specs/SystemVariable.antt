@@ -1,5 +1,5 @@
 -- A system variable and its value.
-use Rattle.std.specs.Prelude.{◌≡◌, ℕ, ◌<◌, ◌^◌, List, length, None, refl}
+use Rattle.std.specs.Prelude.{ℕ, ◌<◌, ◌^◌, List, length, refl}
 use Rattle.mysql_wire.specs.Codec.{Codec, Fields}
 use Rattle.mysql_wire.specs.Codecs.{◌>>=◌, give, field, packet, string_lenenc}
 use Rattle.mysql_session.specs.declared.system_variable.SystemVariable.{SystemVariable}
@@ -24,10 +24,6 @@ system_variable_fields = do
 
 unfoldable pub system_variable : Codec (Unit {0}) SystemVariable
 system_variable = packet system_variable_fields (λ v. refl)
-
-pub size-system_variable : (system_variable.form tt).size ≡ None
-unfolding system_variable
-size-system_variable = refl
 
 -- lengths that a number of eight bytes can tell
 pub record SystemVariableFits (v : SystemVariable) : Type 0 where

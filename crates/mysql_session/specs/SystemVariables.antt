@@ -1,6 +1,5 @@
 -- System variables and their values.
-use Rattle.std.specs.Prelude.{◌≡◌, ◌<◌, List, None}
-use Rattle.mysql_wire.specs.Many.{size-many}
+use Rattle.std.specs.Prelude.{◌<◌, List}
 use Rattle.mysql_wire.specs.Codec.{Codec}
 use Rattle.mysql_wire.specs.CodecAgain.{some-lenenc, some-then}
 use Rattle.mysql_wire.specs.Codecs.{list_to_end}
@@ -14,7 +13,3 @@ some-variable v = some-then _ (some-lenenc (variable_name v))
 -- variables, to the end
 unfoldable pub system_variables : Codec (Unit {0}) (List SystemVariable)
 system_variables = list_to_end system_variable some-variable
-
-pub size-system_variables : (system_variables.form tt).size ≡ None
-unfolding system_variables
-size-system_variables = size-many (system_variable.form tt)

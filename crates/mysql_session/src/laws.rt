@@ -38,11 +38,13 @@ pub fn system_variables_fit()
 {}
 
 /// What is written of a change is read again, where the reader is told its type.
+#[tactic(auto, using(crate::proofs::SessionStateChangeAgain::session_changes))]
 pub fn session_state_change_again()
     ensures spelled { (kind : SessionStateType) (c : SessionStateChange) (rest : List ℕ) → ChangeFits kind c rest → (session_state_change kind).Spells c (session_state_change_bytes c ++ rest) rest }
 {}
 
 /// No bytes are read as a change of another kind.
+#[tactic(auto, using(crate::proofs::SessionStateChangeAgain::session_changes))]
 pub fn no_change_is_unsupported()
     ensures never { (kind : SessionStateType) (u : Unsupported) (bytes rest : List ℕ) → (session_state_change kind).Spells (change.Unsupported u) bytes rest → ⊥ }
 {}

@@ -41,25 +41,19 @@ impl<'a> SessionStateChange<'a> {
         ensures value { IfOk result (λ owned. owned ≡ self.entry) }
     {
         Ok(match self {
-            SessionStateChange::IsTracked(is_tracked) => SessionStateChange::IsTracked(is_tracked),
-            SessionStateChange::Schema(schema) => {
-                SessionStateChange::Schema(schema.into_owned(alloc)?)
-            }
-            SessionStateChange::SystemVariables(variables) => {
+            Self::IsTracked(is_tracked) => SessionStateChange::IsTracked(is_tracked),
+            Self::Schema(schema) => SessionStateChange::Schema(schema.into_owned(alloc)?),
+            Self::SystemVariables(variables) => {
                 SessionStateChange::SystemVariables(variables.into_owned(alloc)?)
             }
-            SessionStateChange::Gtids(gtids) => {
-                SessionStateChange::Gtids(gtids.into_owned(alloc)?)
-            }
-            SessionStateChange::TransactionCharacteristics(characteristics) => {
+            Self::Gtids(gtids) => SessionStateChange::Gtids(gtids.into_owned(alloc)?),
+            Self::TransactionCharacteristics(characteristics) => {
                 SessionStateChange::TransactionCharacteristics(characteristics.into_owned(alloc)?)
             }
-            SessionStateChange::TransactionState(state) => {
+            Self::TransactionState(state) => {
                 SessionStateChange::TransactionState(state.into_owned(alloc)?)
             }
-            SessionStateChange::Unsupported(unsupported) => {
-                SessionStateChange::Unsupported(unsupported.into_owned(alloc)?)
-            }
+            Self::Unsupported(change) => SessionStateChange::Unsupported(change.into_owned(alloc)?),
         })
     }
 }
@@ -82,19 +76,19 @@ impl<'de> MyDeserialize<'de> for SessionStateChange<'de> {
     ) -> Result<Self, FaultOf<'s>> {
         Ok(match kind {
             SessionStateType::SESSION_TRACK_SYSTEM_VARIABLES => {
-                SessionStateChange::SystemVariables(buf.parse(())?)
+                Self::SystemVariables(buf.parse(())?)
             }
-            SessionStateType::SESSION_TRACK_SCHEMA => SessionStateChange::Schema(buf.parse(())?),
+            SessionStateType::SESSION_TRACK_SCHEMA => Self::Schema(buf.parse(())?),
             SessionStateType::SESSION_TRACK_STATE_CHANGE => {
                 let tracked: RawBytes<'de, LenEnc> = buf.parse(())?;
-                SessionStateChange::IsTracked(tracked.as_bytes() == b"1".as_slice())
+                Self::IsTracked(tracked.as_bytes() == b"1".as_slice())
             }
-            SessionStateType::SESSION_TRACK_GTIDS => SessionStateChange::Gtids(buf.parse(())?),
+            SessionStateType::SESSION_TRACK_GTIDS => Self::Gtids(buf.parse(())?),
             SessionStateType::SESSION_TRACK_TRANSACTION_CHARACTERISTICS => {
-                SessionStateChange::TransactionCharacteristics(buf.parse(())?)
+                Self::TransactionCharacteristics(buf.parse(())?)
             }
             SessionStateType::SESSION_TRACK_TRANSACTION_STATE => {
-                SessionStateChange::TransactionState(buf.parse(())?)
+                Self::TransactionState(buf.parse(())?)
             }
         })
     }
@@ -107,16 +101,14 @@ impl Parts for SessionStateChange<'_> {
 
     fn put<S: Sink>(&self, sink: &mut S) {
         match self {
-            SessionStateChange::IsTracked(true) => sink.part(b"\x011"),
-            SessionStateChange::IsTracked(false) => sink.part(b"\x010"),
-            SessionStateChange::Schema(schema) => sink.part(schema),
-            SessionStateChange::SystemVariables(variables) => sink.part(variables),
-            SessionStateChange::Gtids(gtids) => sink.part(gtids),
-            SessionStateChange::TransactionCharacteristics(characteristics) => {
-                sink.part(characteristics)
-            }
-            SessionStateChange::TransactionState(state) => sink.part(state),
-            SessionStateChange::Unsupported(unsupported) => sink.part(unsupported),
+            Self::IsTracked(true) => sink.part(b"\x011"),
+            Self::IsTracked(false) => sink.part(b"\x010"),
+            Self::Schema(schema) => sink.part(schema),
+            Self::SystemVariables(variables) => sink.part(variables),
+            Self::Gtids(gtids) => sink.part(gtids),
+            Self::TransactionCharacteristics(characteristics) => sink.part(characteristics),
+            Self::TransactionState(state) => sink.part(state),
+            Self::Unsupported(unsupported) => sink.part(unsupported),
         }
     }
 }

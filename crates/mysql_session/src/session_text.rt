@@ -1,12 +1,12 @@
 //! The parts of session changes that are one byte string each.
 
-ghost use Rattle.std.specs.Prelude.{false, ◌≡◌, None, IfOk, refl};
-ghost use Rattle.std.specs.Cow.{cow_slice_items, cow_str_bytes};
-ghost use Rattle.mysql_wire.specs.Text.{lossy_text, BorrowsUtf8};
+ghost use Rattle.std.specs.Prelude.{◌≡◌, None, IfOk, refl};
+ghost use Rattle.std.specs.Cow.{cow_slice_items};
+ghost use Rattle.mysql_wire.specs.Text.{GivesText};
 ghost use Rattle.mysql_session.specs.SessionText.{session_text, text_bytes, text_of};
 
 use mysql_wire::{
-    AnyWidth, BytesRepr, EofBytes, FaultOf, LenEnc, MyDeserialize, MySerialize, ParseBuf, RawBytes,
+    AnyWidth, BytesRepr, EofBytes, FaultOf, LenEnc, MyDeserialize, ParseBuf, Parts, RawBytes, Sink,
 };
 use std::alloc::{AllocError, Global};
 use std::borrow::{CowSlice, CowStr};
@@ -74,8 +74,7 @@ impl<'a, N, R> SessionText<'a, N, R> {
 
     /// The text, with U+FFFD for what is not UTF-8. UTF-8 is borrowed, and takes no memory.
     pub fn as_str(&self, alloc: Global) -> Result<CowStr<'_>, AllocError>
-        ensures text { IfOk result (λ text. cow_str_bytes text ≡ lossy_text (text_bytes self.now)) }
-        ensures utf8 { BorrowsUtf8 (text_bytes self.now) result }
+        ensures text { GivesText (text_bytes self.now) result }
     {
         self.0.as_str(alloc)
     }
@@ -93,8 +92,6 @@ impl<'de, N, R: BytesRepr<Ctx = ()>> MyDeserialize<'de> for SessionText<'de, N, 
 
     type Size = AnyWidth;
 
-    ghost takes_memory = { false };
-
     type Ctx = ();
 
     ghost form = { λ _. session_text (R.form tt) };
@@ -107,16 +104,11 @@ impl<'de, N, R: BytesRepr<Ctx = ()>> MyDeserialize<'de> for SessionText<'de, N, 
     ghost size_is = { λ _. refl };
 }
 
-impl<N, R: BytesRepr> MySerialize for SessionText<'_, N, R> {
+impl<N, R: BytesRepr> Parts for SessionText<'_, N, R> {
     ghost bytes = { λ text. R.written (text_bytes text) };
 
-    #[inline]
-    fn defined_len(&self) -> usize {
-        self.0.defined_len()
-    }
-
-    #[inline]
-    fn append(&self, out: &mut Vec<u8>) {
-        self.0.append(out);
+    #[inline(always)]
+    fn put<S: Sink>(&self, sink: &mut S) {
+        sink.part(&self.0);
     }
 }

@@ -1,9 +1,9 @@
 //! A system variable and its value.
 #![tactic(auto, using(mysql_wire::proofs::Packets::packets), unfolding(crate::specs::SystemVariable::system_variable))]
 
-ghost use Rattle.std.specs.Prelude.{false, ◌≡◌, None, refl, IfOk};
-ghost use Rattle.std.specs.Cow.{cow_slice_items, cow_str_bytes};
-ghost use Rattle.mysql_wire.specs.Text.{lossy_text, BorrowsUtf8};
+ghost use Rattle.std.specs.Prelude.{◌≡◌, None, refl, IfOk};
+ghost use Rattle.std.specs.Cow.{cow_slice_items};
+ghost use Rattle.mysql_wire.specs.Text.{GivesText};
 ghost use Rattle.mysql_session.specs.SystemVariable as spec;
 
 use mysql_wire::{
@@ -42,8 +42,7 @@ impl<'a> SystemVariable<'a> {
 
     /// The name as text, with U+FFFD for what is not UTF-8. UTF-8 is borrowed.
     pub fn name_str(&self, alloc: Global) -> Result<CowStr<'_>, AllocError>
-        ensures text { IfOk result (λ text. cow_str_bytes text ≡ lossy_text (spec.variable_name self.now)) }
-        ensures utf8 { BorrowsUtf8 (spec.variable_name self.now) result }
+        ensures text { GivesText (spec.variable_name self.now) result }
     {
         self.name.as_str(alloc)
     }
@@ -58,8 +57,7 @@ impl<'a> SystemVariable<'a> {
 
     /// The value as text, with U+FFFD for what is not UTF-8. UTF-8 is borrowed.
     pub fn value_str(&self, alloc: Global) -> Result<CowStr<'_>, AllocError>
-        ensures text { IfOk result (λ text. cow_str_bytes text ≡ lossy_text (spec.variable_value self.now)) }
-        ensures utf8 { BorrowsUtf8 (spec.variable_value self.now) result }
+        ensures text { GivesText (spec.variable_value self.now) result }
     {
         self.value.as_str(alloc)
     }
@@ -80,8 +78,6 @@ impl<'de> MyDeserialize<'de> for SystemVariable<'de> {
 
     type Size = AnyWidth;
 
-    ghost takes_memory = { false };
-
     type Ctx = ();
 
     ghost form = { spec.system_variable.form };
@@ -93,7 +89,7 @@ impl<'de> MyDeserialize<'de> for SystemVariable<'de> {
         })
     }
 
-    ghost size_is = { λ _. spec.size-system_variable };
+    ghost size_is = { λ _. unfold spec.system_variable in refl };
 }
 
 impl Parts for SystemVariable<'_> {

@@ -2,6 +2,7 @@
 #![tactic(auto, using(mysql_wire::proofs::Packets::packets), unfolding(crate::specs::SystemVariables::system_variables))]
 
 ghost use Rattle.std.specs.Prelude.{true, ◌≡◌, None, refl, IfOk};
+ghost use Rattle.mysql_wire.specs.Many.{size-many};
 ghost use Rattle.mysql_session.specs.SystemVariables as spec;
 
 use crate::system_variable::SystemVariable;
@@ -113,7 +114,7 @@ impl<'de> MyDeserialize<'de> for SystemVariables<'de> {
         Ok(SystemVariables(read_all(buf)?))
     }
 
-    ghost size_is = { λ _. spec.size-system_variables };
+    ghost size_is = { λ _. unfold spec.system_variables in size-many _ };
 }
 
 impl MySerialize for SystemVariables<'_> {
