@@ -1,11 +1,10 @@
 -- Names that were put behind one another lie where their ends say.
-use Rattle.std.proofs.Common.{◌≡◌, ℕ, ◌+◌, ◌-◌, List, [], ◌++◌, length, take, drop, refl, arith, append_assoc, length-append, sym, ◌∙◌}
+use Rattle.std.proofs.Common.{◌≡◌, ℕ, ◌+◌, ◌-◌, List, [], ◌++◌, length, take, refl, arith, append_assoc, length-append}
 use Rattle.std.proofs.lemmas.List.{append-nil}
 use Rattle.std.proofs.Math.Seq.{drop-append_seam, take-append_seam}
 use Rattle.std.specs.Prelude.{slice_range}
 use Rattle.mysql_wire.proofs.Packets.{packets}
-use Rattle.mysql_replies.specs.ColumnMeta.{meta_of}
-use Rattle.mysql_replies.specs.ColumnNames.{names_at}
+use Rattle.mysql_replies.specs.ColumnNames.{meta_of, names_at}
 
 -- what stands behind some bytes, up to where it ends
 between : (p x y w : List ℕ) (a b : ℕ) → w ≡ p ++ (x ++ y) → a ≡ length p → b ≡ a + length x → slice_range w a b ≡ x

@@ -1,12 +1,12 @@
 -- A column of a result.
-use Rattle.std.specs.Prelude.{◌≡◌, ℕ, List, [], ◌∷◌, None, codes, refl}
+use Rattle.std.specs.Prelude.{ℕ, List, [], ◌∷◌, codes, refl}
 use Rattle.mysql_wire.specs.declared.codes.column_type.ColumnType.{ColumnType}
 use Rattle.mysql_wire.specs.Codec.{Codec, Fields}
 use Rattle.mysql_wire.specs.Codecs.{◌>>=◌, give, field, packet, const_bytes}
 use Rattle.mysql_wire.specs.Flags.{ColumnFlags}
 use Rattle.mysql_replies.specs.declared.column.Column.{Column}
-use Rattle.mysql_replies.specs.ColumnMeta.{column_meta, meta_of}
 use Rattle.mysql_replies.specs.ColumnFields.{column_fields, fields_of}
+use Rattle.mysql_replies.specs.ColumnNames.{column_meta, meta_of}
 
 -- `def`, length-encoded
 abbrev pub catalog_bytes : List ℕ
@@ -94,7 +94,3 @@ column_parts = do
 
 unfoldable pub column : Codec (Unit {0}) Column
 column = packet column_parts (λ c. refl)
-
-pub size-column : (column.form tt).size ≡ None
-unfolding column
-size-column = refl

@@ -1,11 +1,10 @@
 -- The fields of a column that have fixed lengths.
-use Rattle.std.specs.Prelude.{◌≡◌, ℕ, Some, refl}
+use Rattle.std.specs.Prelude.{ℕ, refl}
 use Rattle.mysql_wire.specs.declared.codes.column_type.ColumnType.{ColumnType}
 use Rattle.mysql_wire.specs.Codec.{Codec, Fields}
 use Rattle.mysql_wire.specs.Codecs.{◌>>=◌, give, field, block, packet, const_u8, u8, u16, u32, coded, flags, skip}
 use Rattle.mysql_wire.specs.ColumnType.{column_type_code, column_type_of, column_type-again}
 use Rattle.mysql_wire.specs.Flags.{ColumnFlags}
-use Rattle.mysql_wire.specs.Form.{size-block}
 use Rattle.mysql_wire.specs.Int.{raw_int}
 use Rattle.mysql_replies.specs.declared.column_fields.ColumnFields.{ColumnFields}
 
@@ -35,20 +34,8 @@ column_field_list = do
   flags ← field (λ f. f.flags) (flags 2)
   decimals ← field (λ f. f.decimals) u8
   filler ← field (λ f. f.filler) (skip 2)
-  give (record {
-    fixed_length_fields_len = fixed_length_fields_len;
-    character_set = character_set;
-    column_length = column_length;
-    column_type = column_type;
-    flags = flags;
-    decimals = decimals;
-    filler = filler;
-  })
+  give (fields_of character_set.0 column_length.0 column_type.0 flags.0 decimals.0)
 
 -- thirteen bytes
 unfoldable pub column_fields : Codec (Unit {0}) ColumnFields
 column_fields = packet (block 13 column_field_list (λ f. refl)) (λ f. refl)
-
-pub size-column_fields : (column_fields.form tt).size ≡ Some 13
-unfolding column_fields
-size-column_fields = size-block 13 (column_field_list.form tt)

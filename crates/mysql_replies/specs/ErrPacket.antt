@@ -1,5 +1,5 @@
 -- Errors and progress reports, in their packet.
-use Rattle.std.specs.Prelude.{◌≡◌, ℕ, ◌<◌, ◌^◌, List, [], length, None, Bool, true, false, ◌&&◌, ◌==◌, refl}
+use Rattle.std.specs.Prelude.{◌≡◌, ℕ, ◌<◌, ◌^◌, List, [], length, Bool, true, false, ◌&&◌, ◌==◌, refl}
 use Rattle.std.proofs.Common.{◌⊎◌, inl, inr}
 use Rattle.mysql_wire.specs.FlagMasks.{CLIENT_PROGRESS_OBSOLETE, CLIENT_PROTOCOL_41}
 use Rattle.mysql_wire.specs.Flags.{CapabilityFlags, has}
@@ -61,10 +61,6 @@ same-err_packet (err.Progress r) = refl
 
 unfoldable pub err_packet : Codec CapabilityFlags ErrPacket
 err_packet = packet err_packet_fields same-err_packet
-
-pub size-err_packet : (capabilities : CapabilityFlags) → (err_packet.form capabilities).size ≡ None
-unfolding err_packet
-size-err_packet capabilities = refl
 
 -- that of the part
 abbrev pub err_text : ErrPacket → List ℕ

@@ -8,7 +8,6 @@ pub mod OkTail
 pub mod OkBody
 pub mod OkPacket
 pub mod OkDeserializer
-pub mod ColumnMeta
 pub mod ColumnNames
 pub mod ColumnFields
 pub mod Column

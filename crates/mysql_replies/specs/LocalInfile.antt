@@ -1,5 +1,5 @@
 -- The request for a local file.
-use Rattle.std.specs.Prelude.{◌≡◌, ℕ, List, None, refl}
+use Rattle.std.specs.Prelude.{ℕ, List, refl}
 use Rattle.mysql_wire.specs.Codec.{Codec, Fields}
 use Rattle.mysql_wire.specs.Codecs.{◌>>=◌, give, field, packet, const_u8, string_eof}
 use Rattle.mysql_replies.specs.declared.local_infile.LocalInfilePacket.{LocalInfilePacket}
@@ -21,7 +21,3 @@ local_infile_fields = do
 
 unfoldable pub local_infile : Codec (Unit {0}) LocalInfilePacket
 local_infile = packet local_infile_fields (λ p. refl)
-
-pub size-local_infile : (local_infile.form tt).size ≡ None
-unfolding local_infile
-size-local_infile = refl

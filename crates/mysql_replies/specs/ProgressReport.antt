@@ -1,5 +1,5 @@
 -- How far a server is with a long statement.
-use Rattle.std.specs.Prelude.{◌≡◌, ℕ, ◌/◌, ◌%◌, List, ◌++◌, None, codes, refl}
+use Rattle.std.specs.Prelude.{ℕ, ◌/◌, ◌%◌, List, ◌++◌, codes, refl}
 use Rattle.std.specs.Fmt.{decimal}
 use Rattle.mysql_wire.specs.declared.int.RawInt.{RawInt}
 use Rattle.mysql_wire.specs.declared.little_endian.LeU24.{LeU24}
@@ -45,10 +45,6 @@ progress_report_fields = do
 
 unfoldable pub progress_report : Codec (Unit {0}) ProgressReport
 progress_report = packet progress_report_fields (λ r. refl)
-
-pub size-progress_report : (progress_report.form tt).size ≡ None
-unfolding progress_report
-size-progress_report = refl
 
 -- `Stage: 1 of 10 'stage name'  23.50% of stage done`
 abbrev pub progress_text : ProgressReport → List ℕ

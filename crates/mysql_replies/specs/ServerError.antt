@@ -33,10 +33,6 @@ server_error_fields = do
 unfoldable pub server_error : Codec (ℕ × Bool) ServerError
 server_error = packet server_error_fields (λ e. refl)
 
-pub size-server_error : (c : ℕ × Bool) → (server_error.form c).size ≡ None
-unfolding server_error
-size-server_error c = refl
-
 -- `ERROR 1096 (HY000): No tables used`, or without a state `ERROR 1096: No tables used`
 abbrev pub error_text_of : ℕ → Option SqlState → List ℕ → List ℕ
 error_text_of code None message = codes "ERROR " ++ (decimal code ++ (codes ": " ++ lossy_text message))

@@ -1,6 +1,5 @@
 -- The SQL state of an error.
-use Rattle.std.specs.Prelude.{◌≡◌, ℕ, List, Some, refl}
-use Rattle.mysql_wire.specs.Form.{size-block}
+use Rattle.std.specs.Prelude.{ℕ, List, refl}
 use Rattle.mysql_wire.specs.Codec.{Codec, Fields}
 use Rattle.mysql_wire.specs.Codecs.{◌>>=◌, give, field, block, packet, const_u8, byte_array}
 use Rattle.mysql_replies.specs.declared.sql_state.SqlState.{SqlState}
@@ -22,7 +21,3 @@ sql_state_fields = do
 -- six bytes: `#`, and five bytes with any values
 unfoldable pub sql_state : Codec (Unit {0}) SqlState
 sql_state = packet (block 6 sql_state_fields (λ s. refl)) (λ s. refl)
-
-pub size-sql_state : (sql_state.form tt).size ≡ Some 6
-unfolding sql_state
-size-sql_state = size-block 6 (sql_state_fields.form tt)

@@ -2,13 +2,11 @@
 #![tactic(auto, using(mysql_wire::proofs::Packets::packets), unfolding(crate::specs::Column::column))]
 
 ghost use Rattle.std.specs.Prelude.{◌≡◌, true, length, None, refl, IfOk, ◌∷◌};
-ghost use Rattle.std.specs.Cow.{cow_str_bytes};
-ghost use Rattle.mysql_wire.specs.Text.{lossy_text, BorrowsUtf8};
+ghost use Rattle.mysql_wire.specs.Text.{GivesText};
 ghost use Rattle.mysql_replies.specs.Column as spec;
 
 use crate::column_fields::ColumnFields;
-use crate::column_meta::ColumnMeta;
-use crate::column_names::{ColumnNames, borrowed};
+use crate::column_names::{ColumnMeta, ColumnNames, borrowed};
 use bstr::ByteSlice;
 use mysql_wire::{
     AnyWidth, ColumnFlags, ColumnType, Const, ConstBytes, ConstBytesValue, ConstFault, FaultOf,
@@ -87,9 +85,8 @@ impl Column {
     pub fn with_schema(self, alloc: Global, schema: &[u8]) -> Result<Column, AllocError>
         ensures value { IfOk result (λ column. column ≡ spec.with_schema self schema.now) }
     {
-        let schema = borrowed(schema);
         let meta = ColumnMeta {
-            schema,
+            schema: borrowed(schema),
             ..self.meta.meta()
         };
         named(alloc, &meta, self.fields)
@@ -99,9 +96,8 @@ impl Column {
     pub fn with_table(self, alloc: Global, table: &[u8]) -> Result<Column, AllocError>
         ensures value { IfOk result (λ column. column ≡ spec.with_table self table.now) }
     {
-        let table = borrowed(table);
         let meta = ColumnMeta {
-            table,
+            table: borrowed(table),
             ..self.meta.meta()
         };
         named(alloc, &meta, self.fields)
@@ -111,9 +107,8 @@ impl Column {
     pub fn with_org_table(self, alloc: Global, org_table: &[u8]) -> Result<Column, AllocError>
         ensures value { IfOk result (λ column. column ≡ spec.with_org_table self org_table.now) }
     {
-        let org_table = borrowed(org_table);
         let meta = ColumnMeta {
-            org_table,
+            org_table: borrowed(org_table),
             ..self.meta.meta()
         };
         named(alloc, &meta, self.fields)
@@ -123,9 +118,8 @@ impl Column {
     pub fn with_name(self, alloc: Global, name: &[u8]) -> Result<Column, AllocError>
         ensures value { IfOk result (λ column. column ≡ spec.with_name self name.now) }
     {
-        let name = borrowed(name);
         let meta = ColumnMeta {
-            name,
+            name: borrowed(name),
             ..self.meta.meta()
         };
         named(alloc, &meta, self.fields)
@@ -135,9 +129,8 @@ impl Column {
     pub fn with_org_name(self, alloc: Global, org_name: &[u8]) -> Result<Column, AllocError>
         ensures value { IfOk result (λ column. column ≡ spec.with_org_name self org_name.now) }
     {
-        let org_name = borrowed(org_name);
         let meta = ColumnMeta {
-            org_name,
+            org_name: borrowed(org_name),
             ..self.meta.meta()
         };
         named(alloc, &meta, self.fields)
@@ -148,14 +141,9 @@ impl Column {
     pub fn with_flags(self, flags: ColumnFlags) -> Column
         ensures value { result ≡ spec.with_flags self flags }
     {
-        let flags = Const::new(flags);
-        Column {
-            fields: ColumnFields {
-                flags,
-                ..self.fields
-            },
-            ..self
-        }
+        let mut fields = self.fields;
+        fields.flags = Const::new(flags);
+        Column { fields, ..self }
     }
 
     /// The column with this length.
@@ -163,14 +151,9 @@ impl Column {
     pub fn with_column_length(self, column_length: u32) -> Column
         ensures value { result ≡ spec.with_column_length self column_length }
     {
-        let column_length = RawInt::new(column_length);
-        Column {
-            fields: ColumnFields {
-                column_length,
-                ..self.fields
-            },
-            ..self
-        }
+        let mut fields = self.fields;
+        fields.column_length = RawInt::new(column_length);
+        Column { fields, ..self }
     }
 
     /// The column with this character set.
@@ -178,14 +161,9 @@ impl Column {
     pub fn with_character_set(self, character_set: u16) -> Column
         ensures value { result ≡ spec.with_character_set self character_set }
     {
-        let character_set = RawInt::new(character_set);
-        Column {
-            fields: ColumnFields {
-                character_set,
-                ..self.fields
-            },
-            ..self
-        }
+        let mut fields = self.fields;
+        fields.character_set = RawInt::new(character_set);
+        Column { fields, ..self }
     }
 
     /// The column with this many decimals.
@@ -193,14 +171,9 @@ impl Column {
     pub fn with_decimals(self, decimals: u8) -> Column
         ensures value { result ≡ spec.with_decimals self decimals }
     {
-        let decimals = RawInt::new(decimals);
-        Column {
-            fields: ColumnFields {
-                decimals,
-                ..self.fields
-            },
-            ..self
-        }
+        let mut fields = self.fields;
+        fields.decimals = RawInt::new(decimals);
+        Column { fields, ..self }
     }
 
     /// The most characters of a value, for showing it.
@@ -254,8 +227,7 @@ impl Column {
 
     /// The name of the schema as text, with U+FFFD for what is not UTF-8. UTF-8 is borrowed.
     pub fn schema_str(&self, alloc: Global) -> Result<CowStr<'_>, AllocError>
-        ensures text { IfOk result (λ text. cow_str_bytes text ≡ lossy_text (spec.schema self.now)) }
-        ensures utf8 { BorrowsUtf8 (spec.schema self.now) result }
+        ensures text { GivesText (spec.schema self.now) result }
     {
         self.meta.schema().to_str_lossy(alloc)
     }
@@ -270,8 +242,7 @@ impl Column {
 
     /// The name of the table, or of its alias as text, with U+FFFD for what is not UTF-8. UTF-8 is borrowed.
     pub fn table_str(&self, alloc: Global) -> Result<CowStr<'_>, AllocError>
-        ensures text { IfOk result (λ text. cow_str_bytes text ≡ lossy_text (spec.table self.now)) }
-        ensures utf8 { BorrowsUtf8 (spec.table self.now) result }
+        ensures text { GivesText (spec.table self.now) result }
     {
         self.meta.table().to_str_lossy(alloc)
     }
@@ -286,8 +257,7 @@ impl Column {
 
     /// The name of the table itself as text, with U+FFFD for what is not UTF-8. UTF-8 is borrowed.
     pub fn org_table_str(&self, alloc: Global) -> Result<CowStr<'_>, AllocError>
-        ensures text { IfOk result (λ text. cow_str_bytes text ≡ lossy_text (spec.org_table self.now)) }
-        ensures utf8 { BorrowsUtf8 (spec.org_table self.now) result }
+        ensures text { GivesText (spec.org_table self.now) result }
     {
         self.meta.org_table().to_str_lossy(alloc)
     }
@@ -302,8 +272,7 @@ impl Column {
 
     /// The name of the column, or of its alias as text, with U+FFFD for what is not UTF-8. UTF-8 is borrowed.
     pub fn name_str(&self, alloc: Global) -> Result<CowStr<'_>, AllocError>
-        ensures text { IfOk result (λ text. cow_str_bytes text ≡ lossy_text (spec.name self.now)) }
-        ensures utf8 { BorrowsUtf8 (spec.name self.now) result }
+        ensures text { GivesText (spec.name self.now) result }
     {
         self.meta.name().to_str_lossy(alloc)
     }
@@ -318,8 +287,7 @@ impl Column {
 
     /// The name of the column itself as text, with U+FFFD for what is not UTF-8. UTF-8 is borrowed.
     pub fn org_name_str(&self, alloc: Global) -> Result<CowStr<'_>, AllocError>
-        ensures text { IfOk result (λ text. cow_str_bytes text ≡ lossy_text (spec.org_name self.now)) }
-        ensures utf8 { BorrowsUtf8 (spec.org_name self.now) result }
+        ensures text { GivesText (spec.org_name self.now) result }
     {
         self.meta.org_name().to_str_lossy(alloc)
     }
@@ -344,7 +312,7 @@ impl<'de> MyDeserialize<'de> for Column {
         })
     }
 
-    ghost size_is = { λ _. spec.size-column };
+    ghost size_is = { λ _. unfold spec.column in refl };
 }
 
 /// A column has no constant size.
@@ -359,6 +327,6 @@ impl Parts for Column {
 
     #[inline(always)]
     fn put<S: Sink>(&self, sink: &mut S) {
-        sink.part(&parts!(self.catalog, self.meta, self.fields));
+        sink.part(&parts!(self.catalog, self.meta.meta(), self.fields));
     }
 }

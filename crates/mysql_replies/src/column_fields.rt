@@ -1,7 +1,8 @@
 //! The fields of a column that have fixed lengths.
 #![tactic(auto, using(mysql_wire::proofs::Blocks::blocks), unfolding(crate::specs::ColumnFields::column_fields))]
 
-ghost use Rattle.std.specs.Prelude.{◌≡◌, false, Some};
+ghost use Rattle.std.specs.Prelude.{◌≡◌, Some};
+ghost use Rattle.mysql_wire.specs.Form.{size-block};
 ghost use Rattle.mysql_replies.specs.ColumnFields as spec;
 
 use mysql_wire::{
@@ -57,8 +58,6 @@ impl<'de> MyDeserialize<'de> for ColumnFields {
 
     type Size = Fixed<13>;
 
-    ghost takes_memory = { false };
-
     type Ctx = ();
 
     ghost form = { spec.column_fields.form };
@@ -76,7 +75,7 @@ impl<'de> MyDeserialize<'de> for ColumnFields {
         })
     }
 
-    ghost size_is = { λ _. spec.size-column_fields };
+    ghost size_is = { λ _. unfold spec.column_fields in size-block 13 (spec.column_field_list.form tt) };
 }
 
 /// The fixed fields of a column take 13 bytes.

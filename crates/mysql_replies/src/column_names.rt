@@ -1,18 +1,67 @@
 //! The names of a column, on memory of their own.
-#![tactic(auto, using(crate::proofs::NamesBehind::names), unfolding(crate::specs::ColumnMeta::column_meta))]
+#![tactic(auto, using(crate::proofs::NamesBehind::names), unfolding(crate::specs::ColumnNames::column_meta))]
 
-ghost use Rattle.std.specs.Prelude.{◌≡◌, true, None, IfOk};
-ghost use Rattle.mysql_replies.specs.ColumnMeta as spec;
+ghost use Rattle.std.specs.Prelude.{◌≡◌, true, None, refl, IfOk};
+ghost use Rattle.mysql_replies.specs.ColumnNames as spec;
 
-use crate::column_meta::ColumnMeta;
 use mysql_wire::{
-    AnyWidth, EofBytes, FaultOf, LenEnc, MyDeserialize, ParseBuf, Parts, RawBytes, Sink,
+    AnyWidth, EofBytes, FaultOf, LenEnc, MyDeserialize, ParseBuf, Parts, RawBytes, Sink, parts,
 };
 use std::alloc::{AllocError, Global};
 use std::borrow::CowSlice;
 use std::fmt;
 use std::fmt::Debug;
 use std::marker::Model;
+
+/// The names of a column, each a length-encoded string.
+#[derive(Clone, Debug, PartialEq, Eq, Drop)]
+pub(crate) struct ColumnMeta<'a> {
+    pub(crate) schema: RawBytes<'a, LenEnc>,
+    pub(crate) table: RawBytes<'a, LenEnc>,
+    pub(crate) org_table: RawBytes<'a, LenEnc>,
+    pub(crate) name: RawBytes<'a, LenEnc>,
+    pub(crate) org_name: RawBytes<'a, LenEnc>,
+}
+
+impl<'de> MyDeserialize<'de> for ColumnMeta<'de> {
+    const SIZE: Option<usize> = None;
+
+    type Size = AnyWidth;
+
+    type Ctx = ();
+
+    ghost form = { spec.column_meta.form };
+
+    fn deserialize<'s>(_ctx: (), buf: &mut ParseBuf<'de>) -> Result<Self, FaultOf<'s>> {
+        let mut rest = buf.rest();
+        let meta = ColumnMeta {
+            schema: rest.parse(())?,
+            table: rest.parse(())?,
+            org_table: rest.parse(())?,
+            name: rest.parse(())?,
+            org_name: rest.parse(())?,
+        };
+        *buf = rest;
+        Ok(meta)
+    }
+
+    ghost size_is = { λ _. unfold spec.column_meta in refl };
+}
+
+impl Parts for ColumnMeta<'_> {
+    ghost bytes = { spec.column_meta.bytes };
+
+    #[inline(always)]
+    fn put<S: Sink>(&self, sink: &mut S) {
+        sink.part(&parts!(
+            self.schema,
+            self.table,
+            self.org_table,
+            self.name,
+            self.org_name
+        ));
+    }
+}
 
 /// The names of a column behind one another, in memory that is taken at once: each begins where the one before it ends,
 /// and the original name runs to the end.
@@ -26,7 +75,7 @@ pub(crate) struct ColumnNames {
 }
 
 impl Model for ColumnNames {
-    ghost use Rattle.mysql_replies.specs.declared.column_meta.ColumnMeta.{ColumnMeta};
+    ghost use Rattle.mysql_replies.specs.declared.column_names.ColumnMeta.{ColumnMeta};
 
     ghost Value = { ColumnMeta };
 
@@ -148,7 +197,7 @@ impl Clone for ColumnNames {
 }
 
 impl PartialEq for ColumnNames {
-    ghost use Rattle.mysql_replies.specs.contracts.column_meta.ColumnMetaPartialEq.TheImpl.Laws.{laws-law};
+    ghost use Rattle.mysql_replies.specs.contracts.column_names.ColumnMetaPartialEq.TheImpl.Laws.{laws-law};
 
     ghost eq = { ⟦<ColumnMeta<'static> as PartialEq>⟧.eq };
 
@@ -160,7 +209,7 @@ impl PartialEq for ColumnNames {
 }
 
 impl Eq for ColumnNames {
-    ghost use Rattle.mysql_replies.specs.contracts.column_meta.ColumnMetaEq.TheImpl.Laws.{laws-law};
+    ghost use Rattle.mysql_replies.specs.contracts.column_names.ColumnMetaEq.TheImpl.Laws.{laws-law};
 
     ghost laws = { laws-law };
 }
@@ -187,14 +236,5 @@ impl<'de> MyDeserialize<'de> for ColumnNames {
         Ok(ColumnNames::of(buf.alloc(), &meta)?)
     }
 
-    ghost size_is = { λ _. spec.size-column_meta };
-}
-
-impl Parts for ColumnNames {
-    ghost bytes = { spec.column_meta.bytes };
-
-    #[inline(always)]
-    fn put<S: Sink>(&self, sink: &mut S) {
-        sink.part(&self.meta());
-    }
+    ghost size_is = { λ _. unfold spec.column_meta in refl };
 }

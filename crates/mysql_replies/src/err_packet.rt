@@ -1,7 +1,7 @@
 //! Errors and progress reports, in their packet.
 #![tactic(auto, using(mysql_wire::proofs::Packets::packets), unfolding(crate::specs::ErrPacket::err_packet))]
 
-ghost use Rattle.std.specs.Prelude.{false, true, ◌≡◌, None, Some, refl};
+ghost use Rattle.std.specs.Prelude.{true, ◌≡◌, None, Some, refl};
 ghost use Rattle.mysql_replies.specs.ErrPacket as spec;
 ghost use Rattle.mysql_replies.specs.declared.err_packet.ErrPacket.TheVariants as err;
 
@@ -88,8 +88,6 @@ impl<'de> MyDeserialize<'de> for ErrPacket<'de> {
 
     type Size = AnyWidth;
 
-    ghost takes_memory = { false };
-
     /// What both sides can do.
     type Ctx = CapabilityFlags;
 
@@ -99,22 +97,18 @@ impl<'de> MyDeserialize<'de> for ErrPacket<'de> {
         capabilities: CapabilityFlags,
         buf: &mut ParseBuf<'de>,
     ) -> Result<Self, FaultOf<'s>> {
-        let mut rest = buf.rest();
-        let mut head: ParseBuf<'de> = rest.parse(3)?;
+        let mut head: ParseBuf<'de> = buf.parse(3)?;
         let _header: ErrPacketHeader = head.parse_unchecked(())?;
         let code: RawInt<LeU16> = head.parse_unchecked(())?;
         let takes_progress = capabilities.contains(CapabilityFlags::CLIENT_PROGRESS_OBSOLETE);
-        let packet = if code.0 == PROGRESS_CODE && takes_progress {
-            ErrPacket::Progress(rest.parse(())?)
-        } else {
-            let has_state = capabilities.contains(CapabilityFlags::CLIENT_PROTOCOL_41);
-            ErrPacket::Error(rest.parse((code.0, has_state))?)
-        };
-        *buf = rest;
-        Ok(packet)
+        if code.0 == PROGRESS_CODE && takes_progress {
+            return Ok(ErrPacket::Progress(buf.parse(())?));
+        }
+        let has_state = capabilities.contains(CapabilityFlags::CLIENT_PROTOCOL_41);
+        Ok(ErrPacket::Error(buf.parse((code.0, has_state))?))
     }
 
-    ghost size_is = { spec.size-err_packet };
+    ghost size_is = { λ _. unfold spec.err_packet in refl };
 }
 
 /// An error or a progress report has no constant size.

@@ -4,7 +4,6 @@
 
 mod column;
 mod column_fields;
-mod column_meta;
 mod column_names;
 mod err_packet;
 pub mod laws;

@@ -1,9 +1,9 @@
 //! The request for a file of the client's.
 #![tactic(auto, using(mysql_wire::proofs::Packets::packets), unfolding(crate::specs::LocalInfile::local_infile))]
 
-ghost use Rattle.std.specs.Prelude.{false, ◌≡◌, None, refl, IfOk};
-ghost use Rattle.std.specs.Cow.{cow_slice_items, cow_str_bytes};
-ghost use Rattle.mysql_wire.specs.Text.{lossy_text, BorrowsUtf8};
+ghost use Rattle.std.specs.Prelude.{◌≡◌, None, refl, IfOk};
+ghost use Rattle.std.specs.Cow.{cow_slice_items};
+ghost use Rattle.mysql_wire.specs.Text.{GivesText};
 ghost use Rattle.mysql_replies.specs.LocalInfile as infile;
 
 use mysql_wire::{
@@ -58,8 +58,7 @@ impl<'a> LocalInfilePacket<'a> {
 
     /// The file's name as text, with U+FFFD for what is not UTF-8. UTF-8 is borrowed.
     pub fn file_name_str(&self, alloc: Global) -> Result<CowStr<'_>, AllocError>
-        ensures text { IfOk result (λ text. cow_str_bytes text ≡ lossy_text (infile.file_name self.now)) }
-        ensures utf8 { BorrowsUtf8 (infile.file_name self.now) result }
+        ensures text { GivesText (infile.file_name self.now) result }
     {
         self.file_name.as_str(alloc)
     }
@@ -80,8 +79,6 @@ impl<'de> MyDeserialize<'de> for LocalInfilePacket<'de> {
 
     type Size = AnyWidth;
 
-    ghost takes_memory = { false };
-
     type Ctx = ();
 
     ghost form = { infile.local_infile.form };
@@ -93,7 +90,7 @@ impl<'de> MyDeserialize<'de> for LocalInfilePacket<'de> {
         })
     }
 
-    ghost size_is = { λ _. infile.size-local_infile };
+    ghost size_is = { λ _. unfold infile.local_infile in refl };
 }
 
 /// A request for a local file has no constant size.

@@ -1,9 +1,9 @@
 //! How far a server is with a long statement.
 #![tactic(auto, using(mysql_wire::proofs::Packets::packets), unfolding(crate::specs::ProgressReport::progress_report))]
 
-ghost use Rattle.std.specs.Prelude.{false, ◌≡◌, None, Some, refl, IfOk};
-ghost use Rattle.std.specs.Cow.{cow_slice_items, cow_str_bytes};
-ghost use Rattle.mysql_wire.specs.Text.{lossy_text, BorrowsUtf8};
+ghost use Rattle.std.specs.Prelude.{◌≡◌, None, Some, refl, IfOk};
+ghost use Rattle.std.specs.Cow.{cow_slice_items};
+ghost use Rattle.mysql_wire.specs.Text.{GivesText};
 ghost use Rattle.mysql_replies.specs.ProgressReport as spec;
 
 use bstr::BStr;
@@ -75,8 +75,7 @@ impl<'a> ProgressReport<'a> {
 
     /// The stage's text as text, with U+FFFD for what is not UTF-8. UTF-8 is borrowed.
     pub fn stage_info_str(&self, alloc: Global) -> Result<CowStr<'_>, AllocError>
-        ensures text { IfOk result (λ text. cow_str_bytes text ≡ lossy_text (spec.stage_info self.now)) }
-        ensures utf8 { BorrowsUtf8 (spec.stage_info self.now) result }
+        ensures text { GivesText (spec.stage_info self.now) result }
     {
         self.stage_info.as_str(alloc)
     }
@@ -99,30 +98,22 @@ impl<'de> MyDeserialize<'de> for ProgressReport<'de> {
 
     type Size = AnyWidth;
 
-    ghost takes_memory = { false };
-
     type Ctx = ();
 
     ghost form = { spec.progress_report.form };
 
     fn deserialize<'s>(_ctx: (), buf: &mut ParseBuf<'de>) -> Result<Self, FaultOf<'s>> {
-        let mut rest = buf.rest();
-        let mut numbers: ParseBuf<'de> = rest.parse(6)?;
+        let mut numbers: ParseBuf<'de> = buf.parse(6)?;
         let _count: RawInt<u8> = numbers.parse_unchecked(())?;
-        let stage = numbers.parse_unchecked(())?;
-        let max_stage = numbers.parse_unchecked(())?;
-        let progress = numbers.parse_unchecked(())?;
-        let stage_info = rest.parse(())?;
-        *buf = rest;
         Ok(ProgressReport {
-            stage,
-            max_stage,
-            progress,
-            stage_info,
+            stage: numbers.parse_unchecked(())?,
+            max_stage: numbers.parse_unchecked(())?,
+            progress: numbers.parse_unchecked(())?,
+            stage_info: buf.parse(())?,
         })
     }
 
-    ghost size_is = { λ _. spec.size-progress_report };
+    ghost size_is = { λ _. unfold spec.progress_report in refl };
 }
 
 /// A progress report has no constant size.

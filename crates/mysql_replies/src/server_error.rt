@@ -1,9 +1,9 @@
 //! An error that a server reports.
 #![tactic(auto, using(mysql_wire::proofs::Packets::packets), unfolding(crate::specs::ServerError::server_error))]
 
-ghost use Rattle.std.specs.Prelude.{false, ◌≡◌, None, Some, refl, IfOk, option_map};
-ghost use Rattle.std.specs.Cow.{cow_slice_items, cow_str_bytes};
-ghost use Rattle.mysql_wire.specs.Text.{lossy_text, BorrowsUtf8};
+ghost use Rattle.std.specs.Prelude.{◌≡◌, None, Some, refl, IfOk, option_map};
+ghost use Rattle.std.specs.Cow.{cow_slice_items};
+ghost use Rattle.mysql_wire.specs.Text.{GivesText};
 ghost use Rattle.mysql_replies.specs.ServerError as spec;
 
 use crate::sql_state::SqlState;
@@ -65,8 +65,7 @@ impl<'a> ServerError<'a> {
 
     /// The message as text, with U+FFFD for what is not UTF-8. UTF-8 is borrowed.
     pub fn message_str(&self, alloc: Global) -> Result<CowStr<'_>, AllocError>
-        ensures text { IfOk result (λ text. cow_str_bytes text ≡ lossy_text (spec.message self.now)) }
-        ensures utf8 { BorrowsUtf8 (spec.message self.now) result }
+        ensures text { GivesText (spec.message self.now) result }
     {
         self.message.as_str(alloc)
     }
@@ -88,8 +87,6 @@ impl<'de> MyDeserialize<'de> for ServerError<'de> {
 
     type Size = AnyWidth;
 
-    ghost takes_memory = { false };
-
     /// The code, and whether an SQL state stands in front of the message.
     type Ctx = (u16, bool);
 
@@ -109,7 +106,7 @@ impl<'de> MyDeserialize<'de> for ServerError<'de> {
         })
     }
 
-    ghost size_is = { spec.size-server_error };
+    ghost size_is = { λ _. unfold spec.server_error in refl };
 }
 
 /// An error has no constant size.

@@ -1,9 +1,9 @@
 //! The SQL state of an error.
 #![tactic(auto, using(mysql_wire::proofs::Packets::packets), unfolding(crate::specs::SqlState::sql_state))]
 
-ghost use Rattle.std.specs.Prelude.{false, ◌≡◌, Some, refl, IfOk};
-ghost use Rattle.std.specs.Cow.{cow_str_bytes};
-ghost use Rattle.mysql_wire.specs.Text.{lossy_text, BorrowsUtf8};
+ghost use Rattle.std.specs.Prelude.{◌≡◌, Some};
+ghost use Rattle.mysql_wire.specs.Form.{size-block};
+ghost use Rattle.mysql_wire.specs.Text.{GivesText};
 ghost use Rattle.mysql_replies.specs.SqlState as spec;
 
 use bstr::ByteSlice;
@@ -57,8 +57,7 @@ impl SqlState {
 
     /// The five bytes as text, with U+FFFD for what is not UTF-8. UTF-8 is borrowed.
     pub fn as_str(&self, alloc: Global) -> Result<CowStr<'_>, AllocError>
-        ensures text { IfOk result (λ text. cow_str_bytes text ≡ lossy_text (spec.state_bytes self.now)) }
-        ensures utf8 { BorrowsUtf8 (spec.state_bytes self.now) result }
+        ensures text { GivesText (spec.state_bytes self.now) result }
     {
         self.state.as_slice().to_str_lossy(alloc)
     }
@@ -68,8 +67,6 @@ impl<'de> MyDeserialize<'de> for SqlState {
     const SIZE: Option<usize> = Some(6);
 
     type Size = Fixed<6>;
-
-    ghost takes_memory = { false };
 
     type Ctx = ();
 
@@ -83,7 +80,7 @@ impl<'de> MyDeserialize<'de> for SqlState {
         })
     }
 
-    ghost size_is = { λ _. spec.size-sql_state };
+    ghost size_is = { λ _. unfold spec.sql_state in size-block 6 (spec.sql_state_fields.form tt) };
 }
 
 /// An SQL state takes 6 bytes.
