@@ -1,6 +1,5 @@
 -- The answer to a prepared statement.
-use Rattle.std.specs.Prelude.{◌≡◌, ℕ, Some, refl}
-use Rattle.mysql_wire.specs.Form.{size-block}
+use Rattle.std.specs.Prelude.{ℕ, refl}
 use Rattle.mysql_wire.specs.Codec.{Codec, Fields}
 use Rattle.mysql_wire.specs.Codecs.{◌>>=◌, give, field, block, packet, const_u8, skip, u16, u32}
 use Rattle.mysql_stmt.specs.declared.stmt.StmtPacket.{StmtPacket}
@@ -26,10 +25,6 @@ stmt_fields = do
 -- twelve bytes
 unfoldable pub stmt : Codec (Unit {0}) StmtPacket
 stmt = packet (block 12 stmt_fields (λ p. refl)) (λ p. refl)
-
-pub size-stmt : (stmt.form tt).size ≡ Some 12
-unfolding stmt
-size-stmt = size-block 12 (stmt_fields.form tt)
 
 -- ---- the packet's numbers
 

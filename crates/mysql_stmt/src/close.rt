@@ -2,6 +2,7 @@
 #![tactic(auto, using(mysql_wire::proofs::Packets::packets), unfolding(crate::specs::Close::close))]
 
 ghost use Rattle.std.specs.Prelude.{◌≡◌};
+ghost use Rattle.mysql_stmt.specs.Close.{close};
 
 use mysql_wire::{ConstU8, LeU32, Parts, RawInt, Sink, parts};
 
@@ -28,8 +29,6 @@ impl ComStmtClose {
 }
 
 impl Parts for ComStmtClose {
-    ghost use Rattle.mysql_stmt.specs.Close.{close};
-
     ghost bytes = { close.bytes };
 
     #[inline(always)]

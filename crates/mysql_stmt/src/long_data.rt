@@ -3,7 +3,7 @@
 
 ghost use Rattle.std.specs.Prelude.{◌≡◌, IfOk};
 ghost use Rattle.std.specs.Cow.{cow_slice_items};
-ghost use Rattle.mysql_stmt.specs.LongData.{long_data_of};
+ghost use Rattle.mysql_stmt.specs.LongData.{long_data, long_data_of};
 
 use mysql_wire::{
     ConstFault, ConstU8, EofBytes, LeU16, LeU32, Parts, RawBytes, RawInt, Sink, parts,
@@ -72,8 +72,6 @@ impl<'a> ComStmtSendLongData<'a> {
 }
 
 impl Parts for ComStmtSendLongData<'_> {
-    ghost use Rattle.mysql_stmt.specs.LongData.{long_data};
-
     ghost bytes = { long_data.bytes };
 
     #[inline(always)]

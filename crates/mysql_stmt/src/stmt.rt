@@ -1,7 +1,9 @@
 //! The answer to a prepared statement.
 #![tactic(auto, using(mysql_wire::proofs::Packets::packets), unfolding(crate::specs::Stmt::stmt))]
 
-ghost use Rattle.std.specs.Prelude.{false, ◌≡◌, Some, refl};
+ghost use Rattle.std.specs.Prelude.{◌≡◌, Some};
+ghost use Rattle.mysql_wire.specs.Form.{size-block};
+ghost use Rattle.mysql_stmt.specs.Stmt as spec;
 
 use mysql_wire::{
     ConstFault, ConstU8, FaultOf, Fixed, LeU16, LeU32, MyDeserialize, ParseBuf, Parts, RawInt,
@@ -47,13 +49,9 @@ impl<'de> MyDeserialize<'de> for StmtPacket {
 
     type Size = Fixed<12>;
 
-    ghost takes_memory = { false };
-
     type Ctx = ();
 
-    ghost use Rattle.mysql_stmt.specs.Stmt.{stmt};
-
-    ghost form = { stmt.form };
+    ghost form = { spec.stmt.form };
 
     fn deserialize<'s>(_ctx: (), buf: &mut ParseBuf<'de>) -> Result<Self, FaultOf<'s>> {
         let mut fields: ParseBuf<'de> = buf.parse(12)?;
@@ -67,47 +65,41 @@ impl<'de> MyDeserialize<'de> for StmtPacket {
         })
     }
 
-    ghost use Rattle.mysql_stmt.specs.Stmt.{size-stmt};
-
-    ghost size_is = { λ _. size-stmt };
+    ghost size_is = { λ _. unfold spec.stmt in size-block 12 (spec.stmt_fields.form tt) };
 }
 
 impl StmtPacket {
-    ghost use Rattle.mysql_stmt.specs.Stmt.{statement_id, num_columns, num_params, warning_count};
-
     /// The number that the server gave the statement.
     pub fn statement_id(&self) -> u32
-        ensures value { result ≡ statement_id self.now }
+        ensures value { result ≡ spec.statement_id self.now }
     {
         self.statement_id.0
     }
 
     /// How many columns a row of the statement's result has.
     pub fn num_columns(&self) -> u16
-        ensures value { result ≡ num_columns self.now }
+        ensures value { result ≡ spec.num_columns self.now }
     {
         self.num_columns.0
     }
 
     /// How many parameters the statement asks.
     pub fn num_params(&self) -> u16
-        ensures value { result ≡ num_params self.now }
+        ensures value { result ≡ spec.num_params self.now }
     {
         self.num_params.0
     }
 
     /// How many warnings the server counts.
     pub fn warning_count(&self) -> u16
-        ensures value { result ≡ warning_count self.now }
+        ensures value { result ≡ spec.warning_count self.now }
     {
         self.warning_count.0
     }
 }
 
 impl Parts for StmtPacket {
-    ghost use Rattle.mysql_stmt.specs.Stmt.{stmt};
-
-    ghost bytes = { stmt.bytes };
+    ghost bytes = { spec.stmt.bytes };
 
     #[inline(always)]
     fn put<S: Sink>(&self, sink: &mut S) {
