@@ -1,6 +1,6 @@
 -- The first zero of some bytes.
-use Rattle.std.proofs.Common.{◌≡◌, ℕ, zero, suc, List, [], ◌∷◌, ◌++◌, take, drop, Some, None, Ok, Err, refl, ap, arith}
-use Rattle.std.proofs.lemmas.Bool.{eqb-true}
+use Rattle.std.proofs.Common.{◌≡◌, ℕ, zero, suc, List, [], ◌∷◌, ◌++◌, take, drop, slice_index_or, nat_eq, false, Some, None, Ok, Err, refl, ap, arith}
+use Rattle.std.proofs.lemmas.Bool.{eqb-false, eqb-true}
 use Rattle.memchr.specs.Find.{IsFirstByte, is_byte}
 use Rattle.mysql_wire.specs.declared.fault.FaultKind.TheVariants as kind
 use Rattle.mysql_wire.specs.Null.{HasNoZero, null_Spells, null_reads, null_string, before_zero}
@@ -65,8 +65,23 @@ before_zero-found bytes k h = before_zero-some (take k bytes) bytes (drop 1 (dro
 pub before_zero-all : (bytes : List ℕ) → IsFirstByte (is_byte 0) bytes None → before_zero bytes ≡ bytes
 before_zero-all bytes h = before_zero-none bytes (no-zero bytes h)
 
+-- the parts before and behind a place tell of the whole
+pub no-zero-parts : (k : ℕ) (bytes : List ℕ) → HasNoZero (take k bytes) → HasNoZero (drop k bytes) → HasNoZero bytes
+no-zero-parts zero bytes front behind = behind
+no-zero-parts (suc k) [] front behind = tt
+no-zero-parts (suc k) (zero ∷ bytes) front behind = absurd front
+no-zero-parts (suc k) (suc b ∷ bytes) front behind = no-zero-parts k bytes front behind
+
+-- one byte more
+pub no-zero-next : (k : ℕ) (bytes : List ℕ) → HasNoZero (take k bytes) → nat_eq (slice_index_or bytes k 0) 0 ≡ false → HasNoZero (take (suc k) bytes)
+no-zero-next k [] front at = tt
+no-zero-next zero (zero ∷ bytes) front at = absurd (eqb-false 0 0 at refl)
+no-zero-next zero (suc b ∷ bytes) front at = tt
+no-zero-next (suc k) (zero ∷ bytes) front at = absurd front
+no-zero-next (suc k) (suc b ∷ bytes) front at = no-zero-next k bytes front at
+
 pub ruleset null_strings = (null_string-there, null_string-missing)
 
-pub ruleset befores = (before_zero-found, before_zero-all)
+pub ruleset befores = (before_zero-found, before_zero-all, before_zero-none)
 
 pub ruleset zeros = (no-zero, zero-at)

