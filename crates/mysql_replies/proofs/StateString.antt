@@ -28,3 +28,5 @@ none-spelled f bytes xs p q = rw (p, q) (refl, refl)
 
 pub none-read : {A : Type 0} (f : Form A) (bytes : List ℕ) (xs : List A) → bytes ≡ [] → xs ≡ [] → (many f).reads bytes ≡ Ok (xs, [])
 none-read f bytes xs p q = (many f).only xs bytes [] (none-spelled f bytes xs p q)
+
+pub ruleset no_entries = (none-read, none-spelled)

@@ -134,6 +134,7 @@ impl<'a> OkPacket<'a> {
     /// The entries that the whole state string spells, none where there is no state.
     ///
     /// The fault is the first one of an entry. Without a state it takes no memory.
+    #[tactic(auto, using(crate::proofs::StateString::no_entries))]
     pub fn session_state_info(&self, alloc: Global) -> Result<Vec<SessionStateInfo<'_>>, Fault>
         ensures value { Answers true (items_of result) [] (state_string.reads (spec.state_bytes self.now)) }
         ensures absent { spec.session_state self.now ≡ None → items_of result ≡ Ok [] }

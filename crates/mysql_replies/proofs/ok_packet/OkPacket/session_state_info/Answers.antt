@@ -1,7 +1,7 @@
 use Rattle.std.proofs.Common.{rules}
 use Rattle.mysql_wire.specs.Seq.{items_of}
 use Rattle.mysql_replies.specs.SessionStateInfo.{session_state_info}
-use Rattle.mysql_replies.proofs.StateString.{at-end, spelled-at-end, none-read, none-spelled}
+use Rattle.mysql_replies.proofs.StateString.{at-end, spelled-at-end}
 use Rattle.mysql_replies.proofs.ok_packet.OkPacket.session_state_info.Goals as goal
 
 pub returns-in-Some-clause-value : goal.returns-in-Some-clause-value
@@ -9,9 +9,3 @@ returns-in-Some-clause-value c = at-end (session_state_info.form tt) (items_of c
 
 pub returns-in-Some-clause-spelled : goal.returns-in-Some-clause-spelled
 returns-in-Some-clause-spelled c = spelled-at-end (session_state_info.form tt) c.read_all.result _ c.new-entries.result c.read_all.new.buf (search rules) c.read_all.ensures.value
-
-pub returns-in-None-clause-value : goal.returns-in-None-clause-value
-returns-in-None-clause-value c = none-read (session_state_info.form tt) _ c.new.result.items (search rules) c.new.ensures.items
-
-pub returns-in-None-clause-spelled : goal.returns-in-None-clause-spelled
-returns-in-None-clause-spelled c = none-spelled (session_state_info.form tt) _ c.new.result.items (search rules) c.new.ensures.items
