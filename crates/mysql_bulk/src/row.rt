@@ -1,7 +1,7 @@
 //! Rows of a bulk request: their sizes, their lengths and their values.
 
-ghost use Rattle.std.specs.Prelude.{◌≡◌, ◌+◌, ◌≤◌, ◌^◌, ◌++◌, ◌∷◌, ◌↔◌, [], length, take, true, IsTrue, IfOk, OnOk, OnErr, MatchOption, vec_len, vec_capacity};
-ghost use Rattle.mysql_values.specs.Value.{content_of, contents_of};
+ghost use Rattle.std.specs.Prelude.{◌≡◌, ◌+◌, ◌≤◌, ◌^◌, ◌++◌, ◌∷◌, ◌↔◌, [], length, take, true, IsTrue, IfSome, IfNone, OnSome, OnOk, MatchOption, vec_len, vec_capacity};
+ghost use Rattle.mysql_values.specs.Value.{content_of, contents_of, size_of};
 ghost use Rattle.mysql_bulk.specs.Row.{row_size, values_size, contents_of_rows, EqualLengths};
 
 use mysql_values::{ParamType, Value};
@@ -67,44 +67,82 @@ pub(crate) fn append_row(values: &mut Vec<Value>, row: Vec<Value>)
     values.append(&mut row).unwrap();
 }
 
-/// Puts a copy of a value at the end, where there is room, or none where memory for it was refused. Of bytes it is made in
+/// Puts a copy of a value at the end, where there is room, and answers its bytes in a request: no more than `most`.
+///
+/// `None` where it has more, or where memory for it was refused: then nothing is put there. Of bytes the copy is made in
 /// one piece.
 // (each kind is pushed where it is known: through one value for all kinds a row of three takes some 100 instructions more)
-fn push_copy(alloc: Global, values: &mut Vec<Value>, value: &Value) -> Result<(), AllocError>
+#[inline(always)]
+fn push_copy(alloc: Global, values: &mut Vec<Value>, value: &Value, most: u64) -> Option<u64>
     requires { vec_len values.old + 1 ≤ vec_capacity values.old }
-    ensures ok { OnOk result (contents_of values.new.items ≡ contents_of values.old.items ++ content_of value.now ∷ []) }
-    ensures kept { OnOk result (take (vec_len values.old) values.new.items ≡ values.old.items) }
-    ensures count { OnOk result (vec_len values.new ≡ vec_len values.old + 1) }
-    ensures err { OnErr result (values.new.items ≡ values.old.items) }
+    ensures size { IfSome result (λ n. (n ≡ 1 + size_of value.now) × (n ≤ most)) }
+    ensures copy { OnSome result (contents_of values.new.items ≡ contents_of values.old.items ++ content_of value.now ∷ []) }
+    ensures kept { OnSome result (take (vec_len values.old) values.new.items ≡ values.old.items) }
+    ensures count { OnSome result (vec_len values.new ≡ vec_len values.old + 1) }
+    ensures none { IfNone result (values.new.items ≡ values.old.items) }
     ensures room { vec_capacity values.old ≤ vec_capacity values.new }
 {
     match value {
-        Value::NULL => values.push_reserved(Value::NULL),
-        Value::Int(n) => values.push_reserved(Value::Int(*n)),
-        Value::Bytes(bytes) => {
-            values.push_reserved(Value::Bytes(Vec::from_slice(alloc, bytes.as_slice())?))
+        Value::NULL if 1 <= most => {
+            values.push_reserved(Value::NULL);
+            Some(1)
         }
-        _ => values.push_reserved(value.clone()?),
+        Value::Int(n) if 9 <= most => {
+            values.push_reserved(Value::Int(*n));
+            Some(9)
+        }
+        Value::Bytes(bytes) if bytes.len() < 251 && bytes.len() as u64 + 2 <= most => {
+            let copy = Vec::from_slice(alloc, bytes.as_slice()).ok()?;
+            values.push_reserved(Value::Bytes(copy));
+            Some(bytes.len() as u64 + 2)
+        }
+        _ => push_any(values, value, most),
     }
-    Ok(())
 }
 
-/// Puts copies of the values of a row at the end, where there is room, or none where memory for one was refused.
+/// The same, for a value of any kind.
+#[inline(never)]
+fn push_any(values: &mut Vec<Value>, value: &Value, most: u64) -> Option<u64>
+    requires { vec_len values.old + 1 ≤ vec_capacity values.old }
+    ensures size { IfSome result (λ n. (n ≡ 1 + size_of value.now) × (n ≤ most)) }
+    ensures copy { OnSome result (contents_of values.new.items ≡ contents_of values.old.items ++ content_of value.now ∷ []) }
+    ensures kept { OnSome result (take (vec_len values.old) values.new.items ≡ values.old.items) }
+    ensures count { OnSome result (vec_len values.new ≡ vec_len values.old + 1) }
+    ensures none { IfNone result (values.new.items ≡ values.old.items) }
+    ensures room { vec_capacity values.old ≤ vec_capacity values.new }
+{
+    let size = value.bin_len().checked_add(1)?;
+    if most < size {
+        return None;
+    }
+    values.push_reserved(value.clone().ok()?);
+    Some(size)
+}
+
+/// Puts copies of the values of a row at the end, where there is room, and answers its bytes in a request: no more than
+/// `most`.
+///
+/// `None` where it has more, or where memory for one was refused: then nothing is put there.
+#[inline(always)]
 pub(crate) fn append_copies(
     alloc: Global,
     values: &mut Vec<Value>,
     row: &[Value],
-) -> Result<(), AllocError>
+    most: u64,
+) -> Option<u64>
     requires { vec_len values.old + length row.now ≤ vec_capacity values.old }
-    ensures ok { OnOk result (contents_of values.new.items ≡ contents_of values.old.items ++ contents_of row.now) }
-    ensures err { OnErr result (values.new.items ≡ values.old.items) }
+    ensures size { IfSome result (λ n. (n ≡ values_size row.now) × (n ≤ most)) }
+    ensures copies { OnSome result (contents_of values.new.items ≡ contents_of values.old.items ++ contents_of row.now) }
+    ensures none { IfNone result (values.new.items ≡ values.old.items) }
 {
     let before = values.len();
+    let mut left = most;
     for value in row {
-        if let Err(e) = push_copy(alloc, values, value) {
+        let Some(size) = push_copy(alloc, values, value, left) else {
             values.truncate(before);
-            return Err(e);
-        }
+            return None;
+        };
+        left -= size;
     }
-    Ok(())
+    Some(most - left)
 }

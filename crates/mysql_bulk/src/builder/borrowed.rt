@@ -1,13 +1,18 @@
 //! Rows of which a builder takes copies.
 
-ghost use Rattle.std.specs.Prelude.{◌≡◌};
-ghost use Rattle.mysql_values.specs.Value.{contents_of};
-ghost use Rattle.mysql_bulk.specs.Builder.{AddsCopy};
+ghost use Rattle.std.specs.Prelude.{◌≡◌, ◌+◌, ◌≤◌, ◌++◌, ◌∷◌, [], length, IfSome, List, ℕ, sum_by};
+ghost use Rattle.std.specs.Bool.{OnTrue, OnFalse};
+ghost use Rattle.mysql_cuts.specs.Cut.{PartFits};
+ghost use Rattle.mysql_values.specs.Value.{Content, contents_of};
+ghost use Rattle.mysql_bulk.specs.Builder.{TakesArity, RowFits, AddsCopy, after_row};
+ghost use Rattle.mysql_bulk.specs.Row.{row_size, rows_packing};
 
 use super::ComStmtBulkExecuteRequestBuilder;
 use crate::declared_types::join_row;
 use crate::error::BulkRowRefusal;
 use crate::row::{append_copies, find_room};
+use crate::size::request_len;
+use mysql_cuts::BulkRule;
 use mysql_values::Value;
 
 impl<'a> ComStmtBulkExecuteRequestBuilder<'a> {
@@ -20,30 +25,74 @@ impl<'a> ComStmtBulkExecuteRequestBuilder<'a> {
     pub fn add_row_slice(&mut self, row: &[Value]) -> Result<bool, BulkRowRefusal>
         ensures { AddsCopy self.old (contents_of row.now) result self.new }
     {
-        let arity = row.len();
-        if !self.takes_arity(arity) {
+        if !self.takes_arity(row.len()) {
             return Err(BulkRowRefusal::MixedArity);
         }
-        let Some(size) = self.size_after(row) else {
-            return if self.has_rows() {
-                Ok(false)
-            } else {
-                Err(BulkRowRefusal::TooLarge)
-            };
+        if self.takes_copy(row) {
+            return Ok(true);
+        }
+        // (nothing changed: why no copy waits is found out apart)
+        if self.size_after(row).is_some() {
+            Err(BulkRowRefusal::Memory)
+        } else if self.has_rows() {
+            Ok(false)
+        } else {
+            Err(BulkRowRefusal::TooLarge)
+        }
+    }
+
+    /// Whether a copy of a row, which has the arity, fits with the rows that wait and now waits too. Where memory was refused,
+    /// it does not wait either.
+    // (its bytes are counted while it is copied: that takes some 50 instructions less for a row of three values)
+    #[inline(always)]
+    fn takes_copy(&mut self, row: &[Value]) -> bool
+        requires { TakesArity self.old.arity (length (contents_of row.now)) }
+        ensures waits { OnTrue result (RowFits self.old (contents_of row.now) × (self.new ≡ after_row self.old (contents_of row.now))) }
+        ensures stays { OnFalse result (self.new ≡ self.old) }
+    {
+        let arity = row.len();
+        let Some(most) = most_bytes(
+            self.rule,
+            self.limit,
+            self.types_due,
+            self.count,
+            self.size,
+            arity,
+        ) else {
+            return false;
         };
         let Some(count) = self.count.checked_add(1) else {
-            return Err(BulkRowRefusal::Memory);
+            return false;
         };
         let Ok(()) = find_room(&mut self.values, &mut self.types, self.types_due, arity) else {
-            return Err(BulkRowRefusal::Memory);
+            return false;
         };
-        let Ok(()) = append_copies(self.alloc, &mut self.values, row) else {
-            return Err(BulkRowRefusal::Memory);
+        let Some(size) = append_copies(self.alloc, &mut self.values, row, most) else {
+            return false;
         };
         join_row(&mut self.types, self.types_due, row);
-        self.size = size;
+        self.size += size;
         self.count = count;
         self.arity = Some(arity);
-        Ok(true)
+        true
     }
+}
+
+/// How many bytes a further row may have, if a further one may be in a request with those that wait.
+fn most_bytes(
+    rule: BulkRule,
+    limit: u64,
+    types: bool,
+    count: usize,
+    size: u64,
+    arity: usize,
+) -> Option<u64>
+    ensures bound { IfSome result (λ most. size + most ≤ limit) }
+    ensures fits { IfSome result (λ most. (rows : List (List Content)) (row : List Content) → length rows ≡ count → size ≡ sum_by row_size rows → length row ≡ arity → row_size row ≤ most
+        → PartFits (rows_packing rule limit arity) types (rows ++ row ∷ [])) }
+{
+    if rule.max_rows.is_some_and(|rows| rows <= count) {
+        return None;
+    }
+    limit.checked_sub(request_len(arity, types, size)?)
 }
