@@ -14,6 +14,9 @@ ghost use Rattle.mysql_session.specs.SessionStateChange.{session_state_change, s
 ghost use Rattle.mysql_session.specs.SystemVariable.{system_variable, SystemVariableFits};
 ghost use Rattle.mysql_session.specs.SystemVariables.{system_variables};
 
+pub use crate::session_state_change::session_state_change_has_no_constant_size;
+pub use crate::system_variable::system_variable_has_no_constant_size;
+pub use crate::system_variables::system_variables_have_no_constant_size;
 use std::hash::Hash;
 
 /// What is written of each part of a change is read again, whatever follows.

@@ -1,6 +1,6 @@
 //! A block of so many bytes, whose fields are read from it alone.
 
-ghost use Rattle.std.specs.Prelude.{false, refl};
+ghost use Rattle.std.specs.Prelude.{false, ◌≡◌, refl};
 ghost use Rattle.mysql_wire.specs.Form.{bytes};
 
 use crate::buf::ParseBuf;
@@ -31,4 +31,11 @@ impl<'de> MyDeserialize<'de> for ParseBuf<'de> {
     }
 
     ghost size_is = { λ _. refl };
+}
+
+/// A block has no constant size.
+pub fn block_has_no_constant_size() -> Option<usize>
+    ensures { result ≡ None }
+{
+    <ParseBuf as MyDeserialize>::SIZE
 }

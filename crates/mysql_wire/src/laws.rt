@@ -18,6 +18,7 @@ mod equality;
 mod faults;
 mod lists;
 
+pub use crate::block::block_has_no_constant_size;
 use crate::proto::MyDeserialize;
 pub use byte_strings::{
     array_again, bare_string_again, const_bytes_again, null_string_again, rest_again,
