@@ -1,6 +1,6 @@
 //! Laws over the forms of values.
 
-ghost use Rattle.std.specs.Prelude.{◌≡◌, ◌<◌, ◌^◌, ◌++◌, ℕ, List, Bool, Ok, Some, length};
+ghost use Rattle.std.specs.Prelude.{◌≡◌, ◌<◌, ◌^◌, ◌++◌, ℕ, List, Bool, Ok, length};
 ghost use Rattle.mysql_wire.specs.declared.codes.column_type.ColumnType.{ColumnType};
 ghost use Rattle.mysql_values.specs.Value.{Content, bin, bin_size, content_of};
 ghost use Rattle.mysql_values.specs.ValueDeserializer.{bin_value};
@@ -11,8 +11,8 @@ ghost use Rattle.mysql_values.specs.ContentEq.{content_eq};
 ghost use Rattle.mysql_values.specs.ParamType.{param_type, type_flags};
 
 use crate::param_type::ParamType;
-use crate::value_deserializer::{BinValue, TextValue, ValueDeserializer};
-use mysql_wire::MyDeserialize;
+pub use crate::param_type::param_type_size;
+pub use crate::value_deserializer::no_value_has_a_constant_size;
 
 /// The binary form of a value has the length that `Value::bin_len` answers.
 #[tactic(auto, using(crate::proofs::Sizes::sizes))]
@@ -39,27 +39,10 @@ pub fn sent_value_agrees()
     ensures { (content : Content) → IsInRange content → Agrees (sent_type content) (is_uint content) content }
 {}
 
-/// No value has a constant size, neither in text nor in its binary form.
-pub fn no_value_has_a_constant_size() -> (Option<usize>, Option<usize>)
-    ensures { result ≡ record { 0 = None; 1 = None } }
-{
-    (
-        <ValueDeserializer<TextValue> as MyDeserialize>::SIZE,
-        <ValueDeserializer<BinValue> as MyDeserialize>::SIZE,
-    )
-}
-
 /// Values are equal where they hold the same: the same kind, with the same bytes or numbers.
 pub fn equal_values_hold_the_same()
     ensures { (a b : Value) → ⟦<crate::value::Value as PartialEq>⟧.eq a b ≡ content_eq (content_of a) (content_of b) }
 {}
-
-/// A parameter type takes two bytes.
-pub fn param_type_size() -> Option<usize>
-    ensures { result ≡ Some 2 }
-{
-    <ParamType as MyDeserialize>::SIZE
-}
 
 /// What is written of a parameter type is read again, whatever follows.
 #[tactic(auto, using(mysql_wire::proofs::Packets::packets), unfolding(crate::specs::ParamType::param_type))]

@@ -89,6 +89,13 @@ impl<'de> MyDeserialize<'de> for ParamType {
     ghost size_is = { λ _. size-param_type };
 }
 
+/// A parameter type takes two bytes.
+pub fn param_type_size() -> Option<usize>
+    ensures { result ≡ Some 2 }
+{
+    <ParamType as MyDeserialize>::SIZE
+}
+
 impl Parts for ParamType {
     ghost use Rattle.mysql_values.specs.ParamType.{param_type};
 

@@ -221,6 +221,13 @@ impl<'de> MyDeserialize<'de> for Day {
     ghost size_is = { λ _. size-day };
 }
 
+/// A day takes four bytes.
+pub fn day_size() -> Option<usize>
+    ensures { result ≡ Some 4 }
+{
+    <Day as MyDeserialize>::SIZE
+}
+
 impl<'de> MyDeserialize<'de> for Clock {
     const SIZE: Option<usize> = Some(3);
 
@@ -244,6 +251,13 @@ impl<'de> MyDeserialize<'de> for Clock {
     }
 
     ghost size_is = { λ _. size-clock };
+}
+
+/// The time on a clock takes three bytes.
+pub fn clock_size() -> Option<usize>
+    ensures { result ≡ Some 3 }
+{
+    <Clock as MyDeserialize>::SIZE
 }
 
 impl<'de> MyDeserialize<'de> for DateTime {
@@ -316,4 +330,14 @@ impl<'de> MyDeserialize<'de> for TimeSpan {
     }
 
     ghost size_is = { λ _. size-time_span };
+}
+
+/// Neither a day with its time nor a span of time has a constant size.
+pub fn no_date_or_time_has_a_constant_size() -> (Option<usize>, Option<usize>)
+    ensures { result ≡ record { 0 = None; 1 = None } }
+{
+    (
+        <DateTime as MyDeserialize>::SIZE,
+        <TimeSpan as MyDeserialize>::SIZE,
+    )
 }

@@ -262,3 +262,13 @@ impl<'de> MyDeserialize<'de> for ValueDeserializer<BinValue> {
 
     ghost size_is = { λ _. refl };
 }
+
+/// No value has a constant size, neither in text nor in its binary form.
+pub fn no_value_has_a_constant_size() -> (Option<usize>, Option<usize>)
+    ensures { result ≡ record { 0 = None; 1 = None } }
+{
+    (
+        <ValueDeserializer<TextValue> as MyDeserialize>::SIZE,
+        <ValueDeserializer<BinValue> as MyDeserialize>::SIZE,
+    )
+}
