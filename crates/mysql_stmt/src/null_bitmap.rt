@@ -178,14 +178,15 @@ impl<T> AsSlice<u8> for NullBitmap<'_, T> {
 }
 
 impl<T> Clone for NullBitmap<'_, T> {
-    ghost is_clone = { λ b copy. copy.bytes ≡ b.bytes };
+    ghost is_clone = { λ b copy. copy ≡ b };
 
     /// The same bytes, copied where the bitmap owns them.
     fn clone(&self) -> Result<Self, AllocError> {
-        Ok(NullBitmap {
-            bytes: self.bytes.clone()?,
-            side: PhantomData,
-        })
+        let bytes = match &self.bytes {
+            CowSlice::Borrowed(bytes) => CowSlice::Borrowed(bytes),
+            CowSlice::Owned(bytes) => CowSlice::Owned(bytes.clone()?),
+        };
+        Ok(NullBitmap::from_bytes(bytes))
     }
 }
 
