@@ -33,8 +33,10 @@ impl IntRepr for LenEnc {
     #[tactic(auto, using(crate::proofs::Tails::tails), unfolding(crate::specs::LenEnc::lenenc))]
     fn deserialize<'s>(buf: &mut ParseBuf<'_>) -> Result<u64, FaultOf<'s>> {
         let first: RawInt<u8> = buf.parse(())?;
+        if first.0 <= 250 {
+            return Ok(u64::from(first.0));
+        }
         match first.0 {
-            0..=250 => Ok(u64::from(first.0)),
             252 => {
                 let number: RawInt<LeU16> = buf.parse(())?;
                 Ok(u64::from(number.0))
