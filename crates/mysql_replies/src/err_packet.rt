@@ -101,7 +101,7 @@ impl<'de> MyDeserialize<'de> for ErrPacket<'de> {
         let _header: ErrPacketHeader = head.parse_unchecked(())?;
         let code: RawInt<LeU16> = head.parse_unchecked(())?;
         let takes_progress = capabilities.contains(CapabilityFlags::CLIENT_PROGRESS_OBSOLETE);
-        if code.0 == PROGRESS_CODE && takes_progress {
+        if takes_progress && code.0 == PROGRESS_CODE {
             return Ok(ErrPacket::Progress(buf.parse(())?));
         }
         let has_state = capabilities.contains(CapabilityFlags::CLIENT_PROTOCOL_41);
