@@ -97,10 +97,11 @@ pub fn is_least(n: u64, a: u64, b: u64) -> bool
     }
 }
 
+pub mod laws;
 pub mod sizes;
 """
 
-SIZES = """//! Constants of traits: no clause is tied to that of a text, and the law that answers it is of the module.
+SIZES = """//! Constants of traits: no clause is tied to those of types with a lifetime, and laws answer them, here or in `laws`.
 
 ghost use Rattle.std.specs.Prelude.{◌≡◌};
 
@@ -123,11 +124,32 @@ impl<'a> Width for Text<'a> {
     const SIZE: u64 = 3;
 }
 
+/// A word of two bytes.
+pub struct Word<'a>(&'a [u8]);
+
+impl<'a> Width for Word<'a> {
+    const SIZE: u64 = 2;
+}
+
 /// A text takes three bytes.
 pub fn text_size() -> u64
     ensures { result ≡ 3 }
 {
     <Text as Width>::SIZE
+}
+"""
+
+LAWS = """//! The laws of this crate.
+
+ghost use Rattle.std.specs.Prelude.{◌≡◌};
+
+use crate::sizes::{Width, Word};
+
+/// A word takes two bytes.
+pub fn word_size() -> u64
+    ensures { result ≡ 2 }
+{
+    <Word as Width>::SIZE
 }
 """
 
@@ -230,6 +252,7 @@ BODIES = {
     "next_not_there": ("n - 1", "n + 2"),
     "next_unread": ("    n + 1", "    n + one"),
     "text_of_four": ("SIZE: u64 = 3", "SIZE: u64 = 4"),
+    "word_of_three": ("SIZE: u64 = 2", "SIZE: u64 = 3"),
 }
 
 OUTCOMES = (
@@ -241,6 +264,7 @@ OUTCOMES = (
     ("tiny/next_not_there", "FAILED: it cannot be applied: its old text stands 0 times"),
     ("tiny/next_unread", "FAILED: it cannot be read: src/lib.rt:"),
     ("tiny/text_of_four", "refused: sizes::text_size: the search did not prove `returns`"),
+    ("tiny/word_of_three", "refused: laws::word_size: the search did not prove `returns`"),
     ("tiny/wrong-bodies/notes.txt", "FAILED: it is no wrong body"),
 )
 
@@ -258,6 +282,7 @@ class WholeRun(unittest.TestCase):
         crate = f"{self.top}/crates/tiny"
         write(f"{self.top}/crates.txt", "tiny:  # alone\n")
         write(f"{crate}/src/lib.rt", LIBRARY)
+        write(f"{crate}/src/laws.rt", LAWS)
         write(f"{crate}/src/sizes.rt", SIZES)
         write(f"{crate}/proofs/is_least/Answers.antt", ANSWERS)
         write(f"{crate}/wrong-bodies/notes.txt", "")
@@ -276,8 +301,8 @@ class WholeRun(unittest.TestCase):
         self.assertEqual(sorted(said), sorted(name for name, _ in OUTCOMES), lines)
         for name, wanted in OUTCOMES:
             self.assertTrue(said[name].startswith(wanted), said[name])
-        self.assertEqual((status, lines[-1]), (1, "3 passed, 6 failed"))
-        self.assertTrue(lines[-2].endswith(" s of processors: tiny 9"), lines[-2])
+        self.assertEqual((status, lines[-1]), (1, "4 passed, 6 failed"))
+        self.assertTrue(lines[-2].endswith(" s of processors: tiny 10"), lines[-2])
 
     def test_no_body_is_no_success(self):
         self.assertEqual(self.run_on("--only", "none.edit")[0], 1)

@@ -99,8 +99,9 @@ class Trial:
             elif len(found) > 1:
                 self.try_round([body])
             elif body.constants and body.functions:
-                # (a constant that no clause is tied to: the law that answers it stands in its module)
-                body.judge_by(body.constants)
+                # (a constant that no clause is tied to: the law that answers it stands in its module, or among the laws)
+                laws = {"laws"} if "src/laws.rt" in self.texts else set()
+                body.judge_by(body.constants | laws)
                 self.try_round([body])
             else:
                 self.say(body.name, False, verdicts.shortcoming(names, report))
