@@ -1,5 +1,5 @@
 -- The entries of a state string.
-use Rattle.std.specs.Prelude.{◌≡◌, ℕ, List, [], None, Ok, Err, refl}
+use Rattle.std.specs.Prelude.{ℕ, List, [], Ok, Err, refl}
 use Rattle.mysql_wire.specs.declared.codes.session_state_type.SessionStateType.{SessionStateType}
 use Rattle.mysql_wire.specs.Codec.{Codec, Fields}
 use Rattle.mysql_wire.specs.Codecs.{◌>>=◌, give, field, packet, coded, string_lenenc}
@@ -27,10 +27,6 @@ session_state_info_fields = do
 
 unfoldable pub session_state_info : Codec (Unit {0}) SessionStateInfo
 session_state_info = packet session_state_info_fields (λ i. refl)
-
-pub size-session_state_info : (session_state_info.form tt).size ≡ None
-unfolding session_state_info
-size-session_state_info = refl
 
 -- a state string: entries, one after another to the end
 abbrev pub state_string : Form (List SessionStateInfo)

@@ -315,13 +315,6 @@ impl<'de> MyDeserialize<'de> for Column {
     ghost size_is = { λ _. unfold spec.column in refl };
 }
 
-/// A column has no constant size.
-pub fn column_has_no_constant_size() -> Option<usize>
-    ensures value { result ≡ None }
-{
-    <Column as MyDeserialize>::SIZE
-}
-
 impl Parts for Column {
     ghost bytes = { spec.column.bytes };
 

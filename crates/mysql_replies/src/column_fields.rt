@@ -78,13 +78,6 @@ impl<'de> MyDeserialize<'de> for ColumnFields {
     ghost size_is = { λ _. unfold spec.column_fields in size-block 13 (spec.column_field_list.form tt) };
 }
 
-/// The fixed fields of a column take 13 bytes.
-pub fn column_fields_size() -> Option<usize>
-    ensures value { result ≡ Some 13 }
-{
-    <ColumnFields as MyDeserialize>::SIZE
-}
-
 impl Parts for ColumnFields {
     ghost bytes = { spec.column_fields.bytes };
 

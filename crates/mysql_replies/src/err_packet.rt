@@ -111,13 +111,6 @@ impl<'de> MyDeserialize<'de> for ErrPacket<'de> {
     ghost size_is = { λ _. unfold spec.err_packet in refl };
 }
 
-/// An error or a progress report has no constant size.
-pub fn err_packet_has_no_constant_size() -> Option<usize>
-    ensures value { result ≡ None }
-{
-    <ErrPacket<'static> as MyDeserialize>::SIZE
-}
-
 impl Parts for ErrPacket<'_> {
     ghost bytes = { spec.err_packet.bytes };
 

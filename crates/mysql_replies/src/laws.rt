@@ -3,7 +3,7 @@
 //! Each law is a function with nothing in it, whose contract holds for all values.
 #![tactic(auto, using(mysql_wire::proofs::Packets::packets))]
 
-ghost use Rattle.std.specs.Prelude.{◌≡◌, ◌++◌, [], List, ℕ, Bool, Some, true};
+ghost use Rattle.std.specs.Prelude.{◌≡◌, ◌++◌, [], List, ℕ, Bool, None, Some, true};
 ghost use Rattle.mysql_wire.specs.Flags.{CapabilityFlags};
 ghost use Rattle.mysql_replies.specs.declared.column.Column.{Column};
 ghost use Rattle.mysql_replies.specs.declared.err_packet.ErrPacket.{ErrPacket};
@@ -20,14 +20,7 @@ ghost use Rattle.mysql_replies.specs.ServerError.{server_error};
 ghost use Rattle.mysql_replies.specs.SessionStateInfo.{session_state_info, state_string};
 ghost use Rattle.mysql_replies.specs.SqlState.{sql_state};
 
-pub use crate::column::column_has_no_constant_size;
-pub use crate::column_fields::column_fields_size;
-pub use crate::err_packet::err_packet_has_no_constant_size;
-pub use crate::local_infile::local_infile_has_no_constant_size;
-pub use crate::progress_report::progress_report_has_no_constant_size;
-pub use crate::server_error::server_error_has_no_constant_size;
-pub use crate::session_state_info::session_state_info_has_no_constant_size;
-pub use crate::sql_state::sql_state_size;
+use mysql_wire::MyDeserialize;
 use std::hash::Hash;
 
 /// What is written of a request for a local file is read again, where nothing follows.
@@ -81,3 +74,59 @@ pub fn state_string_once()
 pub fn column_again()
     ensures spelled { (c : Column) (rest : List ℕ) → column.fits tt c rest → (column.form tt).Spells c (column.bytes c ++ rest) rest }
 {}
+
+/// A column has no constant size.
+pub fn column_has_no_constant_size() -> Option<usize>
+    ensures value { result ≡ None }
+{
+    <crate::column::Column as MyDeserialize>::SIZE
+}
+
+/// The fixed fields of a column take 13 bytes.
+pub fn column_fields_size() -> Option<usize>
+    ensures value { result ≡ Some 13 }
+{
+    <crate::column_fields::ColumnFields as MyDeserialize>::SIZE
+}
+
+/// An error or a progress report has no constant size.
+pub fn err_packet_has_no_constant_size() -> Option<usize>
+    ensures value { result ≡ None }
+{
+    <crate::err_packet::ErrPacket<'static> as MyDeserialize>::SIZE
+}
+
+/// A request for a local file has no constant size.
+pub fn local_infile_has_no_constant_size() -> Option<usize>
+    ensures value { result ≡ None }
+{
+    <crate::local_infile::LocalInfilePacket<'static> as MyDeserialize>::SIZE
+}
+
+/// A progress report has no constant size.
+pub fn progress_report_has_no_constant_size() -> Option<usize>
+    ensures value { result ≡ None }
+{
+    <crate::progress_report::ProgressReport<'static> as MyDeserialize>::SIZE
+}
+
+/// An error has no constant size.
+pub fn server_error_has_no_constant_size() -> Option<usize>
+    ensures value { result ≡ None }
+{
+    <crate::server_error::ServerError<'static> as MyDeserialize>::SIZE
+}
+
+/// An entry of a state string has no constant size.
+pub fn session_state_info_has_no_constant_size() -> Option<usize>
+    ensures value { result ≡ None }
+{
+    <crate::session_state_info::SessionStateInfo<'static> as MyDeserialize>::SIZE
+}
+
+/// An SQL state takes 6 bytes.
+pub fn sql_state_size() -> Option<usize>
+    ensures value { result ≡ Some 6 }
+{
+    <crate::sql_state::SqlState as MyDeserialize>::SIZE
+}

@@ -93,13 +93,6 @@ impl<'de> MyDeserialize<'de> for LocalInfilePacket<'de> {
     ghost size_is = { λ _. unfold infile.local_infile in refl };
 }
 
-/// A request for a local file has no constant size.
-pub fn local_infile_has_no_constant_size() -> Option<usize>
-    ensures value { result ≡ None }
-{
-    <LocalInfilePacket<'static> as MyDeserialize>::SIZE
-}
-
 impl Parts for LocalInfilePacket<'_> {
     ghost bytes = { infile.local_infile.bytes };
 

@@ -116,13 +116,6 @@ impl<'de> MyDeserialize<'de> for ProgressReport<'de> {
     ghost size_is = { λ _. unfold spec.progress_report in refl };
 }
 
-/// A progress report has no constant size.
-pub fn progress_report_has_no_constant_size() -> Option<usize>
-    ensures value { result ≡ None }
-{
-    <ProgressReport<'static> as MyDeserialize>::SIZE
-}
-
 impl Parts for ProgressReport<'_> {
     ghost bytes = { spec.progress_report.bytes };
 

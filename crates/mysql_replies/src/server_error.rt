@@ -109,13 +109,6 @@ impl<'de> MyDeserialize<'de> for ServerError<'de> {
     ghost size_is = { λ _. unfold spec.server_error in refl };
 }
 
-/// An error has no constant size.
-pub fn server_error_has_no_constant_size() -> Option<usize>
-    ensures value { result ≡ None }
-{
-    <ServerError<'static> as MyDeserialize>::SIZE
-}
-
 impl Parts for ServerError<'_> {
     ghost bytes = { spec.server_error.bytes };
 

@@ -1,7 +1,7 @@
 //! An entry of the state string of an OK packet.
 #![tactic(auto, using(mysql_wire::proofs::Packets::packets), unfolding(crate::specs::SessionStateInfo::session_state_info))]
 
-ghost use Rattle.std.specs.Prelude.{true, false, ◌≡◌, [], List, ℕ, None, refl, IfOk};
+ghost use Rattle.std.specs.Prelude.{true, ◌≡◌, [], List, ℕ, None, refl, IfOk};
 ghost use Rattle.mysql_wire.specs.Reading.{Answers};
 ghost use Rattle.mysql_session.specs.SessionStateChange.{session_state_change};
 ghost use Rattle.mysql_replies.specs.SessionStateInfo as spec;
@@ -67,8 +67,6 @@ impl<'de> MyDeserialize<'de> for SessionStateInfo<'de> {
 
     type Size = AnyWidth;
 
-    ghost takes_memory = { false };
-
     type Ctx = ();
 
     ghost form = { spec.session_state_info.form };
@@ -80,14 +78,7 @@ impl<'de> MyDeserialize<'de> for SessionStateInfo<'de> {
         })
     }
 
-    ghost size_is = { λ _. spec.size-session_state_info };
-}
-
-/// An entry of a state string has no constant size.
-pub fn session_state_info_has_no_constant_size() -> Option<usize>
-    ensures value { result ≡ None }
-{
-    <SessionStateInfo<'static> as MyDeserialize>::SIZE
+    ghost size_is = { λ _. unfold spec.session_state_info in refl };
 }
 
 impl Parts for SessionStateInfo<'_> {

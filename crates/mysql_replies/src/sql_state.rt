@@ -83,13 +83,6 @@ impl<'de> MyDeserialize<'de> for SqlState {
     ghost size_is = { λ _. unfold spec.sql_state in size-block 6 (spec.sql_state_fields.form tt) };
 }
 
-/// An SQL state takes 6 bytes.
-pub fn sql_state_size() -> Option<usize>
-    ensures value { result ≡ Some 6 }
-{
-    <SqlState as MyDeserialize>::SIZE
-}
-
 impl Parts for SqlState {
     ghost bytes = { spec.sql_state.bytes };
 
