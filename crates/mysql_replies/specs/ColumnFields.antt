@@ -20,10 +20,6 @@ fields_of character_set column_length column_type flags decimals = record {
   filler = record {};
 }
 
--- fields of this type, all else 0
-abbrev pub fields_of_type : ColumnType → ColumnFields
-fields_of_type column_type = fields_of 0 0 column_type (record { 0 = 0; 1 = record {} }) 0
-
 -- 0c, the character set, the length, the type, the flags, the decimals, and two bytes with any values
 abbrev pub column_field_list : Fields (Unit {0}) ColumnFields ColumnFields
 column_field_list = do

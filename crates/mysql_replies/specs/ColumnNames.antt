@@ -1,5 +1,5 @@
 -- The names of a column, and how they stand behind one another in one buffer.
-use Rattle.std.specs.Prelude.{ℕ, ◌≤◌, List, [], length, take, slice_range, refl}
+use Rattle.std.specs.Prelude.{ℕ, ◌≤◌, List, length, take, slice_range, refl}
 use Rattle.mysql_wire.specs.Codec.{Codec, Fields}
 use Rattle.mysql_wire.specs.Codecs.{◌>>=◌, give, field, packet, string_lenenc}
 use Rattle.mysql_replies.specs.declared.column_names.ColumnMeta.{ColumnMeta}
@@ -7,9 +7,6 @@ use Rattle.mysql_replies.specs.declared.column_names.ColumnNames.TheInside.{Insi
 
 abbrev pub meta_of : List ℕ → List ℕ → List ℕ → List ℕ → List ℕ → ColumnMeta
 meta_of schema table org_table name org_name = record { schema = schema; table = table; org_table = org_table; name = name; org_name = org_name }
-
-abbrev pub no_names : ColumnMeta
-no_names = meta_of [] [] [] [] []
 
 -- five strings, length-encoded
 abbrev pub column_meta_fields : Fields (Unit {0}) ColumnMeta ColumnMeta

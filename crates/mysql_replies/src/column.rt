@@ -9,8 +9,8 @@ use crate::column_fields::ColumnFields;
 use crate::column_names::{ColumnMeta, ColumnNames, borrowed};
 use bstr::ByteSlice;
 use mysql_wire::{
-    AnyWidth, ColumnFlags, ColumnType, Const, ConstBytes, ConstBytesValue, ConstFault, FaultOf,
-    MyDeserialize, ParseBuf, Parts, RawInt, Sink, parts,
+    AnyWidth, ColumnFlags, ColumnType, Const, ConstBytes, ConstBytesValue, ConstFault, ConstU8,
+    FaultOf, MyDeserialize, ParseBuf, Parts, RawInt, Sink, Skip, parts,
 };
 use std::alloc::{AllocError, Global};
 use std::borrow::CowStr;
@@ -76,8 +76,16 @@ impl Column {
     {
         Column {
             catalog: ConstBytes::new(),
-            meta: ColumnNames::empty(),
-            fields: ColumnFields::of_type(column_type),
+            meta: ColumnNames::default(),
+            fields: ColumnFields {
+                fixed_length_fields_len: ConstU8::new(),
+                character_set: RawInt::new(0),
+                column_length: RawInt::new(0),
+                column_type: Const::new(column_type),
+                flags: Const::new(ColumnFlags::default()),
+                decimals: RawInt::new(0),
+                filler: Skip,
+            },
         }
     }
 

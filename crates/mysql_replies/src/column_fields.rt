@@ -36,23 +36,6 @@ pub(crate) struct ColumnFields {
     pub(crate) filler: Skip<2>,
 }
 
-impl ColumnFields {
-    /// Fields of this type, all else 0.
-    pub(crate) fn of_type(column_type: ColumnType) -> Self
-        ensures value { result ≡ spec.fields_of_type column_type }
-    {
-        ColumnFields {
-            fixed_length_fields_len: ConstU8::new(),
-            character_set: RawInt::new(0),
-            column_length: RawInt::new(0),
-            column_type: Const::new(column_type),
-            flags: Const::new(ColumnFlags::default()),
-            decimals: RawInt::new(0),
-            filler: Skip,
-        }
-    }
-}
-
 impl<'de> MyDeserialize<'de> for ColumnFields {
     const SIZE: Option<usize> = Some(13);
 

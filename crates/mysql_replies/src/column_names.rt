@@ -65,7 +65,7 @@ impl Parts for ColumnMeta<'_> {
 
 /// The names of a column behind one another, in memory that is taken at once: each begins where the one before it ends,
 /// and the original name runs to the end.
-#[derive(Drop)]
+#[derive(Default, Drop)]
 pub(crate) struct ColumnNames {
     bytes: RawBytes<'static, EofBytes>,
     schema_end: usize,
@@ -94,19 +94,6 @@ pub(crate) fn borrowed(name: &[u8]) -> RawBytes<'_, LenEnc>
 }
 
 impl ColumnNames {
-    /// Empty names.
-    pub(crate) fn empty() -> Self
-        ensures value { result ≡ spec.no_names }
-    {
-        ColumnNames {
-            bytes: RawBytes::default(),
-            schema_end: 0,
-            table_end: 0,
-            org_table_end: 0,
-            name_end: 0,
-        }
-    }
-
     /// A copy of these names.
     pub(crate) fn of(alloc: Global, meta: &ColumnMeta<'_>) -> Result<Self, AllocError>
         ensures value { IfOk result (λ names. names ≡ meta.now) }

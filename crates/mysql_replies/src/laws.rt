@@ -66,6 +66,7 @@ pub fn session_state_info_again()
 {}
 
 /// A state string spells at most one list of entries.
+#[tactic(auto, using(mysql_wire::specs::Once::once))]
 pub fn state_string_once()
     ensures value { (xs ys : List SessionStateInfo) (bytes : List ℕ) → state_string.Spells xs bytes [] → state_string.Spells ys bytes [] → xs ≡ ys }
 {}

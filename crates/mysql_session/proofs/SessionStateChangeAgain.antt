@@ -5,7 +5,7 @@ use Rattle.mysql_wire.specs.LenEnc.{lenenc_string, lenenc_string_bytes, lenenc_b
 use Rattle.mysql_wire.specs.Again.{lenenc_string-again}
 use Rattle.mysql_session.specs.declared.session_state_change.SessionStateChange.{SessionStateChange}
 use Rattle.mysql_session.specs.declared.session_state_change.SessionStateChange.TheVariants as change
-use Rattle.mysql_session.specs.SessionText.{Unsupported, lenenc_text, gtids}
+use Rattle.mysql_session.specs.SessionText.{lenenc_text, gtids}
 use Rattle.mysql_session.specs.SystemVariables.{system_variables}
 use Rattle.mysql_session.specs.SessionStateChange.{session_state_change, session_state_change_bytes, ChangeFits}
 
@@ -24,13 +24,4 @@ session_state_change-again k (change.TransactionCharacteristics c) rest fits = r
 session_state_change-again k (change.TransactionState s) rest fits = rw fits.0 (s, refl, lenenc_text.again tt s rest fits.1)
 session_state_change-again k (change.Unsupported u) rest fits = absurd fits
 
-pub never-unsupported : (k : SessionStateType) (u : Unsupported) (bytes rest : List ℕ) → (session_state_change k).Spells (change.Unsupported u) bytes rest → ⊥
-unfolding session_state_change
-never-unsupported kind.SESSION_TRACK_SYSTEM_VARIABLES u bytes rest s = absurd (let e = s.1 in cc)
-never-unsupported kind.SESSION_TRACK_SCHEMA u bytes rest s = absurd (let e = s.1 in cc)
-never-unsupported kind.SESSION_TRACK_STATE_CHANGE u bytes rest s = absurd (let e = s.1 in cc)
-never-unsupported kind.SESSION_TRACK_GTIDS u bytes rest s = absurd (let e = s.1 in cc)
-never-unsupported kind.SESSION_TRACK_TRANSACTION_CHARACTERISTICS u bytes rest s = absurd (let e = s.1 in cc)
-never-unsupported kind.SESSION_TRACK_TRANSACTION_STATE u bytes rest s = absurd (let e = s.1 in cc)
-
-pub ruleset session_changes = (session_state_change-again, never-unsupported)
+pub ruleset session_changes = (session_state_change-again)

@@ -1,5 +1,5 @@
 -- A change of a session's state.
-use Rattle.std.specs.Prelude.{refl, ◌≡◌, ℕ, List, [], ◌∷◌, None, Bool, true, false, codes, nat_eq}
+use Rattle.std.specs.Prelude.{refl, ◌≡◌, ℕ, List, [], ◌∷◌, None, true, false, codes, nat_eq}
 use Rattle.std.specs.Cmp.Lexicographic.{pointwise}
 use Rattle.mysql_wire.specs.declared.codes.session_state_type.SessionStateType.{SessionStateType}
 use Rattle.mysql_wire.specs.declared.codes.session_state_type.SessionStateType.TheVariants as kind
@@ -11,12 +11,9 @@ use Rattle.mysql_session.specs.declared.session_state_change.SessionStateChange.
 use Rattle.mysql_session.specs.SessionText.{lenenc_text, gtids}
 use Rattle.mysql_session.specs.SystemVariables.{system_variables}
 
--- the content is `1`
-abbrev pub is_one : List ℕ → Bool
-is_one content = pointwise nat_eq content (codes "1")
-
+-- whether the content is `1`
 abbrev pub is_tracked : List ℕ → SessionStateChange
-is_tracked content = change.IsTracked (is_one content)
+is_tracked content = change.IsTracked (pointwise nat_eq content (codes "1"))
 
 -- what the data of each type is
 unfoldable pub session_state_change : SessionStateType → Form SessionStateChange

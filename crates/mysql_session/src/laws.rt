@@ -47,7 +47,7 @@ pub fn session_state_change_again()
 {}
 
 /// No bytes are read as a change of another kind.
-#[tactic(auto, using(crate::proofs::SessionStateChangeAgain::session_changes))]
+#[tactic(auto, unfolding(crate::specs::SessionStateChange::session_state_change))]
 pub fn no_change_is_unsupported()
     ensures never { (kind : SessionStateType) (u : Unsupported) (bytes rest : List ℕ) → (session_state_change kind).Spells (change.Unsupported u) bytes rest → ⊥ }
 {}

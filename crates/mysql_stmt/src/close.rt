@@ -6,9 +6,6 @@ ghost use Rattle.mysql_stmt.specs.Close.{close};
 
 use mysql_wire::{ConstU8, LeU32, Parts, RawInt, Sink, parts};
 
-/// The command's byte.
-const COM_STMT_CLOSE: u8 = 0x19;
-
 /// `COM_STMT_CLOSE`: the client gives up a prepared statement. The server answers nothing.
 ///
 /// It is written alone, in 5 bytes: the byte `19`, and the statement's number with its low byte
@@ -33,7 +30,7 @@ impl Parts for ComStmtClose {
 
     #[inline(always)]
     fn put<S: Sink>(&self, sink: &mut S) {
-        let header: ConstU8<(), COM_STMT_CLOSE> = ConstU8::new();
+        let header: ConstU8<(), 0x19> = ConstU8::new();
         let stmt_id: RawInt<LeU32> = RawInt::new(self.stmt_id);
         sink.part(&parts!(header, stmt_id));
     }

@@ -25,6 +25,7 @@ pub fn stmt_packet_again()
 {}
 
 /// Bytes spell at most one statement packet, with one rest behind it.
+#[tactic(auto, using(mysql_wire::specs::Once::once))]
 pub fn stmt_packet_once()
     ensures value { (p q : StmtPacket) (bytes rest left : List ℕ) → (stmt.form tt).Spells p bytes rest → (stmt.form tt).Spells q bytes left → p ≡ q }
     ensures rest { (p q : StmtPacket) (bytes rest left : List ℕ) → (stmt.form tt).Spells p bytes rest → (stmt.form tt).Spells q bytes left → rest ≡ left }
@@ -49,6 +50,7 @@ pub fn null_bitmap_again()
 {}
 
 /// Bytes spell at most one row of these columns, with one rest behind it, in either protocol.
+#[tactic(auto, using(mysql_wire::specs::Once::once))]
 pub fn row_once()
     ensures text { (columns : List Column) (v w : List (Option Content)) (bytes rest left : List ℕ) → (text_row columns).Spells v bytes rest → (text_row columns).Spells w bytes left → (v ≡ w) × (rest ≡ left) }
     ensures binary { (offset : ℕ) (columns : List Column) (v w : List (Option Content)) (bytes rest left : List ℕ) → (bin_row offset columns).Spells v bytes rest → (bin_row offset columns).Spells w bytes left → (v ≡ w) × (rest ≡ left) }
