@@ -52,7 +52,7 @@ pub(crate) fn find_room(
     ensures types_room { OnOk result (types_due ≡ true → arity ≤ vec_capacity types.new) }
 {
     values.reserve(arity)?;
-    if types_due {
+    if types_due && types.capacity() < arity {
         types.reserve(arity.saturating_sub(types.len()))?;
     }
     Ok(())
