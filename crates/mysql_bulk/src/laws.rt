@@ -25,24 +25,13 @@ ghost use Rattle.mysql_bulk.specs.Row.{first_length, row_size, rows_packing};
 ghost use Rattle.mysql_bulk.specs.Run.{RunState, NextRequest};
 ghost use Rattle.mysql_bulk.specs.WholeRun.{IsNew};
 
-use crate::param_value::StmtBulkExecuteParamValue;
-use crate::param_values::StmtBulkExecuteParamValues;
-use crate::request::ComStmtBulkExecuteRequest;
 use mysql_values::{Params, Value};
-use mysql_wire::MyDeserialize;
 
 // ---- sizes
 
-/// Neither a value behind its indicator, nor the values of a row, nor a request has a constant size.
-pub fn nothing_read_has_a_constant_size() -> (Option<usize>, Option<usize>, Option<usize>)
-    ensures { result ≡ record { 0 = None; 1 = None; 2 = None } }
-{
-    (
-        <StmtBulkExecuteParamValue as MyDeserialize>::SIZE,
-        <StmtBulkExecuteParamValues as MyDeserialize>::SIZE,
-        <ComStmtBulkExecuteRequest as MyDeserialize>::SIZE,
-    )
-}
+pub use crate::param_value::param_value_has_no_constant_size;
+pub use crate::param_values::param_values_have_no_constant_size;
+pub use crate::request::request_has_no_constant_size;
 
 /// A request is as long as its size says.
 pub fn request_has_its_size()

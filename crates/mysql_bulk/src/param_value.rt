@@ -138,6 +138,13 @@ impl<'de> MyDeserialize<'de> for StmtBulkExecuteParamValue {
     ghost size_is = { λ _. refl };
 }
 
+/// A value behind its indicator has no constant size.
+pub fn param_value_has_no_constant_size() -> Option<usize>
+    ensures value { result ≡ None }
+{
+    <StmtBulkExecuteParamValue as MyDeserialize>::SIZE
+}
+
 impl Parts for StmtBulkExecuteParamValue {
     ghost use Rattle.mysql_bulk.specs.ParamValue.{param_value_bytes};
 

@@ -122,6 +122,13 @@ impl<'de> MyDeserialize<'de> for StmtBulkExecuteParamValues {
     ghost size_is = { λ columns. size-each value_of_column 0 columns.items };
 }
 
+/// The values of a row have no constant size.
+pub fn param_values_have_no_constant_size() -> Option<usize>
+    ensures value { result ≡ None }
+{
+    <StmtBulkExecuteParamValues as MyDeserialize>::SIZE
+}
+
 impl MySerialize for StmtBulkExecuteParamValues {
     ghost use Rattle.mysql_bulk.specs.ParamValue.{values_bytes};
 

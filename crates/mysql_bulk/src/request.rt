@@ -274,6 +274,13 @@ impl<'de> MyDeserialize<'de> for ComStmtBulkExecuteRequest {
     ghost size_is = { λ _. refl };
 }
 
+/// A request has no constant size.
+pub fn request_has_no_constant_size() -> Option<usize>
+    ensures value { result ≡ None }
+{
+    <ComStmtBulkExecuteRequest as MyDeserialize>::SIZE
+}
+
 impl MySerialize for ComStmtBulkExecuteRequest {
     ghost use Rattle.mysql_bulk.specs.Request.{request_bytes};
 
