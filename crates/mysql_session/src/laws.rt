@@ -3,7 +3,7 @@
 //! Each law is a function with nothing in it, whose contract holds for all values.
 #![tactic(auto, using(mysql_wire::proofs::Packets::packets))]
 
-ghost use Rattle.std.specs.Prelude.{◌≡◌, ◌++◌, [], List, ℕ, true};
+ghost use Rattle.std.specs.Prelude.{◌≡◌, ◌++◌, [], List, ℕ, None, true};
 ghost use Rattle.std.specs.List.{All};
 ghost use Rattle.mysql_wire.specs.declared.codes.session_state_type.SessionStateType.{SessionStateType};
 ghost use Rattle.mysql_session.specs.declared.session_state_change.SessionStateChange.{SessionStateChange};
@@ -14,9 +14,7 @@ ghost use Rattle.mysql_session.specs.SessionStateChange.{session_state_change, s
 ghost use Rattle.mysql_session.specs.SystemVariable.{system_variable, SystemVariableFits};
 ghost use Rattle.mysql_session.specs.SystemVariables.{system_variables};
 
-pub use crate::session_state_change::session_state_change_has_no_constant_size;
-pub use crate::system_variable::system_variable_has_no_constant_size;
-pub use crate::system_variables::system_variables_have_no_constant_size;
+use mysql_wire::MyDeserialize;
 use std::hash::Hash;
 
 /// What is written of each part of a change is read again, whatever follows.
@@ -61,3 +59,24 @@ pub fn equal_parts_hash_equally()
     ensures state { (x y : TransactionState) → ⟦<crate::TransactionState<'static> as PartialEq>⟧.eq x y ≡ true → ⟦<crate::TransactionState<'static> as Hash>⟧.hash_input x ≡ ⟦<crate::TransactionState<'static> as Hash>⟧.hash_input y }
     ensures unsupported { (x y : Unsupported) → ⟦<crate::Unsupported<'static> as PartialEq>⟧.eq x y ≡ true → ⟦<crate::Unsupported<'static> as Hash>⟧.hash_input x ≡ ⟦<crate::Unsupported<'static> as Hash>⟧.hash_input y }
 {}
+
+/// A change of a session's state has no constant size.
+pub fn session_state_change_has_no_constant_size() -> Option<usize>
+    ensures { result ≡ None }
+{
+    <crate::session_state_change::SessionStateChange as MyDeserialize>::SIZE
+}
+
+/// A system variable has no constant size.
+pub fn system_variable_has_no_constant_size() -> Option<usize>
+    ensures { result ≡ None }
+{
+    <crate::system_variable::SystemVariable as MyDeserialize>::SIZE
+}
+
+/// System variables have no constant size.
+pub fn system_variables_have_no_constant_size() -> Option<usize>
+    ensures { result ≡ None }
+{
+    <crate::system_variables::SystemVariables as MyDeserialize>::SIZE
+}

@@ -96,13 +96,6 @@ impl<'de> MyDeserialize<'de> for SessionStateChange<'de> {
     ghost size_is = { spec.size-session_state_change };
 }
 
-/// A change of a session's state has no constant size.
-pub fn session_state_change_has_no_constant_size() -> Option<usize>
-    ensures { result ≡ None }
-{
-    <SessionStateChange as MyDeserialize>::SIZE
-}
-
 impl Parts for SessionStateChange<'_> {
     ghost bytes = { spec.session_state_change_bytes };
 

@@ -92,13 +92,6 @@ impl<'de> MyDeserialize<'de> for SystemVariable<'de> {
     ghost size_is = { λ _. unfold spec.system_variable in refl };
 }
 
-/// A system variable has no constant size.
-pub fn system_variable_has_no_constant_size() -> Option<usize>
-    ensures { result ≡ None }
-{
-    <SystemVariable as MyDeserialize>::SIZE
-}
-
 impl Parts for SystemVariable<'_> {
     ghost bytes = { spec.system_variable.bytes };
 

@@ -117,13 +117,6 @@ impl<'de> MyDeserialize<'de> for SystemVariables<'de> {
     ghost size_is = { λ _. unfold spec.system_variables in size-many _ };
 }
 
-/// System variables have no constant size.
-pub fn system_variables_have_no_constant_size() -> Option<usize>
-    ensures { result ≡ None }
-{
-    <SystemVariables as MyDeserialize>::SIZE
-}
-
 impl MySerialize for SystemVariables<'_> {
     ghost bytes = { spec.system_variables.bytes };
 

@@ -16,13 +16,20 @@ ghost use Rattle.mysql_replies.specs.declared.column.Column.{Column};
 ghost use Rattle.mysql_values.specs.Value.{Content};
 ghost use Rattle.mysql_stmt.specs.RowForm.{text_row, bin_row};
 
-pub use crate::stmt::stmt_packet_size;
+use mysql_wire::MyDeserialize;
 
 /// What is written of a statement packet is read again, whatever follows.
 pub fn stmt_packet_again()
     ensures spelled { (p : StmtPacket) (rest : List ℕ) → stmt.fits tt p rest → (stmt.form tt).Spells p (stmt.bytes p ++ rest) rest }
     ensures read { (p : StmtPacket) (rest : List ℕ) → stmt.fits tt p rest → (stmt.form tt).reads (stmt.bytes p ++ rest) ≡ Ok (p, rest) }
 {}
+
+/// A statement packet takes 12 bytes.
+pub fn stmt_packet_size() -> Option<usize>
+    ensures value { result ≡ Some 12 }
+{
+    <crate::stmt::StmtPacket as MyDeserialize>::SIZE
+}
 
 /// Bytes spell at most one statement packet, with one rest behind it.
 #[tactic(auto, using(mysql_wire::specs::Once::once))]

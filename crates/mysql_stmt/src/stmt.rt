@@ -68,13 +68,6 @@ impl<'de> MyDeserialize<'de> for StmtPacket {
     ghost size_is = { λ _. unfold spec.stmt in size-block 12 (spec.stmt_fields.form tt) };
 }
 
-/// A statement packet takes 12 bytes.
-pub fn stmt_packet_size() -> Option<usize>
-    ensures value { result ≡ Some 12 }
-{
-    <StmtPacket as MyDeserialize>::SIZE
-}
-
 impl StmtPacket {
     /// The number that the server gave the statement.
     pub fn statement_id(&self) -> u32
