@@ -1,8 +1,7 @@
 -- The reset of a prepared statement.
-use Rattle.std.specs.Prelude.{◌≡◌, ℕ, Some, refl}
+use Rattle.std.specs.Prelude.{ℕ, refl}
 use Rattle.mysql_wire.specs.Codec.{Codec, Fields}
 use Rattle.mysql_wire.specs.Codecs.{◌>>=◌, give, field, block, packet, const_u8, u32}
-use Rattle.mysql_wire.specs.Form.{size-block}
 use Rattle.example_packet.specs.declared.stmt_reset.ComStmtReset.{ComStmtReset}
 
 -- the statement's number
@@ -19,7 +18,3 @@ stmt_reset_fields = do
 -- five bytes
 unfoldable pub stmt_reset : Codec (Unit {0}) ComStmtReset
 stmt_reset = packet (block 5 stmt_reset_fields (λ p. refl)) (λ p. refl)
-
-pub size-stmt_reset : (stmt_reset.form tt).size ≡ Some 5
-unfolding stmt_reset
-size-stmt_reset = size-block 5 (stmt_reset_fields.form tt)

@@ -1,7 +1,8 @@
 //! The reset of a prepared statement.
 #![tactic(auto, using(mysql_wire::proofs::Packets::packets), unfolding(crate::specs::StmtReset::stmt_reset))]
 
-ghost use Rattle.std.specs.Prelude.{false, ◌≡◌};
+ghost use Rattle.std.specs.Prelude.{◌≡◌};
+ghost use Rattle.mysql_wire.specs.Form.{size-block};
 ghost use Rattle.example_packet.specs.StmtReset as spec;
 
 use mysql_wire::{
@@ -56,8 +57,6 @@ impl<'de> MyDeserialize<'de> for ComStmtReset {
 
     type Size = Fixed<5>;
 
-    ghost takes_memory = { false };
-
     type Ctx = ();
 
     ghost form = { spec.stmt_reset.form };
@@ -70,7 +69,7 @@ impl<'de> MyDeserialize<'de> for ComStmtReset {
         })
     }
 
-    ghost size_is = { λ _. spec.size-stmt_reset };
+    ghost size_is = { λ _. unfold spec.stmt_reset in size-block 5 (spec.stmt_reset_fields.form tt) };
 }
 
 impl Parts for ComStmtReset {
