@@ -117,11 +117,11 @@ impl<'a> SidBlock<'_, 'a> {
 
     /// The head before the sids.
     #[tactic(auto, unfolding(crate::specs::SidBlock::head_for))]
-    fn head(&self) -> RawInt<LeU64>
-        ensures value { result.0 ≡ spec.head_for (spec.any_tag self.now.0.now) (length self.now.0.now) }
+    fn head(&self, tagged: bool) -> RawInt<LeU64>
+        ensures value { result.0 ≡ spec.head_for tagged (length self.now.0.now) }
     {
         let count = self.0.len() as u64;
-        if self.any_tag() {
+        if tagged {
             RawInt::new((1 << 56) + (1 << 8) * (count % (1 << 48)))
         } else {
             RawInt::new(count % (1 << 56))
@@ -143,10 +143,11 @@ impl<'a> SidBlock<'_, 'a> {
 
     /// How many bytes the head and the sids are written as, or `usize::MAX` where that is less.
     #[tactic(auto, using(mysql_wire::specs::Writing::lengths), unfolding(crate::specs::SidBlock::content, mysql_wire::specs::Writing::le_bytes, mysql_wire::specs::Writing::saturated))]
-    fn content_len(&self) -> usize
+    fn content_len(&self, tagged: bool) -> usize
+        requires { tagged ≡ spec.any_tag self.now.0.now }
         ensures value { result ≡ saturated (length (spec.content self.now.0.now)) }
     {
-        self.sids_len(self.any_tag()).saturating_add(8)
+        self.sids_len(tagged).saturating_add(8)
     }
 
     /// Writes the sids to a buffer that has room for them.
@@ -166,15 +167,16 @@ impl MySerialize for SidBlock<'_, '_> {
 
     #[tactic(auto, using(mysql_wire::specs::Writing::lengths), unfolding(crate::specs::SidBlock::block_bytes, mysql_wire::specs::Writing::le_bytes, mysql_wire::specs::Writing::saturated))]
     fn defined_len(&self) -> usize {
-        self.content_len().saturating_add(4)
+        self.content_len(self.any_tag()).saturating_add(4)
     }
 
     #[tactic(auto, using(mysql_wire::specs::Writing::lengths), unfolding(crate::specs::SidBlock::block_bytes, crate::specs::SidBlock::content, mysql_wire::specs::Writing::saturated))]
     fn append(&self, out: &mut Vec<u8>) {
-        let len = min(self.content_len(), u32::MAX as usize) as u32;
+        let tagged = self.any_tag();
+        let len = min(self.content_len(tagged), u32::MAX as usize) as u32;
         let len: RawInt<LeU32> = RawInt::new(len);
         len.append(out);
-        self.head().append(out);
-        self.append_sids(self.any_tag(), out);
+        self.head(tagged).append(out);
+        self.append_sids(tagged, out);
     }
 }
