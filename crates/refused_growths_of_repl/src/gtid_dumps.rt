@@ -2,6 +2,7 @@
 
 use mysql_repl::{ComBinlogDumpGtid, GnoInterval, Sid};
 use mysql_wire::{Fault, Flags, ParseBuf};
+use refused_growths_cases::readings::is_short;
 use refused_growths_cases::{Cases, counted, shown};
 use std::alloc::{AllocError, Global};
 use std::borrow::CowSlice;
@@ -36,7 +37,8 @@ pub fn all(cases: &mut Cases) -> Result<(), AllocError> {
     cases.case(
         "gtid_dump_read_of_a_huge_count_of_intervals",
         read_of_a_huge_count_of_intervals,
-    )
+    )?;
+    cases.case("gtid_dump_read_of_false_lengths", read_of_false_lengths)
 }
 
 /// A sid with an interval, on memory of its own.
@@ -213,4 +215,31 @@ fn read_of_a_false_count_of_intervals(alloc: Global) -> Result<String, AllocErro
 /// The sid counts 2^60 intervals.
 fn read_of_a_huge_count_of_intervals(alloc: Global) -> Result<String, AllocError> {
     one_interval(alloc, [0, 0, 0, 0, 0, 0, 0, 0x10])
+}
+
+/// A dump whose file name says that it is longer than any.
+const FALSE_NAME: &[u8] = b"\x1e\0\0\x01\0\0\0\xff\xff\xff\xffa";
+
+/// A dump whose block of sids says so.
+const FALSE_BLOCK: &[u8] = b"\x1e\0\0\x01\0\0\0\0\0\0\0\0\0\0\0\0\0\0\0\xff\xff\xff\xffa";
+
+/// Whether a strict reading finds that bytes are missing, and leaves them all.
+fn is_strictly_short(alloc: Global, bytes: &[u8]) -> bool {
+    let mut buf = ParseBuf::new(alloc, bytes);
+    match ComBinlogDumpGtid::parse_strict(&mut buf) {
+        Err(Fault::UnexpectedEof) => buf.len() == bytes.len(),
+        _ => false,
+    }
+}
+
+fn read_of_false_lengths(alloc: Global) -> Result<String, AllocError> {
+    counted::start(alloc);
+    let short = [
+        is_short::<ComBinlogDumpGtid<'_>>(alloc, FALSE_NAME, ()),
+        is_short::<ComBinlogDumpGtid<'_>>(alloc, FALSE_BLOCK, ()),
+        is_strictly_short(alloc, FALSE_NAME),
+        is_strictly_short(alloc, FALSE_BLOCK),
+    ];
+    counted::stop(alloc);
+    shown::count(alloc, &short)
 }
