@@ -1,6 +1,5 @@
 use Rattle.std.proofs.Common.{ℕ, List, [], ◌∷◌, ◌++◌, true, false, refl, arith}
 use Rattle.mysql_wire.specs.declared.codes.session_state_type.SessionStateType.{SessionStateType}
-use Rattle.mysql_wire.specs.declared.codes.session_state_type.SessionStateType.TheVariants as kind
 use Rattle.mysql_wire.specs.LenEnc.{lenenc_string, lenenc_string_bytes, lenenc_bytes}
 use Rattle.mysql_wire.specs.Again.{lenenc_string-again}
 use Rattle.mysql_session.specs.declared.session_state_change.SessionStateChange.{SessionStateChange}
