@@ -1,5 +1,6 @@
 //! Handshakes, with their bytes.
 
+use crate::packets::{is_written, read};
 use mysql_auth::HandshakePacket;
 use mysql_wire::{CapabilityFlags, Fault, Flags, MySerialize, ParseBuf, StatusFlags};
 use std::alloc::{AllocError, Global};
@@ -25,6 +26,9 @@ fn of_mariadb(alloc: Global, own: &[u8; 4]) -> Result<Vec<u8>, AllocError> {
     Ok(bytes)
 }
 
+/// The three numbers of a version.
+type Version = Option<(u16, u16, u16)>;
+
 /// A handshake of such a version text, with no scramble and no plugin.
 fn of_version(text: &[u8]) -> HandshakePacket<'_> {
     HandshakePacket::new(
@@ -40,17 +44,32 @@ fn of_version(text: &[u8]) -> HandshakePacket<'_> {
     )
 }
 
-/// How many bytes of scramble a length byte stands for.
-fn scramble_len(alloc: Global, length: u8) -> Result<usize, Fail> {
+/// The version that such a text says.
+fn version(text: &[u8]) -> Version {
+    of_version(text).server_version_parsed()
+}
+
+/// The version of MariaDB that such a text says.
+fn version_of_mariadb(text: &[u8]) -> Version {
+    of_version(text).maria_db_server_version_parsed()
+}
+
+/// A handshake with such a length byte, and a scramble that is long enough.
+fn of_length(alloc: Global, length: u8) -> Result<Vec<u8>, AllocError> {
     let mut bytes = Vec::from_slice(alloc, BEFORE_LENGTH)?;
     bytes.push(length)?;
     bytes.extend_from_slice(BEHIND_LENGTH)?;
     bytes.resize(400, 7)?;
+    Ok(bytes)
+}
+
+/// How many bytes of scramble a length byte stands for, or 0 where there is no scramble.
+fn scramble_len(alloc: Global, length: u8) -> Result<usize, Fail> {
+    let bytes = of_length(alloc, length)?;
     let mut buf = ParseBuf::new(alloc, bytes.as_slice());
     let read: Result<HandshakePacket<'_>, Fault> = buf.parse(());
     let packet = read.ok().ok_or("the handshake is refused")?;
-    let scramble = packet.scramble_2_ref().ok_or("no scramble")?;
-    Ok(scramble.len())
+    Ok(packet.scramble_2_ref().map_or(0, |scramble| scramble.len()))
 }
 
 #[test]
@@ -72,75 +91,69 @@ fn the_second_scramble_is_eight_bytes_shorter_than_both(rt: HostRuntime) -> Resu
 }
 
 #[test]
-fn versions_have_three_numbers(rt: HostRuntime) -> Result<(), Fail> {
-    assert_eq!(rt;
-        of_version(b"8.0.1234").server_version_parsed(),
-        Some((8, 0, 123))
-    );
-    assert_eq!(rt; of_version(b"100.0.1").server_version_parsed(), None);
-    assert_eq!(rt; of_version(b"5.7.").server_version_parsed(), None);
-    assert_eq!(rt;
-        of_version(b"5.7.44-log").server_version_parsed(),
-        Some((5, 7, 44))
-    );
-    assert_eq!(rt; of_version(b"v5.7.44").server_version_parsed(), None);
-    assert_eq!(rt; of_version(b"5.7:44").server_version_parsed(), None);
-    assert_eq!(rt; of_version(b"").server_version_parsed(), None);
-    Ok(())
+fn versions_have_three_numbers(rt: HostRuntime) {
+    let cases: [(&[u8], Version); 7] = [
+        (b"8.0.1234", Some((8, 0, 123))),
+        (b"100.0.1", None),
+        (b"5.7.", None),
+        (b"5.7.44-log", Some((5, 7, 44))),
+        (b"v5.7.44", None),
+        (b"5.7:44", None),
+        (b"", None),
+    ];
+    for (text, wanted) in cases {
+        assert_eq!(rt; version(text), wanted);
+    }
 }
 
 #[test]
-fn versions_of_mariadb_have_its_name_behind_them(rt: HostRuntime) -> Result<(), Fail> {
-    assert_eq!(rt;
-        of_version(b"5.5.5-MariaDB").maria_db_server_version_parsed(),
-        Some((5, 5, 5))
-    );
-    assert_eq!(rt;
-        of_version(b"10.11.6-MariaDB-1").maria_db_server_version_parsed(),
-        Some((10, 11, 6))
-    );
-    assert_eq!(rt;
-        of_version(b"10.0.1234-MariaDB").maria_db_server_version_parsed(),
-        None
-    );
-    assert_eq!(rt;
-        of_version(b"5.5.5-10.2.3-MariaDB").maria_db_server_version_parsed(),
-        Some((10, 2, 3))
-    );
-    assert_eq!(rt;
-        of_version(b"5.5.5-10.2.3").maria_db_server_version_parsed(),
-        None
-    );
-    assert_eq!(rt;
-        of_version(b"8.0.35").maria_db_server_version_parsed(),
-        None
-    );
-    Ok(())
+fn versions_of_mariadb_have_its_name_behind_them(rt: HostRuntime) {
+    let cases: [(&[u8], Version); 6] = [
+        (b"5.5.5-MariaDB", Some((5, 5, 5))),
+        (b"10.11.6-MariaDB-1", Some((10, 11, 6))),
+        (b"10.0.1234-MariaDB", None),
+        (b"5.5.5-10.2.3-MariaDB", Some((10, 2, 3))),
+        (b"5.5.5-10.2.3", None),
+        (b"8.0.35", None),
+    ];
+    for (text, wanted) in cases {
+        assert_eq!(rt; version_of_mariadb(text), wanted);
+    }
+}
+
+/// Whether the handshake says both versions of MariaDB 10.0.17.
+fn has_its_versions(packet: &HandshakePacket<'_>) -> bool {
+    packet.server_version_parsed() == Some((5, 5, 5))
+        && packet.maria_db_server_version_parsed() == Some((10, 0, 17))
+}
+
+/// Whether the handshake has the numbers of MariaDB 10.0.17, and no capability of MariaDB.
+fn has_its_numbers(packet: &HandshakePacket<'_>) -> bool {
+    packet.capabilities().bits() == 63487
+        && packet.default_collation() == 8
+        && packet.status_flags().bits() == 2
+        && packet.mariadb_ext_capabilities().bits() == 0
+}
+
+/// Whether the handshake has the scramble of MariaDB 10.0.17, and no plugin.
+fn has_its_scramble(alloc: Global, packet: &HandshakePacket<'_>) -> Result<bool, AllocError> {
+    let nonce = packet.nonce(alloc)?;
+    Ok(
+        packet.scramble_2_ref() == Some(SCRAMBLE_OF_MARIADB_10)
+            && packet.auth_plugin_name_ref().is_none()
+            && nonce.as_slice() == b"dvH@I-CJ*4d|cZwk4^]:".as_slice(),
+    )
 }
 
 #[test]
 fn a_handshake_of_mariadb_is_read_and_written(rt: HostRuntime) -> Result<(), Fail> {
     let alloc = rt.alloc();
     let bytes = of_mariadb(alloc, &[0; 4])?;
-    let mut buf = ParseBuf::new(alloc, bytes.as_slice());
-    let read: Result<HandshakePacket<'_>, Fault> = buf.parse(());
-    let packet = read.ok().ok_or("the handshake is refused")?;
-    assert!(rt; buf.is_empty());
-    assert_eq!(rt; packet.server_version_parsed(), Some((5, 5, 5)));
-    assert_eq!(rt; packet.maria_db_server_version_parsed(), Some((10, 0, 17)));
-    assert_eq!(rt; packet.capabilities().bits(), 63487);
-    assert_eq!(rt; packet.default_collation(), 8);
-    assert_eq!(rt; packet.status_flags().bits(), 2);
-    assert_eq!(rt; packet.mariadb_ext_capabilities().bits(), 0);
-    assert_eq!(rt; packet.scramble_2_ref(), Some(SCRAMBLE_OF_MARIADB_10));
-    assert_eq!(rt; packet.auth_plugin_name_ref(), None);
-    assert_eq!(rt;
-        packet.nonce(alloc)?.as_slice(),
-        b"dvH@I-CJ*4d|cZwk4^]:".as_slice()
-    );
-    let mut written = Vec::new(alloc);
-    packet.serialize(&mut written)?;
-    assert_eq!(rt; written.as_slice(), bytes.as_slice());
+    let packet: HandshakePacket<'_> = read(alloc, (), bytes.as_slice())?;
+    assert!(rt; has_its_versions(&packet));
+    assert!(rt; has_its_numbers(&packet));
+    assert!(rt; has_its_scramble(alloc, &packet)?);
+    assert!(rt; is_written(alloc, &packet, bytes.as_slice())?);
     Ok(())
 }
 
@@ -148,16 +161,13 @@ fn a_handshake_of_mariadb_is_read_and_written(rt: HostRuntime) -> Result<(), Fai
 fn capabilities_of_mariadb_are_its_last_four_bytes(rt: HostRuntime) -> Result<(), Fail> {
     let alloc = rt.alloc();
     let bytes = of_mariadb(alloc, &[0x14, 0, 0, 0])?;
-    let mut buf = ParseBuf::new(alloc, bytes.as_slice());
-    let read: Result<HandshakePacket<'_>, Fault> = buf.parse(());
-    let packet = read.ok().ok_or("the handshake is refused")?;
+    let packet: HandshakePacket<'_> = read(alloc, (), bytes.as_slice())?;
     assert_eq!(rt; packet.mariadb_ext_capabilities().bits(), 20);
     Ok(())
 }
 
-#[test]
-fn of_a_long_scramble_247_bytes_are_written(rt: HostRuntime) -> Result<(), Fail> {
-    let alloc = rt.alloc();
+/// The bytes of a handshake that has 300 bytes of scramble.
+fn of_a_long_scramble(alloc: Global) -> Result<Vec<u8>, AllocError> {
     let packet = HandshakePacket::new(
         10,
         CowSlice::Borrowed(b"8"),
@@ -171,6 +181,12 @@ fn of_a_long_scramble_247_bytes_are_written(rt: HostRuntime) -> Result<(), Fail>
     );
     let mut bytes = Vec::new(alloc);
     packet.serialize(&mut bytes)?;
+    Ok(bytes)
+}
+
+#[test]
+fn of_a_long_scramble_247_bytes_are_written(rt: HostRuntime) -> Result<(), Fail> {
+    let bytes = of_a_long_scramble(rt.alloc())?;
     assert_eq!(rt; bytes.len(), 3 + 31 + 247 + 2);
     assert_eq!(rt; bytes.get(23).copied(), Some(0xff));
     assert!(rt; bytes.ends_with(b"\x07x\0"));

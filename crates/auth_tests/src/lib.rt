@@ -8,6 +8,8 @@ mod changes;
 #[cfg(test)]
 mod handshakes;
 #[cfg(test)]
+mod packets;
+#[cfg(test)]
 mod plugins;
 #[cfg(test)]
 mod requests;

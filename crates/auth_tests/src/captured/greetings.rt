@@ -1,9 +1,10 @@
 //! Handshakes.
 
 use crate::captured::handshake::PACKETS;
-use crate::captured::reported::{all_agree, are_reported, bytes_at, is_reported};
+use crate::captured::reported::{all_agree, are_reported, is_reported};
+use crate::packets::{is_written, read};
 use mysql_auth::HandshakePacket;
-use mysql_wire::{Fault, Flags, MySerialize, ParseBuf};
+use mysql_wire::Flags;
 use std::alloc::Global;
 use std::test::Fail;
 
@@ -28,33 +29,37 @@ fn version_agrees(line: &str, packet: &HandshakePacket<'_>) -> bool {
     }
 }
 
-/// Whether the packet of the line is read whole, as it was reported, and written again.
-fn agrees(alloc: Global, line: &str) -> Result<bool, Fail> {
-    let bytes = bytes_at(alloc, line, 1)?;
-    let mut buf = ParseBuf::new(alloc, bytes.as_slice());
-    let read: Result<HandshakePacket<'_>, Fault> = buf.parse(());
-    let packet = read.ok().ok_or("a captured handshake is refused")?;
-    let nonce = packet.nonce(alloc)?;
-    let mut written = Vec::new(alloc);
-    packet.serialize(&mut written)?;
+/// Whether the texts of the handshake are those that were reported.
+fn texts_agree(alloc: Global, line: &str, packet: &HandshakePacket<'_>) -> Result<bool, Fail> {
+    let plugin = packet.auth_plugin_name_ref().unwrap_or(&[]);
     Ok(
-        buf.is_empty()
-            && numbers_agree(line, &packet)
+        are_reported(alloc, line, 9, packet.server_version_ref())?
+            && are_reported(alloc, line, 11, plugin)?,
+    )
+}
+
+/// Whether the nonce of the handshake is the one that was reported.
+fn nonce_agrees(alloc: Global, line: &str, packet: &HandshakePacket<'_>) -> Result<bool, Fail> {
+    let nonce = packet.nonce(alloc)?;
+    are_reported(alloc, line, 10, nonce.as_slice())
+}
+
+/// Whether the packet of the line is read whole, as it was reported, and written again.
+fn agrees(alloc: Global, line: &str, bytes: &[u8]) -> Result<bool, Fail> {
+    let packet: HandshakePacket<'_> = read(alloc, (), bytes)?;
+    Ok(
+        numbers_agree(line, &packet)
             && version_agrees(line, &packet)
-            && are_reported(alloc, line, 9, packet.server_version_ref())?
-            && are_reported(alloc, line, 10, nonce.as_slice())?
-            && are_reported(
-                alloc,
-                line,
-                11,
-                packet.auth_plugin_name_ref().unwrap_or(&[]),
-            )?
-            && written.as_slice() == bytes.as_slice(),
+            && texts_agree(alloc, line, &packet)?
+            && nonce_agrees(alloc, line, &packet)?
+            && is_written(alloc, &packet, bytes)?,
     )
 }
 
 #[test]
 fn handshakes_are_read_as_reported(rt: HostRuntime) -> Result<(), Fail> {
     let alloc = rt.alloc();
-    all_agree(&rt, PACKETS, 37, |line| agrees(alloc, line))
+    all_agree(&rt, alloc, PACKETS, 37, |line, bytes| {
+        agrees(alloc, line, bytes)
+    })
 }

@@ -5,8 +5,9 @@ use std::process::Abort;
 use std::test::Fail;
 
 /// Each packet of the table agrees with what was reported, and they are so many.
-pub fn all_agree<F: Fn(&str) -> Result<bool, Fail>>(
+pub fn all_agree<F: Fn(&str, &[u8]) -> Result<bool, Fail>>(
     rt: &impl Abort,
+    alloc: Global,
     packets: &str,
     count: usize,
     agrees: F,
@@ -14,7 +15,8 @@ pub fn all_agree<F: Fn(&str) -> Result<bool, Fail>>(
     requires { F.IsAlwaysCallable agrees }
 {
     for line in packets.lines() {
-        assert!(rt; agrees(line)?, "{line}");
+        let bytes = bytes_at(alloc, line, 1)?;
+        assert!(rt; agrees(line, bytes.as_slice())?, "{line}");
     }
     assert_eq!(rt; packets.lines().count(), count);
     Ok(())

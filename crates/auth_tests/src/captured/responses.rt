@@ -2,9 +2,10 @@
 
 use crate::captured::reported::{all_agree, are_reported, bytes_at, is_reported, word};
 use crate::captured::{change_user, handshake_response};
+use crate::packets::{is_written, read};
 use indexmap::IndexMap;
 use mysql_auth::{ComChangeUser, HandshakeResponse};
-use mysql_wire::{CapabilityFlags, Fault, Flags, MySerialize, ParseBuf};
+use mysql_wire::{CapabilityFlags, Flags};
 use std::alloc::{AllocError, Global};
 use std::borrow::CowSlice;
 use std::test::Fail;
@@ -48,73 +49,64 @@ fn attributes_agree(
     Ok(words_of(alloc, &texts)?.as_str() == word(line, place))
 }
 
+/// Whether the names in the response are those that were reported.
+fn names_agree(alloc: Global, line: &str, packet: &HandshakeResponse<'_>) -> Result<bool, Fail> {
+    Ok(are_reported(alloc, line, 4, packet.user())? && is_named(alloc, line, 5, packet.db_name())?)
+}
+
 /// Whether the response of the line is read whole, as the client's API told of it, and written again.
-fn response_agrees(alloc: Global, line: &str) -> Result<bool, Fail> {
-    let bytes = bytes_at(alloc, line, 1)?;
-    let mut buf = ParseBuf::new(alloc, bytes.as_slice());
-    let read: Result<HandshakeResponse<'_>, Fault> = buf.parse(());
-    let packet = read.ok().ok_or("a captured response is refused")?;
-    let mut written = Vec::new(alloc);
-    packet.serialize(&mut written)?;
+fn response_agrees(alloc: Global, line: &str, bytes: &[u8]) -> Result<bool, Fail> {
+    let packet: HandshakeResponse<'_> = read(alloc, (), bytes)?;
     Ok(
-        buf.is_empty()
-            && is_reported(line, 2, u64::from(packet.capabilities().bits()))
+        is_reported(line, 2, u64::from(packet.capabilities().bits()))
             && is_reported(line, 3, u64::from(packet.collation()))
-            && are_reported(alloc, line, 4, packet.user())?
-            && is_named(alloc, line, 5, packet.db_name())?
+            && names_agree(alloc, line, &packet)?
             && attributes_agree(alloc, line, 6, &packet)?
-            && written.as_slice() == bytes.as_slice(),
+            && is_written(alloc, &packet, bytes)?,
     )
 }
 
-/// The change of user that these bytes spell.
-fn change<'a>(
+/// Whether these bytes are a change of user that is written again, also with that user and that database.
+fn is_changed(
     alloc: Global,
     capabilities: CapabilityFlags,
-    bytes: &'a [u8],
-) -> Result<ComChangeUser<'a>, Fail> {
-    let mut buf = ParseBuf::new(alloc, bytes);
-    let read: Result<ComChangeUser<'_>, Fault> = buf.parse(capabilities);
-    let packet = read.ok().ok_or("a captured change of user is refused")?;
-    if !buf.is_empty() {
-        return Err(Fail::from("bytes are left of a captured change of user"));
-    }
-    Ok(packet)
+    bytes: &[u8],
+    user: &[u8],
+    database: &[u8],
+) -> Result<bool, Fail> {
+    let packet: ComChangeUser<'_> = read(alloc, capabilities, bytes)?;
+    let packet = packet
+        .with_user(Some(CowSlice::Borrowed(user)))
+        .with_database(Some(CowSlice::Borrowed(database)));
+    Ok(is_written(alloc, &packet, bytes)?)
 }
 
 /// Whether the change of user of the line is written again, also with the user and the database that were handed in.
-fn change_agrees(alloc: Global, line: &str) -> Result<bool, Fail> {
+fn change_agrees(alloc: Global, line: &str, bytes: &[u8]) -> Result<bool, Fail> {
     let capabilities = word(line, 2).parse::<u32>().ok().ok_or("no flags")?;
-    let capabilities = CapabilityFlags::from_bits_retain(capabilities);
-    let bytes = bytes_at(alloc, line, 1)?;
     let user = bytes_at(alloc, line, 3)?;
     let database = bytes_at(alloc, line, 4)?;
-    let packet = change(alloc, capabilities, bytes.as_slice())?
-        .with_user(Some(CowSlice::Borrowed(user.as_slice())))
-        .with_database(Some(CowSlice::Borrowed(database.as_slice())));
-    let mut written = Vec::new(alloc);
-    packet.serialize(&mut written)?;
-    Ok(written.as_slice() == bytes.as_slice())
+    is_changed(
+        alloc,
+        CapabilityFlags::from_bits_retain(capabilities),
+        bytes,
+        user.as_slice(),
+        database.as_slice(),
+    )
 }
 
 #[test]
 fn responses_are_read_as_clients_told(rt: HostRuntime) -> Result<(), Fail> {
     let alloc = rt.alloc();
-    all_agree(
-        &rt,
-        handshake_response::PACKETS,
-        21,
-        |line| response_agrees(alloc, line),
-    )
+    all_agree(&rt, alloc, handshake_response::PACKETS, 21, |line, bytes| {
+        response_agrees(alloc, line, bytes)
+    })
 }
 
 #[test]
 fn changes_of_user_are_read_as_handed_in(rt: HostRuntime) -> Result<(), Fail> {
     let alloc = rt.alloc();
-    all_agree(
-        &rt,
-        change_user::PACKETS,
-        3,
-        |line| change_agrees(alloc, line),
-    )
+    all_agree(&rt, alloc, change_user::PACKETS, 3, |line, bytes| {
+        change_agrees(alloc, line, bytes)
+    })
 }
