@@ -1,8 +1,8 @@
 //! Integers of fixed widths, the low byte first.
 //!
 //! Their bytes are pushed to room that is proved to be there (`push_reserved`), so the buffer's capacity is not tested for
-//! each field of a packet, and the compiler makes one store of the bytes: a statement packet that is read and written
-//! takes 32 instructions in place of 68.
+//! each field of a packet, and the compiler makes one store of the bytes: a statement packet is then read and written in
+//! half the instructions.
 
 ghost use Rattle.std.specs.Prelude.{Some};
 ghost use Rattle.mysql_wire.specs.Writing.{le_bytes};
