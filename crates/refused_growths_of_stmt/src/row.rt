@@ -21,6 +21,10 @@ pub fn all(cases: &mut Cases) -> Result<(), AllocError> {
     cases.case("row_read_text", read_text)?;
     cases.case("row_read_binary", read_binary)?;
     cases.case("row_read_text_of_a_false_length", read_of_a_false_length)?;
+    cases.case(
+        "row_read_binary_of_a_false_length",
+        read_binary_of_a_false_length,
+    )?;
     cases.case("row_deserializer_clone", clone_reading)
 }
 
@@ -173,6 +177,15 @@ fn read_of_a_false_length(alloc: Global) -> Result<String, AllocError> {
     let columns = strings(alloc, 3)?;
     let mut buf = ParseBuf::new(alloc, b"\x02ab\xfe\xff\xff\xff\xff\xff\xff\xff\xffa");
     let answer: Result<RowDeserializer<ServerSide, Text>, Fault> =
+        counted!(alloc; buf.parse(columns));
+    shown::taken(alloc, answer, buf.len())
+}
+
+/// The same, in a binary row.
+fn read_binary_of_a_false_length(alloc: Global) -> Result<String, AllocError> {
+    let columns = strings(alloc, 3)?;
+    let mut buf = ParseBuf::new(alloc, b"\0\0\x02ab\xfe\xff\xff\xff\xff\xff\xff\xff\xffa");
+    let answer: Result<RowDeserializer<ServerSide, Binary>, Fault> =
         counted!(alloc; buf.parse(columns));
     shown::taken(alloc, answer, buf.len())
 }
