@@ -5,7 +5,7 @@ use mysql_auth::{
     AuthMoreData, AuthPlugin, AuthSwitchRequest, OldAuthSwitchRequest, PublicKeyRequest,
     PublicKeyResponse, SslRequest,
 };
-use mysql_wire::{CapabilityFlags, Fault, Flags, MariadbCapabilities, ParseBuf};
+use mysql_wire::{CapabilityFlags, Fault, Flags, MariadbCapabilities, MySerialize, ParseBuf};
 use std::alloc::Global;
 use std::borrow::CowSlice;
 use std::test::Fail;
@@ -39,13 +39,21 @@ fn a_switch_that_has_no_end_of_its_name_is_refused(rt: HostRuntime) {
 
 #[test]
 fn packets_of_one_byte(rt: HostRuntime) -> Result<(), Fail> {
-    let alloc = rt.alloc();
-    assert!(rt; is_written(alloc, &OldAuthSwitchRequest::default(), b"\xfe")?);
-    assert!(rt; is_written(alloc, &PublicKeyRequest::default(), b"\x02")?);
-    let old: OldAuthSwitchRequest = read(alloc, (), b"\xfe")?;
+    let mut bytes = Vec::new(rt.alloc());
+    OldAuthSwitchRequest::default().serialize(&mut bytes)?;
+    PublicKeyRequest::default().serialize(&mut bytes)?;
+    assert_eq!(rt; bytes.as_slice(), b"\xfe\x02".as_slice());
+    Ok(())
+}
+
+#[test]
+fn packets_of_one_byte_are_read_one_after_another(rt: HostRuntime) -> Result<(), Fail> {
+    let mut buf = ParseBuf::new(rt.alloc(), b"\xfe\x02");
+    let old: Result<OldAuthSwitchRequest, Fault> = buf.parse(());
+    let old = old.ok().ok_or("the old switch is refused")?;
     assert!(rt; old.auth_plugin() == AuthPlugin::MysqlOldPassword);
-    let key: PublicKeyRequest = read(alloc, (), b"\x02")?;
-    assert!(rt; key == PublicKeyRequest::new());
+    let key: Result<PublicKeyRequest, Fault> = buf.parse(());
+    assert!(rt; key.ok() == Some(PublicKeyRequest::new()));
     Ok(())
 }
 
