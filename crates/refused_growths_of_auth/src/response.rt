@@ -36,10 +36,12 @@ const BYTES: &[u8] =
 const BYTES_ALONE: &[u8] =
     b"\0\0\0\0\0\0\0\x01\x2d\0\0\0\0\0\0\0\0\0\0\0\0\0\0\0\0\0\0\0\0\0\0\0u\0\0";
 
-/// A response whose attributes say that they take 2^64 - 1 bytes; one with the attribute a, whose value says so.
-const BYTES_OF_FALSE_LENGTHS: [&[u8]; 2] = [
+/// A response whose attributes say that they take 2^64 - 1 bytes; one with the attribute a, whose value says so; one whose
+/// scramble does.
+const BYTES_OF_FALSE_LENGTHS: [&[u8]; 3] = [
     b"\0\0\x10\0\0\0\0\x01\x2d\0\0\0\0\0\0\0\0\0\0\0\0\0\0\0\0\0\0\0\0\0\0\0u\0\0\xfe\xff\xff\xff\xff\xff\xff\xff\xff\x01a\x011",
     b"\0\0\x10\0\0\0\0\x01\x2d\0\0\0\0\0\0\0\0\0\0\0\0\0\0\0\0\0\0\0\0\0\0\0u\0\0\x0c\x01a\xfe\xff\xff\xff\xff\xff\xff\xff\xff1",
+    b"\0\0\x20\0\0\0\0\x01\x2d\0\0\0\0\0\0\0\0\0\0\0\0\0\0\0\0\0\0\0\0\0\0\0u\0\xfe\xff\xff\xff\xff\xff\xff\xff\xffa",
 ];
 
 /// The attributes k=v and l=w, as texts.
@@ -100,11 +102,12 @@ fn response_read_alone(alloc: Global) -> Result<String, AllocError> {
 }
 
 fn response_read_false(alloc: Global) -> Result<String, AllocError> {
-    let [of_attributes, of_a_value] = BYTES_OF_FALSE_LENGTHS;
+    let [of_attributes, of_a_value, of_the_scramble] = BYTES_OF_FALSE_LENGTHS;
     counted::start(alloc);
     let short = [
         is_short::<HandshakeResponse<'_>>(alloc, of_attributes, ()),
         is_short::<HandshakeResponse<'_>>(alloc, of_a_value, ()),
+        is_short::<HandshakeResponse<'_>>(alloc, of_the_scramble, ()),
     ];
     counted::stop(alloc);
     shown::count(alloc, &short)

@@ -19,6 +19,10 @@ pub fn all(cases: &mut Cases) -> Result<(), AllocError> {
         session_state_info_of_a_false_length,
     )?;
     cases.case("session_state_info_decode", decode)?;
+    cases.case(
+        "session_state_info_decode_of_a_false_length",
+        decode_of_a_false_length,
+    )?;
     cases.case("session_state_info_into_owned", info_into_owned)?;
     cases.case("session_state_info_clone", info_clone)?;
     cases.case("session_state_info_serialize", info_serialize)
@@ -142,6 +146,22 @@ fn decode(alloc: Global) -> Result<String, AllocError> {
     let answer = counted!(alloc; info.decode(alloc));
     match answer {
         Ok(change) => shown::value(alloc, Ok(change), &[]),
+        Err(fault) => format!(in alloc; "{fault}"),
+    }
+}
+
+/// An entry whose data is a schema that says that it is longer than any.
+const FALSE_CHANGE: &[u8] = b"\x01\x0a\xfe\xff\xff\xff\xff\xff\xff\xff\xffa";
+
+fn decode_of_a_false_length(alloc: Global) -> Result<String, AllocError> {
+    let mut buf = ParseBuf::new(alloc, FALSE_CHANGE);
+    let read: Result<SessionStateInfo<'_>, Fault> = buf.parse(());
+    let Ok(info) = read else {
+        return format!(in alloc; "no entry");
+    };
+    let answer = counted!(alloc; info.decode(alloc));
+    match answer {
+        Ok(_) => format!(in alloc; "a change"),
         Err(fault) => format!(in alloc; "{fault}"),
     }
 }
