@@ -359,7 +359,8 @@ static const struct operation {
     { "executions_written", 10000, "execution of 10 values, built and written", put_numbers, bench_executions_written },
     { "bulk_rows_made", 1000000, "bulk row, made and dropped", put_bulk_row, bench_bulk_rows_made },
     { "bulk_rows_written", 1000000, "bulk row, made, built into requests and written", put_bulk_row, bench_bulk_rows_written },
-    { "bulk_rows_offered", 1000000, "bulk row, made, offered as a slice, built into requests and written", put_bulk_row, bench_bulk_rows_offered },
+    /* (so many that they go into one request: of several, glibc puts the blocks of one together while the next is made) */
+    { "bulk_rows_offered", 250000, "bulk row, made, offered as a slice, built into requests and written", put_bulk_row, bench_bulk_rows_offered },
     { "handshakes_read", 10000, "handshake, read", put_handshake, bench_handshakes_read },
     { "handshakes_written", 10000, "handshake, read and written", put_handshake, bench_handshakes_written },
     { "responses_written", 10000, "response to a handshake, read and written", put_response, bench_responses_written },
