@@ -13,17 +13,24 @@ fn judges_named_cuts(rt: HostRuntime) {
     assert!(rt; !cut_is_fewest(plain, 27, 1, &nines, &[]));
 }
 
+/// The limit, how many columns, how many bytes each row takes, where the requests end, and whether that is a fewest cut.
+const ODD: [(u64, usize, &[u64], &[usize], bool); 8] = [
+    (27, 1, &[], &[], true),
+    (27, 1, &[], &[0], false),
+    (7, 0, &[0, 0], &[2], true),
+    (7, 0, &[0, 0], &[1, 2], false),
+    (6, 0, &[0, 0], &[2], false),
+    (u64::MAX, 1, &[u64::MAX, 1], &[1, 2], false),
+    (u64::MAX, 1, &[u64::MAX, 1], &[2], false),
+    (u64::MAX, usize::MAX, &[0], &[1], false),
+];
+
 #[test]
 fn judges_odd_numbers(rt: HostRuntime) {
-    let plain = BulkRule::PLAIN;
-    assert!(rt; cut_is_fewest(plain, 27, 1, &[], &[]));
-    assert!(rt; !cut_is_fewest(plain, 27, 1, &[], &[0]));
-    assert!(rt; cut_is_fewest(plain, 7, 0, &[0, 0], &[2]));
-    assert!(rt; !cut_is_fewest(plain, 7, 0, &[0, 0], &[1, 2]));
-    assert!(rt; !cut_is_fewest(plain, 6, 0, &[0, 0], &[2]));
-    assert!(rt; !cut_is_fewest(plain, u64::MAX, 1, &[u64::MAX, 1], &[1, 2]));
-    assert!(rt; !cut_is_fewest(plain, u64::MAX, 1, &[u64::MAX, 1], &[2]));
-    assert!(rt; !cut_is_fewest(plain, u64::MAX, usize::MAX, &[0], &[1]));
+    for (limit, columns, rows, ends, expected) in ODD {
+        let is_fewest = cut_is_fewest(BulkRule::PLAIN, limit, columns, rows, ends);
+        assert!(rt; is_fewest == expected);
+    }
 }
 
 const TYPES_ALWAYS: BulkRule = BulkRule {

@@ -57,59 +57,90 @@ fn dates_and_times_take_the_shortest_length(rt: HostRuntime) -> Result<(), Fail>
     Ok(())
 }
 
+/// So many bytes.
+fn sevens(alloc: Global, count: usize) -> Result<Value, AllocError> {
+    Ok(Value::Bytes(vec![in alloc; 7u8; count]?))
+}
+
 #[test]
 fn bytes_have_the_shortest_length(rt: HostRuntime) -> Result<(), Fail> {
-    let alloc = rt.alloc();
     let sizes = [(250, 251), (251, 254), (65_535, 65_538), (65_536, 65_540)];
     for (count, size) in sizes {
-        let value = Value::Bytes(vec![in alloc; 7u8; count]?);
-        assert_eq!(rt; value.bin_len(), size);
+        assert_eq!(rt; sevens(rt.alloc(), count)?.bin_len(), size);
     }
-    let mut out = Vec::new(alloc);
-    Value::Bytes(vec![in alloc; 7u8; 251]?).serialize(&mut out)?;
+    let mut out = Vec::new(rt.alloc());
+    sevens(rt.alloc(), 251)?.serialize(&mut out)?;
     assert!(rt; out.as_slice().starts_with(&[0xfc, 251, 0, 7]));
     Ok(())
 }
 
+const SIGNED: ColumnFlags = ColumnFlags::NOT_NULL_FLAG;
+
+const UNSIGNED: ColumnFlags = ColumnFlags::UNSIGNED_FLAG;
+
+/// The type of a column and its flags, and bytes with the number that they are then.
+const INTEGERS: [(ColumnType, ColumnFlags, &[u8], i64); 5] = [
+    (ColumnType::MYSQL_TYPE_TINY, SIGNED, &[0xff], -1),
+    (ColumnType::MYSQL_TYPE_TINY, UNSIGNED, &[0xff], 255),
+    (ColumnType::MYSQL_TYPE_YEAR, SIGNED, &[0, 0x80], -32_768),
+    (
+        ColumnType::MYSQL_TYPE_INT24,
+        UNSIGNED,
+        &[0, 0, 0, 0x80],
+        0x8000_0000,
+    ),
+    (ColumnType::MYSQL_TYPE_LONGLONG, SIGNED, &[0xff; 8], -1),
+];
+
 #[test]
 fn integers_have_a_sign_unless_unsigned(rt: HostRuntime) {
-    let alloc = rt.alloc();
-    let signed = ColumnFlags::NOT_NULL_FLAG;
-    let unsigned = ColumnFlags::UNSIGNED_FLAG;
-    let tiny = ColumnType::MYSQL_TYPE_TINY;
-    let year = ColumnType::MYSQL_TYPE_YEAR;
-    let long = ColumnType::MYSQL_TYPE_INT24;
+    for (column_type, flags, bytes, number) in INTEGERS {
+        let read = read_bin(rt.alloc(), column_type, flags, bytes);
+        assert!(rt; read == Ok(Value::Int(number)));
+    }
     let longlong = ColumnType::MYSQL_TYPE_LONGLONG;
-    assert!(rt; read_bin(alloc, tiny, signed, &[0xff]) == Ok(Value::Int(-1)));
-    assert!(rt; read_bin(alloc, tiny, unsigned, &[0xff]) == Ok(Value::Int(255)));
-    assert!(rt; read_bin(alloc, year, signed, &[0, 0x80]) == Ok(Value::Int(-32_768)));
-    assert!(rt; read_bin(alloc, long, unsigned, &[0, 0, 0, 0x80]) == Ok(Value::Int(0x8000_0000)));
-    assert!(rt; read_bin(alloc, longlong, signed, &[0xff; 8]) == Ok(Value::Int(-1)));
-    assert!(rt; read_bin(alloc, longlong, unsigned, &[0xff; 8]) == Ok(Value::UInt(u64::MAX)));
+    let largest = read_bin(rt.alloc(), longlong, UNSIGNED, &[0xff; 8]);
+    assert!(rt; largest == Ok(Value::UInt(u64::MAX)));
 }
+
+/// The type of a column, bytes, and why they are refused.
+const REFUSALS: [(ColumnType, &[u8], Fault); 3] = [
+    (
+        ColumnType::MYSQL_TYPE_DATE,
+        &[5, 0, 0, 0, 0, 0],
+        Fault::InvalidData("Invalid temporal length"),
+    ),
+    (
+        ColumnType::MYSQL_TYPE_CODE_14,
+        &[0],
+        Fault::InvalidData("Unsupported column type"),
+    ),
+    (
+        ColumnType::MYSQL_TYPE_BLOB,
+        &[0xfe, 0xff, 0xff, 0xff, 0xff, 0xff, 0xff, 0xff, 0xff],
+        Fault::UnexpectedEof,
+    ),
+];
 
 #[test]
 fn refusals_of_binary_values(rt: HostRuntime) {
-    let alloc = rt.alloc();
-    let flags = ColumnFlags::NOT_NULL_FLAG;
-    let date = ColumnType::MYSQL_TYPE_DATE;
-    let code = ColumnType::MYSQL_TYPE_CODE_14;
-    let blob = ColumnType::MYSQL_TYPE_BLOB;
-    let length = Err(Fault::InvalidData("Invalid temporal length"));
-    assert!(rt; read_bin(alloc, date, flags, &[5, 0, 0, 0, 0, 0]) == length);
-    let unsupported = Err(Fault::InvalidData("Unsupported column type"));
-    assert!(rt; read_bin(alloc, code, flags, &[0]) == unsupported);
-    let endless = [0xfe, 0xff, 0xff, 0xff, 0xff, 0xff, 0xff, 0xff, 0xff];
-    assert!(rt; read_bin(alloc, blob, flags, &endless) == Err(Fault::UnexpectedEof));
+    for (column_type, bytes, fault) in REFUSALS {
+        assert!(rt; read_bin(rt.alloc(), column_type, SIGNED, bytes) == Err(fault));
+    }
+}
+
+fn read_text(buf: &mut ParseBuf<'_>) -> Result<Value, Fault> {
+    let read: ValueDeserializer<TextValue> = buf.parse(())?;
+    Ok(read.0)
 }
 
 #[test]
 fn text_values(rt: HostRuntime) -> Result<(), Fail> {
     let mut buf = ParseBuf::new(rt.alloc(), &[0xfb, 2, b'4', b'2']);
-    let null: ValueDeserializer<TextValue> = buf.parse(()).ok().ok_or("no value")?;
-    assert!(rt; null.0 == Value::NULL);
-    let number: ValueDeserializer<TextValue> = buf.parse(()).ok().ok_or("a text")?;
-    assert!(rt; number.0 == text(rt.alloc(), b"42")?);
+    let null = read_text(&mut buf).ok().ok_or("no value")?;
+    assert!(rt; null == Value::NULL);
+    let number = read_text(&mut buf).ok().ok_or("a text")?;
+    assert!(rt; number == text(rt.alloc(), b"42")?);
     assert!(rt; buf.is_empty());
     Ok(())
 }
@@ -122,11 +153,12 @@ fn is_no_number(alloc: Global, bytes: &[u8]) -> Result<bool, AllocError> {
 
 #[test]
 fn conversions_of_texts_to_numbers(rt: HostRuntime) -> Result<(), Fail> {
-    let alloc = rt.alloc();
-    assert!(rt; u64::from_value_opt(text(alloc, b"+5")?) == Ok(5));
-    assert!(rt; i64::from_value_opt(text(alloc, b"-5")?) == Ok(-5));
+    let plus_five = u64::from_value_opt(text(rt.alloc(), b"+5")?);
+    assert!(rt; plus_five == Ok(5));
+    let minus_five = i64::from_value_opt(text(rt.alloc(), b"-5")?);
+    assert!(rt; minus_five == Ok(-5));
     for refused in [b"-5".as_slice(), b"", b"+", b"5 ", b"18446744073709551616"] {
-        assert!(rt; is_no_number(alloc, refused)?);
+        assert!(rt; is_no_number(rt.alloc(), refused)?);
     }
     Ok(())
 }
@@ -163,11 +195,19 @@ fn b_and_a(alloc: Global) -> Result<Vec<Vec<u8>>, AllocError> {
     Ok(names)
 }
 
+const A_AND_B: &[(&[u8], i64)] = &[(b"a", 1), (b"b", 2)];
+
+const B_AND_A: &[(&[u8], i64)] = &[(b"b", 2), (b"a", 1)];
+
+/// The values that stand for the names `b` and `a`.
+fn in_order(alloc: Global, params: Params) -> Result<Result<Vec<Value>, ParamsError>, AllocError> {
+    let names = b_and_a(alloc)?;
+    Ok(params.into_values(alloc, Some(&names)))
+}
+
 #[test]
 fn names_give_their_values_in_order(rt: HostRuntime) -> Result<(), Fail> {
-    let names = b_and_a(rt.alloc())?;
-    let both = named(rt.alloc(), &[(b"a", 1), (b"b", 2)])?;
-    match both.into_values(rt.alloc(), Some(&names)) {
+    match in_order(rt.alloc(), named(rt.alloc(), A_AND_B)?)? {
         Ok(row) => assert_eq!(rt; row.as_slice(), [Value::Int(2), Value::Int(1)].as_slice()),
         Err(_) => assert!(rt; false),
     }
@@ -176,31 +216,33 @@ fn names_give_their_values_in_order(rt: HostRuntime) -> Result<(), Fail> {
 
 #[test]
 fn a_name_without_a_value_is_told(rt: HostRuntime) -> Result<(), Fail> {
-    let names = b_and_a(rt.alloc())?;
     let b = Vec::from_slice(rt.alloc(), b"b")?;
-    let missing = named(rt.alloc(), &[(b"a", 1)])?.into_values(rt.alloc(), Some(&names));
+    let missing = in_order(rt.alloc(), named(rt.alloc(), &[(b"a", 1)])?)?;
     assert!(rt; missing == Err(ParamsError::Missing(b)));
     Ok(())
 }
 
 #[test]
 fn names_and_places_do_not_mix(rt: HostRuntime) -> Result<(), Fail> {
-    let alloc = rt.alloc();
-    let unnamed = named(alloc, &[])?.into_values(alloc, None);
+    let unnamed = named(rt.alloc(), &[])?.into_values(rt.alloc(), None);
     assert!(rt; unnamed == Err(ParamsError::NamedForPositional));
-    let names = b_and_a(alloc)?;
-    let positional = Params::Positional(Vec::new(alloc)).into_values(alloc, Some(&names));
+    let positional = in_order(rt.alloc(), Params::Positional(Vec::new(rt.alloc())))?;
     assert!(rt; positional == Err(ParamsError::PositionalForNamed));
-    let empty = Params::Empty.into_values(alloc, Some(&names));
-    assert!(rt; empty == Ok(Vec::new(alloc)));
+    let empty = in_order(rt.alloc(), Params::Empty)?;
+    assert!(rt; empty == Ok(Vec::new(rt.alloc())));
     Ok(())
+}
+
+/// Whether the values by these names are equal.
+fn are_equal(alloc: Global, one: &[(&[u8], i64)], other: &[(&[u8], i64)]) -> Result<bool, Fail> {
+    let one = named(alloc, one)?;
+    let other = named(alloc, other)?;
+    Ok(one == other)
 }
 
 #[test]
 fn named_values_are_equal_in_order_alone(rt: HostRuntime) -> Result<(), Fail> {
-    let alloc = rt.alloc();
-    let one = named(alloc, &[(b"a", 1), (b"b", 2)])?;
-    assert!(rt; one == named(alloc, &[(b"a", 1), (b"b", 2)])?);
-    assert!(rt; one != named(alloc, &[(b"b", 2), (b"a", 1)])?);
+    assert!(rt; are_equal(rt.alloc(), A_AND_B, A_AND_B)?);
+    assert!(rt; !are_equal(rt.alloc(), A_AND_B, B_AND_A)?);
     Ok(())
 }

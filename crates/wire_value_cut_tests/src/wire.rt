@@ -1,4 +1,5 @@
 mod byte_strings;
+mod forms;
 mod lenenc;
 mod lists;
 mod sizes;

@@ -1,5 +1,6 @@
 //! Byte strings at the limits of their forms.
 
+use super::forms::{fault_of, read, written};
 use mysql_wire::{
     BareBytes, BytesRepr, ConstBytes, ConstBytesValue, ConstFault, EofBytes, Fault, LenEnc,
     MyDeserialize, MySerialize, NullBytes, ParseBuf, RawBytes, U8Bytes, U32Bytes,
@@ -12,10 +13,8 @@ fn borrowed<'a, R>(content: &'a [u8]) -> RawBytes<'a, R> {
     RawBytes::new(CowSlice::Borrowed(content))
 }
 
-fn written<R: BytesRepr>(alloc: Global, content: &[u8]) -> Result<Vec<u8>, AllocError> {
-    let mut out = Vec::new(alloc);
-    borrowed::<R>(content).serialize(&mut out)?;
-    Ok(out)
+fn written_as<R: BytesRepr>(alloc: Global, content: &[u8]) -> Result<Vec<u8>, AllocError> {
+    written(alloc, &borrowed::<R>(content))
 }
 
 /// Bytes, and the content with how many bytes are left behind it, if they begin with a null string.
@@ -30,8 +29,8 @@ const NULL_STRINGS: [(&[u8], Option<(&[u8], usize)>); 5] = [
 /// Whether the bytes are read as that null string, or are refused and stay.
 fn is_null_string(alloc: Global, bytes: &[u8], expected: Option<(&[u8], usize)>) -> bool {
     let mut buf = ParseBuf::new(alloc, bytes);
-    let read = buf.parse::<RawBytes<NullBytes>>(());
-    match (&read, expected) {
+    let answer: Result<RawBytes<NullBytes>, Fault> = read(&mut buf, ());
+    match (&answer, expected) {
         (Ok(content), Some((wanted, left))) => content.as_bytes() == wanted && buf.len() == left,
         (Err(fault), None) => *fault == Fault::UnexpectedEof && buf.len() == bytes.len(),
         _ => false,
@@ -47,7 +46,7 @@ fn a_null_string_ends_at_its_zero(rt: HostRuntime) {
 
 #[test]
 fn a_null_string_is_written_to_its_first_zero(rt: HostRuntime) -> Result<(), Fail> {
-    let out = written::<NullBytes>(rt.alloc(), b"a\0b")?;
+    let out = written_as::<NullBytes>(rt.alloc(), b"a\0b")?;
     assert_eq!(rt; out.as_slice(), b"a\0".as_slice());
     assert_eq!(rt; borrowed::<NullBytes>(b"a\0b").len(), 1);
     assert!(rt; borrowed::<NullBytes>(b"\0b").is_empty());
@@ -60,9 +59,9 @@ fn is_kept_behind_its_count(
     content: &[u8],
     kept: &[u8],
 ) -> Result<bool, AllocError> {
-    let out = written::<U8Bytes>(alloc, content)?;
+    let out = written_as::<U8Bytes>(alloc, content)?;
     let mut buf = ParseBuf::new(alloc, &out);
-    let is_again = match buf.parse::<RawBytes<U8Bytes>>(()) {
+    let is_again = match read::<RawBytes<U8Bytes>>(&mut buf, ()) {
         Ok(again) => again.as_bytes() == kept && buf.is_empty(),
         Err(_) => false,
     };
@@ -97,28 +96,28 @@ fn lengths_of_what_a_count_of_one_byte_tells(rt: HostRuntime) {
 fn a_count_past_the_end(rt: HostRuntime) {
     let eof = Some(Fault::UnexpectedEof);
     let mut buf = ParseBuf::new(rt.alloc(), b"\x03ab");
-    assert_eq!(rt; buf.parse::<RawBytes<U8Bytes>>(()).err(), eof);
+    assert_eq!(rt; fault_of::<RawBytes<U8Bytes>>(&mut buf, ()), eof);
     let mut buf = ParseBuf::new(rt.alloc(), b"\xff\xff\xff\xffabc");
-    assert_eq!(rt; buf.parse::<RawBytes<U32Bytes>>(()).err(), eof);
+    assert_eq!(rt; fault_of::<RawBytes<U32Bytes>>(&mut buf, ()), eof);
     let mut buf = ParseBuf::new(rt.alloc(), b"\xfe\xff\xff\xff\xff\xff\xff\xff\xffabc");
-    assert_eq!(rt; buf.parse::<RawBytes<LenEnc>>(()).err(), eof);
-    assert_eq!(rt; buf.parse::<RawBytes<BareBytes<99>>>(13).err(), eof);
+    assert_eq!(rt; fault_of::<RawBytes<LenEnc>>(&mut buf, ()), eof);
+    assert_eq!(rt; fault_of::<RawBytes<BareBytes<99>>>(&mut buf, 13), eof);
     assert_eq!(rt; buf.len(), 12);
 }
 
 #[test]
 fn a_count_of_four_bytes(rt: HostRuntime) -> Result<(), Fail> {
-    let out = written::<U32Bytes>(rt.alloc(), b"abc")?;
+    let out = written_as::<U32Bytes>(rt.alloc(), b"abc")?;
     assert_eq!(rt; out.as_slice(), b"\x03\0\0\0abc".as_slice());
     let mut buf = ParseBuf::new(rt.alloc(), &out);
-    let content: RawBytes<U32Bytes> = buf.parse(()).ok().ok_or("a string")?;
+    let content: RawBytes<U32Bytes> = read(&mut buf, ()).ok().ok_or("a string")?;
     assert_eq!(rt; content.as_bytes(), b"abc".as_slice());
     Ok(())
 }
 
 #[test]
 fn a_string_without_a_count_is_cut_where_it_is_written(rt: HostRuntime) -> Result<(), Fail> {
-    let out = written::<BareBytes<2>>(rt.alloc(), b"abc")?;
+    let out = written_as::<BareBytes<2>>(rt.alloc(), b"abc")?;
     assert_eq!(rt; out.as_slice(), b"ab".as_slice());
     Ok(())
 }
@@ -126,9 +125,9 @@ fn a_string_without_a_count_is_cut_where_it_is_written(rt: HostRuntime) -> Resul
 #[test]
 fn a_count_handed_in_and_the_rest(rt: HostRuntime) -> Result<(), Fail> {
     let mut buf = ParseBuf::new(rt.alloc(), b"abcde\0");
-    let content: RawBytes<BareBytes<2>> = buf.parse(3).ok().ok_or("3 bytes")?;
+    let content: RawBytes<BareBytes<2>> = read(&mut buf, 3).ok().ok_or("3 bytes")?;
     assert_eq!(rt; content.as_bytes(), b"abc".as_slice());
-    let content: RawBytes<EofBytes> = buf.parse(()).ok().ok_or("a rest")?;
+    let content: RawBytes<EofBytes> = read(&mut buf, ()).ok().ok_or("a rest")?;
     assert_eq!(rt; content.as_bytes(), b"de\0".as_slice());
     assert!(rt; buf.is_empty());
     Ok(())
@@ -166,10 +165,13 @@ impl ConstBytesValue<4> for Marker {
 #[test]
 fn strings_of_one_length(rt: HostRuntime) -> Result<(), Fail> {
     let mut buf = ParseBuf::new(rt.alloc(), b"\x03defabc");
-    let _: ConstBytes<Marker, 4> = buf.parse(()).ok().ok_or("the marker")?;
-    let name: [u8; 2] = buf.parse(()).ok().ok_or("two bytes")?;
+    let _: ConstBytes<Marker, 4> = read(&mut buf, ()).ok().ok_or("the marker")?;
+    let name: [u8; 2] = read(&mut buf, ()).ok().ok_or("two bytes")?;
     assert_eq!(rt; name, *b"ab");
-    assert_eq!(rt; buf.parse::<[u8; 2]>(()).err(), Some(Fault::UnexpectedEof));
+    assert_eq!(rt;
+        fault_of::<[u8; 2]>(&mut buf, ()),
+        Some(Fault::UnexpectedEof)
+    );
     assert_eq!(rt; buf.len(), 1);
     Ok(())
 }
@@ -186,10 +188,10 @@ fn strings_of_one_length_are_written_bare(rt: HostRuntime) -> Result<(), Fail> {
 #[test]
 fn other_bytes_are_no_marker(rt: HostRuntime) {
     let mut buf = ParseBuf::new(rt.alloc(), b"\x03dex");
-    let fault = buf.parse::<ConstBytes<Marker, 4>>(()).err();
+    let fault = fault_of::<ConstBytes<Marker, 4>>(&mut buf, ());
     assert_eq!(rt; fault, Some(Fault::InvalidData("Invalid marker")));
     let mut buf = ParseBuf::new(rt.alloc(), b"\x03de");
-    let fault = buf.parse::<ConstBytes<Marker, 4>>(()).err();
+    let fault = fault_of::<ConstBytes<Marker, 4>>(&mut buf, ());
     assert_eq!(rt; fault, Some(Fault::UnexpectedEof));
 }
 

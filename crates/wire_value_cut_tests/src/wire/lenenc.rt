@@ -1,6 +1,7 @@
 //! Length-encoded numbers at both ends of each width, and blocks.
 
-use mysql_wire::{Fault, LenEnc, MySerialize, ParseBuf, RawBytes, RawInt};
+use super::forms::{fault_of, read, written};
+use mysql_wire::{Fault, LenEnc, ParseBuf, RawBytes, RawInt};
 use std::test::Fail;
 
 const NUMBERS: [(u64, &[u8]); 9] = [
@@ -28,7 +29,7 @@ const NUMBERS: [(u64, &[u8]); 9] = [
 fn a_shortest_spelling_is_read(rt: HostRuntime) -> Result<(), Fail> {
     for (number, bytes) in NUMBERS {
         let mut buf = ParseBuf::new(rt.alloc(), bytes);
-        assert_eq!(rt; buf.parse::<RawInt<LenEnc>>(())?.0, number);
+        assert_eq!(rt; read::<RawInt<LenEnc>>(&mut buf, ())?.0, number);
         assert!(rt; buf.is_empty());
     }
     Ok(())
@@ -37,8 +38,7 @@ fn a_shortest_spelling_is_read(rt: HostRuntime) -> Result<(), Fail> {
 #[test]
 fn a_number_has_its_shortest_spelling(rt: HostRuntime) -> Result<(), Fail> {
     for (number, bytes) in NUMBERS {
-        let mut out = Vec::new(rt.alloc());
-        RawInt::<LenEnc>::new(number).serialize(&mut out)?;
+        let out = written(rt.alloc(), &RawInt::<LenEnc>::new(number))?;
         assert_eq!(rt; out.as_slice(), bytes);
     }
     Ok(())
@@ -49,8 +49,8 @@ fn a_cut_spelling_stays_unread(rt: HostRuntime) {
     for (_, bytes) in NUMBERS {
         for short in 0..bytes.len() {
             let mut buf = ParseBuf::new(rt.alloc(), &bytes[..short]);
-            let read = buf.parse::<RawInt<LenEnc>>(());
-            assert_eq!(rt; read.err(), Some(Fault::UnexpectedEof));
+            let fault = fault_of::<RawInt<LenEnc>>(&mut buf, ());
+            assert_eq!(rt; fault, Some(Fault::UnexpectedEof));
             assert_eq!(rt; buf.len(), short);
         }
     }
@@ -65,31 +65,33 @@ fn longer_spellings_are_read(rt: HostRuntime) -> Result<(), Fail> {
     ];
     for (number, bytes) in spellings {
         let mut buf = ParseBuf::new(rt.alloc(), bytes);
-        assert_eq!(rt; buf.parse::<RawInt<LenEnc>>(())?.0, number);
+        assert_eq!(rt; read::<RawInt<LenEnc>>(&mut buf, ())?.0, number);
         assert!(rt; buf.is_empty());
     }
     Ok(())
 }
 
 #[test]
-fn two_first_bytes_spell_no_number(rt: HostRuntime) -> Result<(), Fail> {
+fn two_first_bytes_spell_no_number(rt: HostRuntime) {
     for first in [0xfb, 0xff] {
         let bytes = [first, 0, 0, 0, 0, 0, 0, 0, 0];
         let mut buf = ParseBuf::new(rt.alloc(), &bytes);
-        let fault = Fault::InvalidData("Invalid length-encoded integer");
-        assert_eq!(rt; buf.parse::<RawInt<LenEnc>>(()).err(), Some(fault));
-        assert_eq!(rt; buf.parse::<RawBytes<LenEnc>>(()).err(), Some(fault));
+        let fault = Some(Fault::InvalidData("Invalid length-encoded integer"));
+        assert_eq!(rt; fault_of::<RawInt<LenEnc>>(&mut buf, ()), fault);
+        assert_eq!(rt; fault_of::<RawBytes<LenEnc>>(&mut buf, ()), fault);
         assert_eq!(rt; buf.len(), 9);
     }
-    Ok(())
 }
 
 #[test]
 fn a_block_one_byte_short_stays_unread(rt: HostRuntime) -> Result<(), Fail> {
     let mut buf = ParseBuf::new(rt.alloc(), &[1, 2, 3]);
-    assert_eq!(rt; buf.parse::<ParseBuf>(4).err(), Some(Fault::UnexpectedEof));
+    assert_eq!(rt;
+        fault_of::<ParseBuf>(&mut buf, 4),
+        Some(Fault::UnexpectedEof)
+    );
     assert_eq!(rt; buf.len(), 3);
-    assert_eq!(rt; buf.parse::<ParseBuf>(3)?.len(), 3);
+    assert_eq!(rt; read::<ParseBuf>(&mut buf, 3)?.len(), 3);
     assert!(rt; buf.is_empty());
     Ok(())
 }

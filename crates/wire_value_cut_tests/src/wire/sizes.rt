@@ -16,35 +16,36 @@ impl ConstFault for Marker {
 
 #[test]
 fn a_fixed_width_is_the_size(rt: HostRuntime) {
-    assert_eq!(rt; <RawInt<u8> as MyDeserialize>::SIZE, Some(1));
-    assert_eq!(rt; <RawInt<LeU16> as MyDeserialize>::SIZE, Some(2));
-    assert_eq!(rt; <RawInt<LeU24> as MyDeserialize>::SIZE, Some(3));
-    assert_eq!(rt; <RawInt<LeU32> as MyDeserialize>::SIZE, Some(4));
-    assert_eq!(rt; <RawInt<LeU64> as MyDeserialize>::SIZE, Some(8));
-    assert_eq!(rt; <Skip<0> as MyDeserialize>::SIZE, Some(0));
-    assert_eq!(rt; <Skip<23> as MyDeserialize>::SIZE, Some(23));
-    assert_eq!(rt; <[u8; 0] as MyDeserialize>::SIZE, Some(0));
-    assert_eq!(rt; <[u8; 20] as MyDeserialize>::SIZE, Some(20));
+    let sizes = [
+        (<RawInt<u8> as MyDeserialize>::SIZE, 1),
+        (<RawInt<LeU16> as MyDeserialize>::SIZE, 2),
+        (<RawInt<LeU24> as MyDeserialize>::SIZE, 3),
+        (<RawInt<LeU32> as MyDeserialize>::SIZE, 4),
+        (<RawInt<LeU64> as MyDeserialize>::SIZE, 8),
+        (<Skip<0> as MyDeserialize>::SIZE, 0),
+        (<Skip<23> as MyDeserialize>::SIZE, 23),
+        (<[u8; 0] as MyDeserialize>::SIZE, 0),
+        (<[u8; 20] as MyDeserialize>::SIZE, 20),
+    ];
+    for (size, width) in sizes {
+        assert_eq!(rt; size, Some(width));
+    }
 }
 
 #[test]
 fn a_constant_or_coded_form_has_its_width(rt: HostRuntime) {
-    assert_eq!(rt; <ConstU8<Marker, 0xff> as MyDeserialize>::SIZE, Some(1));
-    assert_eq!(rt; <ConstU32<Marker, 1> as MyDeserialize>::SIZE, Some(4));
-    assert_eq!(rt; <Const<StatusFlags, LeU16> as MyDeserialize>::SIZE, Some(2));
-    assert_eq!(rt;
-        <Const<CapabilityFlags, LeU32> as MyDeserialize>::SIZE,
-        Some(4)
-    );
-    assert_eq!(rt; <Const<ColumnType, u8> as MyDeserialize>::SIZE, Some(1));
-    assert_eq!(rt;
-        <Const<SessionStateType, u8> as MyDeserialize>::SIZE,
-        Some(1)
-    );
-    assert_eq!(rt;
-        <Const<MariadbBulkIndicator, u8> as MyDeserialize>::SIZE,
-        Some(1)
-    );
+    let sizes = [
+        (<ConstU8<Marker, 0xff> as MyDeserialize>::SIZE, 1),
+        (<ConstU32<Marker, 1> as MyDeserialize>::SIZE, 4),
+        (<Const<StatusFlags, LeU16> as MyDeserialize>::SIZE, 2),
+        (<Const<CapabilityFlags, LeU32> as MyDeserialize>::SIZE, 4),
+        (<Const<ColumnType, u8> as MyDeserialize>::SIZE, 1),
+        (<Const<SessionStateType, u8> as MyDeserialize>::SIZE, 1),
+        (<Const<MariadbBulkIndicator, u8> as MyDeserialize>::SIZE, 1),
+    ];
+    for (size, width) in sizes {
+        assert_eq!(rt; size, Some(width));
+    }
 }
 
 #[test]
