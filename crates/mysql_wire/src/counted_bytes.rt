@@ -8,6 +8,7 @@ use crate::bytes::BytesRepr;
 use crate::fault::FaultOf;
 use crate::int::{IntRepr, RawInt};
 use crate::little_endian::LeU32;
+use crate::room::append_to_room;
 
 /// The bytes behind a count of one byte. Fewer bytes than the count: `UnexpectedEof`.
 ///
@@ -55,7 +56,7 @@ impl BytesRepr for U8Bytes {
     fn append(content: &[u8], out: &mut Vec<u8>) {
         let kept = first_bytes(content, u8::MAX as usize);
         <u8 as IntRepr>::append(kept.len() as u8, out);
-        out.extend_from_slice(kept).unwrap();
+        append_to_room(kept, out);
     }
 
     ghost size_is = { λ _. size-counted_bytes byte };
@@ -108,7 +109,7 @@ impl BytesRepr for U32Bytes {
     fn append(content: &[u8], out: &mut Vec<u8>) {
         let kept = first_bytes(content, u32::MAX as usize);
         <LeU32 as IntRepr>::append(kept.len() as u32, out);
-        out.extend_from_slice(kept).unwrap();
+        append_to_room(kept, out);
     }
 
     ghost size_is = { λ _. size-counted_bytes le_u32 };

@@ -5,6 +5,7 @@ ghost use Rattle.std.specs.Prelude.{refl};
 use crate::buf::ParseBuf;
 use crate::bytes::BytesRepr;
 use crate::fault::FaultOf;
+use crate::room::append_to_room;
 
 /// All the bytes that are left (`string<EOF>`). A content is written whole.
 #[derive(Clone, Copy, Debug)]
@@ -42,7 +43,7 @@ impl BytesRepr for EofBytes {
 
     #[inline(always)]
     fn append(content: &[u8], out: &mut Vec<u8>) {
-        out.extend_from_slice(content).unwrap();
+        append_to_room(content, out);
     }
 
     ghost size_is = { λ _. refl };

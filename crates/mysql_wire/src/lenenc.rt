@@ -7,6 +7,7 @@ use crate::bytes::BytesRepr;
 use crate::fault::FaultOf;
 use crate::int::{IntRepr, RawInt};
 use crate::little_endian::{LeU16, LeU24, LeU64};
+use crate::room::append_to_room;
 
 /// The length-encoded form, of integers (`int<lenenc>`) and of byte strings (`string<lenenc>`).
 ///
@@ -128,7 +129,7 @@ impl BytesRepr for LenEnc {
     #[tactic(auto, unfolding(crate::specs::LenEnc::lenenc_string_bytes))]
     fn append(content: &[u8], out: &mut Vec<u8>) {
         <LenEnc as IntRepr>::append(content.len() as u64, out);
-        out.extend_from_slice(content).unwrap();
+        append_to_room(content, out);
     }
 
     ghost size_is = { λ _. size-lenenc_string };

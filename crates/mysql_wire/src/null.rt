@@ -6,6 +6,7 @@ ghost use Rattle.mysql_wire.specs.Null.{HasNoZero};
 use crate::buf::ParseBuf;
 use crate::bytes::BytesRepr;
 use crate::fault::FaultOf;
+use crate::room::append_to_room;
 use memchr::memchr;
 
 /// The bytes up to a zero (`string<NUL>`), which is eaten. Without a zero: `UnexpectedEof`.
@@ -57,7 +58,7 @@ impl BytesRepr for NullBytes {
 
     #[inline(always)]
     fn append(content: &[u8], out: &mut Vec<u8>) {
-        out.extend_from_slice(Self::kept(content)).unwrap();
+        append_to_room(Self::kept(content), out);
         out.push_reserved(0);
     }
 
