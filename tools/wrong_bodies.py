@@ -1,7 +1,7 @@
 #!/usr/bin/env python3
 """Tries the wrong bodies of the crates: the prover must refuse each by the name of the function that it changes.
 
-wrong_bodies.py [--crate NAME].. [--only NAME.edit].. [--jobs N] [--top FOLDER]
+wrong_bodies.py [--crate NAME].. [--lowest | --higher] [--only NAME.edit].. [--jobs N] [--top FOLDER]
 
 A wrong body is a file crates/NAME/must-fail/*.edit or crates/NAME/wrong-bodies/*.edit. Since a function is proved from
 the contracts of what it calls, many wrong bodies of different functions stand in one copy of a crate, and each is judged
@@ -27,10 +27,21 @@ TOP = os.path.dirname(os.path.dirname(os.path.realpath(__file__)))
 def arguments(words):
     parser = argparse.ArgumentParser(description=__doc__.partition("\n\n")[0])
     parser.add_argument("--crate", action="append", help="tries this crate's alone")
+    part = parser.add_mutually_exclusive_group()
+    part.add_argument("--lowest", action="store_true", help="tries those of crates that stand on none of the repository")
+    part.add_argument("--higher", action="store_true", help="tries those of all other crates")
     parser.add_argument("--only", action="append", metavar="NAME.edit", help="tries this one alone")
     parser.add_argument("--jobs", type=int, help="how many checks run side by side")
     parser.add_argument("--top", default=TOP, help="the repository")
     return parser.parse_args(words)
+
+
+def chosen_names(asked, crates):
+    """The names of the crates whose bodies are to be tried."""
+    names = asked.crate or sorted(crates)
+    if asked.lowest or asked.higher:
+        return [it for it in names if bool(crates[it].own) == asked.higher]
+    return names
 
 
 def wanted(crate, only):
@@ -91,11 +102,11 @@ def try_all(chosen, crates, jobs):
 def main(words):
     asked = arguments(words)
     crates = prover.crates_of(asked.top)
-    names = asked.crate or sorted(crates)
-    if not set(names) <= set(crates):
-        print(f"wrong_bodies: crates.txt lists no {', '.join(set(names) - set(crates))}\n0 passed, 1 failed")
+    unknown = set(asked.crate or ()) - set(crates)
+    if unknown:
+        print(f"wrong_bodies: crates.txt lists no {', '.join(unknown)}\n0 passed, 1 failed")
         return 1
-    chosen = {it: wanted(crates[it], asked.only) for it in names}
+    chosen = {it: wanted(crates[it], asked.only) for it in chosen_names(asked, crates)}
     chosen = {it: given for it, given in chosen.items() if any(given)}
     try:
         prover.build_libraries(chosen, crates)

@@ -10,7 +10,9 @@ import sys
 import tempfile
 import unittest
 
+import wrong_bodies
 from wrongbodies import bodies, source, verdicts
+from wrongbodies.prover import Crate
 
 HERE = os.path.dirname(os.path.realpath(__file__))
 
@@ -275,6 +277,18 @@ def write(path, text):
         it.write(text)
 
 
+class Choice(unittest.TestCase):
+    def test_lowest_and_higher_part_the_crates(self):
+        crates = {"low": Crate("low", "", [], ["std"]), "top": Crate("top", "", ["low"], [])}
+        for words, names in (
+            ([], ["low", "top"]),
+            (["--lowest"], ["low"]),
+            (["--higher"], ["top"]),
+            (["--crate", "top", "--lowest"], []),
+        ):
+            self.assertEqual(wrong_bodies.chosen_names(wrong_bodies.arguments(words), crates), names)
+
+
 class WholeRun(unittest.TestCase):
     def setUp(self):
         self.top = tempfile.mkdtemp(prefix="wrong-bodies-test-")
@@ -307,6 +321,7 @@ class WholeRun(unittest.TestCase):
     def test_no_body_is_no_success(self):
         self.assertEqual(self.run_on("--only", "none.edit")[0], 1)
         self.assertEqual(self.run_on("--crate", "none")[0], 1)
+        self.assertEqual(self.run_on("--higher")[0], 1)
 
 
 if __name__ == "__main__":

@@ -159,7 +159,11 @@ def copy_into(crate, room):
         if os.path.isdir(f"{crate.folder}/{part}"):
             shutil.copytree(f"{crate.folder}/{part}", f"{room}/{part}")
     if os.path.isdir(crate.kept()):
-        shutil.copytree(crate.kept(), f"{room}/kept")
+        try:
+            shutil.copytree(crate.kept(), f"{room}/kept")
+        except (OSError, shutil.Error):
+            # (rt ci puts it aside, and may do so just then)
+            shutil.rmtree(f"{room}/kept", ignore_errors=True)
 
 
 def processors():
