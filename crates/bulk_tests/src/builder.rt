@@ -198,20 +198,35 @@ fn builders_are_equal_in_settings(rt: HostRuntime) {
     assert!(rt; plain != builder(alloc, 100).with_max_rows(1));
 }
 
+/// Whether the builder is equal to its copy.
+fn is_its_copy(builder: &ComStmtBulkExecuteRequestBuilder<'_>) -> Result<bool, AllocError> {
+    let copy = builder.clone()?;
+    Ok(copy == *builder)
+}
+
+/// The two, which have the same settings and no rows, are equal but while other rows wait.
+fn assert_equal_in_rows(
+    rt: &impl Abort,
+    alloc: Global,
+    a: &mut ComStmtBulkExecuteRequestBuilder<'_>,
+    b: &mut ComStmtBulkExecuteRequestBuilder<'_>,
+) -> Result<(), AllocError> {
+    assert!(rt; *a == *b);
+    assert_accepted(rt, a, row(alloc, &[Cell::Int(1)])?);
+    assert!(rt; *a != *b);
+    assert_accepted(rt, b, row(alloc, &[Cell::UInt(1)])?);
+    assert!(rt; *a != *b);
+    assert!(rt; is_its_copy(a)?);
+    assert!(rt; a.build().is_ok() && b.build().is_ok());
+    assert!(rt; *a == *b);
+    Ok(())
+}
+
 #[test]
 fn builders_are_equal_in_waiting_rows(rt: HostRuntime) -> Result<(), Fail> {
-    let alloc = rt.alloc();
-    let mut a = builder(alloc, 100);
-    let mut b = builder(alloc, 100);
-    assert!(rt; a == b);
-    assert_accepted(&rt, &mut a, row(alloc, &[Cell::Int(1)])?);
-    assert!(rt; a != b);
-    assert_accepted(&rt, &mut b, row(alloc, &[Cell::UInt(1)])?);
-    assert!(rt; a != b);
-    assert!(rt; a.clone()? == a);
-    assert!(rt; a.build().is_ok() && b.build().is_ok());
-    assert!(rt; a == b);
-    Ok(())
+    let mut a = builder(rt.alloc(), 100);
+    let mut b = builder(rt.alloc(), 100);
+    Ok(assert_equal_in_rows(&rt, rt.alloc(), &mut a, &mut b)?)
 }
 
 /// A row of the number and a text, in place of what the row held.
