@@ -1,11 +1,9 @@
 -- The fields of a column that have fixed lengths.
 use Rattle.std.specs.Prelude.{ℕ, refl}
 use Rattle.mysql_wire.specs.declared.codes.column_type.ColumnType.{ColumnType}
-use Rattle.mysql_wire.specs.Codec.{Codec, Fields}
-use Rattle.mysql_wire.specs.Codecs.{◌>>=◌, give, field, block, packet, const_u8, u8, u16, u32, coded, flags, skip}
+use Rattle.mysql_wire.specs.Codecs.{Codec, Fields, ◌>>=◌, give, field, block, packet, const_u8, u8, u16, u32, coded, flags, skip, raw_int}
 use Rattle.mysql_wire.specs.ColumnType.{column_type_code, column_type_of, column_type-again}
 use Rattle.mysql_wire.specs.Flags.{ColumnFlags}
-use Rattle.mysql_wire.specs.Int.{raw_int}
 use Rattle.mysql_replies.specs.declared.column_fields.ColumnFields.{ColumnFields}
 
 -- the fields of these

@@ -1,7 +1,6 @@
 -- The request for a local file.
 use Rattle.std.specs.Prelude.{ℕ, List, refl}
-use Rattle.mysql_wire.specs.Codec.{Codec, Fields}
-use Rattle.mysql_wire.specs.Codecs.{◌>>=◌, give, field, packet, const_u8, string_eof}
+use Rattle.mysql_wire.specs.Codecs.{Codec, Fields, ◌>>=◌, give, field, packet, const_u8, string_eof}
 use Rattle.mysql_replies.specs.declared.local_infile.LocalInfilePacket.{LocalInfilePacket}
 
 -- the bytes of the file's name

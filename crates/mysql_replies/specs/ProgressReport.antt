@@ -1,12 +1,9 @@
 -- How far a server is with a long statement.
-use Rattle.std.specs.Prelude.{ℕ, ◌/◌, ◌%◌, List, ◌++◌, codes, refl}
-use Rattle.std.specs.Fmt.{decimal}
+use Rattle.std.specs.Prelude.{ℕ, ◌/◌, ◌%◌, List, ◌++◌, codes, decimal, refl}
 use Rattle.mysql_wire.specs.declared.int.RawInt.{RawInt}
 use Rattle.mysql_wire.specs.declared.little_endian.LeU24.{LeU24}
-use Rattle.mysql_wire.specs.Int.{raw_int}
 use Rattle.mysql_wire.specs.Text.{lossy_text}
-use Rattle.mysql_wire.specs.Codec.{Codec, Fields}
-use Rattle.mysql_wire.specs.Codecs.{◌>>=◌, give, field, block, packet, u8, u24, string_lenenc}
+use Rattle.mysql_wire.specs.Codecs.{Codec, Fields, ◌>>=◌, give, field, block, packet, u8, u24, string_lenenc, raw_int}
 use Rattle.mysql_replies.specs.declared.progress_report.ProgressReport.{ProgressReport}
 
 -- the stage, the last stage, the progress in thousandths of a percent, and the bytes of the stage's text

@@ -1,9 +1,7 @@
 -- An error that a server reports.
-use Rattle.std.specs.Prelude.{◌≡◌, ℕ, List, ◌++◌, length, Option, Some, None, Bool, true, false, codes, refl}
-use Rattle.std.specs.Fmt.{decimal}
+use Rattle.std.specs.Prelude.{◌≡◌, ℕ, List, ◌++◌, length, Option, Some, None, Bool, true, false, codes, decimal, refl}
 use Rattle.mysql_wire.specs.Text.{lossy_text}
-use Rattle.mysql_wire.specs.Codec.{Codec, Fields}
-use Rattle.mysql_wire.specs.Codecs.{◌>>=◌, give, field, packet, from_context, when, without_context, string_eof}
+use Rattle.mysql_wire.specs.Codecs.{Codec, Fields, ◌>>=◌, give, field, packet, from_context, when, without_context, string_eof}
 use Rattle.mysql_replies.specs.SqlState.{sql_state, state_bytes}
 use Rattle.mysql_replies.specs.declared.sql_state.SqlState.{SqlState}
 use Rattle.mysql_replies.specs.declared.server_error.ServerError.{ServerError}

@@ -1,8 +1,7 @@
 -- The entries of a state string.
 use Rattle.std.specs.Prelude.{ℕ, List, [], Ok, Err, refl}
 use Rattle.mysql_wire.specs.declared.codes.session_state_type.SessionStateType.{SessionStateType}
-use Rattle.mysql_wire.specs.Codec.{Codec, Fields}
-use Rattle.mysql_wire.specs.Codecs.{◌>>=◌, give, field, packet, coded, string_lenenc}
+use Rattle.mysql_wire.specs.Codecs.{Codec, Fields, ◌>>=◌, give, field, packet, coded, string_lenenc}
 use Rattle.mysql_wire.specs.Form.{Form}
 use Rattle.mysql_wire.specs.Many.{many}
 use Rattle.mysql_wire.specs.Reading.{Reading}

@@ -1,7 +1,6 @@
 -- The SQL state of an error.
 use Rattle.std.specs.Prelude.{ℕ, List, refl}
-use Rattle.mysql_wire.specs.Codec.{Codec, Fields}
-use Rattle.mysql_wire.specs.Codecs.{◌>>=◌, give, field, block, packet, const_u8, byte_array}
+use Rattle.mysql_wire.specs.Codecs.{Codec, Fields, ◌>>=◌, give, field, block, packet, const_u8, byte_array}
 use Rattle.mysql_replies.specs.declared.sql_state.SqlState.{SqlState}
 
 -- the five bytes of the state

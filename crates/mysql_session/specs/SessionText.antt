@@ -2,10 +2,8 @@
 use Rattle.std.specs.Prelude.{ℕ, List, refl}
 use Rattle.mysql_wire.specs.declared.eof.EofBytes.{EofBytes}
 use Rattle.mysql_wire.specs.declared.lenenc.LenEnc.{LenEnc}
-use Rattle.mysql_wire.specs.Codec.{Codec, Fields}
-use Rattle.mysql_wire.specs.Codecs.{◌>>=◌, give, field, packet, string_eof, string_lenenc}
+use Rattle.mysql_wire.specs.Codecs.{Codec, Fields, ◌>>=◌, give, field, packet, string_eof, string_lenenc}
 use Rattle.mysql_wire.specs.Form as form
-use Rattle.mysql_wire.specs.Form.{Form}
 use Rattle.mysql_session.specs.declared.session_text.SessionText.{SessionText}
 use Rattle.mysql_session.specs.declared.session_text.SchemaName.{SchemaName}
 use Rattle.mysql_session.specs.declared.session_text.GtidSet.{GtidSet}
@@ -21,7 +19,7 @@ abbrev pub text_of : {N R : Type 0} → List ℕ → SessionText N R
 text_of bytes = record { 0 = bytes; 1 = record {} }
 
 -- a text in the form of its bytes
-abbrev pub session_text : {N R : Type 0} → Form (List ℕ) → Form (SessionText N R)
+abbrev pub session_text : {N R : Type 0} → form.Form (List ℕ) → form.Form (SessionText N R)
 session_text bytes = form.◌>>=◌ bytes (λ content. form.give (text_of content))
 
 abbrev pub session_text_fields : {C N R : Type 0} → Codec C (List ℕ) → Fields C (SessionText N R) (SessionText N R)

@@ -1,7 +1,6 @@
 -- A system variable and its value.
 use Rattle.std.specs.Prelude.{ℕ, ◌<◌, ◌^◌, List, length, refl}
-use Rattle.mysql_wire.specs.Codec.{Codec, Fields}
-use Rattle.mysql_wire.specs.Codecs.{◌>>=◌, give, field, packet, string_lenenc}
+use Rattle.mysql_wire.specs.Codecs.{Codec, Fields, ◌>>=◌, give, field, packet, string_lenenc}
 use Rattle.mysql_session.specs.declared.system_variable.SystemVariable.{SystemVariable}
 
 -- the bytes of the name and of the value

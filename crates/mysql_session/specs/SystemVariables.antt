@@ -1,8 +1,7 @@
 -- System variables and their values.
 use Rattle.std.specs.Prelude.{◌<◌, List}
-use Rattle.mysql_wire.specs.Codec.{Codec}
 use Rattle.mysql_wire.specs.CodecAgain.{some-lenenc, some-then}
-use Rattle.mysql_wire.specs.Codecs.{list_to_end}
+use Rattle.mysql_wire.specs.Codecs.{Codec, list_to_end}
 use Rattle.mysql_session.specs.declared.system_variable.SystemVariable.{SystemVariable}
 use Rattle.mysql_session.specs.SystemVariable.{system_variable, variable_name}
 

@@ -1,8 +1,6 @@
 -- The end of a prepared statement.
 use Rattle.std.specs.Prelude.{refl}
-use Rattle.mysql_wire.specs.Codec.{Codec, Fields}
-use Rattle.mysql_wire.specs.Codecs.{◌>>=◌, give, field, block, packet, const_u8, u32}
-use Rattle.mysql_wire.specs.Int.{raw_int}
+use Rattle.mysql_wire.specs.Codecs.{Codec, Fields, ◌>>=◌, give, field, block, packet, const_u8, u32, raw_int}
 use Rattle.mysql_stmt.specs.declared.close.ComStmtClose.{ComStmtClose}
 
 -- 19, and the statement's number

@@ -1,7 +1,6 @@
 -- One execution of a prepared statement.
 use Rattle.std.specs.Prelude.{ℕ, Bool, List, ◌++◌}
-use Rattle.mysql_wire.specs.Codec.{Fields}
-use Rattle.mysql_wire.specs.Codecs.{◌>>=◌, give, field, const_u8, const_u32, u32}
+use Rattle.mysql_wire.specs.Codecs.{Fields, ◌>>=◌, give, field, const_u8, const_u32, u32}
 use Rattle.mysql_wire.specs.Codecs as codec
 use Rattle.mysql_values.specs.declared.value.Value.{Value}
 use Rattle.mysql_stmt.specs.ExecuteParams.{params_bytes}

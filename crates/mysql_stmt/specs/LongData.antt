@@ -1,8 +1,6 @@
 -- The data of one parameter, sent ahead of an execution.
 use Rattle.std.specs.Prelude.{ℕ, List, refl}
-use Rattle.mysql_wire.specs.Codec.{Codec, Fields}
-use Rattle.mysql_wire.specs.Codecs.{◌>>=◌, give, field, packet, const_u8, u16, u32, string_eof}
-use Rattle.mysql_wire.specs.Int.{raw_int}
+use Rattle.mysql_wire.specs.Codecs.{Codec, Fields, ◌>>=◌, give, field, packet, const_u8, u16, u32, string_eof, raw_int}
 use Rattle.mysql_stmt.specs.declared.long_data.ComStmtSendLongData.{ComStmtSendLongData}
 
 -- this data, for that parameter of that statement

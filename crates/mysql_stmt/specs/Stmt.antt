@@ -1,7 +1,6 @@
 -- The answer to a prepared statement.
 use Rattle.std.specs.Prelude.{ℕ, refl}
-use Rattle.mysql_wire.specs.Codec.{Codec, Fields}
-use Rattle.mysql_wire.specs.Codecs.{◌>>=◌, give, field, block, packet, const_u8, skip, u16, u32}
+use Rattle.mysql_wire.specs.Codecs.{Codec, Fields, ◌>>=◌, give, field, block, packet, const_u8, skip, u16, u32}
 use Rattle.mysql_stmt.specs.declared.stmt.StmtPacket.{StmtPacket}
 
 -- 0, the statement's number, the counts of columns and parameters, a byte with any value, the count of warnings

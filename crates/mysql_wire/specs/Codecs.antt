@@ -1,4 +1,6 @@
--- The codecs of the wire forms, and how a packet's codec is put together.
+-- The codecs of the wire forms, and how a packet's codec is put together. What each packet's file names is passed on.
+pub use Rattle.mysql_wire.specs.Codec.{Codec, Fields}
+pub use Rattle.mysql_wire.specs.Int.{raw_int}
 use Rattle.std.specs.Prelude.{◌≡◌, ℕ, ◌+◌, ◌<◌, ◌≤◌, ◌^◌, List, [], ◌∷◌, length, replicate, take, Option, Bool, refl}
 use Rattle.std.proofs.Common.{◌⊎◌}
 use Rattle.std.specs.List.{flat_map}
@@ -38,7 +40,6 @@ use Rattle.mysql_wire.specs.Seq.{counted}
 use Rattle.mysql_wire.specs.Skip as skip_form
 use Rattle.mysql_wire.specs.Spelling.{IsSpelling, number-again, raw-again, const_byte-again, const_u32-again, skip-again}
 use Rattle.mysql_wire.specs.Writing.{le_bytes}
-use Rattle.mysql_wire.specs.Codec.{Codec, Fields}
 use Rattle.mysql_wire.specs.CodecFits.{then_bytes, then_fits, option_len, option_fits, choice_of, choice_bytes, choice_len, choice_fits, each_fits, is_there, if_left_fits}
 use Rattle.mysql_wire.specs.CodecAgain as law
 
