@@ -14,7 +14,6 @@ mod ok_packets;
 mod ok_terminator;
 mod prepared;
 mod progress;
-mod reported;
 mod rows;
 mod statements;
 mod stmt_bulk_execute;

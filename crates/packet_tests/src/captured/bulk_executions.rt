@@ -1,8 +1,8 @@
 //! Bulk executions, read as the values that were handed to the client's API.
 
-use crate::captured::reported::{all_agree, bytes_at, word};
 use crate::captured::stmt_bulk_execute::PACKETS;
 use crate::captured::values::{column, is_told};
+use captured_lines::{all_agree, word};
 use mysql_bulk::read_bulk_rows;
 use mysql_values::Value;
 use mysql_wire::{ColumnFlags, ColumnType, Fault, ParseBuf};
@@ -31,10 +31,9 @@ fn is_handed_in(alloc: Global, row: &[Value], words: &str) -> Result<bool, Alloc
 }
 
 /// Whether the execution of the line is read whole, as the rows that were handed in.
-fn agrees(alloc: Global, line: &str) -> Result<bool, Fail> {
-    let bytes = bytes_at(alloc, line, 1)?;
+fn agrees(alloc: Global, line: &str, bytes: &[u8]) -> Result<bool, Fail> {
     let types = types(alloc, word(line, 2))?;
-    let mut buf = ParseBuf::new(alloc, bytes.as_slice());
+    let mut buf = ParseBuf::new(alloc, bytes);
     let read: Result<Vec<Vec<Value>>, Fault> = read_bulk_rows(types.as_slice(), &mut buf);
     let mut rows = line.split(' ').skip(3);
     for row in read.ok().ok_or("a captured bulk execution is refused")? {
@@ -49,5 +48,5 @@ fn agrees(alloc: Global, line: &str) -> Result<bool, Fail> {
 #[test]
 fn bulk_executions_are_read_as_handed_in(rt: HostRuntime) -> Result<(), Fail> {
     let alloc = rt.alloc();
-    all_agree(&rt, PACKETS, 6, |line| agrees(alloc, line))
+    all_agree(alloc, PACKETS, 6, |line, bytes| agrees(alloc, line, bytes))
 }

@@ -1,11 +1,11 @@
 //! Column definitions.
 
 use crate::captured::column::PACKETS;
-use crate::captured::reported::{
-    all_agree, are_bytes_reported, bytes_at, has_words, is_number_reported, is_written_as,
+use captured_lines::{
+    all_agree, are_bytes_reported, has_words, is_number_reported, is_written_as, read,
 };
 use mysql_replies::Column;
-use mysql_wire::{Fault, Flags, ParseBuf};
+use mysql_wire::Flags;
 use std::alloc::{AllocError, Global};
 use std::test::Fail;
 
@@ -32,22 +32,23 @@ fn are_numbers_reported(line: &str, column: &Column) -> bool {
 }
 
 /// Whether the packet of the line is read whole, as it was reported, and written again.
-fn agrees(alloc: Global, line: &str) -> Result<bool, Fail> {
-    let bytes = bytes_at(alloc, line, 1)?;
-    let mut buf = ParseBuf::new(alloc, bytes.as_slice());
-    let read: Result<Column, Fault> = buf.parse(());
-    let column = read.ok().ok_or("a captured column is refused")?;
+fn agrees(alloc: Global, line: &str, bytes: &[u8]) -> Result<bool, Fail> {
+    let column: Column = read(alloc, (), bytes)?;
     Ok(
-        buf.is_empty()
-            && has_words(line, 13)
+        has_words(line, 13)
             && are_numbers_reported(line, &column)
             && are_names_reported(alloc, line, &column)?
-            && is_written_as(alloc, &column, bytes.as_slice())?,
+            && is_written_as(alloc, &column, bytes)?,
     )
 }
 
 #[test]
 fn columns_are_read_as_reported(rt: HostRuntime) -> Result<(), Fail> {
     let alloc = rt.alloc();
-    all_agree(&rt, PACKETS, 219, |line| agrees(alloc, line))
+    all_agree(
+        alloc,
+        PACKETS,
+        219,
+        |line, bytes| agrees(alloc, line, bytes),
+    )
 }

@@ -1,12 +1,11 @@
 //! Errors and progress reports.
 
-use crate::captured::reported::{
-    all_agree, are_bytes_reported, bytes_at, capabilities, has_words, is_number_reported,
-    is_reported, is_written_as,
-};
 use crate::captured::{err, progress};
+use captured_lines::{
+    all_agree, are_bytes_reported, capabilities, has_words, is_number_reported, is_reported,
+    is_written_as, read,
+};
 use mysql_replies::{ErrPacket, ProgressReport, ServerError};
-use mysql_wire::{Fault, ParseBuf};
 use std::alloc::{AllocError, Global};
 use std::test::Fail;
 
@@ -44,21 +43,28 @@ fn is_progress_reported(
 }
 
 /// Whether the packet of the line is read whole, as it was reported, and written again.
-fn agrees(alloc: Global, line: &str) -> Result<bool, Fail> {
-    let bytes = bytes_at(alloc, line, 1)?;
-    let mut buf = ParseBuf::new(alloc, bytes.as_slice());
-    let read: Result<ErrPacket<'_>, Fault> = buf.parse(capabilities(line));
-    let packet = read.ok().ok_or("a captured error is refused")?;
+fn agrees(alloc: Global, line: &str, bytes: &[u8]) -> Result<bool, Fail> {
+    let packet: ErrPacket<'_> = read(alloc, capabilities(line), bytes)?;
     let is_reported = match &packet {
         ErrPacket::Error(error) => is_error_reported(alloc, line, error)?,
         ErrPacket::Progress(report) => is_progress_reported(alloc, line, report)?,
     };
-    Ok(buf.is_empty() && is_reported && is_written_as(alloc, &packet, bytes.as_slice())?)
+    Ok(is_reported && is_written_as(alloc, &packet, bytes)?)
 }
 
 #[test]
 fn errors_and_progress_are_read_as_reported(rt: HostRuntime) -> Result<(), Fail> {
     let alloc = rt.alloc();
-    all_agree(&rt, err::PACKETS, 26, |line| agrees(alloc, line))?;
-    all_agree(&rt, progress::PACKETS, 2, |line| agrees(alloc, line))
+    all_agree(
+        alloc,
+        err::PACKETS,
+        26,
+        |line, bytes| agrees(alloc, line, bytes),
+    )?;
+    all_agree(
+        alloc,
+        progress::PACKETS,
+        2,
+        |line, bytes| agrees(alloc, line, bytes),
+    )
 }

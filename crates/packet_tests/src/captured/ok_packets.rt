@@ -1,10 +1,8 @@
 //! OK packets of three kinds, down to what they say of the session.
 
-use crate::captured::reported::{
-    all_agree, bytes_at, capabilities, has_words, is_number_reported, is_reported,
-};
 use crate::captured::{eof_old, ok_common, ok_terminator};
 use crate::ok_kind::{OkKind, read_ok};
+use captured_lines::{all_agree, capabilities, has_words, is_number_reported, is_reported};
 use mysql_replies::{OkPacket, SessionStateInfo};
 use mysql_session::SessionStateChange;
 use mysql_wire::{Flags, ParseBuf, SessionStateType};
@@ -113,9 +111,8 @@ fn or_none(word: &String) -> &str {
 }
 
 /// Whether the packet of the line is read whole, as it was reported.
-fn agrees(alloc: Global, line: &str, kind: OkKind) -> Result<bool, Fail> {
-    let bytes = bytes_at(alloc, line, 1)?;
-    let mut buf = ParseBuf::new(alloc, bytes.as_slice());
+fn agrees(alloc: Global, line: &str, bytes: &[u8], kind: OkKind) -> Result<bool, Fail> {
+    let mut buf = ParseBuf::new(alloc, bytes);
     let read = read_ok(&mut buf, kind, capabilities(line));
     let packet = read.ok().ok_or("a captured OK packet is refused")?;
     Ok(
@@ -130,21 +127,21 @@ fn agrees(alloc: Global, line: &str, kind: OkKind) -> Result<bool, Fail> {
 fn ok_packets_are_read_as_reported(rt: HostRuntime) -> Result<(), Fail> {
     let alloc = rt.alloc();
     all_agree(
-        &rt,
+        alloc,
         ok_common::PACKETS,
         59,
-        |line| agrees(alloc, line, OkKind::Common),
+        |line, bytes| agrees(alloc, line, bytes, OkKind::Common),
     )?;
     all_agree(
-        &rt,
+        alloc,
         ok_terminator::PACKETS,
         10,
-        |line| agrees(alloc, line, OkKind::Terminator),
+        |line, bytes| agrees(alloc, line, bytes, OkKind::Terminator),
     )?;
     all_agree(
-        &rt,
+        alloc,
         eof_old::PACKETS,
         41,
-        |line| agrees(alloc, line, OkKind::OldEof),
+        |line, bytes| agrees(alloc, line, bytes, OkKind::OldEof),
     )
 }

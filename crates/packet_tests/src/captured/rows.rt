@@ -1,12 +1,11 @@
 //! Rows of results.
 
-use crate::captured::reported::{all_agree, bytes_at, word};
 use crate::captured::values::{column, is_told};
 use crate::captured::{binary_row, text_row};
+use captured_lines::{all_agree, read, word};
 use mysql_replies::Column;
 use mysql_stmt::{Row, RowDeserializer, RowProtocol};
 use mysql_values::{Binary, ServerSide, Text};
-use mysql_wire::{Fault, ParseBuf};
 use std::alloc::{AllocError, Global};
 use std::rc::RcSlice;
 use std::test::Fail;
@@ -36,23 +35,20 @@ fn is_reported(alloc: Global, row: &Row, words: &str) -> Result<bool, AllocError
 }
 
 /// Whether the row of the line is read whole in the protocol `P`, as SQL returned it.
-fn agrees<P: RowProtocol>(alloc: Global, line: &str) -> Result<bool, Fail> {
-    let bytes = bytes_at(alloc, line, 1)?;
+fn agrees<P: RowProtocol>(alloc: Global, line: &str, bytes: &[u8]) -> Result<bool, Fail> {
     let columns = columns(alloc, word(line, 2))?;
-    let mut buf = ParseBuf::new(alloc, bytes.as_slice());
-    let read: Result<RowDeserializer<ServerSide, P>, Fault> = buf.parse(columns);
-    let row = read.ok().ok_or("a captured row is refused")?.into_inner();
-    Ok(buf.is_empty() && is_reported(alloc, &row, word(line, 3))?)
+    let row: RowDeserializer<ServerSide, P> = read(alloc, columns, bytes)?;
+    Ok(is_reported(alloc, &row.into_inner(), word(line, 3))?)
 }
 
 #[test]
 fn text_rows_are_read_as_reported(rt: HostRuntime) -> Result<(), Fail> {
     let alloc = rt.alloc();
     all_agree(
-        &rt,
+        alloc,
         text_row::PACKETS,
         86,
-        |line| agrees::<Text>(alloc, line),
+        |line, bytes| agrees::<Text>(alloc, line, bytes),
     )
 }
 
@@ -60,9 +56,9 @@ fn text_rows_are_read_as_reported(rt: HostRuntime) -> Result<(), Fail> {
 fn binary_rows_are_read_as_reported(rt: HostRuntime) -> Result<(), Fail> {
     let alloc = rt.alloc();
     all_agree(
-        &rt,
+        alloc,
         binary_row::PACKETS,
         10,
-        |line| agrees::<Binary>(alloc, line),
+        |line, bytes| agrees::<Binary>(alloc, line, bytes),
     )
 }

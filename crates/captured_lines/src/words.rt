@@ -1,25 +1,8 @@
 //! The words of a table's line.
 
-use mysql_wire::{CapabilityFlags, Flags, MySerialize};
+use mysql_wire::{CapabilityFlags, Flags};
 use std::alloc::{AllocError, Global};
-use std::process::Abort;
 use std::test::Fail;
-
-/// Each packet of the table agrees with what was reported, and they are so many.
-pub fn all_agree<F: Fn(&str) -> Result<bool, Fail>>(
-    rt: &impl Abort,
-    packets: &str,
-    count: usize,
-    agrees: F,
-) -> Result<(), Fail>
-    requires { F.IsAlwaysCallable agrees }
-{
-    for line in packets.lines() {
-        assert!(rt; agrees(line)?, "{line}");
-    }
-    assert_eq!(rt; packets.lines().count(), count);
-    Ok(())
-}
 
 /// The word at that place, or no text.
 pub fn word(line: &str, place: usize) -> &str {
@@ -69,15 +52,4 @@ pub fn are_bytes_reported(
     let word = word(line, place);
     let digits = hex::encode(alloc, bytes)?;
     Ok(word == "-" || word.strip_prefix('x') == Some(digits.as_str()))
-}
-
-/// Whether the value is written as these bytes.
-pub fn is_written_as<T: MySerialize>(
-    alloc: Global,
-    value: &T,
-    bytes: &[u8],
-) -> Result<bool, AllocError> {
-    let mut written = Vec::new(alloc);
-    value.serialize(&mut written)?;
-    Ok(written.as_slice() == bytes)
 }
