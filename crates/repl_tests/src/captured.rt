@@ -4,6 +4,5 @@
 
 mod binlog_dump;
 mod register_slave;
-mod reported;
 mod requests;
 mod semi_sync_ack;
