@@ -116,18 +116,15 @@ impl Parts for ErrPacket<'_> {
 
     #[inline(always)]
     fn put<S: Sink>(&self, sink: &mut S) {
+        let code: RawInt<LeU16> = RawInt::new(match self {
+            ErrPacket::Error(error) => error.error_code(),
+            ErrPacket::Progress(_) => PROGRESS_CODE,
+        });
         let header = ErrPacketHeader::new();
+        let head = parts!(header, code);
         match self {
-            ErrPacket::Error(error) => {
-                let code: RawInt<LeU16> = RawInt::new(error.error_code());
-                let head = parts!(header, code);
-                sink.part(&parts!(head, *error));
-            }
-            ErrPacket::Progress(report) => {
-                let code: RawInt<LeU16> = RawInt::new(PROGRESS_CODE);
-                let head = parts!(header, code);
-                sink.part(&parts!(head, *report));
-            }
+            ErrPacket::Error(error) => sink.part(&parts!(head, *error)),
+            ErrPacket::Progress(report) => sink.part(&parts!(head, *report)),
         }
     }
 }

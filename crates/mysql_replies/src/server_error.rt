@@ -93,12 +93,8 @@ impl<'de> MyDeserialize<'de> for ServerError<'de> {
     ghost form = { spec.server_error.form };
 
     fn deserialize<'s>(ctx: (u16, bool), buf: &mut ParseBuf<'de>) -> Result<Self, FaultOf<'s>> {
-        let (code, has_state) = ctx;
-        let state = if has_state {
-            Some(buf.parse(())?)
-        } else {
-            None
-        };
+        let (code, is_sent) = ctx;
+        let state = if is_sent { Some(buf.parse(())?) } else { None };
         Ok(ServerError {
             code,
             state,

@@ -1,6 +1,5 @@
 -- Variables fit where each does.
-use Rattle.std.proofs.Common.{List, [], ◌∷◌, refl}
-use Rattle.std.specs.List.{All}
+use Rattle.std.proofs.Common.{List, [], ◌∷◌, All, refl}
 use Rattle.std.proofs.lemmas.List.Elements.{All-head, All-tail}
 use Rattle.mysql_session.specs.declared.system_variable.SystemVariable.{SystemVariable}
 use Rattle.mysql_session.specs.SystemVariable.{system_variable, SystemVariableFits}

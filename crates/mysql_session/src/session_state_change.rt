@@ -9,7 +9,8 @@ use crate::session_text::{
 };
 use crate::system_variables::SystemVariables;
 use mysql_wire::{
-    AnyWidth, FaultOf, LenEnc, MyDeserialize, ParseBuf, Parts, RawBytes, SessionStateType, Sink,
+    AnyWidth, FaultOf, LenEnc, MyDeserialize, ParseBuf, Parts, RawBytes, SessionStateType as Kind,
+    Sink,
 };
 use std::alloc::{AllocError, Global};
 
@@ -66,30 +67,23 @@ impl<'de> MyDeserialize<'de> for SessionStateChange<'de> {
     ghost takes_memory = { true };
 
     /// What of the session's state has changed.
-    type Ctx = SessionStateType;
+    type Ctx = Kind;
 
     ghost form = { spec.session_state_change };
 
-    fn deserialize<'s>(
-        kind: SessionStateType,
-        buf: &mut ParseBuf<'de>,
-    ) -> Result<Self, FaultOf<'s>> {
+    fn deserialize<'s>(kind: Kind, buf: &mut ParseBuf<'de>) -> Result<Self, FaultOf<'s>> {
         Ok(match kind {
-            SessionStateType::SESSION_TRACK_SYSTEM_VARIABLES => {
-                Self::SystemVariables(buf.parse(())?)
-            }
-            SessionStateType::SESSION_TRACK_SCHEMA => Self::Schema(buf.parse(())?),
-            SessionStateType::SESSION_TRACK_STATE_CHANGE => {
+            Kind::SESSION_TRACK_SYSTEM_VARIABLES => Self::SystemVariables(buf.parse(())?),
+            Kind::SESSION_TRACK_SCHEMA => Self::Schema(buf.parse(())?),
+            Kind::SESSION_TRACK_STATE_CHANGE => {
                 let tracked: RawBytes<'de, LenEnc> = buf.parse(())?;
                 Self::IsTracked(tracked.as_bytes() == b"1".as_slice())
             }
-            SessionStateType::SESSION_TRACK_GTIDS => Self::Gtids(buf.parse(())?),
-            SessionStateType::SESSION_TRACK_TRANSACTION_CHARACTERISTICS => {
-                Self::TransactionCharacteristics(buf.parse(())?)
-            }
-            SessionStateType::SESSION_TRACK_TRANSACTION_STATE => {
-                Self::TransactionState(buf.parse(())?)
-            }
+            Kind::SESSION_TRACK_GTIDS => Self::Gtids(buf.parse(())?),
+            Kind::SESSION_TRACK_TRANSACTION_CHARACTERISTICS => Self::TransactionCharacteristics(
+                buf.parse(())?,
+            ),
+            Kind::SESSION_TRACK_TRANSACTION_STATE => Self::TransactionState(buf.parse(())?),
         })
     }
 

@@ -11,7 +11,6 @@ use mysql_wire::{
 };
 use std::alloc::{AllocError, Global};
 use std::fmt;
-use std::fmt::Debug;
 use std::marker::Model;
 
 /// The system variables that were assigned values (`SESSION_TRACK_SYSTEM_VARIABLES`), one after
@@ -93,9 +92,9 @@ impl Eq for SystemVariables<'_> {
     ghost laws = { lists_equiv of_one.laws-law };
 }
 
-impl Debug for SystemVariables<'_> {
+impl fmt::Debug for SystemVariables<'_> {
     fn fmt<W: fmt::Write>(&self, f: &mut fmt::Formatter<W>) -> fmt::Result {
-        self.0.fmt(f)
+        fmt::Debug::fmt(&self.0, f)
     }
 }
 

@@ -1,4 +1,4 @@
-use Rattle.std.proofs.Common.{◌≡◌, ◌+◌, sym, ◌∙◌}
+use Rattle.std.proofs.Common.{◌+◌}
 use Rattle.mysql_stmt.proofs.Nulls.{cell-clear}
 use Rattle.mysql_stmt.proofs.row_values.is_null_at.Goals as goal
 

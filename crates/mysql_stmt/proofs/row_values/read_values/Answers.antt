@@ -1,7 +1,7 @@
-use Rattle.std.proofs.Common.{rules, ◌≡◌, ◌==◌, ◌+◌, ◌++◌, ◌∷◌, [], ℕ, List, Option, Ok, Some, Bool, true, subst}
+use Rattle.std.proofs.Common.{rules, ◌≡◌, ◌==◌, ◌+◌, ◌++◌, ◌∷◌, [], Ok, Some, Bool, true, subst}
 use Rattle.std.proofs.lemmas.Result.{err_from_is_err_and}
 use Rattle.mysql_replies.specs.declared.column.Column.{Column}
-use Rattle.mysql_wire.specs.Reading.{Reading, Faults, then_read}
+use Rattle.mysql_wire.specs.Reading.{Faults, then_read}
 use Rattle.mysql_wire.proofs.Each.{one-fails, none-left, mapped-fails}
 use Rattle.mysql_values.specs.Value.{Content}
 use Rattle.mysql_stmt.specs.Bitmap.{cell}
