@@ -4,7 +4,7 @@
 # where a growth is refused the promised refusal, else the right answer; and no growth above the
 # stated bound. A call that takes no memory is run with every growth refused, too.
 #
-# refused_growths.sh [PROGRAM ..]  tries these builds of them; with none it builds each by rt.
+# refused_growths.sh [PROGRAM ..]  tries these builds of them, side by side; with none it builds each by rt.
 # The last line is 'N passed, N failed', where a run of a case is one.
 set -uo pipefail
 export LC_ALL=C
@@ -36,7 +36,7 @@ pass_or_fail() {
 
 # run_case NAME N: sets answer, status, growths and largest, with growth N refused; the C library is given back in front of all else
 run_case() {
-    answer=$(REFUSED_GROWTH=$2 LD_PRELOAD=./refuse.so "$program" "$1" 2>report </dev/null)
+    answer=$(REFUSED_GROWTH=$2 LD_PRELOAD=../refuse.so "$program" "$1" 2>report </dev/null)
     status=$?
     growths=
     read -r _ growths _ largest < <(grep '^growths ' report)
@@ -81,10 +81,12 @@ try_case() {
     fi
 }
 
-# try_program: each case that the program lists, by its line of the table
+# try_program FOLDER PROGRAM: in a folder of its own, each case that the program lists, by its line of the table; the file counts
+# there tells how many runs passed and failed
 try_program() {
     local name
-    program=$1
+    program=$2
+    mkdir -- "$1" && cd -- "$1" || return
     for name in $("$program" --list); do
         if [[ -z ${table[$name]-} ]]; then
             pass_or_fail "$name" 'refused_growths.txt has no line for it'
@@ -93,6 +95,7 @@ try_program() {
         IFS='|' read -r count bound refusal <<<"${table[$name]}"
         try_case "$name" "$count" "$bound" "$refusal"
     done
+    printf '%d %d\n' "$passed" "$failed" >counts
 }
 
 declare -A table answers
@@ -131,8 +134,16 @@ trap 'rm -rf -- "$work"' EXIT
 cc -O2 -Wall -shared -fPIC -o "$work/refuse.so" "$top/tests/refuse.c" || stop 'refuse.c does not compile'
 cd "$work" || stop 'the temporary folder is gone'
 
-for program in "${programs[@]}"; do
-    try_program "$program"
+lanes=$(nproc)
+for at in "${!programs[@]}"; do
+    ((at < lanes)) || wait -n
+    (passed=0 failed=0; try_program "$at" "${programs[at]}") >"said.$at" 2>&1 &
+done
+wait
+for at in "${!programs[@]}"; do
+    cat -- "said.$at"
+    read -r well wrong <"$at/counts" || stop "${programs[at]} was not tried to its end"
+    passed=$((passed + well)) failed=$((failed + wrong))
 done
 printf '%d passed, %d failed\n' "$passed" "$failed"
 ((failed == 0))
