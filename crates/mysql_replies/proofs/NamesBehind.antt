@@ -1,6 +1,9 @@
 -- Names that were put behind one another lie where their ends say.
-use Rattle.std.proofs.Common.{◌≡◌, ℕ, ◌+◌, ◌-◌, List, [], ◌++◌, length, take, slice_range, refl, arith, append_assoc, append-nil, length-append}
+use Rattle.std.proofs.Common.{◌≡◌, ℕ, ◌+◌, ◌-◌, List, [], ◌++◌, length, take, refl, arith, append_assoc, length-append}
+use Rattle.std.proofs.lemmas.List.{append-nil}
 use Rattle.std.proofs.Math.Seq.{drop-append_seam, take-append_seam}
+use Rattle.std.specs.Prelude.{slice_range}
+use Rattle.mysql_wire.proofs.Packets.{packets}
 use Rattle.mysql_replies.specs.ColumnNames.{meta_of, names_at}
 
 -- what stands behind some bytes, up to where it ends
@@ -24,3 +27,5 @@ names_behind s t o n m a b c d ea eb ec ed =
     let at_m : d ≡ length (((s ++ t) ++ o) ++ n) = omega (arith, length-append s t, length-append (s ++ t) o, length-append ((s ++ t) ++ o) n) in
     let e5 : slice_range w d (length w) ≡ m = between (((s ++ t) ++ o) ++ n) m [] w d (length w) w4 at_m (omega (arith, length-append (((s ++ t) ++ o) ++ n) m)) in
     rw (e1, e2, e3, e4, e5) refl
+
+pub ruleset names = (packets, names_behind)

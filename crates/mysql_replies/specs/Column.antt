@@ -1,67 +1,96 @@
 -- A column of a result.
 use Rattle.std.specs.Prelude.{ℕ, List, [], ◌∷◌, codes, refl}
 use Rattle.mysql_wire.specs.declared.codes.column_type.ColumnType.{ColumnType}
-use Rattle.mysql_wire.specs.Codecs.{Codec, Fields, ◌>>=◌, give, field, packet, const_bytes, string_lenenc}
+use Rattle.mysql_wire.specs.Codec.{Codec, Fields}
+use Rattle.mysql_wire.specs.Codecs.{◌>>=◌, give, field, packet, const_bytes}
 use Rattle.mysql_wire.specs.Flags.{ColumnFlags}
-use Rattle.mysql_replies.specs.declared.column.Catalog.{Catalog}
-use Rattle.mysql_replies.specs.declared.column_fields.ColumnFields.{ColumnFields}
-use Rattle.mysql_replies.specs.declared.column_names.ColumnMeta.{ColumnMeta}
+use Rattle.mysql_replies.specs.declared.column.Column.{Column}
 use Rattle.mysql_replies.specs.ColumnFields.{column_fields, fields_of}
-use Rattle.mysql_replies.specs.ColumnNames.{meta_of}
+use Rattle.mysql_replies.specs.ColumnNames.{column_meta, meta_of}
 
 -- `def`, length-encoded
 abbrev pub catalog_bytes : List ℕ
 catalog_bytes = 3 ∷ codes "def"
 
--- what a column is in contracts: the bytes of its names, its type, its flags and its numbers
-pub record ColumnValue : Type 0 where
-  pub schema : List ℕ
-  pub table : List ℕ
-  pub org_table : List ℕ
-  pub name : List ℕ
-  pub org_name : List ℕ
-  pub character_set : ℕ
-  pub column_length : ℕ
-  pub column_type : ColumnType
-  pub flags : ColumnFlags
-  pub decimals : ℕ
+-- the bytes of the names
+abbrev pub schema : Column → List ℕ
+schema c = c.meta.schema
 
--- its names and its fields, and the column of these
-abbrev pub names_of : ColumnValue → ColumnMeta
-names_of c = meta_of c.schema c.table c.org_table c.name c.org_name
+abbrev pub table : Column → List ℕ
+table c = c.meta.table
 
-abbrev pub fields_of_column : ColumnValue → ColumnFields
-fields_of_column c = fields_of c.character_set c.column_length c.column_type c.flags c.decimals
+abbrev pub org_table : Column → List ℕ
+org_table c = c.meta.org_table
 
-abbrev pub column_of : ColumnMeta → ColumnFields → ColumnValue
-column_of names fields = record {
-  schema = names.schema;
-  table = names.table;
-  org_table = names.org_table;
-  name = names.name;
-  org_name = names.org_name;
-  character_set = fields.character_set.0;
-  column_length = fields.column_length.0;
-  column_type = fields.column_type.0;
-  flags = fields.flags.0;
-  decimals = fields.decimals.0;
+abbrev pub name : Column → List ℕ
+name c = c.meta.name
+
+abbrev pub org_name : Column → List ℕ
+org_name c = c.meta.org_name
+
+-- the type, the flags and the numbers
+abbrev pub column_type : Column → ColumnType
+column_type c = c.fields.column_type.0
+
+abbrev pub flags : Column → ColumnFlags
+flags c = c.fields.flags.0
+
+abbrev pub character_set : Column → ℕ
+character_set c = c.fields.character_set.0
+
+abbrev pub column_length : Column → ℕ
+column_length c = c.fields.column_length.0
+
+abbrev pub decimals : Column → ℕ
+decimals c = c.fields.decimals.0
+
+-- the column of these names and fields
+abbrev pub column_of : (schema table org_table name org_name : List ℕ) (character_set column_length : ℕ) (column_type : ColumnType) (flags : ColumnFlags) (decimals : ℕ) → Column
+column_of schema table org_table name org_name character_set column_length column_type flags decimals = record {
+  catalog = record { 0 = record {} };
+  meta = meta_of schema table org_table name org_name;
+  fields = fields_of character_set column_length column_type flags decimals;
 }
 
 -- a column of this type, all else empty or 0
-abbrev pub new_column : ColumnType → ColumnValue
-new_column column_type = column_of (meta_of [] [] [] [] []) (fields_of 0 0 column_type (record { 0 = 0; 1 = record {} }) 0)
+abbrev pub new_column : ColumnType → Column
+new_column column_type = column_of [] [] [] [] [] 0 0 column_type (record { 0 = 0; 1 = record {} }) 0
+
+-- the column with one name or field in place of its own
+abbrev pub with_schema : Column → List ℕ → Column
+with_schema c x = column_of x (table c) (org_table c) (name c) (org_name c) (character_set c) (column_length c) (column_type c) (flags c) (decimals c)
+
+abbrev pub with_table : Column → List ℕ → Column
+with_table c x = column_of (schema c) x (org_table c) (name c) (org_name c) (character_set c) (column_length c) (column_type c) (flags c) (decimals c)
+
+abbrev pub with_org_table : Column → List ℕ → Column
+with_org_table c x = column_of (schema c) (table c) x (name c) (org_name c) (character_set c) (column_length c) (column_type c) (flags c) (decimals c)
+
+abbrev pub with_name : Column → List ℕ → Column
+with_name c x = column_of (schema c) (table c) (org_table c) x (org_name c) (character_set c) (column_length c) (column_type c) (flags c) (decimals c)
+
+abbrev pub with_org_name : Column → List ℕ → Column
+with_org_name c x = column_of (schema c) (table c) (org_table c) (name c) x (character_set c) (column_length c) (column_type c) (flags c) (decimals c)
+
+abbrev pub with_character_set : Column → ℕ → Column
+with_character_set c x = column_of (schema c) (table c) (org_table c) (name c) (org_name c) x (column_length c) (column_type c) (flags c) (decimals c)
+
+abbrev pub with_column_length : Column → ℕ → Column
+with_column_length c x = column_of (schema c) (table c) (org_table c) (name c) (org_name c) (character_set c) x (column_type c) (flags c) (decimals c)
+
+abbrev pub with_flags : Column → ColumnFlags → Column
+with_flags c x = column_of (schema c) (table c) (org_table c) (name c) (org_name c) (character_set c) (column_length c) (column_type c) x (decimals c)
+
+abbrev pub with_decimals : Column → ℕ → Column
+with_decimals c x = column_of (schema c) (table c) (org_table c) (name c) (org_name c) (character_set c) (column_length c) (column_type c) (flags c) x
 
 -- the catalog, five names, thirteen bytes of fields
-abbrev pub column_parts : Fields (Unit {0}) ColumnValue ColumnValue
+abbrev pub column_parts : Fields (Unit {0}) Column Column
 column_parts = do
-  catalog ← field (λ c. record { 0 = record {} }) (const_bytes {T = Catalog} 4 catalog_bytes)
-  schema ← field (λ c. c.schema) string_lenenc
-  table ← field (λ c. c.table) string_lenenc
-  org_table ← field (λ c. c.org_table) string_lenenc
-  name ← field (λ c. c.name) string_lenenc
-  org_name ← field (λ c. c.org_name) string_lenenc
-  fields ← field fields_of_column column_fields
-  give (column_of (meta_of schema table org_table name org_name) fields)
+  catalog ← field (λ c. c.catalog) (const_bytes 4 catalog_bytes)
+  meta ← field (λ c. c.meta) column_meta
+  fields ← field (λ c. c.fields) column_fields
+  give (record { catalog = catalog; meta = meta; fields = fields })
 
-unfoldable pub column : Codec (Unit {0}) ColumnValue
+unfoldable pub column : Codec (Unit {0}) Column
 column = packet column_parts (λ c. refl)

@@ -1,20 +1,35 @@
 -- The names of a column, and how they stand behind one another in one buffer.
-use Rattle.std.specs.Prelude.{ℕ, ◌≤◌, List, length, take, slice_range}
+use Rattle.std.specs.Prelude.{ℕ, ◌≤◌, List, length, take, slice_range, refl}
+use Rattle.mysql_wire.specs.Codec.{Codec, Fields}
+use Rattle.mysql_wire.specs.Codecs.{◌>>=◌, give, field, packet, string_lenenc}
 use Rattle.mysql_replies.specs.declared.column_names.ColumnMeta.{ColumnMeta}
-use Rattle.mysql_replies.specs.declared.column_names.ColumnNames.{ColumnNames}
+use Rattle.mysql_replies.specs.declared.column_names.ColumnNames.TheInside.{Inside}
 
 abbrev pub meta_of : List ℕ → List ℕ → List ℕ → List ℕ → List ℕ → ColumnMeta
 meta_of schema table org_table name org_name = record { schema = schema; table = table; org_table = org_table; name = name; org_name = org_name }
+
+-- five strings, length-encoded
+abbrev pub column_meta_fields : Fields (Unit {0}) ColumnMeta ColumnMeta
+column_meta_fields = do
+  schema ← field (λ m. m.schema) string_lenenc
+  table ← field (λ m. m.table) string_lenenc
+  org_table ← field (λ m. m.org_table) string_lenenc
+  name ← field (λ m. m.name) string_lenenc
+  org_name ← field (λ m. m.org_name) string_lenenc
+  give (meta_of schema table org_table name org_name)
+
+unfoldable pub column_meta : Codec (Unit {0}) ColumnMeta
+column_meta = packet column_meta_fields (λ m. refl)
 
 -- the names that end at these places of the bytes
 abbrev pub names_at : List ℕ → (schema_end table_end org_table_end name_end : ℕ) → ColumnMeta
 names_at bytes s t o n = meta_of (take s bytes) (slice_range bytes s t) (slice_range bytes t o) (slice_range bytes o n) (slice_range bytes n (length bytes))
 
-abbrev pub names_in : ColumnNames → ColumnMeta
+abbrev pub names_in : Inside → ColumnMeta
 names_in i = names_at i.bytes i.schema_end i.table_end i.org_table_end i.name_end
 
 -- no name ends ahead of where it begins, nor behind the bytes
-pub record AreInOrder (i : ColumnNames) : Type 0 where
+pub record AreInOrder (i : Inside) : Type 0 where
   pub table : i.schema_end ≤ i.table_end
   pub org_table : i.table_end ≤ i.org_table_end
   pub name : i.org_table_end ≤ i.name_end

@@ -1,12 +1,9 @@
 //! A column of a result.
 #![tactic(auto, using(mysql_wire::proofs::Packets::packets), unfolding(crate::specs::Column::column))]
 
-ghost use Rattle.std.specs.Prelude.{◌≡◌, true, ◌&&◌, None, refl, IfOk};
-ghost use Rattle.std.specs.Cmp.{and_equiv, on_equiv, partial_equiv_from_equiv};
+ghost use Rattle.std.specs.Prelude.{◌≡◌, true, length, None, refl, IfOk, ◌∷◌};
 ghost use Rattle.mysql_wire.specs.Text.{GivesText};
 ghost use Rattle.mysql_replies.specs.Column as spec;
-ghost use Rattle.mysql_replies.specs.contracts.column_names.ColumnMetaEq.TheImpl.Laws as names_equiv;
-ghost use Rattle.mysql_replies.specs.contracts.column_fields.ColumnFieldsEq.TheImpl.Laws as fields_equiv;
 
 use crate::column_fields::ColumnFields;
 use crate::column_names::{ColumnMeta, ColumnNames, borrowed};
@@ -17,8 +14,6 @@ use mysql_wire::{
 };
 use std::alloc::{AllocError, Global};
 use std::borrow::CowStr;
-use std::fmt;
-use std::marker::Model;
 use thiserror::Error;
 
 /// A column's definition does not begin with the catalog `def`.
@@ -56,22 +51,22 @@ pub type ColumnDefinitionCatalog = ConstBytes<Catalog, 4>;
 ///
 /// A short definition is `UnexpectedEof`; another catalog, another byte for `0c`, or a byte that is
 /// no type is `InvalidData`. Reading copies the names, and answers `Memory` where that is refused.
-#[derive(Clone, Drop)]
+#[derive(Clone, Debug, PartialEq, Eq, Drop)]
 pub struct Column {
     catalog: ColumnDefinitionCatalog,
     meta: ColumnNames,
     fields: ColumnFields,
 }
 
-impl Model for Column {
-    ghost use Rattle.mysql_replies.specs.Column.{ColumnValue, column_of};
-    ghost use Rattle.mysql_replies.specs.ColumnNames.{names_in, AreInOrder};
-
-    ghost Value = { ColumnValue };
-
-    ghost view = { λ c. column_of (names_in c.meta) c.fields };
-
-    ghost invariant = { λ c. AreInOrder c.meta };
+/// The column of these names and fields, which copies the names.
+fn named(alloc: Global, meta: &ColumnMeta<'_>, fields: ColumnFields) -> Result<Column, AllocError>
+    ensures value { IfOk result (λ column. (column.meta ≡ meta.now) × (column.fields ≡ fields)) }
+{
+    Ok(Column {
+        catalog: ConstBytes::new(),
+        meta: ColumnNames::of(alloc, meta)?,
+        fields,
+    })
 }
 
 impl Column {
@@ -96,68 +91,63 @@ impl Column {
 
     /// The column with this name of the schema. Where the copy is refused, the column is given up.
     pub fn with_schema(self, alloc: Global, schema: &[u8]) -> Result<Column, AllocError>
-        ensures value { IfOk result (λ column. column ≡ record self { schema = schema.now }) }
+        ensures value { IfOk result (λ column. column ≡ spec.with_schema self schema.now) }
     {
-        let names = ColumnMeta {
+        let meta = ColumnMeta {
             schema: borrowed(schema),
-            ..self.names()
+            ..self.meta.meta()
         };
-        let meta = ColumnNames::of(alloc, &names)?;
-        Ok(Column { meta, ..self })
+        named(alloc, &meta, self.fields)
     }
 
     /// The column with this name of the table, or of its alias. Where the copy is refused, the column is given up.
     pub fn with_table(self, alloc: Global, table: &[u8]) -> Result<Column, AllocError>
-        ensures value { IfOk result (λ column. column ≡ record self { table = table.now }) }
+        ensures value { IfOk result (λ column. column ≡ spec.with_table self table.now) }
     {
-        let names = ColumnMeta {
+        let meta = ColumnMeta {
             table: borrowed(table),
-            ..self.names()
+            ..self.meta.meta()
         };
-        let meta = ColumnNames::of(alloc, &names)?;
-        Ok(Column { meta, ..self })
+        named(alloc, &meta, self.fields)
     }
 
     /// The column with this name of the table itself. Where the copy is refused, the column is given up.
     pub fn with_org_table(self, alloc: Global, org_table: &[u8]) -> Result<Column, AllocError>
-        ensures value { IfOk result (λ column. column ≡ record self { org_table = org_table.now }) }
+        ensures value { IfOk result (λ column. column ≡ spec.with_org_table self org_table.now) }
     {
-        let names = ColumnMeta {
+        let meta = ColumnMeta {
             org_table: borrowed(org_table),
-            ..self.names()
+            ..self.meta.meta()
         };
-        let meta = ColumnNames::of(alloc, &names)?;
-        Ok(Column { meta, ..self })
+        named(alloc, &meta, self.fields)
     }
 
     /// The column with this name of the column, or of its alias. Where the copy is refused, the column is given up.
     pub fn with_name(self, alloc: Global, name: &[u8]) -> Result<Column, AllocError>
-        ensures value { IfOk result (λ column. column ≡ record self { name = name.now }) }
+        ensures value { IfOk result (λ column. column ≡ spec.with_name self name.now) }
     {
-        let names = ColumnMeta {
+        let meta = ColumnMeta {
             name: borrowed(name),
-            ..self.names()
+            ..self.meta.meta()
         };
-        let meta = ColumnNames::of(alloc, &names)?;
-        Ok(Column { meta, ..self })
+        named(alloc, &meta, self.fields)
     }
 
     /// The column with this name of the column itself. Where the copy is refused, the column is given up.
     pub fn with_org_name(self, alloc: Global, org_name: &[u8]) -> Result<Column, AllocError>
-        ensures value { IfOk result (λ column. column ≡ record self { org_name = org_name.now }) }
+        ensures value { IfOk result (λ column. column ≡ spec.with_org_name self org_name.now) }
     {
-        let names = ColumnMeta {
+        let meta = ColumnMeta {
             org_name: borrowed(org_name),
-            ..self.names()
+            ..self.meta.meta()
         };
-        let meta = ColumnNames::of(alloc, &names)?;
-        Ok(Column { meta, ..self })
+        named(alloc, &meta, self.fields)
     }
 
     /// The column with these flags.
     #[inline]
     pub fn with_flags(self, flags: ColumnFlags) -> Column
-        ensures value { result ≡ record self { flags = flags } }
+        ensures value { result ≡ spec.with_flags self flags }
     {
         let mut fields = self.fields;
         fields.flags = Const::new(flags);
@@ -167,7 +157,7 @@ impl Column {
     /// The column with this length.
     #[inline]
     pub fn with_column_length(self, column_length: u32) -> Column
-        ensures value { result ≡ record self { column_length = column_length } }
+        ensures value { result ≡ spec.with_column_length self column_length }
     {
         let mut fields = self.fields;
         fields.column_length = RawInt::new(column_length);
@@ -177,7 +167,7 @@ impl Column {
     /// The column with this character set.
     #[inline]
     pub fn with_character_set(self, character_set: u16) -> Column
-        ensures value { result ≡ record self { character_set = character_set } }
+        ensures value { result ≡ spec.with_character_set self character_set }
     {
         let mut fields = self.fields;
         fields.character_set = RawInt::new(character_set);
@@ -187,7 +177,7 @@ impl Column {
     /// The column with this many decimals.
     #[inline]
     pub fn with_decimals(self, decimals: u8) -> Column
-        ensures value { result ≡ record self { decimals = decimals } }
+        ensures value { result ≡ spec.with_decimals self decimals }
     {
         let mut fields = self.fields;
         fields.decimals = RawInt::new(decimals);
@@ -197,7 +187,7 @@ impl Column {
     /// The most characters of a value, for showing it.
     #[inline]
     pub fn column_length(&self) -> u32
-        ensures value { result ≡ self.now.column_length }
+        ensures value { result ≡ spec.column_length self.now }
     {
         self.fields.column_length.0
     }
@@ -205,7 +195,7 @@ impl Column {
     /// The type of the values.
     #[inline]
     pub fn column_type(&self) -> ColumnType
-        ensures value { result ≡ self.now.column_type }
+        ensures value { result ≡ spec.column_type self.now }
     {
         self.fields.column_type.0
     }
@@ -213,7 +203,7 @@ impl Column {
     /// The number of the character set (collation).
     #[inline]
     pub fn character_set(&self) -> u16
-        ensures value { result ≡ self.now.character_set }
+        ensures value { result ≡ spec.character_set self.now }
     {
         self.fields.character_set.0
     }
@@ -221,7 +211,7 @@ impl Column {
     /// The flags.
     #[inline]
     pub fn flags(&self) -> ColumnFlags
-        ensures value { result ≡ self.now.flags }
+        ensures value { result ≡ spec.flags self.now }
     {
         self.fields.flags.0
     }
@@ -230,7 +220,7 @@ impl Column {
     /// and floats, else up to 81.
     #[inline]
     pub fn decimals(&self) -> u8
-        ensures value { result ≡ self.now.decimals }
+        ensures value { result ≡ spec.decimals self.now }
     {
         self.fields.decimals.0
     }
@@ -238,113 +228,76 @@ impl Column {
     /// The bytes of the name of the schema.
     #[inline]
     pub fn schema_ref(&self) -> &[u8]
-        ensures value { result.now ≡ self.now.schema }
+        ensures value { result.now ≡ spec.schema self.now }
     {
-        &self.meta.bytes.as_bytes()[..self.meta.schema_end]
+        self.meta.schema()
     }
 
     /// The name of the schema as text, with U+FFFD for what is not UTF-8. UTF-8 is borrowed.
     pub fn schema_str(&self, alloc: Global) -> Result<CowStr<'_>, AllocError>
-        ensures text { GivesText (self.now.schema) result }
+        ensures text { GivesText (spec.schema self.now) result }
     {
-        self.schema_ref().to_str_lossy(alloc)
+        self.meta.schema().to_str_lossy(alloc)
     }
 
     /// The bytes of the name of the table, or of its alias.
     #[inline]
     pub fn table_ref(&self) -> &[u8]
-        ensures value { result.now ≡ self.now.table }
+        ensures value { result.now ≡ spec.table self.now }
     {
-        &self.meta.bytes.as_bytes()[self.meta.schema_end..self.meta.table_end]
+        self.meta.table()
     }
 
     /// The name of the table, or of its alias as text, with U+FFFD for what is not UTF-8. UTF-8 is borrowed.
     pub fn table_str(&self, alloc: Global) -> Result<CowStr<'_>, AllocError>
-        ensures text { GivesText (self.now.table) result }
+        ensures text { GivesText (spec.table self.now) result }
     {
-        self.table_ref().to_str_lossy(alloc)
+        self.meta.table().to_str_lossy(alloc)
     }
 
     /// The bytes of the name of the table itself.
     #[inline]
     pub fn org_table_ref(&self) -> &[u8]
-        ensures value { result.now ≡ self.now.org_table }
+        ensures value { result.now ≡ spec.org_table self.now }
     {
-        &self.meta.bytes.as_bytes()[self.meta.table_end..self.meta.org_table_end]
+        self.meta.org_table()
     }
 
     /// The name of the table itself as text, with U+FFFD for what is not UTF-8. UTF-8 is borrowed.
     pub fn org_table_str(&self, alloc: Global) -> Result<CowStr<'_>, AllocError>
-        ensures text { GivesText (self.now.org_table) result }
+        ensures text { GivesText (spec.org_table self.now) result }
     {
-        self.org_table_ref().to_str_lossy(alloc)
+        self.meta.org_table().to_str_lossy(alloc)
     }
 
     /// The bytes of the name of the column, or of its alias.
     #[inline]
     pub fn name_ref(&self) -> &[u8]
-        ensures value { result.now ≡ self.now.name }
+        ensures value { result.now ≡ spec.name self.now }
     {
-        &self.meta.bytes.as_bytes()[self.meta.org_table_end..self.meta.name_end]
+        self.meta.name()
     }
 
     /// The name of the column, or of its alias as text, with U+FFFD for what is not UTF-8. UTF-8 is borrowed.
     pub fn name_str(&self, alloc: Global) -> Result<CowStr<'_>, AllocError>
-        ensures text { GivesText (self.now.name) result }
+        ensures text { GivesText (spec.name self.now) result }
     {
-        self.name_ref().to_str_lossy(alloc)
+        self.meta.name().to_str_lossy(alloc)
     }
 
     /// The bytes of the name of the column itself.
     #[inline]
     pub fn org_name_ref(&self) -> &[u8]
-        ensures value { result.now ≡ self.now.org_name }
+        ensures value { result.now ≡ spec.org_name self.now }
     {
-        &self.meta.bytes.as_bytes()[self.meta.name_end..]
+        self.meta.org_name()
     }
 
     /// The name of the column itself as text, with U+FFFD for what is not UTF-8. UTF-8 is borrowed.
     pub fn org_name_str(&self, alloc: Global) -> Result<CowStr<'_>, AllocError>
-        ensures text { GivesText (self.now.org_name) result }
+        ensures text { GivesText (spec.org_name self.now) result }
     {
-        self.org_name_ref().to_str_lossy(alloc)
-    }
-
-    /// The names, where they lie.
-    fn names(&self) -> ColumnMeta<'_>
-        ensures value { result ≡ spec.names_of self.now }
-    {
-        ColumnMeta {
-            schema: borrowed(self.schema_ref()),
-            table: borrowed(self.table_ref()),
-            org_table: borrowed(self.org_table_ref()),
-            name: borrowed(self.name_ref()),
-            org_name: borrowed(self.org_name_ref()),
-        }
-    }
-}
-
-impl PartialEq for Column {
-    ghost eq = { λ x y. ⟦<ColumnMeta<'static> as PartialEq>⟧.eq (spec.names_of x) (spec.names_of y) && ⟦<ColumnFields as PartialEq>⟧.eq (spec.fields_of_column x) (spec.fields_of_column y) };
-
-    ghost laws = { partial_equiv_from_equiv (and_equiv (on_equiv spec.names_of names_equiv.laws-law) (on_equiv spec.fields_of_column fields_equiv.laws-law)) };
-
-    fn eq(&self, other: &Self) -> bool {
-        self.names() == other.names() && self.fields == other.fields
-    }
-}
-
-impl Eq for Column {
-    ghost laws = { and_equiv (on_equiv spec.names_of names_equiv.laws-law) (on_equiv spec.fields_of_column fields_equiv.laws-law) };
-}
-
-impl fmt::Debug for Column {
-    fn fmt<W: fmt::Write>(&self, f: &mut fmt::Formatter<W>) -> fmt::Result {
-        f.debug_struct("Column")
-            .field("catalog", &self.catalog)
-            .field("meta", &self.names())
-            .field("fields", &self.fields)
-            .finish()
+        self.meta.org_name().to_str_lossy(alloc)
     }
 }
 
@@ -360,22 +313,10 @@ impl<'de> MyDeserialize<'de> for Column {
     ghost form = { spec.column.form };
 
     fn deserialize<'s>(_ctx: (), buf: &mut ParseBuf<'de>) -> Result<Self, FaultOf<'s>> {
-        let mut rest = buf.rest();
-        let catalog = rest.parse(())?;
-        let names = ColumnMeta {
-            schema: rest.parse(())?,
-            table: rest.parse(())?,
-            org_table: rest.parse(())?,
-            name: rest.parse(())?,
-            org_name: rest.parse(())?,
-        };
-        let fields = rest.parse(())?;
-        let meta = ColumnNames::of(buf.alloc(), &names)?;
-        *buf = rest;
         Ok(Column {
-            catalog,
-            meta,
-            fields,
+            catalog: buf.parse(())?,
+            meta: buf.parse(())?,
+            fields: buf.parse(())?,
         })
     }
 
@@ -387,19 +328,6 @@ impl Parts for Column {
 
     #[inline(always)]
     fn put<S: Sink>(&self, sink: &mut S) {
-        let schema = borrowed(self.schema_ref());
-        let table = borrowed(self.table_ref());
-        let org_table = borrowed(self.org_table_ref());
-        let name = borrowed(self.name_ref());
-        let org_name = borrowed(self.org_name_ref());
-        sink.part(&parts!(
-            self.catalog,
-            schema,
-            table,
-            org_table,
-            name,
-            org_name,
-            self.fields
-        ));
+        sink.part(&parts!(self.catalog, self.meta.meta(), self.fields));
     }
 }

@@ -1,11 +1,12 @@
 -- Rows: values beside their columns, and the place that a name has.
-use Rattle.std.specs.Prelude.{◌≡◌, ℕ, List, [], ◌∷◌, Option, Some, None, Result, Ok, Err, nat_eq, slice_index_or, slice_set}
+use Rattle.std.specs.Prelude.{◌≡◌, ℕ, List, [], ◌∷◌, map, Option, Some, None, Result, Ok, Err, nat_eq, slice_index_or, slice_set, option_map}
 use Rattle.std.specs.List.{position}
 use Rattle.std.specs.Cmp.Lexicographic.{pointwise}
 use Rattle.mysql_replies.specs.declared.column.Column.{Column}
+use Rattle.mysql_replies.specs.Column as column
 use Rattle.mysql_values.specs.declared.from_value.FromValueError.{FromValueError}
 use Rattle.mysql_values.specs.declared.value.Value.{Value}
-use Rattle.mysql_values.specs.Value.{content_of}
+use Rattle.mysql_values.specs.Value.{Content, content_of}
 
 -- a row: a value for each column, if it is there
 pub record Cells : Type 0 where
@@ -14,7 +15,7 @@ pub record Cells : Type 0 where
 
 -- the least place whose column's name has these bytes
 abbrev pub place_of_name : List ℕ → List Column → Option ℕ
-place_of_name name columns = position (λ c. pointwise nat_eq c.name name) columns
+place_of_name name columns = position (λ c. pointwise nat_eq (column.name c) name) columns
 
 -- the value at a place; there is none past the row
 abbrev pub value_at : List (Option Value) → Option ℕ → Option Value

@@ -8,6 +8,7 @@ use Rattle.mysql_wire.specs.Form.{Form, ◌>>=◌, give, either, map}
 use Rattle.mysql_wire.specs.Each.{each}
 use Rattle.mysql_wire.specs.Skip.{skip}
 use Rattle.mysql_replies.specs.declared.column.Column.{Column}
+use Rattle.mysql_replies.specs.Column.{column_type, flags}
 use Rattle.mysql_values.specs.declared.value.Value.{Value}
 use Rattle.mysql_values.specs.Value.{Content, NULL}
 use Rattle.mysql_values.specs.ValueDeserializer.{text_value, bin_value}
@@ -33,7 +34,7 @@ text_row columns = each text_cell 0 columns
 
 -- a value in the binary form of its column's type; nothing is spelled where the bitmap says NULL
 abbrev pub bin_value_unless : (is_null : Bool) → Column → Form Content
-bin_value_unless is_null column = either is_null (give NULL) (bin_value column.column_type (has column.flags.0 UNSIGNED_FLAG))
+bin_value_unless is_null column = either is_null (give NULL) (bin_value (column_type column) (has (flags column).0 UNSIGNED_FLAG))
 
 abbrev pub bin_cell : (nulls : List ℕ) (offset : ℕ) → ℕ → Column → Form (Option Content)
 bin_cell nulls offset place column = there (bin_value_unless (cell nulls (place + offset) == 1) column)
