@@ -1,5 +1,5 @@
 #!/usr/bin/env python3
-"""Writes the tables of captured packets that the crates packet_tests, auth_tests and repl_tests read.
+"""Writes the tables of captured packets that packet_tests, handshake_tests, auth_tests and repl_tests read.
 
 captured_tables.py          writes them from tests/captured/packets.jsonl
 captured_tables.py --check  changes nothing, and fails where one is not what would be written
@@ -17,6 +17,7 @@ from captured_rows import binary_row, bulk_rows, text_row
 TOP = os.path.dirname(os.path.dirname(os.path.realpath(__file__)))
 PACKETS = f"{TOP}/tests/captured/packets.jsonl"
 TABLES = f"{TOP}/crates/packet_tests/src/captured"
+HANDSHAKE_TABLES = f"{TOP}/crates/handshake_tests/src/captured"
 AUTH_TABLES = f"{TOP}/crates/auth_tests/src/captured"
 REPL_TABLES = f"{TOP}/crates/repl_tests/src/captured"
 
@@ -190,18 +191,22 @@ KINDS = {
     "binary_row": ("columns values", binary_row),
 }
 
-# the same of the packets before the first command
-AUTH_KINDS = {
+# the same of handshakes and of what a client says first
+HANDSHAKE_KINDS = {
     "handshake": (
         "protocol_version connection_id capabilities mariadb_ext_capabilities default_collation status_flags "
         "version_number server_version nonce auth_plugin_name",
         greeting,
     ),
+    "ssl_request": ("capabilities", tls),
+    "handshake_response": ("capabilities collation user db_name connect_attributes", answered),
+}
+
+# the same of what comes between a response and the first command, and of changes of user
+AUTH_KINDS = {
     "auth_switch_request": ("plugin", switch),
     "auth_switch_request_old": ("", old_switch),
     "auth_more_data": ("data", further_data),
-    "ssl_request": ("capabilities", tls),
-    "handshake_response": ("capabilities collation user db_name connect_attributes", answered),
     "change_user": ("capabilities_of_both user database", another_user),
 }
 
@@ -238,7 +243,12 @@ def main(words):
     with open(PACKETS, encoding="utf-8") as it:
         packets = [json.loads(line) for line in it]
     stale = []
-    crates = ((TABLES, KINDS), (AUTH_TABLES, AUTH_KINDS), (REPL_TABLES, REPL_KINDS))
+    crates = (
+        (TABLES, KINDS),
+        (HANDSHAKE_TABLES, HANDSHAKE_KINDS),
+        (AUTH_TABLES, AUTH_KINDS),
+        (REPL_TABLES, REPL_KINDS),
+    )
     for folder, kinds, kind in ((folder, kinds, kind) for folder, kinds in crates for kind in kinds):
         path, wanted = f"{folder}/{kind}.rt", table(kinds, kind, packets)
         if words:

@@ -1,6 +1,6 @@
 //! Changes of user, with their bytes.
 
-use crate::packets::{is_written, read};
+use captured_lines::{is_written_as, read};
 use indexmap::IndexMap;
 use mysql_auth::{AuthPlugin, ComChangeUser, ComChangeUserMoreData};
 use mysql_wire::{CapabilityFlags, Fault, Flags, ParseBuf};
@@ -13,7 +13,7 @@ const CLIENT_PLUGIN_AUTH: u32 = 0x0008_0000;
 const CLIENT_CONNECT_ATTRS: u32 = 0x0010_0000;
 
 /// Whether these bytes, under these flags, spell that change of user.
-fn spells(
+fn is_read_as(
     alloc: Global,
     flags: u32,
     bytes: &[u8],
@@ -25,13 +25,22 @@ fn spells(
     Ok(owned == *packet)
 }
 
-/// The attribute `k`.
-fn one_attribute(alloc: Global) -> Result<IndexMap<String, String>, AllocError> {
+/// The one attribute of that key.
+fn of_key(
+    alloc: Global,
+    key: String,
+    value: String,
+) -> Result<IndexMap<String, String>, AllocError> {
     let mut texts = IndexMap::new(alloc);
-    let key = String::from_str(alloc, "k")?;
-    let value = String::from_str(alloc, "v")?;
     texts.insert(key, value)?;
     Ok(texts)
+}
+
+/// The attribute `k`.
+fn one_attribute(alloc: Global) -> Result<IndexMap<String, String>, AllocError> {
+    let key = String::from_str(alloc, "k")?;
+    let value = String::from_str(alloc, "v")?;
+    of_key(alloc, key, value)
 }
 
 /// A change of user that says all that it can.
@@ -55,8 +64,8 @@ fn a_change_of_user_is_written_and_read(rt: HostRuntime) -> Result<(), Fail> {
     let packet = with_all(alloc)?;
     let wanted: &[u8] = b"\x11u\0\x02\x01\x02d\0\x02\x01client_ed25519\0\x04\x01k\x01v";
     let flags = CLIENT_PLUGIN_AUTH | CLIENT_CONNECT_ATTRS;
-    assert!(rt; is_written(alloc, &packet, wanted)?);
-    assert!(rt; spells(alloc, flags, wanted, &packet)?);
+    assert!(rt; is_written_as(alloc, &packet, wanted)?);
+    assert!(rt; is_read_as(alloc, flags, wanted, &packet)?);
     Ok(())
 }
 
@@ -79,7 +88,7 @@ fn no_attributes_are_written_as_an_empty_list(rt: HostRuntime) -> Result<(), Fai
     let alloc = rt.alloc();
     let wanted: &[u8] = b"\x11root\0\0\0\x2d\0\0";
     let packet = to_root(ComChangeUserMoreData::new(45));
-    assert!(rt; is_written(alloc, &packet, wanted)?);
+    assert!(rt; is_written_as(alloc, &packet, wanted)?);
     Ok(())
 }
 
@@ -88,7 +97,7 @@ fn an_empty_list_of_attributes_is_read(rt: HostRuntime) -> Result<(), Fail> {
     let alloc = rt.alloc();
     let packet = to_root_with_an_empty_list(alloc)?;
     assert!(rt;
-        spells(
+        is_read_as(
             alloc,
             CLIENT_CONNECT_ATTRS,
             b"\x11root\0\0\0\x2d\0\0",
@@ -112,7 +121,7 @@ fn without_all() -> ComChangeUser<'static> {
 fn what_is_left_out_is_empty(rt: HostRuntime) -> Result<(), Fail> {
     let packet = without_all();
     assert!(rt; packet == ComChangeUser::new());
-    assert!(rt; is_written(rt.alloc(), &packet, b"\x11\0\0\0")?);
+    assert!(rt; is_written_as(rt.alloc(), &packet, b"\x11\0\0\0")?);
     Ok(())
 }
 

@@ -1,4 +1,4 @@
-//! Tests of the packets before the first command.
+//! Tests of what passes between a handshake's response and the first command, and of changes of user.
 #![tactic(auto)]
 
 #[cfg(test)]
@@ -6,12 +6,6 @@ mod captured;
 #[cfg(test)]
 mod changes;
 #[cfg(test)]
-mod handshakes;
-#[cfg(test)]
-mod packets;
-#[cfg(test)]
 mod plugins;
 #[cfg(test)]
 mod requests;
-#[cfg(test)]
-mod responses;

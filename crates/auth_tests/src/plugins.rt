@@ -1,6 +1,6 @@
 //! Plugins, their names and their data.
 
-use crate::packets::{is_written, read};
+use captured_lines::spells;
 use mysql_auth::{AuthPlugin, AuthPluginData, parse_parsec_salt};
 use mysql_wire::{MySerialize, RawBytes};
 use std::alloc::{AllocError, Global};
@@ -35,17 +35,12 @@ fn is_known_as(name: &[u8], wanted: &[u8]) -> bool {
 
 #[test]
 fn plugins_go_by_their_names(rt: HostRuntime) {
-    let cases: [(&[u8], &str); 6] = [
-        (b"mysql_old_password", "old password"),
-        (b"mysql_clear_password", "clear password"),
-        (b"mysql_native_password\0", "native password"),
-        (b"caching_sha2_password", "caching sha2 password"),
-        (b"client_ed25519", "ed25519"),
-        (b"parsec", "parsec"),
-    ];
-    for (name, plugin) in cases {
-        assert_eq!(rt; by_name(name), plugin);
-    }
+    assert!(rt; by_name(b"mysql_old_password") == "old password");
+    assert!(rt; by_name(b"mysql_clear_password") == "clear password");
+    assert!(rt; by_name(b"mysql_native_password\0") == "native password");
+    assert!(rt; by_name(b"caching_sha2_password") == "caching sha2 password");
+    assert!(rt; by_name(b"client_ed25519") == "ed25519");
+    assert!(rt; by_name(b"parsec") == "parsec");
 }
 
 #[test]
@@ -56,11 +51,8 @@ fn one_zero_behind_a_name_is_none_of_it(rt: HostRuntime) {
 
 #[test]
 fn a_plugin_is_written_with_a_zero_and_read_to_the_end(rt: HostRuntime) -> Result<(), Fail> {
-    let alloc = rt.alloc();
     let bytes = b"caching_sha2_password\0";
-    assert!(rt; is_written(alloc, &AuthPlugin::CachingSha2Password, bytes)?);
-    let plugin: AuthPlugin<'_> = read(alloc, (), bytes)?;
-    assert!(rt; plugin == AuthPlugin::CachingSha2Password);
+    assert!(rt; spells(rt.alloc(), (), bytes, &AuthPlugin::CachingSha2Password)?);
     Ok(())
 }
 
@@ -74,18 +66,17 @@ fn a_plugin_that_is_made_owned_is_the_same(rt: HostRuntime) -> Result<(), Fail> 
 #[test]
 fn parsec_is_told_its_rounds_and_its_salt(rt: HostRuntime) -> Result<(), Fail> {
     let (rounds, salt) = parse_parsec_salt(SALT).ok_or("the salt is refused")?;
-    assert_eq!(rt; rounds, 8192);
-    assert_eq!(rt; salt.as_slice(), b"abcdefghijklmnopqr".as_slice());
-    let cases: [(&[u8], bool); 4] = [
-        (b"P\x14abcdefghijklmnopqr", true),
-        (b"P\x15abcdefghijklmnopqr", false),
-        (b"P\x03abcdefghijklmnopq", false),
-        (b"Q\x03abcdefghijklmnopqr", false),
-    ];
-    for (data, is_read) in cases {
-        assert_eq!(rt; parse_parsec_salt(data).is_some(), is_read);
-    }
+    assert!(rt; rounds == 8192);
+    assert!(rt; salt.as_slice() == b"abcdefghijklmnopqr".as_slice());
     Ok(())
+}
+
+#[test]
+fn which_data_tell_parsec_its_rounds(rt: HostRuntime) {
+    assert!(rt; parse_parsec_salt(b"P\x14abcdefghijklmnopqr").is_some());
+    assert!(rt; parse_parsec_salt(b"P\x15abcdefghijklmnopqr").is_none());
+    assert!(rt; parse_parsec_salt(b"P\x03abcdefghijklmnopq").is_none());
+    assert!(rt; parse_parsec_salt(b"Q\x03abcdefghijklmnopqr").is_none());
 }
 
 /// The rounds of the plugin, where it is `parsec`.
@@ -100,35 +91,40 @@ fn rounds(plugin: &AuthPlugin<'_>) -> Option<u32> {
 fn parsec_keeps_what_it_is_told(rt: HostRuntime) {
     let mut plugin = AuthPlugin::from_bytes(b"parsec");
     assert!(rt; plugin.read_add_data(b"P").is_none());
-    assert_eq!(rt; rounds(&plugin), Some(0));
+    assert!(rt; rounds(&plugin) == Some(0));
     assert!(rt; plugin.read_add_data(SALT).is_some());
-    assert_eq!(rt; rounds(&plugin), Some(8192));
+    assert!(rt; rounds(&plugin) == Some(8192));
     assert!(rt; AuthPlugin::Ed25519.read_add_data(SALT).is_none());
 }
 
-/// The bytes of an old answer, of a native one, and of a password.
-fn of_three_answers(alloc: Global) -> Result<Vec<u8>, AllocError> {
+/// A password, made owned.
+fn password(alloc: Global) -> Result<AuthPluginData<'static>, AllocError> {
+    AuthPluginData::Clear(RawBytes::new(CowSlice::Borrowed(b"secret"))).into_owned(alloc)
+}
+
+/// The bytes of an old answer, of a native one, and of that password.
+fn of_three_answers(alloc: Global, password: &AuthPluginData<'_>) -> Result<Vec<u8>, AllocError> {
     let mut bytes = Vec::new(alloc);
     AuthPluginData::Old(*b"abcdefgh").serialize(&mut bytes)?;
     AuthPluginData::Native([1; 20]).serialize(&mut bytes)?;
-    let password = AuthPluginData::Clear(RawBytes::new(CowSlice::Borrowed(b"secret")));
-    password.into_owned(alloc)?.serialize(&mut bytes)?;
+    password.serialize(&mut bytes)?;
     Ok(bytes)
 }
 
+const THREE_ANSWERS: &[u8] =
+    b"abcdefgh\0\x01\x01\x01\x01\x01\x01\x01\x01\x01\x01\x01\x01\x01\x01\x01\x01\x01\x01\x01\x01secret\0";
+
 #[test]
 fn a_zero_stands_behind_an_old_answer_and_a_password(rt: HostRuntime) -> Result<(), Fail> {
-    let bytes = of_three_answers(rt.alloc())?;
-    assert_eq!(rt;
-        bytes.as_slice(),
-        b"abcdefgh\0\x01\x01\x01\x01\x01\x01\x01\x01\x01\x01\x01\x01\x01\x01\x01\x01\x01\x01\x01\x01secret\0".as_slice()
-    );
+    let password = password(rt.alloc())?;
+    let bytes = of_three_answers(rt.alloc(), &password)?;
+    assert!(rt; bytes.as_slice() == THREE_ANSWERS);
     Ok(())
 }
 
 #[test]
 fn other_answers_have_a_constant_length(rt: HostRuntime) {
-    assert_eq!(rt; AuthPluginData::Sha2([2; 32]).as_bytes().len(), 32);
-    assert_eq!(rt; AuthPluginData::Ed25519([2; 64]).as_bytes().len(), 64);
-    assert_eq!(rt; AuthPluginData::Parsec([2; 96]).as_bytes().len(), 96);
+    assert!(rt; AuthPluginData::Sha2([2; 32]).as_bytes().len() == 32);
+    assert!(rt; AuthPluginData::Ed25519([2; 64]).as_bytes().len() == 64);
+    assert!(rt; AuthPluginData::Parsec([2; 96]).as_bytes().len() == 96);
 }

@@ -1,8 +1,7 @@
 //! Handshakes.
 
 use crate::captured::handshake::PACKETS;
-use crate::captured::reported::{all_agree, are_reported, is_reported};
-use crate::packets::{is_written, read};
+use captured_lines::{all_agree, are_bytes_reported, is_number_reported, is_written_as, read};
 use mysql_auth::HandshakePacket;
 use mysql_wire::Flags;
 use std::alloc::Global;
@@ -10,12 +9,12 @@ use std::test::Fail;
 
 /// Whether the numbers of the handshake are those that were reported.
 fn numbers_agree(line: &str, packet: &HandshakePacket<'_>) -> bool {
-    is_reported(line, 2, u64::from(packet.protocol_version()))
-        && is_reported(line, 3, u64::from(packet.connection_id()))
-        && is_reported(line, 4, u64::from(packet.capabilities().bits()))
-        && is_reported(line, 5, u64::from(packet.mariadb_ext_capabilities().bits()))
-        && is_reported(line, 6, u64::from(packet.default_collation()))
-        && is_reported(line, 7, u64::from(packet.status_flags().bits()))
+    is_number_reported(line, 2, u64::from(packet.protocol_version()))
+        && is_number_reported(line, 3, u64::from(packet.connection_id()))
+        && is_number_reported(line, 4, u64::from(packet.capabilities().bits()))
+        && is_number_reported(line, 5, u64::from(packet.mariadb_ext_capabilities().bits()))
+        && is_number_reported(line, 6, u64::from(packet.default_collation()))
+        && is_number_reported(line, 7, u64::from(packet.status_flags().bits()))
 }
 
 /// Whether the version of MariaDB has the number that was reported, two digits for each part.
@@ -23,7 +22,7 @@ fn version_agrees(line: &str, packet: &HandshakePacket<'_>) -> bool {
     match packet.maria_db_server_version_parsed() {
         Some((major, minor, patch)) => {
             let number = u64::from(major) * 10000 + u64::from(minor) * 100 + u64::from(patch);
-            is_reported(line, 8, number)
+            is_number_reported(line, 8, number)
         }
         None => false,
     }
@@ -33,15 +32,15 @@ fn version_agrees(line: &str, packet: &HandshakePacket<'_>) -> bool {
 fn texts_agree(alloc: Global, line: &str, packet: &HandshakePacket<'_>) -> Result<bool, Fail> {
     let plugin = packet.auth_plugin_name_ref().unwrap_or(&[]);
     Ok(
-        are_reported(alloc, line, 9, packet.server_version_ref())?
-            && are_reported(alloc, line, 11, plugin)?,
+        are_bytes_reported(alloc, line, 9, packet.server_version_ref())?
+            && are_bytes_reported(alloc, line, 11, plugin)?,
     )
 }
 
 /// Whether the nonce of the handshake is the one that was reported.
 fn nonce_agrees(alloc: Global, line: &str, packet: &HandshakePacket<'_>) -> Result<bool, Fail> {
     let nonce = packet.nonce(alloc)?;
-    are_reported(alloc, line, 10, nonce.as_slice())
+    Ok(are_bytes_reported(alloc, line, 10, nonce.as_slice())?)
 }
 
 /// Whether the packet of the line is read whole, as it was reported, and written again.
@@ -52,14 +51,14 @@ fn agrees(alloc: Global, line: &str, bytes: &[u8]) -> Result<bool, Fail> {
             && version_agrees(line, &packet)
             && texts_agree(alloc, line, &packet)?
             && nonce_agrees(alloc, line, &packet)?
-            && is_written(alloc, &packet, bytes)?,
+            && is_written_as(alloc, &packet, bytes)?,
     )
 }
 
 #[test]
 fn handshakes_are_read_as_reported(rt: HostRuntime) -> Result<(), Fail> {
     let alloc = rt.alloc();
-    all_agree(&rt, alloc, PACKETS, 37, |line, bytes| {
+    all_agree(alloc, PACKETS, 37, |line, bytes| {
         agrees(alloc, line, bytes)
     })
 }
