@@ -173,6 +173,15 @@ class Sources(unittest.TestCase):
             ],
         )
 
+    def test_constants_have_the_names_that_a_check_prints(self):
+        for text, names in (
+            ("<crate::seq::Seq<'static, u8> as MyDeserialize<'static>>::SIZE", {"SeqU8MyDeserialize::SIZE"}),
+            ("[<Seq as MyDeserialize>::SIZE, <[u8; 4] as MySerialize>::SIZE]", {"SeqMyDeserialize::SIZE", "ArrayU8MySerialize::SIZE"}),
+            ("<Seq as MyDeserialize>::deserialize(buf)", set()),
+            ("T::SIZE", set()),
+        ):
+            self.assertEqual(source.constants_in(text), names)
+
     def test_clauses_are_found(self):
         found = [SOURCE[a:b] for a, b in source.read(SOURCE).clauses]
         self.assertIn("{ result ≡ length self.now }", found)
@@ -191,6 +200,13 @@ class Sources(unittest.TestCase):
     def test_what_no_function_has_is_of_the_module(self):
         body = self.body(("src/seq.rt", "&'a [T], L", "&'a [L], L"))
         self.assertEqual((body.functions, body.modules), (set(), {"seq"}))
+
+    def test_a_constant_is_judged_by_the_laws_that_name_it(self):
+        law = "pub fn size() -> Option<usize> { <crate::seq::Seq as MyDeserialize>::SIZE }"
+        texts = {"src/seq.rt": SOURCE, "src/laws.rt": law}
+        body = bodies.Body("c", "b", [("src/seq.rt", "= None", "= Some(1)")])
+        bodies.find_functions(body, texts, bodies.homes_of(texts))
+        self.assertEqual(body.functions, {"seq::SeqMyDeserialize::SIZE", "laws::size"})
 
     def test_clauses_and_declarations_are_not_to_be_changed(self):
         for old, new in (("result ≡ length", "result ≤ length"), ("len(&self) -> usize", "len(&self) -> u64")):

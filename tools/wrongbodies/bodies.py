@@ -127,6 +127,17 @@ def homes_of(texts):
     return homes
 
 
+def naming(constant, texts, homes):
+    """The functions that name a constant of a trait's impl, as the law does that answers it: they refuse another one."""
+    name = "::".join(constant.name.split("::")[-2:])
+    return {
+        full_name(item, path, homes)
+        for path, text in texts.items()
+        for item in source.read(text).items
+        if not item.is_constant() and name in source.constants_in(text[item.start : item.end])
+    }
+
+
 def find_functions(body, texts, homes):
     """Finds what a body changes, in a crate's texts as they are."""
     made = dict(texts)
@@ -147,6 +158,7 @@ def find_functions(body, texts, homes):
             body.functions.add(full_name(item, path, homes))
             if item.is_constant():
                 body.constants |= {module_of(path)} - {""}
+                body.functions |= naming(item, texts, homes)
         made[path] = text[:at] + new + text[at + len(old) :]
     if "" in body.modules:
         raise Unfit("it changes the root file outside functions")

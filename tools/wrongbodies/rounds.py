@@ -99,7 +99,7 @@ class Trial:
             elif len(found) > 1:
                 self.try_round([body])
             elif body.constants and body.functions:
-                # (a constant that no clause is tied to: the law that answers it stands in its module, or among the laws)
+                # (a constant that neither a clause nor a law that names it is tied to: its module and the laws)
                 laws = {"laws"} if "src/laws.rt" in self.texts else set()
                 body.judge_by(body.constants | laws)
                 self.try_round([body])

@@ -1,4 +1,5 @@
 """Finds the function that a place of a source text lies in, by the name that a check prints."""
+import functools
 import re
 from dataclasses import dataclass, field
 
@@ -12,6 +13,8 @@ CLAUSE = re.compile(r"\b(requires|ensures|ghost)\b[^{};]*$")
 FUNCTION = re.compile(r"\bfn\s+(\w+)\b(?!.*\bfn\s+\w)", re.S)
 NAMED = (("macro", r"\bmacro_rules!\s*(\w+)"), ("trait", r"\btrait\s+(\w+)"), ("mod", r"\bmod\s+(\w+)"))
 CONSTANT = re.compile(r"\bconst\s+(\w+)\s*:")
+# a constant of a trait's impl where code names it: <TYPE as TRAIT>::NAME
+NAMED_CONSTANT = re.compile(r"<((?:[^<>]|<[^<>]*>)+?)\s+as\s+(\w+(?:<[^<>]*>)?)>::([A-Z]\w*)")
 TYPE = re.compile(r"^\s*(?:pub(?:\([a-z]+\))?\s+)?(?:struct|enum)\s+(\w+)", re.M)
 WORD = re.compile(r"'\w+|::|->|\w+|[^\s\w]")
 
@@ -137,6 +140,13 @@ def is_plain(piece, nested):
     return piece in "()[]" or nested > 0
 
 
+def constants_in(text):
+    """The constants of traits' impls that a text names, each by its type and trait as items are named."""
+    words = WORD.findall
+    return {f"{type_name(words(of), ())}{type_name(words(by), ())}::{name}" for of, by, name in NAMED_CONSTANT.findall(text)}
+
+
+@functools.cache
 def read(text):
     """Reads a source text."""
     source, scopes, header, begun, nested = Source(types=set(TYPE.findall(text))), [], "", 0, 0
