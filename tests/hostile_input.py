@@ -2,7 +2,7 @@
 """What the lines of hostile_input and of the programs beside it must be, by a second reading of the protocol's pages.
 
 Each program changes each vector of its table in the same ways and says what came of it. Here the tables are read from
-their sources, and the counts and the records are worked out by the readers of second_reading.py, which share nothing with
+their sources, and the counts and the records are worked out by the readers of second_reading, which share nothing with
 the crates.
 
 hostile_input.py                 compares the stdout of each such crate with these lines, and looks for a row for each
@@ -14,8 +14,10 @@ import re
 import sys
 from pathlib import Path
 
-import second_reading as second
-from second_reading import Buf, Eof, Invalid
+from second_reading import codes
+from second_reading.buf import Buf, Eof, Invalid
+from second_reading.fields import FIELDS
+from second_reading.readers import READERS
 from stdout_lines import differences, judged
 
 TOP = Path(__file__).resolve().parent.parent
@@ -29,17 +31,17 @@ EDGES = [0x00, 0x7F, 0xFB, 0xFC, 0xFD, 0xFE, 0xFF]
 def told_word(word):
     """What a word behind a reader's name in the table stands for."""
     word = word.strip()
-    names = dict(SIGNED=1, NONE=0, PROTOCOL_41=second.PROTOCOL_41, SESSION_TRACK=second.SESSION_TRACK,
-                 PROGRESS_OBSOLETE=second.PROGRESS_OBSOLETE, CONNECT_ATTRS=second.CONNECT_ATTRS,
-                 CONNECT_ATTRS_AND_PLUGIN_AUTH=second.CONNECT_ATTRS | second.PLUGIN_AUTH, true=True, false=False)
+    names = dict(SIGNED=1, NONE=0, PROTOCOL_41=codes.PROTOCOL_41, SESSION_TRACK=codes.SESSION_TRACK,
+                 PROGRESS_OBSOLETE=codes.PROGRESS_OBSOLETE, CONNECT_ATTRS=codes.CONNECT_ATTRS,
+                 CONNECT_ATTRS_AND_PLUGIN_AUTH=codes.CONNECT_ATTRS | codes.PLUGIN_AUTH, true=True, false=False)
     if word in names:
         return names[word]
     if word == "ColumnFlags::UNSIGNED_FLAG":
-        return second.UNSIGNED
+        return codes.UNSIGNED
     if match := re.fullmatch(r"ColumnType::MYSQL_TYPE_(\w+)", word):
-        return second.TYPE_CODES[match[1]]
+        return codes.TYPE_CODES[match[1]]
     if match := re.fullmatch(r"SessionStateType::SESSION_TRACK_(\w+)", word):
-        return second.STATE_CODES[match[1]]
+        return codes.STATE_CODES[match[1]]
     return int(word, 0)
 
 
@@ -68,7 +70,7 @@ def shown(value):
 class Row:
     def __init__(self, name, reader, told, content, accepted):
         self.name, self.reader, self.content, self.accepted = name, reader, content, accepted
-        self.read = lambda data: second.READERS[reader](Buf(data), *told)
+        self.read = lambda data: READERS[reader](Buf(data), *told)
         self.record = self.read(content)
 
     def met(self, data):
@@ -102,7 +104,7 @@ class Row:
     def lines(self):
         yield self.line()
         for n in (n for n in range(len(self.content)) if any(a <= n <= b for a, b in self.accepted)):
-            fields = second.FIELDS[self.reader](self.read(self.content[:n]))
+            fields = FIELDS[self.reader](self.read(self.content[:n]))
             yield f"{self.name}, cut to {n}: " + ", ".join(f"{name} {shown(value)}" for name, value in fields)
 
 

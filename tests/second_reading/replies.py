@@ -1,0 +1,75 @@
+"""What a server answers: changes of a session's state, columns, OK packets, errors."""
+from .buf import to_the_end
+from .codes import COLUMN_TYPES, PROGRESS_OBSOLETE, PROTOCOL_41, SESSION_STATE_CHANGED, SESSION_TRACK
+
+
+def system_variable(buf):
+    return buf.string(), buf.string()
+
+
+def session_state_change(buf, kind):
+    if kind == 0:
+        return to_the_end(buf, system_variable)
+    if kind == 2:
+        return buf.string() == b"1"
+    return buf.all() if kind == 3 else buf.string()
+
+
+def column(buf):
+    buf.const(b"\x03def")
+    names = [buf.string() for _ in range(5)]
+    block = buf.block(13)
+    block.const(b"\x0c")
+    numbers = block.number(2), block.number(4), block.code(COLUMN_TYPES), block.number(2), block.number(1)
+    return names, numbers
+
+
+def ok_tail(buf, capabilities, status):
+    info = state = b""
+    if capabilities & SESSION_TRACK and buf.data:
+        info = buf.string()
+        if status & SESSION_STATE_CHANGED:
+            state = buf.string()
+    elif buf.data and buf.data[0] != 0:
+        info = buf.string()
+    return info or None, state or None
+
+
+def ok_packet(buf, capabilities, header, keeps_numbers):
+    buf.const(header)
+    rows, insert_id = buf.lenenc(), buf.lenenc()
+    block = buf.block(4)
+    status, warnings = block.number(2), block.number(2)
+    numbers = (rows, insert_id or None) if keeps_numbers else None
+    return numbers, status, warnings, ok_tail(buf, capabilities, status)
+
+
+def old_eof(buf, _capabilities):
+    buf.const(b"\xfe")
+    block = buf.block(4)
+    return block.number(2), block.number(2)
+
+
+def progress_report(buf):
+    block = buf.block(6)
+    block.take(1)
+    return block.number(1), block.number(1), block.number(3), buf.string()
+
+
+def sql_state(buf):
+    block = buf.block(6)
+    block.const(b"#")
+    return block.all()
+
+
+def server_error(buf, code, has_state):
+    return code, sql_state(buf) if has_state else None, buf.all()
+
+
+def err_packet(buf, capabilities):
+    block = buf.block(3)
+    block.const(b"\xff")
+    code = block.number(2)
+    if code == 0xFFFF and capabilities & PROGRESS_OBSOLETE:
+        return progress_report(buf)
+    return server_error(buf, code, bool(capabilities & PROTOCOL_41))

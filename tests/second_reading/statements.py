@@ -1,0 +1,61 @@
+"""Prepared statements, their rows, and bulk executions."""
+from .buf import Invalid, to_the_end
+from .codes import COLUMN_TYPES, TYPE_CODES, UNSIGNED
+from .values import bin_value
+
+
+def stmt_packet(buf):
+    block = buf.block(12)
+    block.const(b"\0")
+    fields = block.number(4), block.number(2), block.number(2)
+    block.take(1)
+    return fields, block.number(2)
+
+
+COLUMNS = [(TYPE_CODES["LONGLONG"], 0), (TYPE_CODES["VAR_STRING"], 0), (TYPE_CODES["DATETIME"], 0)]
+
+
+def binary_row(buf, offset):
+    buf.take(1)
+    bits = int.from_bytes(buf.take((2 + 7 + offset) // 8), "little") >> offset
+    return [None if bits >> i & 1 else ("value", bin_value(buf, *COLUMNS[i])) for i in range(2)]
+
+
+def bulk_type(buf):
+    block = buf.block(2)
+    return block.code(COLUMN_TYPES), block.number(1)
+
+
+def bulk_value(buf, column_type, flags):
+    indicator = buf.code(range(4))
+    return indicator, bin_value(buf, column_type, flags) if indicator == 0 else None
+
+
+def bulk_values(buf):
+    return [bulk_value(buf, *column) for column in COLUMNS]
+
+
+def bulk_head(buf, columns):
+    buf.const(b"\xfa")
+    stmt_id, flags = buf.number(4), buf.number(2)
+    types = [bulk_type(buf) for _ in columns] if flags & 128 else []
+    told = [(code, UNSIGNED if sent & 128 else 0) for code, sent in types] or columns
+    return (stmt_id, flags, types), told
+
+
+def bulk_request(buf):
+    head, told = bulk_head(buf, COLUMNS)
+    return head, [bulk_value(buf, *column) for column in told]
+
+
+def bulk_rows(buf):
+    _head, told = bulk_head(buf, COLUMNS[:1])
+
+    def row(buf):
+        before = len(buf.data)
+        values = [bulk_value(buf, *column)[1] for column in told]
+        if len(buf.data) == before:
+            raise Invalid
+        return values
+
+    return to_the_end(buf, row)
