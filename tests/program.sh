@@ -157,11 +157,11 @@ fails_to_write 'bulk requests on a full device' "$top/mypackets" bulk 1 31
 judge 'an input that cannot be read' "$( (($? == 3)) && [[ ! -s output && ! -s errors ]] || printf 'it did not end with status 3 alone')"
 
 # unproved WHAT STATUS OUTPUT WORD ..: on what comes from the file input with a pause, the program without proof
-# writes OUTPUT, and says that nothing was proved; it takes half a minute on a quiet host, and one whose processors other
-# guests share may take some times as long, so it fails at 120 seconds, and more than 40 are told
+# writes OUTPUT, and says that nothing was proved; it takes half a minute on a quiet host, and more than 40 seconds are
+# told. One whose processors other guests share may take some times as long: only a run that seems never to end fails
 unproved() {
     local began=$SECONDS
-    (cat input && sleep 3) | timeout 120 "$top/mypackets" --unproved "${@:4}" >output 2>errors
+    (cat input && sleep 3) | timeout 900 "$top/mypackets" --unproved "${@:4}" >output 2>errors
     compare "${@:1:3}" $'mypackets: runs without proof, which takes about half a minute
 mypackets: nothing of this run was proved\n' "$?"
     ((SECONDS - began <= 40)) || printf 'program: %s: it took %d seconds\n' "$1" "$((SECONDS - began))"
