@@ -45,6 +45,32 @@ fn read_attribute<'s, 'a>(
     Ok((key, value))
 }
 
+/// A key and its value, on memory of their own.
+fn owned_attribute(
+    alloc: Global,
+    key: RawBytes<'_, LenEnc>,
+    value: RawBytes<'_, LenEnc>,
+) -> Result<(RawBytes<'static, LenEnc>, RawBytes<'static, LenEnc>), AllocError>
+    ensures value { IfOk result (λ owned. owned ≡ (key.entry, value.entry)) }
+{
+    let key = key.into_owned(alloc)?;
+    let value = value.into_owned(alloc)?;
+    Ok((key, value))
+}
+
+/// A key and its value as texts, with U+FFFD for what is not UTF-8.
+fn attribute_texts(
+    alloc: Global,
+    key: &RawBytes<'_, LenEnc>,
+    value: &RawBytes<'_, LenEnc>,
+) -> Result<(String, String), AllocError>
+    ensures value { IfOk result (λ texts. spec.text_pair texts ≡ spec.lossy_pair (key.now, value.now)) }
+{
+    let key = key.as_str(alloc)?.into_owned(alloc)?;
+    let value = value.as_str(alloc)?.into_owned(alloc)?;
+    Ok((key, value))
+}
+
 /// The attributes that these bytes are the pairs of.
 #[tactic(auto, using(crate::proofs::PairsRead::pair_loops))]
 fn read_pairs<'s, 'a>(mut inside: ParseBuf<'a>) -> Result<Attributes<'a>, FaultOf<'s>>
@@ -85,8 +111,7 @@ impl<'a> Attributes<'a> {
     {
         let mut texts = IndexMap::with_capacity(alloc, self.0.len())?;
         for (key, value) in self.0.iter() {
-            let key = key.as_str(alloc)?.into_owned(alloc)?;
-            let value = value.as_str(alloc)?.into_owned(alloc)?;
+            let (key, value) = attribute_texts(alloc, key, value)?;
             texts.insert(key, value)?;
         }
         Ok(texts)
@@ -99,8 +124,7 @@ impl<'a> Attributes<'a> {
     {
         let mut map = IndexMap::with_capacity(alloc, self.0.len())?;
         for (key, value) in self.0 {
-            let key = key.into_owned(alloc)?;
-            let value = value.into_owned(alloc)?;
+            let (key, value) = owned_attribute(alloc, key, value)?;
             map.insert(key, value)?;
         }
         Ok(Attributes(map))

@@ -7,10 +7,11 @@ ghost use Rattle.mysql_auth.specs.Handshake as spec;
 
 use bitflags::Flags;
 use mysql_wire::{
-    CapabilityFlags, Const, FaultOf, LeU16, LeU32, MariadbCapabilities, NullBytes, ParseBuf,
-    RawBytes, RawInt, Skip, StatusFlags,
+    BytesRepr, CapabilityFlags, Const, FaultOf, LeU16, LeU32, MariadbCapabilities, NullBytes,
+    ParseBuf, RawBytes, RawInt, Skip, StatusFlags,
 };
 use std::alloc::{AllocError, Global};
+use std::borrow::CowSlice;
 
 /// What every handshake has: the versions, and 31 bytes.
 ///
@@ -62,10 +63,10 @@ impl<'a> HandshakeHead<'a> {
     /// The head with these versions, and the length of both scrambles.
     fn read_block<'s>(
         protocol_version: RawInt<u8>,
-        server_version: RawBytes<'a, NullBytes>,
+        server_version: &'a [u8],
         fixed: &mut ParseBuf<'a>,
     ) -> Result<(HandshakeHead<'a>, u8), FaultOf<'s>>
-        ensures value { Answers false result fixed.new (((spec.handshake_block protocol_version server_version.entry).form tt).reads fixed.old) }
+        ensures value { Answers false result fixed.new (((spec.handshake_block protocol_version server_version.now).form tt).reads fixed.old) }
         ensures exact { OnOk result (length fixed.old ≡ 31 + length fixed.new) }
     {
         let connection_id = fixed.parse(())?;
@@ -78,7 +79,7 @@ impl<'a> HandshakeHead<'a> {
         let data_length: RawInt<u8> = fixed.parse(())?;
         let head = HandshakeHead {
             protocol_version,
-            server_version,
+            server_version: RawBytes::new(CowSlice::Borrowed(server_version)),
             connection_id,
             scramble_1,
             filler,
@@ -97,7 +98,7 @@ impl<'a> HandshakeHead<'a> {
         ensures value { Answers false result buf.new ((spec.handshake_head.form tt).reads buf.old) }
     {
         let protocol_version = buf.parse(())?;
-        let server_version = buf.parse(())?;
+        let server_version = <NullBytes as BytesRepr>::deserialize((), buf)?.eat_all();
         let mut fixed: ParseBuf<'a> = buf.parse(31)?;
         HandshakeHead::read_block(protocol_version, server_version, &mut fixed)
     }
