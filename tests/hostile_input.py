@@ -21,8 +21,8 @@ from second_reading.readers import READERS
 from stdout_lines import differences, judged
 
 TOP = Path(__file__).resolve().parent.parent
-# the programs: the crates of that name that have a table
-PROGRAMS = sorted(table.parent.parent for table in (TOP / "crates").glob("hostile_input*/src/vectors.rt"))
+# the programs: the crates of that name that have tables, one in each module
+PROGRAMS = sorted({table.parent.parent.parent for table in (TOP / "crates").glob("hostile_input*/src/*/vectors.rt")})
 EDGES = [0x00, 0x7F, 0xFB, 0xFC, 0xFD, 0xFE, 0xFF]
 
 
@@ -45,9 +45,15 @@ def told_word(word):
     return int(word, 0)
 
 
-def table(program):
+def tables_of(program):
+    """The rows of a program's tables, by their modules: these are printed by their names' order."""
+    modules = sorted(it.parent for it in program.glob("src/*/vectors.rt"))
+    return {module: list(table(module)) for module in modules}
+
+
+def table(module):
     """The rows: name, name of the reader, what it is told, bytes, accepted cuts."""
-    source = re.sub(r"^\s*//.*$", "", (program / "src" / "vectors.rt").read_text(), flags=re.M)
+    source = re.sub(r"^\s*//.*$", "", (module / "vectors.rt").read_text(), flags=re.M)
     string = r'b"(?:[^"\\]|\\.)*"'
     constants = dict(re.findall(rf"const (\w+): &\[u8\] =\s*({string});", source))
     source = source[source.index("VECTORS: &["):]
@@ -143,31 +149,31 @@ def readers():
 
 
 def missing(tables):
-    """The readers without a row, and the names in a reader.rt that no row of its program has."""
+    """The readers without a row, and the names in a reader.rt that no row of its module has."""
     used = {reader for rows in tables.values() for _, reader, *_ in rows}
     for name in sorted(set(readers())):
         for stand_in in STAND_INS.get(name, [name]):
             if stand_in not in used:
                 yield f"{name}: no vector for Reader::{stand_in}"
-    for program, rows in tables.items():
-        source = (program / "src" / "reader.rt").read_text()
+    for module, rows in tables.items():
+        source = (module / "reader.rt").read_text()
         for name in set(re.findall(r"^\s+Reader::(\w+)", source, flags=re.M)) - {reader for _, reader, *_ in rows}:
-            yield f"{program.name}: Reader::{name}: no vector"
+            yield f"{module.name}: Reader::{name}: no vector"
 
 
-def expected(rows):
-    return [line for row in rows for line in Row(*row).lines()]
+def expected(tables):
+    return [line for rows in tables.values() for row in rows for line in Row(*row).lines()]
 
 
 def main():
     if sys.argv[1:2] == ["--expected"]:
-        print("\n".join(expected(table(TOP / "crates" / sys.argv[2]))))
+        print("\n".join(expected(tables_of(TOP / "crates" / sys.argv[2]))))
         return 0
-    tables = {program: list(table(program)) for program in PROGRAMS}
-    failures = list(missing(tables))
+    programs = {program: tables_of(program) for program in PROGRAMS}
+    failures = list(missing({module: rows for tables in programs.values() for module, rows in tables.items()}))
     passed = len(set(readers()))
-    for program, rows in tables.items():
-        lines = expected(rows)
+    for program, tables in programs.items():
+        lines = expected(tables)
         wrong = list(differences(program, lines, "a second reading gives"))
         wrong += [f"{program.name}: {line}" for line in lines if "WRONG" in line]
         passed += len(lines) - len(wrong)

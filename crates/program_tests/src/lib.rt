@@ -8,6 +8,8 @@ mod bulk;
 #[cfg(test)]
 mod commands;
 #[cfg(test)]
+mod failing_ends;
+#[cfg(test)]
 mod handshakes;
 #[cfg(test)]
 mod replication;

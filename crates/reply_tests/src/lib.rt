@@ -1,4 +1,5 @@
-//! Tests of what a server answers, and of what it says of the session: examples with their bytes.
+//! Tests of what a server answers, and of what it says of the session: examples with their bytes, and
+//! a user's own kinds of OK packets.
 #![tactic(auto)]
 
 #[cfg(test)]
@@ -9,6 +10,8 @@ mod error_parts;
 mod errors;
 #[cfg(test)]
 mod local_infile;
+#[cfg(test)]
+mod ok_kinds;
 #[cfg(test)]
 mod session;
 #[cfg(test)]
