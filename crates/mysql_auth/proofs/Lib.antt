@@ -1,4 +1,3 @@
-mod Rounds
 mod HandshakeFits
 mod HandshakeResponseFits
 mod ChangeUserFits

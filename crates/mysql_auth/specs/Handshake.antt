@@ -1,5 +1,5 @@
 -- What a server says first.
-use Rattle.std.specs.Prelude.{◌≡◌, ℕ, ◌+◌, ◌-◌, ◌*◌, ◌<◌, ◌≤◌, ◌^◌, List, [], ◌++◌, length, take, replicate, Option, option_map, Some, None, Bool, true, false, if◌then◌else◌, max, min, refl}
+use Rattle.std.specs.Prelude.{◌≡◌, ℕ, ◌+◌, ◌-◌, ◌*◌, ◌<◌, ◌≤◌, ◌^◌, List, [], ◌++◌, length, take, replicate, Option, option_map, Some, None, Bool, true, false, if◌then◌else◌, min, refl}
 use Rattle.std.specs.Option.{unwrap_or}
 use Rattle.mysql_wire.specs.Codec.{Codec, Fields}
 use Rattle.mysql_wire.specs.Codecs.{◌>>=◌, give, field, block, packet, when, u8, u16, u32, flags, skip, byte_array, string_bare, string_null}
@@ -7,9 +7,10 @@ use Rattle.mysql_wire.specs.Flags.{StatusFlags, MariadbCapabilities, has}
 use Rattle.mysql_wire.specs.Int.{raw_int}
 use Rattle.mysql_wire.specs.Null.{HasNoZero}
 use Rattle.mysql_wire.specs.declared.int.RawInt.{RawInt}
-use Rattle.mysql_auth.specs.AuthPlugin.{plugin_of}
-use Rattle.mysql_auth.specs.TrailingZero.{without_last_zero}
-use Rattle.mysql_auth.specs.declared.auth_plugin.AuthPlugin.{AuthPlugin}
+use Rattle.mysql_plugins.specs.AuthPlugin.{plugin_of}
+use Rattle.mysql_plugins.specs.Scramble.{scramble_length}
+use Rattle.mysql_plugins.specs.TrailingZero.{without_last_zero}
+use Rattle.mysql_plugins.specs.declared.auth_plugin.AuthPlugin.{AuthPlugin}
 use Rattle.mysql_auth.specs.LastName.{last_name}
 use Rattle.mysql_auth.specs.declared.handshake_head.HandshakeHead.{HandshakeHead}
 use Rattle.mysql_auth.specs.declared.handshake.HandshakePacket.{HandshakePacket}
@@ -84,10 +85,6 @@ length_of (Some scramble) = 8 + min (length scramble) 247
 
 unfoldable pub data_length : HandshakePacket → ℕ
 data_length p = if has_name (capabilities p) then length_of (scramble_2 p) else 0
-
--- eight less, but at least 13, is that of scramble 2
-abbrev pub scramble_length : ℕ → ℕ
-scramble_length data_length = max 13 (data_length - 8)
 
 -- ---- the layout
 

@@ -1,7 +1,3 @@
-pub mod TrailingZero
-pub mod AuthPlugin
-pub mod AuthPluginData
-pub mod Parsec
 pub mod AuthMoreData
 pub mod PublicKeyRequest
 pub mod PublicKeyResponse

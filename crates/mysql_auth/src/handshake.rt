@@ -8,12 +8,11 @@ ghost use Rattle.mysql_wire.specs.Text.{lossy_text, BorrowsUtf8, OptionBorrowsUt
 ghost use Rattle.mysql_auth.specs.Handshake as spec;
 ghost use Rattle.mysql_auth.specs.Version.{HasVersion, IsMariadbVersion};
 
-use crate::auth_plugin::AuthPlugin;
 use crate::handshake_head::HandshakeHead;
 use crate::last_name::LastName;
-use crate::trailing_zero::without_last_zero;
 use crate::version::{mariadb_server_version, server_version};
 use bitflags::Flags;
+use mysql_plugins::{AuthPlugin, scramble_length, without_last_zero};
 use mysql_wire::{
     AnyWidth, BareBytes, CapabilityFlags, Const, FaultOf, MariadbCapabilities, MyDeserialize,
     ParseBuf, Parts, RawBytes, RawInt, Sink, Skip, StatusFlags, parts,
@@ -60,13 +59,6 @@ fn nonce_of(alloc: Global, scramble_1: &[u8], scramble_2: &[u8]) -> Result<Vec<u
     nonce.extend_from_slice(scramble_2)?;
     nonce.resize(NONCE_LEN, 0)?;
     Ok(nonce)
-}
-
-/// How many bytes the second scramble has, for the length of both that was read.
-fn scramble_length(data_length: u8) -> usize
-    ensures value { result ≡ spec.scramble_length data_length }
-{
-    max(13, usize::from(data_length).saturating_sub(8))
 }
 
 impl<'a> HandshakePacket<'a> {

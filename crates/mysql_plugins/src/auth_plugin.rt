@@ -2,7 +2,7 @@
 #![tactic(auto, using(mysql_wire::proofs::Packets::packets), unfolding(crate::specs::AuthPlugin::auth_plugin))]
 
 ghost use Rattle.std.specs.Prelude.{false, ◌≡◌, None, Some, IfOk, IfSome, IfNone};
-ghost use Rattle.mysql_auth.specs.AuthPlugin as spec;
+ghost use Rattle.mysql_plugins.specs.AuthPlugin as spec;
 
 use crate::parsec::parse_parsec_salt;
 use crate::trailing_zero::without_last_zero;

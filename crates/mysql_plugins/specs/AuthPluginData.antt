@@ -1,7 +1,7 @@
 -- What a client answers to a scramble.
 use Rattle.std.specs.Prelude.{ℕ, List, [], ◌∷◌, ◌++◌}
-use Rattle.mysql_auth.specs.declared.auth_plugin_data.AuthPluginData.{AuthPluginData}
-use Rattle.mysql_auth.specs.declared.auth_plugin_data.AuthPluginData.TheVariants as answer
+use Rattle.mysql_plugins.specs.declared.auth_plugin_data.AuthPluginData.{AuthPluginData}
+use Rattle.mysql_plugins.specs.declared.auth_plugin_data.AuthPluginData.TheVariants as answer
 
 abbrev pub data_bytes : AuthPluginData → List ℕ
 data_bytes (answer.Old bytes) = bytes

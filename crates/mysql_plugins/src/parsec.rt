@@ -1,7 +1,7 @@
 //! What the plugin `parsec` is told beside the scramble.
 
 ghost use Rattle.std.specs.Prelude.{◌≡◌, ◌≤◌, ◌*◌, ◌^◌, option_map};
-ghost use Rattle.mysql_auth.specs.Parsec as spec;
+ghost use Rattle.mysql_plugins.specs.Parsec as spec;
 
 /// The largest factor that is accepted: more rounds than it gives would take too long.
 const MAX_FACTOR: u8 = 20;

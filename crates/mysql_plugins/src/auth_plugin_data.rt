@@ -2,7 +2,7 @@
 #![tactic(auto, using(mysql_wire::proofs::Packets::packets))]
 
 ghost use Rattle.std.specs.Prelude.{◌≡◌, IfOk};
-ghost use Rattle.mysql_auth.specs.AuthPluginData as spec;
+ghost use Rattle.mysql_plugins.specs.AuthPluginData as spec;
 
 use mysql_wire::{EofBytes, Parts, RawBytes, Sink, Skip, parts};
 use std::alloc::{AllocError, Global};
