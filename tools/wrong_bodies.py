@@ -4,9 +4,10 @@
 wrong_bodies.py [--crate NAME].. [--lowest | --higher] [--only NAME.edit].. [--jobs N] [--top FOLDER]
 
 A wrong body is a file crates/NAME/must-fail/*.edit or crates/NAME/wrong-bodies/*.edit. Since a function is proved from
-the contracts of what it calls, many wrong bodies of different functions stand in one copy of a crate, and each is judged
-by its own function's line. One that isn't refused there is tried again by itself. A body fails that can't be applied,
-can't be read, is proved, is refused for a missing name alone, or whose function has no verdict but that of another.
+the contracts of what it calls, many wrong bodies stand in one copy of a crate, a second one of a function in a copy of
+that function, and each is judged by its own function's line. One that isn't refused there is tried again by itself. A
+body fails that can't be applied, can't be read, is proved, is refused for a missing name alone, or whose function has no
+verdict but that of another.
 
 Libraries that are not built yet, or older than their sources, are built first. What earlier checks kept is used, and
 left as it was. The last line is 'N passed, M failed', and the status 0 where none failed.

@@ -11,7 +11,7 @@ import tempfile
 import unittest
 
 import wrong_bodies
-from wrongbodies import bodies, source, verdicts
+from wrongbodies import bodies, rounds, source, verdicts
 from wrongbodies.prover import Crate
 
 HERE = os.path.dirname(os.path.realpath(__file__))
@@ -41,6 +41,10 @@ impl From<ColumnType> for u8 {
 
 impl<const N: usize> MySerialize for [u8; N] {
     fn append(&self, out: &mut Vec<u8>) { out.put(self) }
+}
+
+impl ConstBytesValue<4> for Catalog {
+    const VALUE: [u8; 4] = *b"\x03def";
 }
 
 impl<T, L> Seq<'_, T, L> {
@@ -168,6 +172,7 @@ class Sources(unittest.TestCase):
                 "SeqMyDeserialize::deserialize",
                 "U8FromColumnType::from",
                 "ArrayU8MySerialize::append",
+                "CatalogConstBytesValue4::VALUE",
                 "fn::Seq::len::inner",
                 "Seq::len",
             ],
@@ -207,6 +212,19 @@ class Sources(unittest.TestCase):
         body = bodies.Body("c", "b", [("src/seq.rt", "= None", "= Some(1)")])
         bodies.find_functions(body, texts, bodies.homes_of(texts))
         self.assertEqual(body.functions, {"seq::SeqMyDeserialize::SIZE", "laws::size"})
+
+    def test_bodies_of_one_function_stand_in_copies_of_it(self):
+        changes = [("self.0.len()", "0"), ("self.0.len()", "1"), ("e.with('}')", "e"), ("{ kind.code() }", "{ 0 }")]
+        found = [self.body(("src/seq.rt", *it)) for it in [*changes, changes[2]]]
+        texts = {"src/seq.rt": SOURCE}
+        # (a trait's impl has no room for a copy)
+        self.assertEqual(rounds.arranged(found, texts), [found[:4], found[4:]])
+        wanted = [{"seq::Seq::len"}, {"seq::Seq::len_tried_1"}, {"seq::SeqMyDeserialize::deserialize"}]
+        self.assertEqual([it.names() for it in found[:3]], wanted)
+        made = rounds.together(found[:4], texts)["src/seq.rt"]
+        names = [it.name for it in source.read(made).items]
+        self.assertEqual(names[-4:], ["fn::Seq::len::inner", "Seq::len", "fn::Seq::len_tried_1::inner", "Seq::len_tried_1"])
+        self.assertEqual(made.count("pub fn len_tried_1(&self) -> usize\n        ensures"), 1)
 
     def test_clauses_and_declarations_are_not_to_be_changed(self):
         for old, new in (("result ≡ length", "result ≤ length"), ("len(&self) -> usize", "len(&self) -> u64")):
@@ -265,6 +283,8 @@ BODIES = {
     "below_or_equal": ("    n < most", "    n <= most"),
     "byte_of_two": ("SIZE: u64 = 1", "SIZE: u64 = 2"),
     "least_by_another_name": ("if is_below(n, a) {", "if n < a {"),
+    "least_of_the_first": ("        is_below(n, b)", "        n <= b"),
+    "next_by_three": ("    n + 1", "    n + 3"),
     "next_by_two": ("    n + 1", "    n + 2"),
     "next_is_right": ("    n + 1", "    1 + n"),
     "next_not_there": ("n - 1", "n + 2"),
@@ -277,6 +297,8 @@ OUTCOMES = (
     ("tiny/below_or_equal", "refused: is_below: the search did not prove `returns`"),
     ("tiny/byte_of_two", "FAILED: NOT REFUSED: it is proved"),
     ("tiny/least_by_another_name", "FAILED: refused for a missing name alone"),
+    ("tiny/least_of_the_first", "refused: is_least: its proof fails: `returns-else-is_below`: "),
+    ("tiny/next_by_three", "refused: next: the search did not prove `returns`"),
     ("tiny/next_by_two", "refused: next: the search did not prove `returns`"),
     ("tiny/next_is_right", "FAILED: NOT REFUSED: it is proved"),
     ("tiny/next_not_there", "FAILED: it cannot be applied: its old text stands 0 times"),
@@ -331,8 +353,8 @@ class WholeRun(unittest.TestCase):
         self.assertEqual(sorted(said), sorted(name for name, _ in OUTCOMES), lines)
         for name, wanted in OUTCOMES:
             self.assertTrue(said[name].startswith(wanted), said[name])
-        self.assertEqual((status, lines[-1]), (1, "4 passed, 6 failed"))
-        self.assertTrue(lines[-2].endswith(" s of processors: tiny 10"), lines[-2])
+        self.assertEqual((status, lines[-1]), (1, "6 passed, 6 failed"))
+        self.assertTrue(lines[-2].endswith(" s of processors: tiny 12"), lines[-2])
 
     def test_no_body_is_no_success(self):
         self.assertEqual(self.run_on("--only", "none.edit")[0], 1)

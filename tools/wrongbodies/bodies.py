@@ -27,14 +27,22 @@ class Body:
     modules: set = field(default_factory=set)
     # the modules of the constants of traits' impls among these functions
     constants: set = field(default_factory=set)
+    # the file and the name there of the one function that it changes, where a copy of that could stand beside it
+    place: tuple = None
+    # what this function's name ends with, where the body stands in a copy of it
+    ending: str = ""
 
     def stands_alone(self):
         """Whether the functions that it changes are not known, so that no other body can be tried beside it."""
         return not self.functions
 
+    def names(self):
+        """The names of its functions in a check."""
+        return {it + self.ending for it in self.functions}
+
     def asked(self):
         """What a check is asked for."""
-        return self.functions or self.modules
+        return self.names() or self.modules
 
     def judge_by(self, modules):
         """Judges it by all functions of these modules, and not by those that it changes."""
@@ -95,6 +103,23 @@ def changed(body, texts):
     return made
 
 
+def item_named(name, text):
+    """The one item of this name in a text, if it is the only one."""
+    found = [it for it in source.read(text).items if it.name == name]
+    return found[0] if len(found) == 1 else None
+
+
+def beside(body, texts, standing):
+    """The file with the body in it, in a copy of its function that stands behind this one in the texts as they stand."""
+    path, name = body.place
+    made = changed(body, texts)[path]
+    wrong, right = item_named(name, made), item_named(name, standing[path])
+    if wrong is None or right is None:
+        raise Unfit(f"there is no single {name} in {path}")
+    copy = source.under_name(wrong, made, wrong.last_name() + body.ending)
+    return {path: f"{standing[path][: right.end]}\n\n{copy}{standing[path][right.end :]}"}
+
+
 def differing(old, new):
     """Where two texts begin to differ, and where what differs ends in the old one. Spaces at the ends count as equal."""
     start = len(os.path.commonprefix([old, new]))
@@ -138,9 +163,17 @@ def naming(constant, texts, homes):
     }
 
 
+def copy_place(places, texts):
+    """The file and the name there of the one function that is changed, where a copy of it could stand beside it."""
+    if len(places) > 1:
+        return None
+    ((path, name, has_room),) = places
+    return (path, name) if has_room and item_named(name, texts[path]) else None
+
+
 def find_functions(body, texts, homes):
     """Finds what a body changes, in a crate's texts as they are."""
-    made = dict(texts)
+    made, places = dict(texts), set()
     for path, old, new in body.changes:
         text = made.get(path)
         at = place_of(old, text, path)
@@ -156,6 +189,7 @@ def find_functions(body, texts, homes):
             raise Unfit(f"it changes how {item.name} is declared, and not its body")
         else:
             body.functions.add(full_name(item, path, homes))
+            places.add((path, item.name, item.has_room))
             if item.is_constant():
                 body.constants |= {module_of(path)} - {""}
                 body.functions |= naming(item, texts, homes)
@@ -165,6 +199,7 @@ def find_functions(body, texts, homes):
     if body.modules:
         body.modules |= {it.rpartition("::")[0] for it in body.functions}
         body.functions = set()
+    body.place = copy_place(places, texts) if body.functions else None
 
 
 def read_body(file, crate, texts, homes):

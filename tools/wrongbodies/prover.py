@@ -166,6 +166,18 @@ def copy_into(crate, room):
             shutil.rmtree(f"{room}/kept", ignore_errors=True)
 
 
+def copy_under_name(folder, to, name, ending):
+    """Copies the proof files of a function for a copy of it, whose name has an ending more."""
+    own = f".proofs.{name.replace('::', '.')}"
+    os.makedirs(to)
+    for file in os.listdir(folder):
+        if os.path.isfile(f"{folder}/{file}"):
+            with open(f"{folder}/{file}", encoding="utf-8") as it:
+                text = it.read()
+            with open(f"{to}/{file}", "w", encoding="utf-8") as it:
+                it.write(text.replace(f"{own}.", f"{own}{ending}."))
+
+
 def processors():
     """How many checks may run side by side: one a processor, and one for each 4 GiB of free memory."""
     with open("/proc/meminfo", encoding="ascii") as it:

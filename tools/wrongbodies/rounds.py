@@ -1,5 +1,6 @@
 """Tries the wrong bodies of a crate, as many as can be told apart in one check."""
 import os
+import shutil
 from dataclasses import dataclass
 
 from wrongbodies import bodies, prover, source, verdicts
@@ -26,11 +27,15 @@ class Outcome:
 
 
 def arranged(found, texts):
-    """Rounds of bodies that change different functions: a body that changes anything else has a round of its own."""
+    """Rounds of bodies that can be told apart in one check: one that changes no function alone has a round of its own.
+
+    A second body of one function stands in a copy of that function: in a further round the prover would prove anew,
+    in its right form, each function that the first round changed and that an asked one calls.
+    """
     rounds = []
     for body in found:
         for others in rounds:
-            if fits(body, others, texts):
+            if joins(body, others, texts):
                 others.append(body)
                 break
         else:
@@ -38,22 +43,33 @@ def arranged(found, texts):
     return rounds
 
 
-def fits(body, others, texts):
-    """Whether a body can be told apart from these others in one check."""
-    if body.stands_alone() or any(it.stands_alone() or body.functions & it.functions for it in others):
+def joins(body, others, texts):
+    """Whether a body can be told apart from these others in one check. Its ending is then the one that it has there."""
+    if body.stands_alone() or any(it.stands_alone() for it in others):
         return False
-    try:
-        together([*others, body], texts)
-    except bodies.Unfit:
-        return False
-    return True
+    endings = [f"_tried_{len(others)}"] if body.place else []
+    if not any(body.functions & it.functions for it in others):
+        endings.insert(0, "")
+    for body.ending in endings:
+        try:
+            together([*others, body], texts)
+            return True
+        except bodies.Unfit:
+            continue
+    body.ending = ""
+    return False
+
+
+def put(body, texts, standing):
+    """The files with a body in them, behind what stands in the texts already."""
+    return bodies.beside(body, texts, standing) if body.ending else bodies.changed(body, standing)
 
 
 def together(found, texts):
-    """The texts with all these bodies in them."""
+    """The texts with all these bodies in them, those in copies of their functions behind the others."""
     made = dict(texts)
-    for body in found:
-        made.update(bodies.changed(body, made))
+    for body in sorted(found, key=lambda it: bool(it.ending)):
+        made.update(put(body, texts, made))
     return made
 
 
@@ -88,6 +104,8 @@ class Trial:
 
     def try_round(self, found):
         """Tries bodies in one check, and each that is not refused there once more by itself."""
+        if len(found) == 1:
+            found[0].ending = ""
         report, made = self.check(found)
         if not report.ended:
             self.try_parts(found, report, made)
@@ -95,7 +113,7 @@ class Trial:
         for body in found:
             names, refused = self.judged(body, report)
             if refused:
-                self.say(body.name, True, refused)
+                self.say(body.name, True, refused.replace(body.ending, ""))
             elif len(found) > 1:
                 self.try_round([body])
             elif body.constants and body.functions:
@@ -108,7 +126,7 @@ class Trial:
 
     def try_parts(self, found, report, made):
         """Where a check did not reach the prover: the bodies whose text was refused by themselves, and the others again."""
-        if len(found) == 1 and report.unknown in found[0].functions:
+        if len(found) == 1 and report.unknown in found[0].names():
             # (a function of another name than it should have: all functions of the file are checked)
             found[0].judge_by({bodies.module_of(path) for path, _, _ in found[0].changes})
             self.try_round(found)
@@ -117,7 +135,7 @@ class Trial:
             why = report.refused[0][2] if report.refused else report.text.strip().rpartition("\n")[2]
             self.say(found[0].name, False, f"it cannot be read: {why[:200]}")
             return
-        blamed = [it for it in found if report.unknown in it.functions or self.is_blamed(it, report, made)]
+        blamed = [it for it in found if report.unknown in it.names() or self.is_blamed(it, report, made)]
         others = [it for it in found if it not in blamed]
         if not blamed:
             half = len(found) // 2
@@ -135,7 +153,7 @@ class Trial:
             for item in source.read(made[path]).items if path in made else []:
                 first = made[path].count("\n", 0, item.start) + 1
                 last = made[path].count("\n", 0, item.end) + 1
-                if first <= line <= last and bodies.full_name(item, path, self.homes) in body.functions:
+                if first <= line <= last and bodies.full_name(item, path, self.homes) in body.names():
                     return True
         return False
 
@@ -144,7 +162,7 @@ class Trial:
         if body.stands_alone():
             names = list(report.functions)
         else:
-            names = [part for it in sorted(body.functions) for part in verdicts.parts_of(it, report.functions)]
+            names = [part for it in sorted(body.names()) for part in verdicts.parts_of(it, report.functions)]
         return names, verdicts.refusal(names, report)
 
     def check(self, found):
@@ -156,7 +174,21 @@ class Trial:
                     it.write(text)
         self.standing = made
         asked = set().union(*(it.asked() for it in found))
+        copies = self.copy_proofs(found)
         text, seconds = self.by.check(self.crate, self.room, asked)
+        for folder in copies:
+            shutil.rmtree(folder)
         self.outcome.checks += 1
         self.outcome.seconds += seconds
         return verdicts.read(text), made
+
+    def copy_proofs(self, found):
+        """Gives each copy of a function the proof files that the function has. Returns the folders that this makes."""
+        made = []
+        for body in found:
+            for name in body.functions if body.ending else ():
+                folder = f"{self.room}/{verdicts.folder_of(name)}"
+                if os.path.isdir(folder):
+                    prover.copy_under_name(folder, folder + body.ending, name, body.ending)
+                    made.append(folder + body.ending)
+        return made

@@ -43,10 +43,16 @@ class Item:
     body: int
     end: int
     of_type: str = ""
+    # whether another function could stand beside it, as none can in a trait's impl, in a macro or in a function
+    has_room: bool = False
 
     def is_constant(self):
         """Whether it is a constant, all of whose text may be changed."""
         return self.body == self.start
+
+    def last_name(self):
+        """Its name as it is declared."""
+        return self.name.rpartition("::")[2]
 
 
 @dataclass
@@ -91,7 +97,7 @@ def type_name(words, hidden):
             break
         if word in SHAPES:
             name += SHAPES[word]
-        elif re.fullmatch(r"[A-Za-z]\w*", word) and behind != "::" and word not in {"mut", "dyn", *hidden}:
+        elif re.fullmatch(r"\w+", word) and behind != "::" and word not in {"mut", "dyn", *hidden}:
             name += word[0].upper() + word[1:]
     return name
 
@@ -132,7 +138,8 @@ def item_in(scopes, name, start, body, end):
     around = [it.name for it in scopes if it.kind in ("impl", "trait impl", "trait", "mod")]
     outside = [it.name for it in scopes if it.kind == "fn"]
     of_type = next((it.name for it in scopes if it.kind == "impl"), "")
-    return Item("::".join(["fn"] * bool(outside) + around + outside + [name]), start, body, end, of_type)
+    has_room = all(it.kind in ("impl", "mod") for it in scopes)
+    return Item("::".join(["fn"] * bool(outside) + around + outside + [name]), start, body, end, of_type, has_room)
 
 
 def is_plain(piece, nested):
@@ -144,6 +151,14 @@ def constants_in(text):
     """The constants of traits' impls that a text names, each by its type and trait as items are named."""
     words = WORD.findall
     return {f"{type_name(words(of), ())}{type_name(words(by), ())}::{name}" for of, by, name in NAMED_CONSTANT.findall(text)}
+
+
+def under_name(item, text, name):
+    """A function's text, declared by another name."""
+    own = text[item.start : item.end]
+    code = PIECE.sub(lambda found: found[0] if found["skip"] is None else " " * len(found[0]), own)
+    found = re.search(rf"\bfn\s+({item.last_name()})\b", code)
+    return own[: found.start(1)] + name + own[found.end(1) :]
 
 
 @functools.cache
