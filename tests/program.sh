@@ -202,9 +202,11 @@ compare 'a second run' 0 $'ran\n' '' "$?"
 # (each begins to build before the other has ended)
 rm -- small/crates/mypackets/out/*
 LIB_SECONDS=0.5 small/mypackets stmt >other_output 2>other_errors &
+# ("$!" names what compare starts, once it has run)
+other=$!
 LIB_SECONDS=0.5 small/mypackets stmt >output 2>errors
 compare 'a first run beside another' 0 $'ran\n' "$first_run" "$?"
-wait "$!"
+wait "$other"
 status=$?
 mv -- other_output output && mv -- other_errors errors
 compare 'a first run that another is beside' 0 $'ran\n' "$first_run" "$status"
