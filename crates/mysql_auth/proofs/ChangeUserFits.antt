@@ -4,7 +4,7 @@ use Rattle.mysql_wire.specs.CodecFits.{option_fits}
 use Rattle.mysql_wire.specs.Codecs.{without_context}
 use Rattle.mysql_wire.specs.Flags.{CapabilityFlags}
 use Rattle.mysql_auth.specs.PluginName.{plugin_null}
-use Rattle.mysql_plugins.specs.declared.auth_plugin.AuthPlugin.{AuthPlugin}
+use Rattle.mysql_auth.specs.declared.auth_plugin.AuthPlugin.{AuthPlugin}
 use Rattle.mysql_auth.specs.declared.com_change_user.ComChangeUser.{ComChangeUser}
 use Rattle.mysql_auth.specs.declared.com_change_user_more_data.ComChangeUserMoreData.{ComChangeUserMoreData}
 use Rattle.mysql_auth.specs.ComChangeUser.{change_user, last_part, more_data, named_plugin, written_attributes, sends_plugin, auth_plugin, more_data_in, NamedFits, MoreFits, MoreDataFits, ChangeUserFits}

@@ -1,3 +1,4 @@
+mod Rounds
 mod HandshakeFits
 mod HandshakeResponseFits
 mod ChangeUserFits

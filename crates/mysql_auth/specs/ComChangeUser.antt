@@ -12,7 +12,7 @@ use Rattle.std.specs.Option.{unwrap_or}
 use Rattle.std.proofs.Common.{arith}
 use Rattle.mysql_auth.specs.Attributes.{Attribute, AttributesFit, attributes}
 use Rattle.mysql_auth.specs.PluginName.{PluginFits, plugin_null}
-use Rattle.mysql_plugins.specs.declared.auth_plugin.AuthPlugin.{AuthPlugin}
+use Rattle.mysql_auth.specs.declared.auth_plugin.AuthPlugin.{AuthPlugin}
 use Rattle.mysql_auth.specs.declared.com_change_user.ComChangeUser.{ComChangeUser}
 use Rattle.mysql_auth.specs.declared.com_change_user_more_data.ComChangeUserMoreData.{ComChangeUserMoreData}
 

@@ -7,10 +7,10 @@ use Rattle.mysql_wire.specs.Flags.{StatusFlags, MariadbCapabilities, has}
 use Rattle.mysql_wire.specs.Int.{raw_int}
 use Rattle.mysql_wire.specs.Null.{HasNoZero}
 use Rattle.mysql_wire.specs.declared.int.RawInt.{RawInt}
-use Rattle.mysql_plugins.specs.AuthPlugin.{plugin_of}
-use Rattle.mysql_plugins.specs.Scramble.{scramble_length}
-use Rattle.mysql_plugins.specs.TrailingZero.{without_last_zero}
-use Rattle.mysql_plugins.specs.declared.auth_plugin.AuthPlugin.{AuthPlugin}
+use Rattle.mysql_auth.specs.AuthPlugin.{plugin_of}
+use Rattle.mysql_auth.specs.Scramble.{scramble_length}
+use Rattle.mysql_auth.specs.TrailingZero.{without_last_zero}
+use Rattle.mysql_auth.specs.declared.auth_plugin.AuthPlugin.{AuthPlugin}
 use Rattle.mysql_auth.specs.LastName.{last_name}
 use Rattle.mysql_auth.specs.declared.handshake_head.HandshakeHead.{HandshakeHead}
 use Rattle.mysql_auth.specs.declared.handshake.HandshakePacket.{HandshakePacket}

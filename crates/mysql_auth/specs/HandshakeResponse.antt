@@ -9,7 +9,7 @@ use Rattle.mysql_auth.specs.Attributes.{Attribute, AttributesFit, attributes}
 use Rattle.mysql_auth.specs.PluginName.{PluginFits, plugin_null_or_eof}
 use Rattle.mysql_auth.specs.SslRequest as ssl
 use Rattle.mysql_auth.specs.SslRequest.{ssl_request}
-use Rattle.mysql_plugins.specs.declared.auth_plugin.AuthPlugin.{AuthPlugin}
+use Rattle.mysql_auth.specs.declared.auth_plugin.AuthPlugin.{AuthPlugin}
 use Rattle.mysql_auth.specs.declared.handshake_response.HandshakeResponse.{HandshakeResponse}
 use Rattle.mysql_auth.specs.declared.ssl_request.SslRequest.{SslRequest}
 

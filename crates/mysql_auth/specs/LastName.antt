@@ -5,7 +5,7 @@ use Rattle.mysql_wire.specs.BytesAgain.{before_zero-whole}
 use Rattle.mysql_wire.specs.Codec.{Codec}
 use Rattle.mysql_wire.specs.Form.{Form, map, all_left}
 use Rattle.mysql_wire.specs.Null.{HasNoZero, null_bytes}
-use Rattle.mysql_plugins.specs.TrailingZero.{without_last_zero, zero-off}
+use Rattle.mysql_auth.specs.TrailingZero.{without_last_zero, zero-off}
 
 -- all that is left, without one zero at its end
 abbrev pub name_left : Form (List ℕ)

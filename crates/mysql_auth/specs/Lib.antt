@@ -1,3 +1,8 @@
+pub mod TrailingZero
+pub mod AuthPlugin
+pub mod AuthPluginData
+pub mod Parsec
+pub mod Scramble
 pub mod AuthMoreData
 pub mod PublicKeyRequest
 pub mod PublicKeyResponse

@@ -4,8 +4,8 @@ use Rattle.std.proofs.Common.{append_assoc}
 use Rattle.mysql_wire.specs.Codec.{Codec}
 use Rattle.mysql_wire.specs.Form.{Form, map, all_left, looking, either}
 use Rattle.mysql_wire.specs.Null.{HasNoZero, null_string}
-use Rattle.mysql_plugins.specs.AuthPlugin.{auth_plugin, plugin_name, plugin_of}
-use Rattle.mysql_plugins.specs.declared.auth_plugin.AuthPlugin.{AuthPlugin}
+use Rattle.mysql_auth.specs.AuthPlugin.{auth_plugin, plugin_name, plugin_of}
+use Rattle.mysql_auth.specs.declared.auth_plugin.AuthPlugin.{AuthPlugin}
 
 -- a plugin that its name tells whole: no zero is in the name, and the plugin is that of the name
 pub record PluginFits (p : AuthPlugin) : Type 0 where

@@ -3,11 +3,12 @@
 
 ghost use Rattle.std.specs.Prelude.{false, ◌≡◌, IfOk};
 ghost use Rattle.std.specs.Cow.{cow_slice_items};
-ghost use Rattle.mysql_plugins.specs.AuthPlugin.{plugin_of};
+ghost use Rattle.mysql_auth.specs.AuthPlugin.{plugin_of};
 ghost use Rattle.mysql_auth.specs.AuthSwitchRequest as spec;
-ghost use Rattle.mysql_plugins.specs.TrailingZero.{without_last_zero};
+ghost use Rattle.mysql_auth.specs.TrailingZero.{without_last_zero};
 
-use mysql_plugins::{AuthPlugin, without_last_zero};
+use crate::auth_plugin::AuthPlugin;
+use crate::trailing_zero::without_last_zero;
 use mysql_wire::{
     AnyWidth, ConstFault, ConstU8, EofBytes, FaultOf, MyDeserialize, NullBytes, ParseBuf, Parts,
     RawBytes, Sink, parts,

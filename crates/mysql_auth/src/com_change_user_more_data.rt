@@ -7,10 +7,10 @@ ghost use Rattle.mysql_auth.specs.Attributes.{text_pair};
 ghost use Rattle.mysql_auth.specs.ComChangeUser as spec;
 
 use crate::attributes::{Attributes, attributes_of};
+use crate::auth_plugin::AuthPlugin;
 use crate::plugin_name::plugin_to_zero;
 use bitflags::Flags;
 use indexmap::IndexMap;
-use mysql_plugins::AuthPlugin;
 use mysql_wire::{
     AnyWidth, CapabilityFlags, FaultOf, LeU16, LenEnc, MyDeserialize, ParseBuf, Parts, RawBytes,
     RawInt, Sink, parts,

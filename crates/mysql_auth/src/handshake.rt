@@ -8,11 +8,13 @@ ghost use Rattle.mysql_wire.specs.Text.{lossy_text, BorrowsUtf8, OptionBorrowsUt
 ghost use Rattle.mysql_auth.specs.Handshake as spec;
 ghost use Rattle.mysql_auth.specs.Version.{HasVersion, IsMariadbVersion};
 
+use crate::auth_plugin::AuthPlugin;
 use crate::handshake_head::HandshakeHead;
 use crate::last_name::LastName;
+use crate::scramble::scramble_length;
+use crate::trailing_zero::without_last_zero;
 use crate::version::{mariadb_server_version, server_version};
 use bitflags::Flags;
-use mysql_plugins::{AuthPlugin, scramble_length, without_last_zero};
 use mysql_wire::{
     AnyWidth, BareBytes, CapabilityFlags, Const, FaultOf, MariadbCapabilities, MyDeserialize,
     ParseBuf, Parts, RawBytes, RawInt, Sink, Skip, StatusFlags, parts,

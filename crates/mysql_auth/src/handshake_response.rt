@@ -16,12 +16,12 @@ ghost use Rattle.mysql_auth.specs.Attributes.{Attribute, merged, text_pair, loss
 ghost use Rattle.mysql_auth.specs.HandshakeResponse as spec;
 
 use crate::attributes::{Attributes, attributes_of};
+use crate::auth_plugin::AuthPlugin;
 use crate::optional_bytes::bytes_or_empty;
 use crate::plugin_name::plugin_to_zero_or_end;
 use crate::ssl_request::SslRequest;
 use bitflags::Flags;
 use indexmap::IndexMap;
-use mysql_plugins::AuthPlugin;
 use mysql_wire::{
     AnyWidth, BytesRepr, CapabilityFlags, Either, EofBytes, FaultOf, LenEnc, MariadbCapabilities,
     MyDeserialize, NullBytes, ParseBuf, Parts, RawBytes, Sink, U8Bytes, parts,

@@ -5,7 +5,7 @@ ghost use Rattle.mysql_wire.specs.Writing.{saturated};
 ghost use Rattle.mysql_wire.specs.Form.{Form};
 ghost use Rattle.mysql_wire.specs.Reading.{Answers, IsTail};
 
-use mysql_plugins::without_last_zero;
+use crate::trailing_zero::without_last_zero;
 use mysql_wire::{BytesRepr, FaultOf, NullBytes, ParseBuf};
 
 /// All the bytes that are left, without one zero at their end.

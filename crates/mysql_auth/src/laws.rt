@@ -20,11 +20,19 @@ ghost use Rattle.mysql_auth.specs.HandshakeResponse.{handshake_response, Handsha
 ghost use Rattle.mysql_auth.specs.Version.{HasVersion, HasMariadbVersion};
 ghost use Rattle.mysql_auth.specs.Handshake.{handshake, HandshakeFits};
 ghost use Rattle.mysql_auth.specs.AuthMoreData.{auth_more_data};
+ghost use Rattle.mysql_auth.specs.AuthPlugin.{auth_plugin};
+ghost use Rattle.mysql_auth.specs.declared.auth_plugin.AuthPlugin.{AuthPlugin};
 ghost use Rattle.mysql_auth.specs.AuthSwitchRequest.{auth_switch_request};
 ghost use Rattle.mysql_auth.specs.OldAuthSwitchRequest.{old_auth_switch_request};
 ghost use Rattle.mysql_auth.specs.PublicKeyRequest.{public_key_request};
 ghost use Rattle.mysql_auth.specs.PublicKeyResponse.{public_key_response};
 ghost use Rattle.mysql_auth.specs.SslRequest.{ssl_request};
+
+/// What is written of a plugin is read again, where nothing follows and the plugin is that of its name.
+pub fn auth_plugin_again()
+    ensures spelled { (p : AuthPlugin) (rest : List ℕ) → auth_plugin.fits tt p rest → (auth_plugin.form tt).Spells p (auth_plugin.bytes p ++ rest) rest }
+    ensures read { (p : AuthPlugin) (rest : List ℕ) → auth_plugin.fits tt p rest → (auth_plugin.form tt).reads (auth_plugin.bytes p ++ rest) ≡ Ok (p, rest) }
+{}
 
 /// What is written of further data is read again, where nothing follows.
 pub fn auth_more_data_again()

@@ -4,6 +4,8 @@
 
 mod attributes;
 mod auth_more_data;
+mod auth_plugin;
+mod auth_plugin_data;
 mod auth_switch_request;
 mod com_change_user;
 mod com_change_user_more_data;
@@ -14,13 +16,18 @@ mod last_name;
 pub mod laws;
 mod old_auth_switch_request;
 mod optional_bytes;
+mod parsec;
 mod plugin_name;
 mod public_key_request;
 mod public_key_response;
+mod scramble;
 mod ssl_request;
+mod trailing_zero;
 mod version;
 
 pub use auth_more_data::{AuthMoreData, AuthMoreDataHeader, InvalidAuthMoreDataHeader};
+pub use auth_plugin::AuthPlugin;
+pub use auth_plugin_data::AuthPluginData;
 pub use auth_switch_request::{
     AuthSwitchRequest, AuthSwitchRequestHeader, InvalidAuthSwitchRequestHeader,
 };
@@ -29,8 +36,8 @@ pub use com_change_user_more_data::ComChangeUserMoreData;
 pub use handshake::HandshakePacket;
 pub use handshake_response::HandshakeResponse;
 pub use last_name::LastName;
-pub use mysql_plugins::{AuthPlugin, AuthPluginData, parse_parsec_salt};
 pub use old_auth_switch_request::OldAuthSwitchRequest;
+pub use parsec::parse_parsec_salt;
 pub use public_key_request::{InvalidPublicKeyRequest, PublicKeyRequest, PublicKeyRequestHeader};
 pub use public_key_response::{
     InvalidPublicKeyResponse, PublicKeyResponse, PublicKeyResponseHeader,

@@ -3,10 +3,10 @@
 
 ghost use Rattle.std.specs.Prelude.{false, ◌≡◌, Some};
 ghost use Rattle.mysql_auth.specs.OldAuthSwitchRequest as spec;
-ghost use Rattle.mysql_plugins.specs.declared.auth_plugin.AuthPlugin.TheVariants as plugin;
+ghost use Rattle.mysql_auth.specs.declared.auth_plugin.AuthPlugin.TheVariants as plugin;
 
+use crate::auth_plugin::AuthPlugin;
 use crate::auth_switch_request::AuthSwitchRequestHeader;
-use mysql_plugins::AuthPlugin;
 use mysql_wire::{ConstU8, FaultOf, Fixed, MyDeserialize, ParseBuf, Parts, Sink, parts};
 
 /// A server's request to switch to the plugin of MySQL before 4.1 (`Protocol::OldAuthSwitchRequest`), for a client

@@ -5,7 +5,7 @@ ghost use Rattle.std.specs.Prelude.{false, ◌≡◌, Ok};
 ghost use Rattle.mysql_wire.specs.Reading.{Answers};
 ghost use Rattle.mysql_auth.specs.PluginName as spec;
 
-use mysql_plugins::AuthPlugin;
+use crate::auth_plugin::AuthPlugin;
 use mysql_wire::{BytesRepr, FaultOf, NullBytes, ParseBuf};
 
 /// The plugin of a name that ends in a zero. Without a zero: `UnexpectedEof`.

@@ -1,0 +1,70 @@
+-- Authentication plugins.
+use Rattle.std.specs.Prelude.{◌≡◌, ℕ, List, [], ◌∷◌, ◌++◌, length, replicate, codes, Bool, Option, None, option_map, nat_eq, if◌then◌else◌, refl}
+use Rattle.std.proofs.Common.{ap, ◌∙◌}
+use Rattle.std.proofs.lemmas.List.{append-nil}
+use Rattle.std.specs.Cmp.Lexicographic.{pointwise}
+use Rattle.mysql_wire.specs.Codec.{Codec}
+use Rattle.mysql_wire.specs.Form.{map, all_left}
+use Rattle.mysql_auth.specs.TrailingZero.{without_last_zero, zero-off}
+use Rattle.mysql_auth.specs.Parsec.{parsec_salt}
+use Rattle.mysql_auth.specs.declared.auth_plugin.AuthPlugin.{AuthPlugin}
+use Rattle.mysql_auth.specs.declared.auth_plugin.AuthPlugin.TheVariants as plugin
+
+-- the name that a plugin is called by
+abbrev pub plugin_name : AuthPlugin → List ℕ
+plugin_name plugin.MysqlOldPassword = codes "mysql_old_password"
+plugin_name plugin.MysqlClearPassword = codes "mysql_clear_password"
+plugin_name plugin.MysqlNativePassword = codes "mysql_native_password"
+plugin_name plugin.CachingSha2Password = codes "caching_sha2_password"
+plugin_name plugin.Ed25519 = codes "client_ed25519"
+plugin_name (plugin.MariadbParsec iterations ext_salt) = codes "parsec"
+plugin_name (plugin.Other name) = name
+
+-- parsec before its server has told anything
+abbrev pub new_parsec : AuthPlugin
+new_parsec = plugin.MariadbParsec 0 (replicate 18 0)
+
+abbrev is : List ℕ → List ℕ → Bool
+is name known = pointwise nat_eq name known
+
+-- the plugin of that very name
+unfoldable pub plugin_named : List ℕ → AuthPlugin
+plugin_named name =
+    if is name (codes "caching_sha2_password") then plugin.CachingSha2Password
+    else if is name (codes "mysql_native_password") then plugin.MysqlNativePassword
+    else if is name (codes "mysql_old_password") then plugin.MysqlOldPassword
+    else if is name (codes "mysql_clear_password") then plugin.MysqlClearPassword
+    else if is name (codes "client_ed25519") then plugin.Ed25519
+    else if is name (codes "parsec") then new_parsec
+    else plugin.Other name
+
+-- the plugin of a name, one zero at its end aside
+abbrev pub plugin_of : List ℕ → AuthPlugin
+plugin_of bytes = plugin_named (without_last_zero bytes)
+
+-- parsec takes in its rounds and its salt
+abbrev pub with_salt : AuthPlugin → List ℕ → Option AuthPlugin
+with_salt (plugin.MariadbParsec iterations ext_salt) payload = option_map (λ told. plugin.MariadbParsec told.0 told.1) (parsec_salt payload)
+with_salt _ payload = None
+
+-- ---- the plugin as its name: all that is left, written with a zero behind it
+
+abbrev pub name_bytes : AuthPlugin → List ℕ
+name_bytes p = plugin_name p ++ 0 ∷ []
+
+pub auth_plugin-again : (p : AuthPlugin) (rest : List ℕ) → (plugin_named (plugin_name p) ≡ p) × (rest ≡ []) → (map plugin_of all_left).Spells p (name_bytes p ++ rest) rest
+auth_plugin-again p rest h = rw (h.1, append-nil) (name_bytes p, ap plugin_named (zero-off (plugin_name p)) ∙ h.0, (refl, refl))
+
+unfoldable pub auth_plugin : Codec (Unit {0}) AuthPlugin
+auth_plugin = record {
+  form = λ c. map plugin_of all_left;
+  bytes = name_bytes;
+  len = λ p. length (name_bytes p);
+  fits = λ c p rest. (plugin_named (plugin_name p) ≡ p) × (rest ≡ []);
+  exact = λ c p rest h. refl;
+  again = λ c p rest h. auth_plugin-again p rest h;
+}
+
+pub size-auth_plugin : (auth_plugin.form tt).size ≡ None
+unfolding auth_plugin
+size-auth_plugin = refl

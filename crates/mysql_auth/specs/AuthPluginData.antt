@@ -1,0 +1,18 @@
+-- What a client answers to a scramble.
+use Rattle.std.specs.Prelude.{ℕ, List, [], ◌∷◌, ◌++◌}
+use Rattle.mysql_auth.specs.declared.auth_plugin_data.AuthPluginData.{AuthPluginData}
+use Rattle.mysql_auth.specs.declared.auth_plugin_data.AuthPluginData.TheVariants as answer
+
+abbrev pub data_bytes : AuthPluginData → List ℕ
+data_bytes (answer.Old bytes) = bytes
+data_bytes (answer.Native bytes) = bytes
+data_bytes (answer.Sha2 bytes) = bytes
+data_bytes (answer.Clear password) = password
+data_bytes (answer.Ed25519 bytes) = bytes
+data_bytes (answer.Parsec bytes) = bytes
+
+-- the bytes, and a zero behind those of the oldest plugin and behind a password
+abbrev pub auth_plugin_data_bytes : AuthPluginData → List ℕ
+auth_plugin_data_bytes (answer.Old bytes) = bytes ++ 0 ∷ []
+auth_plugin_data_bytes (answer.Clear password) = password ++ 0 ∷ []
+auth_plugin_data_bytes other = data_bytes other

@@ -1,0 +1,188 @@
+//! Authentication plugins.
+#![tactic(auto, using(mysql_wire::proofs::Packets::packets), unfolding(crate::specs::AuthPlugin::auth_plugin))]
+
+ghost use Rattle.std.specs.Prelude.{false, ◌≡◌, None, Some, IfOk, IfSome, IfNone};
+ghost use Rattle.mysql_auth.specs.AuthPlugin as spec;
+
+use crate::parsec::parse_parsec_salt;
+use crate::trailing_zero::without_last_zero;
+use mysql_wire::{
+    AnyWidth, EofBytes, FaultOf, MyDeserialize, ParseBuf, Parts, RawBytes, Sink, Skip, parts,
+};
+use std::alloc::{AllocError, Global};
+use std::borrow::CowSlice;
+
+const MYSQL_OLD_PASSWORD: &[u8] = b"mysql_old_password";
+
+const MYSQL_CLEAR_PASSWORD: &[u8] = b"mysql_clear_password";
+
+const MYSQL_NATIVE_PASSWORD: &[u8] = b"mysql_native_password";
+
+const CACHING_SHA2_PASSWORD: &[u8] = b"caching_sha2_password";
+
+const CLIENT_ED25519: &[u8] = b"client_ed25519";
+
+const PARSEC: &[u8] = b"parsec";
+
+/// How a client proves who it is: the plugin that both sides run.
+///
+/// On the wire it is its name. A reader takes all that is left as the name, one zero at its end aside; a writer puts a
+/// zero behind the name.
+#[derive(Clone, Debug, PartialEq, Eq, Hash, Drop)]
+pub enum AuthPlugin<'a> {
+    /// `mysql_old_password`: the hash of MySQL before 4.1.
+    MysqlOldPassword,
+    /// `mysql_clear_password`: the password itself.
+    MysqlClearPassword,
+    /// `mysql_native_password`.
+    MysqlNativePassword,
+    /// `caching_sha2_password`.
+    CachingSha2Password,
+    /// `client_ed25519`, of MariaDB.
+    Ed25519,
+    /// `parsec`, of MariaDB.
+    MariadbParsec {
+        /// How many rounds the password is hashed with, 0 until the server has told.
+        iterations: u32,
+        /// The server's salt, zeros until the server has told.
+        ext_salt: [u8; 18],
+    },
+    /// A plugin of another name, which stands here.
+    Other(RawBytes<'a, EofBytes>),
+}
+
+impl<'a> AuthPlugin<'a> {
+    /// The plugin of this name, one zero at its end aside. `parsec` has no rounds yet, and a salt of zeros.
+    #[tactic(auto, unfolding(crate::specs::AuthPlugin::plugin_named))]
+    pub fn from_bytes(name: &'a [u8]) -> AuthPlugin<'a>
+        ensures value { result ≡ spec.plugin_of name.now }
+    {
+        let name = without_last_zero(name);
+        if name == CACHING_SHA2_PASSWORD {
+            AuthPlugin::CachingSha2Password
+        } else if name == MYSQL_NATIVE_PASSWORD {
+            AuthPlugin::MysqlNativePassword
+        } else if name == MYSQL_OLD_PASSWORD {
+            AuthPlugin::MysqlOldPassword
+        } else if name == MYSQL_CLEAR_PASSWORD {
+            AuthPlugin::MysqlClearPassword
+        } else if name == CLIENT_ED25519 {
+            AuthPlugin::Ed25519
+        } else if name == PARSEC {
+            AuthPlugin::MariadbParsec {
+                iterations: 0,
+                ext_salt: [0; 18],
+            }
+        } else {
+            AuthPlugin::Other(RawBytes::new(CowSlice::Borrowed(name)))
+        }
+    }
+
+    /// The plugin's name, without a zero behind it.
+    pub fn as_bytes(&self) -> &[u8]
+        ensures value { result.now ≡ spec.plugin_name self.now }
+    {
+        match self {
+            AuthPlugin::MysqlOldPassword => MYSQL_OLD_PASSWORD,
+            AuthPlugin::MysqlClearPassword => MYSQL_CLEAR_PASSWORD,
+            AuthPlugin::MysqlNativePassword => MYSQL_NATIVE_PASSWORD,
+            AuthPlugin::CachingSha2Password => CACHING_SHA2_PASSWORD,
+            AuthPlugin::Ed25519 => CLIENT_ED25519,
+            AuthPlugin::MariadbParsec { .. } => PARSEC,
+            AuthPlugin::Other(name) => name.as_bytes(),
+        }
+    }
+
+    /// The same plugin, on memory of its own.
+    ///
+    /// Where the copy is refused, the plugin is given up, and the bytes that it borrowed stay.
+    pub fn into_owned(self, alloc: Global) -> Result<AuthPlugin<'static>, AllocError>
+        ensures value { IfOk result (λ owned. owned ≡ self.entry) }
+    {
+        Ok(match self {
+            AuthPlugin::MysqlOldPassword => AuthPlugin::MysqlOldPassword,
+            AuthPlugin::MysqlClearPassword => AuthPlugin::MysqlClearPassword,
+            AuthPlugin::MysqlNativePassword => AuthPlugin::MysqlNativePassword,
+            AuthPlugin::CachingSha2Password => AuthPlugin::CachingSha2Password,
+            AuthPlugin::Ed25519 => AuthPlugin::Ed25519,
+            AuthPlugin::MariadbParsec {
+                iterations,
+                ext_salt,
+            } => AuthPlugin::MariadbParsec {
+                iterations,
+                ext_salt,
+            },
+            AuthPlugin::Other(name) => AuthPlugin::Other(name.into_owned(alloc)?),
+        })
+    }
+
+    /// The same plugin, whose name is borrowed from this one. It takes no memory.
+    pub fn borrow(&self) -> AuthPlugin<'_>
+        ensures value { result ≡ self.now }
+    {
+        match self {
+            AuthPlugin::MysqlOldPassword => AuthPlugin::MysqlOldPassword,
+            AuthPlugin::MysqlClearPassword => AuthPlugin::MysqlClearPassword,
+            AuthPlugin::MysqlNativePassword => AuthPlugin::MysqlNativePassword,
+            AuthPlugin::CachingSha2Password => AuthPlugin::CachingSha2Password,
+            AuthPlugin::Ed25519 => AuthPlugin::Ed25519,
+            AuthPlugin::MariadbParsec {
+                iterations,
+                ext_salt,
+            } => AuthPlugin::MariadbParsec {
+                iterations: *iterations,
+                ext_salt: *ext_salt,
+            },
+            AuthPlugin::Other(name) => {
+                AuthPlugin::Other(RawBytes::new(CowSlice::Borrowed(name.as_bytes())))
+            }
+        }
+    }
+
+    /// Takes in what a server tells beside the scramble: for `parsec` the number of rounds and the salt, as
+    /// [`parse_parsec_salt`] reads them.
+    ///
+    /// `None` where the plugin takes nothing in, or the payload isn't of that form; the plugin is then as it was.
+    pub fn read_add_data(&mut self, payload: &[u8]) -> Option<()>
+        ensures read { IfSome result (λ _. spec.with_salt self.old payload.now ≡ Some self.new) }
+        ensures none { IfNone result ((spec.with_salt self.old payload.now ≡ None) × (self.new ≡ self.old)) }
+    {
+        let AuthPlugin::MariadbParsec { .. } = self else {
+            return None;
+        };
+        let (iterations, ext_salt) = parse_parsec_salt(payload)?;
+        *self = AuthPlugin::MariadbParsec {
+            iterations,
+            ext_salt: *ext_salt,
+        };
+        Some(())
+    }
+}
+
+impl<'de> MyDeserialize<'de> for AuthPlugin<'de> {
+    const SIZE: Option<usize> = None;
+
+    type Size = AnyWidth;
+
+    ghost takes_memory = { false };
+
+    type Ctx = ();
+
+    ghost form = { spec.auth_plugin.form };
+
+    fn deserialize<'s>(_ctx: (), buf: &mut ParseBuf<'de>) -> Result<Self, FaultOf<'s>> {
+        Ok(AuthPlugin::from_bytes(buf.eat_all()))
+    }
+
+    ghost size_is = { λ _. spec.size-auth_plugin };
+}
+
+impl Parts for AuthPlugin<'_> {
+    ghost bytes = { spec.auth_plugin.bytes };
+
+    #[inline(always)]
+    fn put<S: Sink>(&self, sink: &mut S) {
+        let name: RawBytes<'_, EofBytes> = RawBytes::new(CowSlice::Borrowed(self.as_bytes()));
+        sink.part(&parts!(name, Skip::<1>));
+    }
+}

@@ -1,0 +1,75 @@
+//! What a client answers to a scramble.
+#![tactic(auto, using(mysql_wire::proofs::Packets::packets))]
+
+ghost use Rattle.std.specs.Prelude.{◌≡◌, IfOk};
+ghost use Rattle.mysql_auth.specs.AuthPluginData as spec;
+
+use mysql_wire::{EofBytes, Parts, RawBytes, Sink, Skip, parts};
+use std::alloc::{AllocError, Global};
+use std::borrow::CowSlice;
+
+/// What a client proves a password with, by the plugin that makes it.
+///
+/// It is only written: the bytes, and a zero behind those of `Old` and `Clear`.
+#[derive(Clone, Debug, PartialEq, Eq, Drop)]
+pub enum AuthPluginData<'a> {
+    /// Of `mysql_old_password`.
+    Old([u8; 8]),
+    /// Of `mysql_native_password`.
+    Native([u8; 20]),
+    /// Of `caching_sha2_password`.
+    Sha2([u8; 32]),
+    /// Of `mysql_clear_password`: the password.
+    Clear(RawBytes<'a, EofBytes>),
+    /// Of `client_ed25519`.
+    Ed25519([u8; 64]),
+    /// Of `parsec`.
+    Parsec([u8; 96]),
+}
+
+impl AuthPluginData<'_> {
+    /// The bytes, without a zero behind them.
+    pub fn as_bytes(&self) -> &[u8]
+        ensures value { result.now ≡ spec.data_bytes self.now }
+    {
+        match self {
+            AuthPluginData::Old(bytes) => bytes,
+            AuthPluginData::Native(bytes) => bytes,
+            AuthPluginData::Sha2(bytes) => bytes,
+            AuthPluginData::Clear(password) => password.as_bytes(),
+            AuthPluginData::Ed25519(bytes) => bytes,
+            AuthPluginData::Parsec(bytes) => bytes,
+        }
+    }
+
+    /// The same data, on memory of its own.
+    ///
+    /// Where the copy is refused, the data is given up, and the bytes that it borrowed stay.
+    pub fn into_owned(self, alloc: Global) -> Result<AuthPluginData<'static>, AllocError>
+        ensures value { IfOk result (λ owned. owned ≡ self.entry) }
+    {
+        Ok(match self {
+            AuthPluginData::Old(bytes) => AuthPluginData::Old(bytes),
+            AuthPluginData::Native(bytes) => AuthPluginData::Native(bytes),
+            AuthPluginData::Sha2(bytes) => AuthPluginData::Sha2(bytes),
+            AuthPluginData::Clear(password) => AuthPluginData::Clear(password.into_owned(alloc)?),
+            AuthPluginData::Ed25519(bytes) => AuthPluginData::Ed25519(bytes),
+            AuthPluginData::Parsec(bytes) => AuthPluginData::Parsec(bytes),
+        })
+    }
+}
+
+impl Parts for AuthPluginData<'_> {
+    ghost bytes = { spec.auth_plugin_data_bytes };
+
+    #[inline(always)]
+    fn put<S: Sink>(&self, sink: &mut S) {
+        let bytes: RawBytes<'_, EofBytes> = RawBytes::new(CowSlice::Borrowed(self.as_bytes()));
+        match self {
+            AuthPluginData::Old(_) | AuthPluginData::Clear(_) => {
+                sink.part(&parts!(bytes, Skip::<1>))
+            }
+            _ => sink.part(&bytes),
+        }
+    }
+}

@@ -1,0 +1,51 @@
+//! Lines, and the answers to them.
+
+use crate::marks;
+use crate::out::Out;
+use crate::request::Request;
+use std::alloc::{AllocError, Global};
+use std::io;
+use std::io::{BufRead, BufReader};
+
+/// The requests that a program knows.
+pub trait Answers {
+    /// Adds the answer to a request, and says whether it is one of these.
+    fn answer(out: &mut Out, request: &Request<'_>) -> Result<bool, AllocError>;
+}
+
+/// The answer to a line.
+fn line<A: Answers>(alloc: Global, line: &str) -> Result<String, AllocError> {
+    let request = Request::of(alloc, line)?;
+    let mut out = Out::new(alloc);
+    if !A::answer(&mut out, &request)? {
+        out.word("unknown")?;
+    }
+    Ok(out.into_text())
+}
+
+/// The line without the number of the growth that is to be refused in it.
+///
+/// `@N` in front of a request says that an allocator which stands in front of the C library's refuses the N-th growth.
+fn without_growth(alloc: Global, line: &str) -> &str {
+    match line.strip_prefix('@') {
+        Some(rest) => {
+            let (number, request) = rest.split_once(' ').unwrap_or((rest, ""));
+            marks::line(alloc, number.parse::<u16>().unwrap_or(0));
+            request
+        }
+        None => line,
+    }
+}
+
+/// Prints the answer to each line of the input.
+pub fn run<A: Answers>(rt: &(impl Input + Print + AllocGlobal)) -> io::Result<()> {
+    for text in BufReader::new(rt.alloc(), rt.reader())?.lines(rt.alloc()) {
+        let text = text?;
+        match line::<A>(rt.alloc(), without_growth(rt.alloc(), text.as_str())) {
+            Ok(answer) => println!(rt; "{answer}")?,
+            // (the work of the program itself: what it calls says `Memory`)
+            Err(AllocError) => println!(rt; "out of memory")?,
+        }
+    }
+    Ok(())
+}

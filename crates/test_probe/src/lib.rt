@@ -1,0 +1,14 @@
+//! Requests as lines, and their answers: what the programs that answer rows share.
+//!
+//! A request is words parted by spaces: what is read or called, its context (flags, columns, a kind), and its bytes as
+//! hexadecimal digits, or texts and values. An answer is what came of it, in words: the fields of a record, what is left,
+//! what is written, and how that is read again; or the fault, its text, and that the buffer is as it was.
+#![tactic(auto)]
+
+mod answering;
+pub mod marks;
+pub mod out;
+pub mod record;
+pub mod request;
+
+pub use answering::{Answers, run};

@@ -1,0 +1,86 @@
+"""What is shown of authentication and replication, by the reference decoder."""
+import re
+
+from tell import by, lossy, numbers, x
+
+from second_reading.fields import PLUGINS
+
+
+def plugin(name):
+    return f"{'plugin' if name in PLUGINS else 'other_plugin'}={x(name)}"
+
+
+VERSION = rb"(\d{1,2})\.(\d{1,2})\.(\d{1,3})"
+
+
+def version(name, pattern, text):
+    found = re.match(pattern, text)
+    return numbers((name, "minor", "patch"), map(int, found.groups())) if found else [f"{name}=none"]
+
+
+def mariadb_version(text):
+    told = version("maria_db", rb"5\.5\.5-" + VERSION + b"-MariaDB", text)
+    return told if len(told) > 1 else version("maria_db", VERSION + b"-MariaDB", text)
+
+
+def tell_handshake(record):
+    protocol, text, connection, first, second, capabilities, collation, status, mariadb, name = record
+    return (numbers(("protocol_version",), (protocol,)) + [f"server_version={x(text)}"] + numbers(("connection_id",), (connection,))
+            + [f"scramble_1={x(first)}", f"scramble_2={x(second)}"]
+            + numbers(("capabilities", "default_collation", "status_flags", "mariadb"), (capabilities, collation, status, mariadb))
+            + [f"auth_plugin_name={x(name)}"] + version("version", VERSION, text) + mariadb_version(text)
+            + [f"server_version_str={lossy(text)}", f"auth_plugin_name_str={lossy(name)}",
+               plugin(name.removesuffix(b"\0").removesuffix(b"\0")) if name is not None else "plugin=none", f"nonce={x(nonce(first, second))}"])
+
+
+def nonce(first, second):
+    """Both scrambles, cut to 20 bytes or filled with zeros."""
+    return (first + (second or b""))[:20].ljust(20, b"\0")
+
+
+def tell_response(record):
+    capabilities, _size, collation, mariadb, user, data, database, name, attributes = record
+    words = numbers(("capabilities", "collation", "mariadb"), (capabilities, collation, mariadb))
+    words += [f"user={x(user)}", f"scramble_buf={x(data)}", f"db_name={x(database)}", plugin(name) if name is not None else "plugin=none"]
+    if attributes is None:
+        return words + ["attributes=none"]
+    texts = {}
+    for key, value in attributes:
+        texts[lossy(key)] = lossy(value)
+    return words + [f"attributes={len(texts)}"] + [word for k, v in texts.items() for word in (f"key={k}", f"value={v}")]
+
+
+def tell_switch(record):
+    name, data = record
+    return [plugin(name), f"plugin_data={x(data[:-1] if data.endswith(bytes(1)) else data)}"]
+
+
+def tell_register(record):
+    server, texts, port, rank, master = record
+    keys = ("hostname", "user", "password")
+    return ([f"server_id={server}"] + [f"{k}={x(v)}" for k, v in zip(keys, texts)]
+            + numbers(("port", "replication_rank", "master_id"), (port, rank, master))
+            + [f"{k}_str={lossy(v)}" for k, v in zip(keys, texts)])
+
+
+def tell_sid(sid):
+    uuid, tag, intervals = sid
+    return ([f"uuid={x(uuid)}", f"tag={tag.decode() or 'none'}", f"intervals={len(intervals)}"]
+            + [word for start, end in intervals for word in (f"start={start}", f"end={end}")])
+
+
+def tell_gtid(record):
+    flags, server, name, position, sids = record
+    return ([f"server_id={server}", f"flags={flags}", f"filename={x(name)}", f"filename_str={lossy(name)}", f"pos={position}",
+             f"sids={len(sids)}"] + [word for sid in sids for word in tell_sid(sid)])
+
+
+TELLERS = {
+    "handshake": lambda: by("HandshakePacket", tell_handshake),
+    "response": lambda: by("HandshakeResponse", tell_response),
+    "change_user": lambda caps: by("ComChangeUser", lambda it: [], int(caps)),
+    "auth_switch": lambda: by("AuthSwitchRequest", tell_switch),
+    "register_slave": lambda: by("ComRegisterSlave", tell_register),
+    "gtid": lambda: by("ComBinlogDumpGtid", tell_gtid),
+    "gtid_strict": lambda: by("StrictDumpGtid", tell_gtid),
+}

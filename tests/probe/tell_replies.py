@@ -1,0 +1,97 @@
+"""What is shown of replies, of session changes, of statements and of rows, by the reference decoder."""
+from tell import READERS, by, lossy, numbers, x
+from tell_values import cell, columns_of, word_of
+
+from second_reading import replies, values
+from second_reading.buf import Buf, Eof, Invalid, to_the_end
+
+
+def tell_column(record):
+    names, (charset, length, kind, flags, decimals) = record
+    keys = "schema table org_table name org_name".split()
+    return ([f"{k}={x(v)}" for k, v in zip(keys, names)]
+            + numbers("character_set column_length column_type flags decimals".split(), (charset, length, kind, flags, decimals))
+            + [f"{k}_str={lossy(v)}" for k, v in zip(keys, names)])
+
+
+def shown_progress(stage, most, progress, info):
+    whole = f"{progress // 1000}.{progress % 1000 // 10:02d}"
+    return f"Stage: {stage} of {most} '{info.decode('utf-8', 'replace')}'  {whole}% of stage done"
+
+
+def tell_err(record):
+    if len(record) == 4:
+        stage, most, progress, info = record
+        return (numbers(("stage", "max_stage", "progress"), record) + [f"stage_info={x(info)}", f"stage_info_str={lossy(info)}"]
+                + [f"shown={x(shown_progress(*record).encode())}"])
+    code, state, message = record
+    words = f" ({state.decode('utf-8', 'replace')})" if state is not None else ""
+    shown = f"ERROR {code}{words}: {message.decode('utf-8', 'replace')}"
+    return [f"error={code}", f"sql_state={x(state)}", f"message={x(message)}", f"message_str={lossy(message)}", f"shown={x(shown.encode())}"]
+
+
+def tell_infos(data):
+    try:
+        infos = to_the_end(Buf(data), READERS["SessionStateInfo"])
+    except Eof:
+        return ["changes=UnexpectedEof"]
+    except Invalid:
+        return ["changes=InvalidData"]
+    return [f"changes={len(infos)}"] + [word for kind, data in infos for word in (f"data_type={kind}", f"data={x(data)}")]
+
+
+def tell_ok(record):
+    numbers_, status, warnings, (info, state) = record
+    rows, insert_id = numbers_ or (0, None)
+    return (numbers(("affected_rows", "last_insert_id", "status_flags", "warnings"), (rows, insert_id, status, warnings))
+            + [f"info={x(info)}", f"session_state_info={x(state)}", f"info_str={lossy(info)}"] + tell_infos(state or b""))
+
+
+def tell_eof(record):
+    warnings, status = record
+    return tell_ok((None, status, warnings, (None, None)))
+
+
+TEXTS = {1: "schema", 3: "gtids", 4: "characteristics", 5: "state"}
+
+
+def tell_change(kind, record):
+    if kind == 2:
+        return ["is_tracked=" + ("yes" if record else "no")]
+    if kind == 0:
+        return [f"variables={len(record)}"] + [
+            word for name, value in record for word in
+            (f"name={x(name)}", f"value={x(value)}", f"name_str={lossy(name)}", f"value_str={lossy(value)}", "variable=same")]
+    return [f"{TEXTS[kind]}={x(record)}", f"text={lossy(record)}"]
+
+
+def tell_stmt(record):
+    (statement, columns, params), warnings = record
+    return numbers(("statement_id", "num_columns", "num_params", "warning_count"), (statement, columns, params, warnings))
+
+
+def binary_row(buf, columns, offset):
+    buf.take(1)
+    bits = int.from_bytes(buf.take((len(columns) + 7 + offset) // 8), "little") >> offset
+    return ["N" if bits >> i & 1 else cell(buf, column) for i, column in enumerate(columns)]
+
+
+def text_row(buf, columns):
+    return [word_of(values.text_value(buf)) for _ in columns]
+
+
+TELLERS = {
+    "column": lambda: by("Column", tell_column),
+    "err": lambda caps: by("ErrPacket", tell_err, int(caps)),
+    "ok": lambda caps: by("CommonOkPacket", tell_ok, int(caps)),
+    "ok_end": lambda caps: by("ResultSetTerminator", tell_ok, int(caps)),
+    "ok_eof": lambda caps: by("OldEofPacket", tell_eof, int(caps)),
+    "ok_stream": lambda caps: by("NetworkStreamTerminator", tell_eof, int(caps)),
+    "local_infile": lambda: by("LocalInfilePacket", lambda it: [f"file_name={x(it[1])}", f"file_name_str={lossy(it[1])}"]),
+    "session_info": lambda: by("SessionStateInfo", lambda it: [f"data_type={it[0]}", f"data={x(it[1])}"]),
+    "change": lambda kind: lambda buf: tell_change(int(kind), replies.session_state_change(buf, int(kind))),
+    "stmt": lambda: by("StmtPacket", tell_stmt),
+    "row": lambda columns: lambda buf: binary_row(buf, columns_of(columns), 2),
+    "row_client": lambda columns: lambda buf: binary_row(buf, columns_of(columns), 0),
+    "row_text": lambda columns: lambda buf: text_row(buf, columns_of(columns)),
+}
