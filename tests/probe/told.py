@@ -7,6 +7,8 @@ import tell_connections
 import tell_replies
 import tell_values
 
+# the words of each probe that read bytes
+READS = {"statements": [*tell_replies.TELLERS, *tell_values.TELLERS], "connections": [*tell_connections.TELLERS]}
 TELLERS = {**tell_replies.TELLERS, **tell_values.TELLERS, **tell_connections.TELLERS}
 
 
