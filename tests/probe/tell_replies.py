@@ -37,7 +37,7 @@ def tell_infos(data):
         return ["changes=UnexpectedEof"]
     except Invalid:
         return ["changes=InvalidData"]
-    return [f"changes={len(infos)}"] + [word for kind, data in infos for word in (f"data_type={kind}", f"data={x(data)}")]
+    return [f"changes={len(infos)}"] + [word for it in infos for word in tell_info(it)]
 
 
 def tell_ok(record):
@@ -58,11 +58,6 @@ def tell_text(text):
 
 def tell_state(state):
     return [f"sql_state={x(state)}", f"sql_state_str={lossy(state)}"]
-
-
-def tell_progress(record):
-    # (alone it is told as an error packet that holds it)
-    return tell_err(record)
 
 
 def tell_variable(record):
@@ -144,7 +139,7 @@ TELLERS = {
     "session_info": lambda: by("SessionStateInfo", tell_info),
     "server_error": lambda code, state: by("ServerError", tell_err, int(code), state == "1"),
     "sql_state": lambda: by("SqlState", tell_state),
-    "progress": lambda: by("ProgressReport", tell_progress),
+    "progress": lambda: by("ProgressReport", tell_err),
     "change": lambda kind: tell_other_change if kind == "other" else lambda buf: tell_change(int(kind), replies.session_state_change(buf, int(kind))),
     "schema": lambda: by("Schema", tell_text),
     "gtids": lambda: by("Gtids", tell_text),

@@ -78,7 +78,7 @@ fn tell_changes(packet: &OkPacket<'_>, out: &mut Out) -> Result<(), AllocError> 
         Ok(changes) => {
             out.number("changes", changes.len() as u64)?;
             for change in changes.as_slice() {
-                tell_info(change, out)?;
+                tell_entry(change, out)?;
             }
             Ok(())
         }
@@ -86,9 +86,19 @@ fn tell_changes(packet: &OkPacket<'_>, out: &mut Out) -> Result<(), AllocError> 
     }
 }
 
-fn tell_info(info: &SessionStateInfo<'_>, out: &mut Out) -> Result<(), AllocError> {
-    out.number("data_type", u64::from(u8::from(info.data_type())))?;
-    out.bytes("data", info.data_ref())
+/// Adds an entry of a state string, and the change that its data begins with.
+fn tell_entry(entry: &SessionStateInfo<'_>, out: &mut Out) -> Result<(), AllocError> {
+    let alloc = out.alloc();
+    out.number("data_type", u64::from(u8::from(entry.data_type())))?;
+    out.bytes("data", entry.data_ref())?;
+    let change: Result<SessionStateChange<'_>, Fault> = counted!(alloc; entry.decode(alloc));
+    match change {
+        Ok(change) => {
+            out.field("change", "read")?;
+            tell_change(&change, out)
+        }
+        Err(fault) => refused_part("change", fault, out),
+    }
 }
 
 /// The body of an OK packet, and the packet with that body.
@@ -127,16 +137,7 @@ fn session_info(out: &mut Out, request: &Request<'_>) -> Result<(), AllocError> 
 
 impl<'a> Shows<SessionStateInfo<'a>> for Statements {
     fn fields(record: &SessionStateInfo<'a>, out: &mut Out) -> Result<(), AllocError> {
-        tell_info(record, out)?;
-        let alloc = out.alloc();
-        let change: Result<SessionStateChange<'_>, Fault> = counted!(alloc; record.decode(alloc));
-        match change {
-            Ok(change) => {
-                out.field("change", "read")?;
-                tell_change(&change, out)
-            }
-            Err(fault) => refused_part("change", fault, out),
-        }
+        tell_entry(record, out)
     }
 
     fn is_made(record: &SessionStateInfo<'a>, alloc: Global) -> Result<bool, AllocError> {
