@@ -115,6 +115,8 @@ fn execute_many(out: &mut Out, request: &Request<'_>) -> Result<(), AllocError> 
     match built(alloc, request.number(1), values.as_slice()) {
         Ok((execution, as_long_data)) => {
             tell_execution(&execution, as_long_data, out)?;
+            let place = ComStmtExecuteRequestBuilder::NULL_BITMAP_OFFSET;
+            out.number("bitmap_at", place as u64)?;
             out.number("bitmap_len", execution.bitmap().len() as u64)?;
             out.number("len", execution.defined_len() as u64)?;
             let mut written = Vec::new(alloc);
