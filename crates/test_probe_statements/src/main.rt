@@ -1,9 +1,12 @@
 //! Answers rows of replies, statements, values and builders: a line for each line of its input.
 #![tactic(auto)]
 
+mod bitmaps;
 mod builder;
 mod bulk;
+mod markers;
 mod replies;
+mod rows;
 mod session;
 mod stmt;
 mod values;
@@ -22,6 +25,9 @@ impl Answers for Statements {
             replies::answer(out, request)?
                 || session::answer(out, request)?
                 || stmt::answer(out, request)?
+                || rows::answer(out, request)?
+                || bitmaps::answer(out, request)?
+                || markers::answer(out, request)?
                 || bulk::answer(out, request)?
                 || builder::answer(out, request)?,
         )
