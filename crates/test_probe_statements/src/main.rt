@@ -3,9 +3,15 @@
 
 mod builder;
 mod bulk;
+mod bulk_calls;
+mod conversions;
+mod cuts;
+mod params;
 mod replies;
 mod session;
 mod stmt;
+mod texts;
+mod value_forms;
 mod values;
 
 use std::alloc::AllocError;
@@ -23,7 +29,8 @@ impl Answers for Statements {
                 || session::answer(out, request)?
                 || stmt::answer(out, request)?
                 || bulk::answer(out, request)?
-                || builder::answer(out, request)?,
+                || builder::answer(out, request)?
+                || value_forms::answer(out, request)?,
         )
     }
 }

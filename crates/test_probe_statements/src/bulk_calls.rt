@@ -1,0 +1,173 @@
+//! Bulk executions that are made of values.
+//!
+//! `bulk_new FLAGS ROWS` makes the request of some rows and reads it again by the types of its first row, `bulk_value_new VALUE` and
+//! `bulk_values_new ROW` a value and a row of them, `bulk_same COLUMNS BYTES BYTES` compares two requests, and
+//! `bulk_error NAME ROW` copies an error that holds a row.
+
+use crate::Statements;
+use crate::bulk::tell_request;
+use crate::values::{row, rows, value};
+use mysql_bulk::{
+    BulkExecuteRequestBuilderError, BulkExecuteRequestError, ComStmtBulkExecuteRequest,
+    StmtBulkExecuteParamType, StmtBulkExecuteParamValue, StmtBulkExecuteParamValues,
+    read_bulk_rows,
+};
+use mysql_values::Value;
+use mysql_wire::{
+    ColumnFlags, ColumnType, Fault, FaultOf, Flags, ParseBuf, StmtBulkExecuteFlags,
+    StmtExecuteParamFlags,
+};
+use std::alloc::{AllocError, Global};
+use test_probe::counted;
+use test_probe::out::Out;
+use test_probe::record::{Shows, write};
+use test_probe::request::Request;
+
+/// The answer, where the request is one of these.
+pub fn answer(out: &mut Out, request: &Request<'_>) -> Result<bool, AllocError> {
+    match request.word(0) {
+        "bulk_new" => bulk_new(out, request)?,
+        "bulk_value_new" => bulk_value_new(out, request)?,
+        "bulk_values_new" => bulk_values_new(out, request)?,
+        "bulk_same" => are_same(out, request)?,
+        "bulk_error" => bulk_error(out, request)?,
+        _ => return Ok(false),
+    }
+    Ok(true)
+}
+
+/// The request of rows, or why there is none.
+fn bulk_new(out: &mut Out, request: &Request<'_>) -> Result<(), AllocError> {
+    let alloc = out.alloc();
+    let flags = StmtBulkExecuteFlags::from_bits_retain((request.number(1) & 0xffff) as u16);
+    let handed = rows(alloc, request.word(2))?;
+    match counted!(alloc; ComStmtBulkExecuteRequest::new(alloc, 1, flags, handed)) {
+        Ok(made) => {
+            tell_request(&made, out)?;
+            out.same("made", Statements::is_made(&made, alloc))?;
+            tell_written(out, &made, request.word(2))
+        }
+        Err(BulkExecuteRequestError::Memory) => out.word("Memory"),
+        Err(error) => {
+            out.word(match &error {
+                BulkExecuteRequestError::MixedArity => "MixedArity",
+                BulkExecuteRequestError::NoParams => "NoParams",
+                _ => "another",
+            })?;
+            let text = format!(in alloc; "{error}")?;
+            out.field("text", text.as_str())
+        }
+    }
+}
+
+/// Adds what is written of a request of rows, whether that is read as the same request, and whether as the same rows.
+fn tell_written(
+    out: &mut Out,
+    made: &ComStmtBulkExecuteRequest,
+    text: &str,
+) -> Result<(), AllocError> {
+    let alloc = out.alloc();
+    let Some(written) = write(out, made, b"")? else {
+        return Ok(());
+    };
+    let handed = rows(alloc, text)?;
+    let columns = columns_of(alloc, handed.as_slice())?;
+    let mut buf = ParseBuf::new(alloc, written.as_slice());
+    let again: Result<Vec<Vec<Value>>, FaultOf<'_>> = read_bulk_rows(columns.as_slice(), &mut buf);
+    out.same("rows_again", Ok(again.is_ok_and(|again| again == handed)))?;
+    let mut buf = ParseBuf::new(alloc, written.as_slice());
+    let again: Result<ComStmtBulkExecuteRequest, FaultOf<'_>> = buf.parse(columns);
+    out.same("again", Ok(again.is_ok_and(|again| again == *made)))?;
+    out.number("left", buf.len() as u64)
+}
+
+/// The columns of the types of the first row.
+fn columns_of(
+    alloc: Global,
+    rows: &[Vec<Value>],
+) -> Result<Vec<(ColumnType, ColumnFlags)>, AllocError> {
+    let mut columns = Vec::new(alloc);
+    if let Some(row) = rows.first() {
+        for value in row {
+            let sent = StmtBulkExecuteParamType::from_value(value);
+            let flags = if sent.flags() == StmtExecuteParamFlags::UNSIGNED {
+                ColumnFlags::UNSIGNED_FLAG
+            } else {
+                ColumnFlags::empty()
+            };
+            columns.push((sent.column_type(), flags))?;
+        }
+    }
+    Ok(columns)
+}
+
+fn bulk_value_new(out: &mut Out, request: &Request<'_>) -> Result<(), AllocError> {
+    let alloc = out.alloc();
+    let value = value(alloc, request.word(1))?;
+    let made = counted!(alloc; value StmtBulkExecuteParamValue::new(value));
+    Statements::fields(&made, out)?;
+    out.same("made", Statements::is_made(&made, alloc))?;
+    let _ = write(out, &made, b"")?;
+    Ok(())
+}
+
+fn bulk_values_new(out: &mut Out, request: &Request<'_>) -> Result<(), AllocError> {
+    let alloc = out.alloc();
+    let values = row(alloc, request.word(1))?;
+    match counted!(alloc; StmtBulkExecuteParamValues::new(alloc, values)) {
+        Ok(made) => {
+            Statements::fields(&made, out)?;
+            out.same("made", Statements::is_made(&made, alloc))?;
+            let _ = write(out, &made, b"")?;
+            Ok(())
+        }
+        Err(AllocError) => out.word("Memory"),
+    }
+}
+
+/// The request of one row that bytes begin with, if they do.
+fn read_one(
+    alloc: Global,
+    columns: Vec<(ColumnType, ColumnFlags)>,
+    bytes: &[u8],
+) -> Option<ComStmtBulkExecuteRequest> {
+    let mut buf = ParseBuf::new(alloc, bytes);
+    let answer: Result<ComStmtBulkExecuteRequest, Fault> = buf.parse(columns);
+    answer.ok()
+}
+
+/// Whether both are read, and as the same request.
+fn are_same(out: &mut Out, request: &Request<'_>) -> Result<(), AllocError> {
+    let alloc = out.alloc();
+    let first = hex::decode(alloc, request.word(2)).unwrap_or(Vec::new(alloc));
+    let one = read_one(alloc, request.columns()?, first.as_slice());
+    let other = read_one(alloc, request.columns()?, request.bytes.as_slice());
+    match (one, other) {
+        (Some(one), Some(other)) => {
+            let are_same = counted!(alloc; value one == other);
+            out.word(if are_same { "same" } else { "other" })
+        }
+        _ => out.word("refused"),
+    }
+}
+
+/// Copies an error of a builder that hands a row back.
+fn bulk_error(out: &mut Out, request: &Request<'_>) -> Result<(), AllocError> {
+    let alloc = out.alloc();
+    let row = row(alloc, request.word(2))?;
+    let error = BulkExecuteRequestBuilderError::from(match request.word(1) {
+        "RowTooLarge" => BulkExecuteRequestError::RowTooLarge(row),
+        _ => BulkExecuteRequestError::MemoryRow(row),
+    });
+    out.same("copy", is_error_copied(&error, alloc))?;
+    let text = format!(in alloc; "{error}")?;
+    out.field("text", text.as_str())
+}
+
+fn is_error_copied(
+    error: &BulkExecuteRequestBuilderError,
+    alloc: Global,
+) -> Result<bool, AllocError> {
+    let copy = counted!(alloc; error.clone())?;
+    Ok(copy == *error)
+}
