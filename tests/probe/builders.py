@@ -2,7 +2,8 @@
 """Holds the probe's builders of bulk executions to a plain model of them: lists of rows, and no sizes kept.
 
 The model makes the calls of each row `builder ..` of tests/vectors/statements/builders.txt, whose language stands in
-crates/test_probe_statements/src/builder.rt, and 500 sequences of calls at random, the same each time.
+crates/test_probe_statements/src/builder.rt, and 500 sequences of calls at random and 500 with more kinds of calls among them, the
+same each time.
 
 builders.py [PROGRAM ..]  asks these builds of the probe of statements, or those that rt ci left
 builders.py --unproved    asks it built without proof
@@ -314,9 +315,25 @@ def random_request(rng):
     return " ".join(["builder", ",".join(settings)] + calls)
 
 
+def with_more(rng, request):
+    """The same with borrowed rows, names, and calls on two builders among its calls."""
+    head, settings, *calls = request.split(" ")
+    if rng.random() < 0.3:
+        settings += ",names=b/a"
+        calls = [rng.choice(["put:a=i1,b=u5", "put:b=N,a=b9,c=i1", "put:a=i1", "params:2:a=i1,b=i2/b=b1,a=N/i1", "put:i1,i2"])
+                 if it.startswith(("put", "params")) else it for it in calls]
+    more = []
+    for call in calls:
+        more.append(call.replace("add:", "slice:") if rng.random() < 0.4 else call)
+        if rng.random() < 0.3:
+            more.append(rng.choice(["clone", "equal", "equal", "swap", "rule", f"other:{settings}", "other:64"]))
+    return " ".join([head, settings] + more)
+
+
 def random_requests():
     rng = random.Random(16)
-    return [random_request(rng) for _ in range(SEQUENCES)]
+    first = [random_request(rng) for _ in range(SEQUENCES)]
+    return first + [with_more(rng, it) for it in first]
 
 
 def main(*programs):
