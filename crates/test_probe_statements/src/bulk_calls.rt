@@ -1,8 +1,8 @@
 //! Bulk executions that are made of values.
 //!
-//! `bulk_new FLAGS ROWS` makes the request of some rows and reads it again by the types of its first row, `bulk_value_new VALUE` and
-//! `bulk_values_new ROW` a value and a row of them, `bulk_same COLUMNS BYTES BYTES` compares two requests, and
-//! `bulk_error NAME ROW` copies an error that holds a row.
+//! `bulk_new FLAGS ROWS` makes the request of some rows and reads it again by the types of its first row,
+//! `bulk_value_new VALUE` and `bulk_values_new ROW` make a value and a row of them, `bulk_same COLUMNS BYTES BYTES`
+//! compares two requests, and `bulk_error NAME ROW` copies an error that holds a row.
 
 use crate::Statements;
 use crate::bulk::tell_request;

@@ -1,7 +1,7 @@
 //! Whether a cut of rows into requests is one of the fewest: `fewest LIMIT COLUMNS SIZES ENDS`.
 //!
-//! Behind the most bytes of a request stand `types` and `rows=K`, after commas each. SIZES are the bytes of the rows, and ENDS
-//! the rows behind which a request ends, with commas between them, or `()`. `row_size ROW` says the bytes of a row.
+//! Behind the most bytes of a request stand `types` and `rows=K`, after commas each. SIZES are the bytes of the rows, and
+//! ENDS the rows behind which a request ends, with commas between them, or `()`. `row_size ROW` says the bytes of a row.
 
 use crate::values::row;
 use mysql_bulk::bulk_row_size;

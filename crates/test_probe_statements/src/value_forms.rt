@@ -1,7 +1,8 @@
 //! Values that are read and written.
 //!
 //! `value_text BYTES` and `value COLUMN BYTES` read a value as text and in its binary form, `cell COLUMN BYTES` one of a
-//! binary row; `param_type BYTES` reads a type, `bin VALUE` writes a value, `bin_len VALUE` says its length.
+//! binary row; `param_type BYTES` reads a type, `bin VALUE` writes a value, `bin_len VALUE` says its length, and `bit_offsets`
+//! where bitmaps of NULLs begin.
 
 use crate::values::{push_value, value};
 use crate::{Statements, conversions, cuts, params, texts};
