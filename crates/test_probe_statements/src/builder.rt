@@ -9,7 +9,7 @@
 //! | `put:PARAMS` | `add_params` |
 //! | `build`, `has`, `rule` | `build`, `has_rows`, `rule` |
 //! | `all:ROWS` | `build_all` |
-//! | `iter:N:INPUT`, `params:N:INPUT` | a run of `build_iter` or `build_params_iter` that is broken off after N calls of `next`; `into_carried` |
+//! | `iter:N:INPUT`, `params:N:INPUT` | `build_iter`, `build_params_iter`: N calls of `next`, and `into_carried` |
 //! | `again` | `add_row` of the row that the last broken run carried |
 //! | `clone`, `other:SETTINGS` | puts a copy of the builder aside, or a new one |
 //! | `equal`, `swap` | compares the builder with the one aside, or goes on with that one |

@@ -22,18 +22,27 @@ use test_probe::{counted, read_and_write};
 
 /// The answer, where the request is one of these.
 pub fn answer(out: &mut Out, request: &Request<'_>) -> Result<bool, AllocError> {
-    let bytes = request.bytes.as_slice();
     match request.word(0) {
-        "bulk" =>
-            read_and_write!(Statements; out, bytes; ComStmtBulkExecuteRequest, request.columns()?)?,
+        "bulk" => bulk(out, request)?,
         "bulk_rows" => bulk_rows(out, request)?,
-        "bulk_type" => read_and_write!(Statements; out, bytes; StmtBulkExecuteParamType, ())?,
+        "bulk_type" => bulk_type(out, request)?,
         "bulk_value" => bulk_value(out, request)?,
-        "bulk_values" =>
-            read_and_write!(Statements; out, bytes; StmtBulkExecuteParamValues, request.columns()?)?,
+        "bulk_values" => bulk_values(out, request)?,
         _ => return bulk_calls::answer(out, request),
     }
     Ok(true)
+}
+
+fn bulk(out: &mut Out, request: &Request<'_>) -> Result<(), AllocError> {
+    read_and_write!(Statements; out, request.bytes.as_slice(); ComStmtBulkExecuteRequest, request.columns()?)
+}
+
+fn bulk_type(out: &mut Out, request: &Request<'_>) -> Result<(), AllocError> {
+    read_and_write!(Statements; out, request.bytes.as_slice(); StmtBulkExecuteParamType, ())
+}
+
+fn bulk_values(out: &mut Out, request: &Request<'_>) -> Result<(), AllocError> {
+    read_and_write!(Statements; out, request.bytes.as_slice(); StmtBulkExecuteParamValues, request.columns()?)
 }
 
 fn bulk_value(out: &mut Out, request: &Request<'_>) -> Result<(), AllocError> {

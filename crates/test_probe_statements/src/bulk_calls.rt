@@ -47,20 +47,22 @@ fn bulk_new(out: &mut Out, request: &Request<'_>) -> Result<(), AllocError> {
             out.same("made", Statements::is_made(&made, alloc))?;
             tell_written(out, &made, request.word(2))
         }
-        Err(BulkExecuteRequestError::Memory) => out.word("Memory"),
-        Err(error) => {
-            out.word(match &error {
-                BulkExecuteRequestError::MixedArity => "MixedArity",
-                BulkExecuteRequestError::NoParams => "NoParams",
-                _ => "another",
-            })?;
-            let text = format!(in alloc; "{error}")?;
-            out.field("text", text.as_str())
-        }
+        Err(error) => tell_error(out, &error),
     }
 }
 
-/// Adds what is written of a request of rows, whether that is read as the same request, and whether as the same rows.
+fn tell_error(out: &mut Out, error: &BulkExecuteRequestError) -> Result<(), AllocError> {
+    out.word(match error {
+        BulkExecuteRequestError::MixedArity => "MixedArity",
+        BulkExecuteRequestError::NoParams => "NoParams",
+        BulkExecuteRequestError::Memory => return out.word("Memory"),
+        _ => "another",
+    })?;
+    let text = format!(in out.alloc(); "{error}")?;
+    out.field("text", text.as_str())
+}
+
+/// Adds what is written of a request of rows, and whether that is read as the same rows, and as the same request.
 fn tell_written(
     out: &mut Out,
     made: &ComStmtBulkExecuteRequest,
@@ -71,14 +73,30 @@ fn tell_written(
         return Ok(());
     };
     let handed = rows(alloc, text)?;
-    let columns = columns_of(alloc, handed.as_slice())?;
+    let are_again = are_read_as(alloc, written.as_slice(), handed.as_slice());
+    out.same("rows_again", are_again)?;
     let mut buf = ParseBuf::new(alloc, written.as_slice());
-    let again: Result<Vec<Vec<Value>>, FaultOf<'_>> = read_bulk_rows(columns.as_slice(), &mut buf);
-    out.same("rows_again", Ok(again.is_ok_and(|again| again == handed)))?;
-    let mut buf = ParseBuf::new(alloc, written.as_slice());
-    let again: Result<ComStmtBulkExecuteRequest, FaultOf<'_>> = buf.parse(columns);
-    out.same("again", Ok(again.is_ok_and(|again| again == *made)))?;
+    let is_again = is_read_as(&mut buf, columns_of(alloc, handed.as_slice())?, made);
+    out.same("again", Ok(is_again))?;
     out.number("left", buf.len() as u64)
+}
+
+/// Whether bytes are read as the request of some rows.
+fn are_read_as(alloc: Global, bytes: &[u8], rows: &[Vec<Value>]) -> Result<bool, AllocError> {
+    let columns = columns_of(alloc, rows)?;
+    let mut buf = ParseBuf::new(alloc, bytes);
+    let again: Result<Vec<Vec<Value>>, FaultOf<'_>> = read_bulk_rows(columns.as_slice(), &mut buf);
+    Ok(again.is_ok_and(|again| again.as_slice() == rows))
+}
+
+/// Whether the bytes begin with a request.
+fn is_read_as(
+    buf: &mut ParseBuf<'_>,
+    columns: Vec<(ColumnType, ColumnFlags)>,
+    request: &ComStmtBulkExecuteRequest,
+) -> bool {
+    let again: Result<ComStmtBulkExecuteRequest, FaultOf<'_>> = buf.parse(columns);
+    again.is_ok_and(|again| again == *request)
 }
 
 /// The columns of the types of the first row.

@@ -19,25 +19,27 @@ use test_probe::{counted, read_and_write};
 
 /// The answer, where the request is one of these, or of conversions, parameters, cuts and texts.
 pub fn answer(out: &mut Out, request: &Request<'_>) -> Result<bool, AllocError> {
-    let bytes = request.bytes.as_slice();
     match request.word(0) {
-        "value_text" => drop(read::<Statements, ValueDeserializer<TextValue>>(out, bytes, ())?),
+        "value_text" => text(out, request)?,
         "value" => binary(out, request)?,
         "cell" => cell(out, request)?,
-        "param_type" => read_and_write!(Statements; out, bytes; ParamType, ())?,
+        "param_type" => param_type(out, request)?,
         "bin" => bin(out, request)?,
         "bin_len" => bin_len(out, request)?,
         "bit_offsets" => bit_offsets(out)?,
-        _ => {
-            return Ok(
-                conversions::answer(out, request)?
-                    || params::answer(out, request)?
-                    || cuts::answer(out, request)?
-                    || texts::answer(out, request)?,
-            );
-        }
+        _ => return of_calls(out, request),
     }
     Ok(true)
+}
+
+/// The same of calls that stand in other modules.
+fn of_calls(out: &mut Out, request: &Request<'_>) -> Result<bool, AllocError> {
+    Ok(
+        conversions::answer(out, request)?
+            || params::answer(out, request)?
+            || cuts::answer(out, request)?
+            || texts::answer(out, request)?,
+    )
 }
 
 /// The column of a request: a string where there is none.
@@ -54,6 +56,16 @@ fn tell_word(out: &mut Out, value: &Value) -> Result<(), AllocError> {
     let mut text = String::new(out.alloc());
     push_value(&mut text, out.alloc(), value)?;
     out.word(text.as_str())
+}
+
+fn text(out: &mut Out, request: &Request<'_>) -> Result<(), AllocError> {
+    let bytes = request.bytes.as_slice();
+    let _ = read::<Statements, ValueDeserializer<TextValue>>(out, bytes, ())?;
+    Ok(())
+}
+
+fn param_type(out: &mut Out, request: &Request<'_>) -> Result<(), AllocError> {
+    read_and_write!(Statements; out, request.bytes.as_slice(); ParamType, ())
 }
 
 fn binary(out: &mut Out, request: &Request<'_>) -> Result<(), AllocError> {
