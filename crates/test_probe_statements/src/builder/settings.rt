@@ -62,12 +62,15 @@ pub fn builder_of<'a>(
     names: &'a [Vec<u8>],
 ) -> ComStmtBulkExecuteRequestBuilder<'a> {
     let builder = without_rule(alloc, settings, names);
+    let builder = if has(settings, "types") {
+        counted!(alloc; value builder.with_types_always())
+    } else {
+        builder
+    };
     let most = number_in(settings, "rows=");
-    let types = has(settings, "types");
-    counted!(alloc; value match (types, most) {
-        (false, 0) => builder,
-        (true, 0) => builder.with_types_always(),
-        (false, _) => builder.with_max_rows(most),
-        (true, _) => builder.with_types_always().with_max_rows(most),
-    })
+    if most > 0 {
+        counted!(alloc; value builder.with_max_rows(most))
+    } else {
+        builder
+    }
 }
