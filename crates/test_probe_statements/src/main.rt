@@ -4,11 +4,17 @@
 mod bitmaps;
 mod builder;
 mod bulk;
+mod bulk_calls;
+mod conversions;
+mod cuts;
 mod markers;
+mod params;
 mod replies;
 mod rows;
 mod session;
 mod stmt;
+mod texts;
+mod value_forms;
 mod values;
 
 use std::alloc::AllocError;
@@ -29,7 +35,8 @@ impl Answers for Statements {
                 || bitmaps::answer(out, request)?
                 || markers::answer(out, request)?
                 || bulk::answer(out, request)?
-                || builder::answer(out, request)?,
+                || builder::answer(out, request)?
+                || value_forms::answer(out, request)?,
         )
     }
 }
