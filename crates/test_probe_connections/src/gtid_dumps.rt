@@ -6,7 +6,7 @@
 use crate::sids::{made_sids, numbered_sids, one_sid, tell_sid};
 use crate::{Connections, words};
 use mysql_repl::{ComBinlogDumpGtid, Sid};
-use mysql_wire::{BinlogDumpFlags, Fault, Flags, ParseBuf};
+use mysql_wire::{BinlogDumpFlags, Fault, Flags, MySerialize, ParseBuf};
 use std::alloc::{AllocError, Global};
 use std::borrow::CowSlice;
 use test_probe::out::Out;
@@ -143,8 +143,8 @@ fn make(out: &mut Out, request: &Request<'_>) -> Result<(), AllocError> {
 fn tell_made(out: &mut Out, dump: ComBinlogDumpGtid<'_>) -> Result<(), AllocError> {
     out.word("made")?;
     <Connections as Shows<ComBinlogDumpGtid<'_>>>::fields(&dump, out)?;
-    let emptied = words::is_cloned(out.alloc(), &dump, &dump);
-    out.same("copy", emptied)?;
+    let copy = words::is_cloned(out.alloc(), &dump, &dump);
+    out.same("copy", copy)?;
     tell_written(out, &dump)?;
     let dump = dump.with_sids(CowSlice::Borrowed(&[]));
     out.number("flags_without_sids", u64::from(dump.flags().bits()))
@@ -153,14 +153,21 @@ fn tell_made(out: &mut Out, dump: ComBinlogDumpGtid<'_>) -> Result<(), AllocErro
 /// Tells how a dump is written, and what both readers make of it.
 fn tell_written(out: &mut Out, dump: &ComBinlogDumpGtid<'_>) -> Result<(), AllocError> {
     match write(out, dump, b"")? {
-        Some(written) => {
-            words::read_as::<ComBinlogDumpGtid<'_>>(out, dump, &written, ())?;
-            let mut buf = ParseBuf::new(out.alloc(), &written);
-            let strict = ComBinlogDumpGtid::parse_strict(&mut buf);
-            out.same("strict", Ok(strict.is_ok_and(|again| again == *dump)))
-        }
+        Some(written) => tell_again(out, dump, &written),
         None => Ok(()),
     }
+}
+
+/// Tells whether both readers read a dump of its bytes.
+fn tell_again(
+    out: &mut Out,
+    dump: &ComBinlogDumpGtid<'_>,
+    written: &[u8],
+) -> Result<(), AllocError> {
+    words::read_as::<ComBinlogDumpGtid<'_>>(out, dump, written, ())?;
+    let mut buf = ParseBuf::new(out.alloc(), written);
+    let strict = ComBinlogDumpGtid::parse_strict(&mut buf);
+    out.same("strict", Ok(strict.is_ok_and(|again| again == *dump)))
 }
 
 /// A dump of so many sids of which the i-th has i intervals, and each second one that tag.
@@ -170,5 +177,18 @@ fn gtid_of(out: &mut Out, request: &Request<'_>) -> Result<(), AllocError> {
     let dump = ComBinlogDumpGtid::new(9)
         .with_filename(CowSlice::Borrowed(b"bin.7"))
         .with_sids(CowSlice::Owned(sids));
-    tell_written(out, &dump)
+    tell_long(out, &dump)
+}
+
+/// The same of a dump whose bytes are too many for a line.
+fn tell_long(out: &mut Out, dump: &ComBinlogDumpGtid<'_>) -> Result<(), AllocError> {
+    let alloc = out.alloc();
+    let mut written = Vec::new(alloc);
+    match counted!(alloc; dump.serialize(&mut written)) {
+        Ok(()) => {
+            out.number("len", written.len() as u64)?;
+            tell_again(out, dump, &written)
+        }
+        Err(AllocError) => out.field("len", "Memory"),
+    }
 }

@@ -141,7 +141,11 @@ fn all_of_nothing(out: &mut Out, bytes: &[u8]) -> Result<(), AllocError> {
     let alloc = out.alloc();
     let mut buf = ParseBuf::new(alloc, bytes);
     match all::<Skip<0>>(alloc, &mut buf) {
-        Ok(values) => out.number("count", values.len() as u64),
+        Ok(values) => {
+            out.word("read")?;
+            out.number("count", values.len() as u64)?;
+            out.number("rest", buf.len() as u64)
+        }
         Err(fault) => out.refused(fault, buf.len() == bytes.len()),
     }
 }

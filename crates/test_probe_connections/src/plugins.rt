@@ -71,8 +71,9 @@ impl<'a> Shows<AuthPlugin<'a>> for Connections {
     }
 
     fn is_made(record: &AuthPlugin<'a>, alloc: Global) -> Result<bool, AllocError> {
-        let made = AuthPlugin::from_bytes(record.as_bytes());
-        let owned = counted!(alloc; made.into_owned(alloc))?;
+        let lent = record.borrow();
+        let copy = counted!(alloc; lent.clone())?;
+        let owned = counted!(alloc; copy.into_owned(alloc))?;
         Ok(words::is_cloned(alloc, &owned, record)? && owned.borrow() == *record)
     }
 }
