@@ -70,9 +70,9 @@ fn more_of_words<'a>(
         .with_connect_attributes(alloc, attributes)
 }
 
-/// The change of user of these words, without more data.
-fn change_of_words<'a>(request: &Request<'a>) -> ComChangeUser<'a> {
-    ComChangeUser::default()
+/// The change of user with the names and the data of words.
+fn change_of_words<'a>(change: ComChangeUser<'a>, request: &Request<'a>) -> ComChangeUser<'a> {
+    change
         .with_user(words::borrowed(request.word(2)))
         .with_auth_plugin_data(words::borrowed(request.word(3)))
         .with_database(words::borrowed(request.word(4)))
@@ -80,16 +80,16 @@ fn change_of_words<'a>(request: &Request<'a>) -> ComChangeUser<'a> {
 
 fn make(out: &mut Out, request: &Request<'_>) -> Result<(), AllocError> {
     if request.word(5) == "none" {
-        return tell_made(out, request, change_of_words(request).with_more_data(None));
+        let change = change_of_words(ComChangeUser::new(), request).with_more_data(None);
+        return tell_made(out, request, change);
     }
     let alloc = out.alloc();
     let attributes = words::attributes(alloc, request.word(7))?;
     match counted!(alloc; more_of_words(alloc, request, attributes)) {
-        Ok(more) => tell_made(
-            out,
-            request,
-            change_of_words(request).with_more_data(Some(more)),
-        ),
+        Ok(more) => {
+            let change = change_of_words(ComChangeUser::default(), request);
+            tell_made(out, request, change.with_more_data(Some(more)))
+        }
         Err(AllocError) => words::refused(out),
     }
 }

@@ -86,7 +86,9 @@ impl<'a, R: BytesRepr> Shows<RawBytes<'a, R>> for Connections {
         let made: RawBytes<'_, R> = RawBytes::new(CowSlice::Borrowed(record.as_bytes()));
         let copy = counted!(alloc; made.clone())?;
         let owned = counted!(alloc; copy.into_owned(alloc))?;
-        words::is_cloned(alloc, &owned, record)
+        // (what owns its bytes keeps them)
+        let kept = counted!(alloc; owned.into_owned(alloc))?;
+        words::is_cloned(alloc, &kept, record)
     }
 }
 
@@ -182,7 +184,7 @@ impl<T, const VALUE: u8> Shows<ConstU8<T, VALUE>> for Connections {
     }
 
     fn is_made(record: &ConstU8<T, VALUE>, _alloc: Global) -> Result<bool, AllocError> {
-        Ok(ConstU8::default() == *record)
+        Ok(ConstU8::new() == *record && ConstU8::default() == *record)
     }
 }
 
@@ -192,7 +194,7 @@ impl<T, const VALUE: u32> Shows<ConstU32<T, VALUE>> for Connections {
     }
 
     fn is_made(record: &ConstU32<T, VALUE>, _alloc: Global) -> Result<bool, AllocError> {
-        Ok(ConstU32::default() == *record)
+        Ok(ConstU32::new() == *record && ConstU32::default() == *record)
     }
 }
 
@@ -202,6 +204,6 @@ impl<T, const LEN: usize> Shows<ConstBytes<T, LEN>> for Connections {
     }
 
     fn is_made(record: &ConstBytes<T, LEN>, _alloc: Global) -> Result<bool, AllocError> {
-        Ok(ConstBytes::default() == *record)
+        Ok(ConstBytes::new() == *record && ConstBytes::default() == *record)
     }
 }

@@ -100,6 +100,10 @@ fn gtid_with_sid(out: &mut Out, request: &Request<'_>) -> Result<(), AllocError>
         return out.word("refused");
     };
     let lent = ComBinlogDumpGtid::new(7).with_sids(CowSlice::Borrowed(dump.sids()));
+    out.number("flags_of_sids", u64::from(lent.flags().bits()))?;
+    let emptied = lent.with_sids(CowSlice::Borrowed(&[]));
+    out.number("flags_of_none", u64::from(emptied.flags().bits()))?;
+    let lent = emptied.with_sids(CowSlice::Borrowed(dump.sids()));
     let sid = one_sid(alloc)?;
     tell_counts(
         out,
@@ -145,9 +149,7 @@ fn tell_made(out: &mut Out, dump: ComBinlogDumpGtid<'_>) -> Result<(), AllocErro
     <Connections as Shows<ComBinlogDumpGtid<'_>>>::fields(&dump, out)?;
     let copy = words::is_cloned(out.alloc(), &dump, &dump);
     out.same("copy", copy)?;
-    tell_written(out, &dump)?;
-    let dump = dump.with_sids(CowSlice::Borrowed(&[]));
-    out.number("flags_without_sids", u64::from(dump.flags().bits()))
+    tell_written(out, &dump)
 }
 
 /// Tells how a dump is written, and what both readers make of it.

@@ -46,7 +46,8 @@ impl<'a> Shows<Numbers<'a>> for Connections {
 
     fn is_made(record: &Numbers<'a>, alloc: Global) -> Result<bool, AllocError> {
         let copy = counted!(alloc; record.clone())?;
-        Ok(Seq::borrowed(copy.as_slice()) == *record)
+        let values = copy.into_inner();
+        Ok(Seq::borrowed(values.as_slice()) == *record)
     }
 }
 
@@ -116,6 +117,7 @@ fn all_numbers(out: &mut Out, bytes: &[u8]) -> Result<(), AllocError> {
     match all::<RawInt<LeU64>>(alloc, &mut buf) {
         Ok(numbers) => {
             out.word("read")?;
+            let numbers: Numbers<'_> = Seq::owned(numbers);
             tell_numbers(out, numbers.as_slice())?;
             out.number("rest", buf.len() as u64)
         }
@@ -159,10 +161,10 @@ fn push(out: &mut Out, bytes: &[u8]) -> Result<(), AllocError> {
         return out.word("refused");
     };
     push_to_borrowed(out, &list)?;
+    let before = list.len();
     let pushed = counted!(alloc; list.push(alloc, RawInt::new(7)));
-    out.same("owned", pushed.map(|()| true))?;
-    tell_numbers(out, list.as_slice())?;
-    out.number("empty", Numbers::default().len() as u64)
+    tell_pushed(out, "owned", pushed, &list, before)?;
+    words::yes(out, "default", Numbers::default().is_empty())
 }
 
 /// (the numbers are copied first, and the list that they stand in stays as it was)
@@ -172,7 +174,23 @@ fn push_to_borrowed(out: &mut Out, list: &Numbers<'_>) -> Result<(), AllocError>
     let copy = counted!(alloc; lent.clone());
     out.same("copy", copy.map(|copy| copy == lent))?;
     let pushed = counted!(alloc; lent.push(alloc, RawInt::new(7)));
-    out.same("borrowed", pushed.map(|()| true))?;
-    tell_numbers(out, lent.as_slice())?;
-    words::yes(out, "equal", lent == *list)
+    tell_pushed(out, "borrowed", pushed, &lent, list.len())
+}
+
+/// Adds the numbers of a list that one was pushed to; or that memory ran out, and where it is not as it was, that too.
+fn tell_pushed(
+    out: &mut Out,
+    name: &str,
+    pushed: Result<(), AllocError>,
+    list: &Numbers<'_>,
+    before: usize,
+) -> Result<(), AllocError> {
+    match pushed {
+        Ok(()) => {
+            out.field(name, "pushed")?;
+            tell_numbers(out, list.as_slice())
+        }
+        Err(AllocError) if list.len() == before => out.field(name, "Memory"),
+        Err(AllocError) => out.field(name, "CHANGED"),
+    }
 }

@@ -6,10 +6,10 @@ use crate::words;
 use mysql_auth::LastName;
 use mysql_wire::{
     BareBytes, BytesRepr, ColumnType, Const, Either, EofBytes, Fault, LeU16, LeU24, LeU32, LeU64,
-    LenEnc, NullBytes, ParseBuf, RawBytes, RawInt, Skip, U8Bytes, U32Bytes, VarLen, parts,
-    read_varlen_uint, varlen_uint_size, write_varlen_uint,
+    LenEnc, MySerialize, NullBytes, ParseBuf, RawBytes, RawInt, Skip, U8Bytes, U32Bytes, VarLen,
+    parts, read_varlen_uint, varlen_uint_size, write_varlen_uint,
 };
-use std::alloc::AllocError;
+use std::alloc::{AllocError, Global};
 use std::borrow::CowSlice;
 use test_probe::counted;
 use test_probe::out::Out;
@@ -87,8 +87,20 @@ fn tell_kept<R: BytesRepr>(out: &mut Out, content: &[u8]) -> Result<(), AllocErr
     out.number("kept", content.len() as u64)?;
     words::yes(out, "empty", content.is_empty())?;
     words::yes(out, "default", content == RawBytes::default())?;
+    let is_same = is_written_with_room(out.alloc(), &content);
+    out.same("with_room", is_same)?;
     let _ = write(out, &content, b"")?;
     Ok(())
+}
+
+/// Whether a content is written to its length, where there is room for it: nothing grows then.
+fn is_written_with_room<R: BytesRepr>(
+    alloc: Global,
+    content: &RawBytes<'_, R>,
+) -> Result<bool, AllocError> {
+    let mut room = Vec::with_capacity(alloc, content.defined_len())?;
+    counted!(alloc; content.serialize(&mut room))?;
+    Ok(room.len() == content.defined_len())
 }
 
 /// A content, as a form writes it.
