@@ -94,8 +94,8 @@ def tell_shown_sid(sid):
 
 
 def tell_binlog_dump(record):
-    server, flags, position, name = record[2], record[1], record[0], record[3]
-    return numbers(("pos", "flags", "server_id"), (position, flags, server)) + [f"filename={x(name)}", f"filename_str={lossy(name)}"]
+    *found, name = record
+    return numbers(("pos", "flags", "server_id"), found) + [f"filename={x(name)}", f"filename_str={lossy(name)}"]
 
 
 def tell_ack(record):
@@ -104,7 +104,8 @@ def tell_ack(record):
 
 
 def tell_table(record):
-    return [f"{k}={x(v)}" for k, v in zip(("database", "table"), record)] + [f"{k}_str={lossy(v)}" for k, v in zip(("database", "table"), record)]
+    database, table = record
+    return [f"database={x(database)}", f"table={x(table)}", f"database_str={lossy(database)}", f"table_str={lossy(table)}"]
 
 
 def tell_gtid(record):
