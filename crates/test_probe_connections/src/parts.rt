@@ -71,7 +71,17 @@ fn take(out: &mut Out, name: &str, buf: &mut ParseBuf<'_>) -> Result<(), AllocEr
         }
         "checked_eat_1" => out.maybe_bytes(name, counted!(alloc; value buf.checked_eat(1))),
         "checked_eat_9" => out.maybe_bytes(name, counted!(alloc; value buf.checked_eat(9))),
-        _ if buf.len() < 2 => out.word("few"),
+        _ => take_two(out, name, buf),
+    }
+}
+
+/// Calls that take two bytes, which must be there.
+fn take_two(out: &mut Out, name: &str, buf: &mut ParseBuf<'_>) -> Result<(), AllocError> {
+    let alloc = out.alloc();
+    if buf.len() < 2 {
+        return out.word("few");
+    }
+    match name {
         "eat_2" => out.bytes(name, counted!(alloc; value buf.eat(2))),
         "eat_array_2" => out.bytes(name, &counted!(alloc; value buf.eat_array::<2>())),
         _ => {
