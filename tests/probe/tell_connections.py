@@ -50,6 +50,21 @@ def tell_response(record):
     return words + [f"attributes={len(texts)}"] + [word for k, v in texts.items() for word in (f"key={k}", f"value={v}")]
 
 
+def tell_plugin(name):
+    words = [plugin(name), f"variant={VARIANTS.get(name, 'Other')}"]
+    return words + (["iterations=0", "salt=x" + "00" * 18] if name == b"parsec" else [])
+
+
+VARIANTS = {b"mysql_old_password": "MysqlOldPassword", b"mysql_clear_password": "MysqlClearPassword",
+            b"mysql_native_password": "MysqlNativePassword", b"caching_sha2_password": "CachingSha2Password",
+            b"client_ed25519": "Ed25519", b"parsec": "MariadbParsec"}
+
+
+def tell_tls(record):
+    fields, _mariadb = record
+    return numbers(("capabilities", "max_packet_size", "character_set"), fields)
+
+
 def tell_switch(record):
     name, data = record
     return [plugin(name), f"plugin_data={x(data[:-1] if data.endswith(bytes(1)) else data)}"]
@@ -69,6 +84,30 @@ def tell_sid(sid):
             + [word for start, end in intervals for word in (f"start={start}", f"end={end}")])
 
 
+def tell_shown_sid(sid):
+    """A sid in the form without tags, and its text: the last number of an interval is the one before its end."""
+    uuid, _tag, intervals = sid
+    digits = uuid.hex()
+    text = "-".join((digits[:8], digits[8:12], digits[12:16], digits[16:20], digits[20:]))
+    shown = [str(start) if end and start == end - 1 else f"{start}-{max(end - 1, 0)}" for start, end in intervals]
+    return tell_sid(sid) + [f"shown={':'.join([text, *shown])}"]
+
+
+def tell_binlog_dump(record):
+    *found, name = record
+    return numbers(("pos", "flags", "server_id"), found) + [f"filename={x(name)}", f"filename_str={lossy(name)}"]
+
+
+def tell_ack(record):
+    position, name = record
+    return [f"position={position}", f"filename={x(name)}", f"filename_str={lossy(name)}"]
+
+
+def tell_table(record):
+    database, table = record
+    return [f"database={x(database)}", f"table={x(table)}", f"database_str={lossy(database)}", f"table_str={lossy(table)}"]
+
+
 def tell_gtid(record):
     flags, server, name, position, sids = record
     return ([f"server_id={server}", f"flags={flags}", f"filename={x(name)}", f"filename_str={lossy(name)}", f"pos={position}",
@@ -79,8 +118,20 @@ TELLERS = {
     "handshake": lambda: by("HandshakePacket", tell_handshake),
     "response": lambda: by("HandshakeResponse", tell_response),
     "change_user": lambda caps: by("ComChangeUser", lambda it: [], int(caps)),
+    "more_data": lambda caps: by("ComChangeUserMoreData", lambda it: [], int(caps)),
     "auth_switch": lambda: by("AuthSwitchRequest", tell_switch),
+    "old_switch": lambda: by("OldAuthSwitchRequest", lambda it: [plugin(b"mysql_old_password")]),
+    "auth_more_data": lambda: by("AuthMoreData", lambda it: [f"data={x(it[1])}"]),
+    "key_request": lambda: by("PublicKeyRequest", lambda it: []),
+    "key": lambda: by("PublicKeyResponse", lambda it: [f"rsa_key={lossy(it[1])}"]),
+    "tls": lambda: by("SslRequest", tell_tls),
+    "plugin": lambda: by("AuthPlugin", tell_plugin),
     "register_slave": lambda: by("ComRegisterSlave", tell_register),
+    "table_dump": lambda: by("ComTableDump", tell_table),
+    "binlog_dump": lambda: by("ComBinlogDump", tell_binlog_dump),
+    "semi_sync_ack": lambda: by("SemiSyncAckPacket", tell_ack),
+    "interval": lambda: by("GnoInterval", lambda it: numbers(("start", "end"), it)),
+    "sid_bytes": lambda: by("Sid", tell_shown_sid),
     "gtid": lambda: by("ComBinlogDumpGtid", tell_gtid),
     "gtid_strict": lambda: by("StrictDumpGtid", tell_gtid),
 }

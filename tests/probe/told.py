@@ -4,12 +4,13 @@ import tell  # noqa: F401  (it finds the reference decoder)
 from second_reading.buf import Buf, Eof, Invalid  # noqa: F401
 
 import tell_connections
+import tell_forms
 import tell_replies
 import tell_values
 
 # the words of each probe that read bytes
-READS = {"statements": [*tell_replies.TELLERS, *tell_values.TELLERS], "connections": [*tell_connections.TELLERS]}
-TELLERS = {**tell_replies.TELLERS, **tell_values.TELLERS, **tell_connections.TELLERS}
+READS = {"statements": [*tell_replies.TELLERS, *tell_values.TELLERS], "connections": [*tell_connections.TELLERS, *tell_forms.TELLERS]}
+TELLERS = {**tell_replies.TELLERS, **tell_values.TELLERS, **tell_connections.TELLERS, **tell_forms.TELLERS}
 
 
 def teller(request):

@@ -1,0 +1,68 @@
+"""What is shown of wire forms, by the reference decoder."""
+from tell import READERS, by, lossy, x
+
+from second_reading.buf import Invalid, to_the_end
+
+
+def value(record):
+    return [f"value={record}"]
+
+
+def content(record):
+    return [f"content={x(record)}", f"content_str={lossy(record)}"]
+
+
+def code(record):
+    return [f"code={record}"]
+
+
+def nothing(_record):
+    return []
+
+
+def counted(record):
+    return [f"count={len(record)}"] + [f"value={x(it) if isinstance(it, bytes) else it}" for it in record]
+
+
+NUMBERS = {"u8": "U8", "le_u16": "LeU16", "le_u24": "LeU24", "le_u32": "LeU32", "le_u64": "LeU64", "lenenc": "LenEnc", "varlen": "VarLen"}
+STRINGS = {"lenenc_bytes": "LenEncBytes", "null_bytes": "NullBytes", "eof_bytes": "EofBytes", "u8_bytes": "U8Bytes",
+           "u32_bytes": "U32Bytes", "last_name": "LastName"}
+CONSTANTS = {"const_u8": "ConstU8", "const_u32": "ConstU32", "const_bytes": "ConstBytes", "skip": "Skip"}
+CODES = {"column_type": "ColumnType", "bulk_indicator": "BulkIndicator", "session_state_type": "SessionStateType",
+         "status_flags": "StatusFlags"}
+# (a word of flags keeps every bit, so it is read as its number)
+WORDS = {"capability_flags": "LeU32", "mariadb_capabilities": "LeU32", "cursor_type": "U8", "column_flags": "LeU16",
+         "dump_flags": "LeU16", "bulk_flags": "LeU16", "param_flags": "U8", "params_flags": "U8"}
+LISTS = {"seq": "Seq", "seq_of_bytes": "SeqOfByteStrings"}
+TELLS = [(NUMBERS, value), (STRINGS, content), (CONSTANTS, nothing), (CODES, code), (WORDS, code), (LISTS, counted)]
+OF_COUNT = {"bare_bytes": ("BareBytes", content), "block": ("Block", lambda it: [f"content={x(it)}"]),
+            "seq_of_count": ("SeqOfACountHandedIn", counted)}
+TO_THE_END = {"all": "LeU64", "all_of_bytes": "LenEncBytes"}
+
+
+def all_of_nothing(buf):
+    if buf.data:
+        raise Invalid
+    return ["count=0"]
+
+
+def form(name, *count):
+    """A form's reading, with the count that is handed in."""
+    for names, tell in TELLS:
+        if name in names:
+            return by(names[name], tell)
+    if name in OF_COUNT:
+        reader, tell = OF_COUNT[name]
+        return by(reader, tell, int(count[0]))
+    if name in TO_THE_END:
+        return lambda buf: counted(to_the_end(buf, READERS[TO_THE_END[name]]))
+    if name == "all_of_nothing":
+        return all_of_nothing
+    size = {"array": 8, "array_of_2": 2}[name]
+    return lambda buf: [f"content={x(buf.take(size))}"]
+
+
+TELLERS = {
+    "form": form,
+    "varlen": lambda: by("VarLen", value),
+}
