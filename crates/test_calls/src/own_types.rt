@@ -4,8 +4,7 @@ use mysql_replies::Column;
 use mysql_stmt::{ColumnIndex, Row, new_row_raw};
 use mysql_values::{FromValue, FromValueError, Value};
 use mysql_wire::{
-    ColumnType, ConstBytes, ConstBytesValue, ConstFault, Fault, LeU16, MySerialize, ParseBuf,
-    RawInt, append_items, items_len,
+    ColumnType, ConstBytes, ConstBytesValue, ConstFault, Fault, MySerialize, ParseBuf,
 };
 use std::alloc::{AllocError, Global};
 use std::process::Abort;
@@ -124,29 +123,5 @@ fn a_place_past_the_row_finds_nothing(rt: HostRuntime) -> Result<(), Fail> {
         assert_nothing(&rt, &mut row, odd)?;
         assert!(rt; row == numbers(rt.alloc(), 42, 7)?);
     }
-    Ok(())
-}
-
-/// Two numbers that stand in a block, as a reader of a user's own reads them.
-fn block_of_two(alloc: Global, bytes: &[u8]) -> Result<(u16, u8), Fault> {
-    let mut buf = ParseBuf::new(alloc, bytes);
-    let mut block: ParseBuf<'_> = buf.parse(3)?;
-    let first: RawInt<LeU16> = block.parse_unchecked(())?;
-    let second: RawInt<u8> = block.parse_unchecked(())?;
-    Ok((first.0, second.0))
-}
-
-#[test]
-fn fields_of_a_block(rt: HostRuntime) {
-    assert!(rt; block_of_two(rt.alloc(), b"\x01\x02\x03\x04") == Ok((0x0201, 3)));
-    assert!(rt; block_of_two(rt.alloc(), b"\x01\x02") == Err(Fault::UnexpectedEof));
-}
-
-#[test]
-fn items_are_written_one_after_another(rt: HostRuntime) -> Result<(), Fail> {
-    let items = [RawInt::<LeU16>::new(1), RawInt::<LeU16>::new(0x0203)];
-    let mut out = Vec::with_capacity(rt.alloc(), items_len(&items))?;
-    append_items(&items, &mut out);
-    assert_eq!(rt; out.as_slice(), b"\x01\0\x03\x02".as_slice());
     Ok(())
 }
