@@ -53,7 +53,7 @@ def tell_eof(record):
 
 
 def tell_text(text):
-    return [f"bytes={x(text)}", f"text={lossy(text)}"]
+    return [f"bytes={x(text)}", f"as_str={lossy(text)}"]
 
 
 def tell_state(state):
@@ -73,7 +73,7 @@ def tell_change(kind, record):
         return ["is_tracked=" + ("yes" if record else "no")]
     if kind == 0:
         return [f"variables={len(record)}"] + [word for it in record for word in (*tell_variable(it), "variable=same")]
-    return [f"{TEXTS[kind]}={x(record)}", f"text={lossy(record)}"]
+    return [f"{TEXTS[kind]}={x(record)}", f"as_str={lossy(record)}"]
 
 
 def tell_other_change(buf):

@@ -103,7 +103,7 @@ fn tell_text<N, R: BytesRepr>(
 ) -> Result<(), AllocError> {
     let alloc = out.alloc();
     out.bytes(name, text.as_bytes())?;
-    out.text("text", counted!(alloc; text.as_str(alloc)))
+    out.text("as_str", counted!(alloc; text.as_str(alloc)))
 }
 
 impl<'a, N, R: BytesRepr> Shows<SessionText<'a, N, R>> for Statements {
