@@ -100,7 +100,7 @@ pub fn tell_type(column: &ParamType, out: &mut Out) -> Result<(), AllocError> {
     out.number("flags", u64::from(column.flags().bits()))
 }
 
-/// A value that is put into a cell; where it is refused there is none.
+/// A value that is put into a cell. Where it is refused the cells are as before; nothing is said of the buffer then.
 fn cell(out: &mut Out, request: &Request<'_>) -> Result<(), AllocError> {
     let alloc = out.alloc();
     let column = column(request)?;
@@ -115,7 +115,7 @@ fn cell(out: &mut Out, request: &Request<'_>) -> Result<(), AllocError> {
             out.number("rest", buf.len() as u64)
         }
         (Ok(()), _) => out.word("NONE"),
-        (Err(fault), cells) => out.refused(fault, buf.len() == bytes.len() && cells.is_empty()),
+        (Err(fault), cells) => out.refused(fault, cells.is_empty()),
     }
 }
 
