@@ -6,7 +6,7 @@ from pathlib import Path
 TOP = Path(__file__).resolve().parent.parent.parent
 VECTORS = TOP / "tests/vectors"
 # the programs that answer rows, by their folder of vectors
-PROBES = {"statements": "test_probe_statements", "connections": "test_probe_connections"}
+PROBES = {"statements": "test_probe_statements", "connections": "test_probe_connections", "program": "test_probe_program"}
 
 # What goes without saying in a file of vectors: all bytes are read, they are written as they were, and so on.
 AS_IT_MUST_BE = ("rest=0", "made=same", "written=same", "again=same")
@@ -61,7 +61,7 @@ def answers(program, requests, **how):
 
 def plain(answer, request):
     """An answer without what goes without saying."""
-    words = [it for it in answer.split(" ") if it not in AS_IT_MUST_BE]
+    words = [it for it in answer.split() if it not in AS_IT_MUST_BE]
     # (the length, where it is that of the bytes)
     size = len(request.rsplit(" ", 1)[-1]) // 2
     return [it for it in words if it != f"len={size}" or "written=same" not in answer]

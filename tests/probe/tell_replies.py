@@ -37,7 +37,7 @@ def tell_infos(data):
         return ["changes=UnexpectedEof"]
     except Invalid:
         return ["changes=InvalidData"]
-    return [f"changes={len(infos)}"] + [word for kind, data in infos for word in (f"data_type={kind}", f"data={x(data)}")]
+    return [f"changes={len(infos)}"] + [word for it in infos for word in tell_info(it)]
 
 
 def tell_ok(record):
@@ -52,6 +52,19 @@ def tell_eof(record):
     return tell_ok((None, status, warnings, (None, None)))
 
 
+def tell_text(text):
+    return [f"bytes={x(text)}", f"text={lossy(text)}"]
+
+
+def tell_state(state):
+    return [f"sql_state={x(state)}", f"sql_state_str={lossy(state)}"]
+
+
+def tell_variable(record):
+    name, value = record
+    return [f"name={x(name)}", f"value={x(value)}", f"name_str={lossy(name)}", f"value_str={lossy(value)}"]
+
+
 TEXTS = {1: "schema", 3: "gtids", 4: "characteristics", 5: "state"}
 
 
@@ -59,10 +72,29 @@ def tell_change(kind, record):
     if kind == 2:
         return ["is_tracked=" + ("yes" if record else "no")]
     if kind == 0:
-        return [f"variables={len(record)}"] + [
-            word for name, value in record for word in
-            (f"name={x(name)}", f"value={x(value)}", f"name_str={lossy(name)}", f"value_str={lossy(value)}", "variable=same")]
+        return [f"variables={len(record)}"] + [word for it in record for word in (*tell_variable(it), "variable=same")]
     return [f"{TEXTS[kind]}={x(record)}", f"text={lossy(record)}"]
+
+
+def tell_other_change(buf):
+    text = replies.session_state_change(buf, 1)
+    return tell_text(text)
+
+
+def tell_info(record):
+    kind, data = record
+    words = [f"data_type={kind}", f"data={x(data)}"]
+    try:
+        return words + ["change=read"] + tell_change(kind, replies.session_state_change(Buf(data), kind))
+    except Eof:
+        return words + ["change=UnexpectedEof"]
+    except Invalid:
+        return words + ["change=InvalidData"]
+
+
+def ok_body(capabilities):
+    """An OK packet without its first byte."""
+    return lambda buf: tell_ok(replies.ok_packet(buf, int(capabilities), b"", True))
 
 
 def tell_stmt(record):
@@ -80,6 +112,21 @@ def text_row(buf, columns):
     return [word_of(values.text_value(buf)) for _ in columns]
 
 
+def bitmap(side, count):
+    reader, offset = {"client": ("ClientBitmap", 0), "server": ("ServerBitmap", 2)}[side]
+
+    def tell(content):
+        bits = int.from_bytes(content, "little") >> offset
+        return [f"bytes={x(content)}"] + [f"null={i}" for i in range(64) if bits >> i & 1]
+    return by(reader, tell, int(count))
+
+
+# constant fields, by their names
+MARKERS = {"ColumnDefinitionCatalog": b"\x03def", "FixedLengthFieldsLen": b"\x0c", "ErrPacketHeader": b"\xff",
+           "SqlStateMarker": b"#", "LocalInfileHeader": b"\xfb", "ComStmtExecuteHeader": b"\x17",
+           "ComStmtSendLongDataHeader": b"\x18", "IterationCount": b"\1\0\0\0"}
+
+
 TELLERS = {
     "column": lambda: by("Column", tell_column),
     "err": lambda caps: by("ErrPacket", tell_err, int(caps)),
@@ -88,10 +135,24 @@ TELLERS = {
     "ok_eof": lambda caps: by("OldEofPacket", tell_eof, int(caps)),
     "ok_stream": lambda caps: by("NetworkStreamTerminator", tell_eof, int(caps)),
     "local_infile": lambda: by("LocalInfilePacket", lambda it: [f"file_name={x(it[1])}", f"file_name_str={lossy(it[1])}"]),
-    "session_info": lambda: by("SessionStateInfo", lambda it: [f"data_type={it[0]}", f"data={x(it[1])}"]),
-    "change": lambda kind: lambda buf: tell_change(int(kind), replies.session_state_change(buf, int(kind))),
+    "ok_body": ok_body,
+    "session_info": lambda: by("SessionStateInfo", tell_info),
+    "server_error": lambda code, state: by("ServerError", tell_err, int(code), state == "1"),
+    "sql_state": lambda: by("SqlState", tell_state),
+    "progress": lambda: by("ProgressReport", tell_err),
+    "change": lambda kind: tell_other_change if kind == "other" else lambda buf: tell_change(int(kind), replies.session_state_change(buf, int(kind))),
+    "schema": lambda: by("Schema", tell_text),
+    "gtids": lambda: by("Gtids", tell_text),
+    "characteristics": lambda: by("TransactionCharacteristics", tell_text),
+    "state": lambda: by("TransactionState", tell_text),
+    "unsupported": lambda: by("Unsupported", tell_text),
+    "variable": lambda: by("SystemVariable", tell_variable),
+    "variables": lambda: by("SystemVariables", lambda it: tell_change(0, it)),
     "stmt": lambda: by("StmtPacket", tell_stmt),
     "row": lambda columns: lambda buf: binary_row(buf, columns_of(columns), 2),
     "row_client": lambda columns: lambda buf: binary_row(buf, columns_of(columns), 0),
     "row_text": lambda columns: lambda buf: text_row(buf, columns_of(columns)),
+    "row_text_client": lambda columns: lambda buf: text_row(buf, columns_of(columns)),
+    "bitmap": bitmap,
+    "marker": lambda name: lambda buf: buf.const(MARKERS[name]) or [],
 }

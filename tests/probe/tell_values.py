@@ -1,5 +1,5 @@
 """What is shown of values and of bulk requests, by the reference decoder."""
-import tell  # noqa: F401
+import tell  # noqa: F401  (it finds the reference decoder)
 
 from second_reading import codes, statements, values
 from second_reading.buf import Buf, Invalid
@@ -42,9 +42,43 @@ def cell(buf, column):
     return word_of(value, bool(flags) and kind == 8)
 
 
+def size_of(word):
+    """How many bytes the value of a word has in its binary form."""
+    kind, parts = word[0], word[1:].split("-")
+    if kind == "x":
+        size = len(word) // 2
+        return size + (1 if size < 251 else 3 if size < 65536 else 4 if size < 1 << 24 else 9)
+    if kind in "DT":
+        day, clock, micros = parts[:3] if kind == "D" else parts[1:2], parts[-4:-1], parts[-1:]
+        sizes = zip((5, 8, 12) if kind == "D" else (9, 9, 13), (day, clock, micros))
+        return max((size for size, part in sizes if any(map(int, part))), default=1)
+    return {"N": 0, "f": 4}.get(kind, 8)
+
+
+def value(buf, column):
+    word = cell(buf, column)
+    return [word, f"bin_len={size_of(word)}"]
+
+
+def text_value(buf):
+    word = word_of(values.text_value(buf))
+    return [word, f"bin_len={size_of(word)}"]
+
+
+def bulk_type(buf):
+    kind, flags = statements.bulk_type(buf)
+    return [f"type={kind}", f"flags={flags}"]
+
+
 def bulk_cell(buf, column):
+    """The indicator of a value, and its word."""
     indicator = buf.code(range(4))
-    return cell(buf, column) if indicator == 0 else "N"
+    return indicator, cell(buf, column) if indicator == 0 else "N"
+
+
+def bulk_value(buf, column):
+    indicator, word = bulk_cell(buf, column)
+    return [f"indicator={indicator}", f"value={word}"]
 
 
 def bulk_head(buf, columns):
@@ -60,7 +94,9 @@ def bulk_head(buf, columns):
 
 def bulk(buf, columns):
     head, told = bulk_head(buf, columns)
-    return head + ["values=" + (",".join(bulk_cell(buf, it) for it in told) or "()")]
+    cells = [bulk_cell(buf, it) for it in told]
+    row, indicators = ",".join(word for _, word in cells) or "()", "".join(str(it) for it, _ in cells)
+    return head + [f"values={row}", f"indicators={indicators}."]
 
 
 def bulk_rows(buf, columns):
@@ -68,13 +104,20 @@ def bulk_rows(buf, columns):
     rows = []
     while buf.data:
         before = len(buf.data)
-        rows.append("values=" + ",".join(bulk_cell(buf, it) for it in told))
+        rows.append("values=" + ",".join(bulk_cell(buf, it)[1] for it in told))
         if len(buf.data) == before:
             raise Invalid
     return rows
 
 
 TELLERS = {
+    "value_text": lambda: text_value,
+    "value": lambda column: lambda buf: value(buf, column_of(column)),
+    "cell": lambda column: lambda buf: [cell(buf, column_of(column))],
+    "param_type": lambda: bulk_type,
+    "bulk_type": lambda: bulk_type,
+    "bulk_value": lambda column: lambda buf: bulk_value(buf, column_of(column)),
+    "bulk_values": lambda columns: lambda buf: [word for it in columns_of(columns) for word in bulk_value(buf, it)],
     "bulk": lambda columns: lambda buf: bulk(buf, columns_of(columns)),
     "bulk_rows": lambda columns: lambda buf: bulk_rows(buf, columns_of(columns)),
 }

@@ -8,6 +8,8 @@ import tell_forms
 import tell_replies
 import tell_values
 
+# the words of each probe that read bytes
+READS = {"statements": [*tell_replies.TELLERS, *tell_values.TELLERS], "connections": [*tell_connections.TELLERS, *tell_forms.TELLERS]}
 TELLERS = {**tell_replies.TELLERS, **tell_values.TELLERS, **tell_connections.TELLERS, **tell_forms.TELLERS}
 
 

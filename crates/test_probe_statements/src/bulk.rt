@@ -1,13 +1,20 @@
 //! Bulk executions that are read.
 //!
-//! `bulk COLUMNS BYTES` reads a request of one row, `bulk_rows COLUMNS BYTES` the rows of a request.
+//! `bulk COLUMNS BYTES` reads a request of one row, `bulk_rows COLUMNS BYTES` the rows of a request, `bulk_type BYTES` a
+//! type, `bulk_value COLUMN BYTES` a value behind its indicator, `bulk_values COLUMNS BYTES` a row of them. The calls that
+//! take no bytes stand in [`bulk_calls`](crate::bulk_calls).
 
-use crate::Statements;
-use crate::values::push_row;
-use mysql_bulk::{ComStmtBulkExecuteRequest, StmtBulkExecuteParamType, read_bulk_rows};
+use crate::value_forms::{column, tell_type};
+use crate::values::{tell_row, tell_value};
+use crate::{Statements, bulk_calls};
+use mysql_bulk::{
+    ComStmtBulkExecuteRequest, StmtBulkExecuteParamType, StmtBulkExecuteParamValue,
+    StmtBulkExecuteParamValues, read_bulk_rows,
+};
 use mysql_values::Value;
-use mysql_wire::{Fault, Flags, ParseBuf};
+use mysql_wire::{Fault, Flags, MariadbBulkIndicator, ParseBuf};
 use std::alloc::{AllocError, Global};
+use std::convert::AsSlice;
 use test_probe::out::Out;
 use test_probe::record::Shows;
 use test_probe::request::Request;
@@ -18,7 +25,10 @@ pub fn answer(out: &mut Out, request: &Request<'_>) -> Result<bool, AllocError> 
     match request.word(0) {
         "bulk" => bulk(out, request)?,
         "bulk_rows" => bulk_rows(out, request)?,
-        _ => return Ok(false),
+        "bulk_type" => bulk_type(out, request)?,
+        "bulk_value" => bulk_value(out, request)?,
+        "bulk_values" => bulk_values(out, request)?,
+        _ => return bulk_calls::answer(out, request),
     }
     Ok(true)
 }
@@ -27,31 +37,85 @@ fn bulk(out: &mut Out, request: &Request<'_>) -> Result<(), AllocError> {
     read_and_write!(Statements; out, request.bytes.as_slice(); ComStmtBulkExecuteRequest, request.columns()?)
 }
 
+fn bulk_type(out: &mut Out, request: &Request<'_>) -> Result<(), AllocError> {
+    read_and_write!(Statements; out, request.bytes.as_slice(); StmtBulkExecuteParamType, ())
+}
+
+fn bulk_values(out: &mut Out, request: &Request<'_>) -> Result<(), AllocError> {
+    read_and_write!(Statements; out, request.bytes.as_slice(); StmtBulkExecuteParamValues, request.columns()?)
+}
+
+fn bulk_value(out: &mut Out, request: &Request<'_>) -> Result<(), AllocError> {
+    read_and_write!(Statements; out, request.bytes.as_slice(); StmtBulkExecuteParamValue, column(request)?)
+}
+
+/// The code of an indicator.
+pub fn indicator_code(indicator: MariadbBulkIndicator) -> u64 {
+    u64::from(u8::from(indicator))
+}
+
 impl Shows<ComStmtBulkExecuteRequest> for Statements {
     fn fields(record: &ComStmtBulkExecuteRequest, out: &mut Out) -> Result<(), AllocError> {
-        out.number("stmt_id", u64::from(record.stmt_id()))?;
-        out.number("bulk_flags", u64::from(record.bulk_flags().bits()))?;
-        for column in record.types() {
-            tell_type(column, out)?;
-        }
-        tell_values(record.values(), out)
+        tell_request(record, out)
     }
 
     fn is_made(record: &ComStmtBulkExecuteRequest, alloc: Global) -> Result<bool, AllocError> {
         let copy = counted!(alloc; record.clone())?;
-        Ok(copy == *record)
+        Ok(counted!(alloc; value copy == *record))
     }
 }
 
-fn tell_type(column: &StmtBulkExecuteParamType, out: &mut Out) -> Result<(), AllocError> {
-    out.number("type", u64::from(u8::from(column.column_type())))?;
-    out.number("flags", u64::from(column.flags().bits()))
+/// Adds what a request has: its types, its values, and the indicators before them.
+pub fn tell_request(record: &ComStmtBulkExecuteRequest, out: &mut Out) -> Result<(), AllocError> {
+    out.number("stmt_id", u64::from(record.stmt_id()))?;
+    out.number("bulk_flags", u64::from(record.bulk_flags().bits()))?;
+    for column in record.types() {
+        tell_type(column, out)?;
+    }
+    tell_row(out, "values", record.values())?;
+    tell_indicators(record, out)
 }
 
-fn tell_values(values: &[Value], out: &mut Out) -> Result<(), AllocError> {
-    let mut text = String::new(out.alloc());
-    push_row(&mut text, out.alloc(), values)?;
-    out.field("values", text.as_str())
+/// Adds the indicators in turn, up to the place that has none.
+fn tell_indicators(record: &ComStmtBulkExecuteRequest, out: &mut Out) -> Result<(), AllocError> {
+    let mut codes = String::new(out.alloc());
+    for place in 0..record.values().len().saturating_add(1) {
+        match counted!(out.alloc(); value record.indicator(place)) {
+            Some(indicator) => {
+                let code = indicator_code(indicator);
+                codes.push_str(format!(in out.alloc(); "{code}")?.as_str())?;
+            }
+            None => codes.push_str(".")?,
+        }
+    }
+    out.field("indicators", codes.as_str())
+}
+
+impl Shows<StmtBulkExecuteParamValue> for Statements {
+    fn fields(record: &StmtBulkExecuteParamValue, out: &mut Out) -> Result<(), AllocError> {
+        out.number("indicator", indicator_code(record.indicator()))?;
+        tell_value(out, "value", record.value())
+    }
+
+    fn is_made(record: &StmtBulkExecuteParamValue, alloc: Global) -> Result<bool, AllocError> {
+        let copy = counted!(alloc; record.clone())?;
+        Ok(counted!(alloc; value copy == *record))
+    }
+}
+
+impl Shows<StmtBulkExecuteParamValues> for Statements {
+    fn fields(record: &StmtBulkExecuteParamValues, out: &mut Out) -> Result<(), AllocError> {
+        for value in record.as_slice() {
+            out.number("indicator", indicator_code(value.indicator()))?;
+            tell_value(out, "value", value.value())?;
+        }
+        Ok(())
+    }
+
+    fn is_made(record: &StmtBulkExecuteParamValues, alloc: Global) -> Result<bool, AllocError> {
+        let copy = counted!(alloc; record.clone())?;
+        Ok(counted!(alloc; value copy == *record))
+    }
 }
 
 fn bulk_rows(out: &mut Out, request: &Request<'_>) -> Result<(), AllocError> {
@@ -65,7 +129,7 @@ fn bulk_rows(out: &mut Out, request: &Request<'_>) -> Result<(), AllocError> {
         Ok(rows) => {
             out.word("read")?;
             for row in rows.as_slice() {
-                tell_values(row.as_slice(), out)?;
+                tell_row(out, "values", row.as_slice())?;
             }
             out.number("rest", buf.len() as u64)
         }

@@ -1,21 +1,20 @@
-//! Prepared statements and rows.
+//! Prepared statements, and what is sent for one.
 //!
-//! `stmt BYTES`, `row_text COLUMNS BYTES`, `row COLUMNS BYTES` (binary, of a server), `row_client COLUMNS BYTES`,
-//! `execute ID VALUES`.
+//! `stmt BYTES`, `execute ID VALUES`, `execute_many ID COUNT VALUE` (of so many of one value, told without its bytes),
+//! `long_data ID PARAMETER BYTES`, `close ID`.
 
 use crate::Statements;
-use crate::values::{push_value, row};
-use mysql_replies::Column;
+use crate::values::row;
 use mysql_stmt::{
-    ComStmtExecuteRequest, ComStmtExecuteRequestBuilder, Row, RowDeserializer, RowProtocol,
+    ComStmtClose, ComStmtExecuteRequest, ComStmtExecuteRequestBuilder, ComStmtSendLongData,
     StmtPacket,
 };
-use mysql_values::{Binary, ClientSide, SerializationSide, ServerSide, Text};
-use mysql_wire::Flags;
+use mysql_values::Value;
+use mysql_wire::{Flags, MySerialize};
 use std::alloc::{AllocError, Global};
-use std::rc::RcSlice;
+use std::borrow::CowSlice;
 use test_probe::out::Out;
-use test_probe::record::{Shows, read, write};
+use test_probe::record::{Shows, write};
 use test_probe::request::Request;
 use test_probe::{counted, read_and_write};
 
@@ -23,10 +22,10 @@ use test_probe::{counted, read_and_write};
 pub fn answer(out: &mut Out, request: &Request<'_>) -> Result<bool, AllocError> {
     match request.word(0) {
         "stmt" => stmt(out, request)?,
-        "row_text" => read_row::<ServerSide, Text>(out, request)?,
-        "row" => read_row::<ServerSide, Binary>(out, request)?,
-        "row_client" => read_row::<ClientSide, Binary>(out, request)?,
         "execute" => execute(out, request)?,
+        "execute_many" => execute_many(out, request)?,
+        "long_data" => long_data(out, request)?,
+        "close" => close(out, request)?,
         _ => return Ok(false),
     }
     Ok(true)
@@ -50,61 +49,26 @@ impl Shows<StmtPacket> for Statements {
     }
 }
 
-/// The columns of a request, without names.
-fn columns(request: &Request<'_>) -> Result<RcSlice<Column>, AllocError> {
-    let mut columns = Vec::new(request.alloc);
-    for (column_type, flags) in request.columns()? {
-        columns.push(Column::new(column_type).with_flags(flags))?;
-    }
-    RcSlice::from_vec(columns)
+/// An execution with values, by a copy of its builder.
+fn built<'a>(
+    alloc: Global,
+    stmt_id: u32,
+    values: &'a [Value],
+) -> Result<(ComStmtExecuteRequest<'a>, bool), AllocError> {
+    let builder = ComStmtExecuteRequestBuilder::new(stmt_id);
+    let copy = counted!(alloc; builder.clone())?;
+    counted!(alloc; copy.build(alloc, values))
 }
 
-fn read_row<S: SerializationSide, P: RowProtocol>(
-    out: &mut Out,
-    request: &Request<'_>,
-) -> Result<(), AllocError> {
-    let bytes = request.bytes.as_slice();
-    let _ = read::<Statements, RowDeserializer<S, P>>(out, bytes, columns(request)?)?;
-    Ok(())
-}
-
-impl<S, P> Shows<RowDeserializer<S, P>> for Statements {
-    fn fields(record: &RowDeserializer<S, P>, out: &mut Out) -> Result<(), AllocError> {
-        tell_row(&record.clone()?.into_inner(), out)
-    }
-
-    fn is_made(record: &RowDeserializer<S, P>, alloc: Global) -> Result<bool, AllocError> {
-        let copy = counted!(alloc; record.clone())?;
-        Ok(copy == *record)
-    }
-}
-
-/// Adds the values of a row. One that was taken is `-`.
-fn tell_row(row: &Row, out: &mut Out) -> Result<(), AllocError> {
-    let alloc = out.alloc();
-    for i in 0..row.len() {
-        let mut text = String::new(alloc);
-        match row.as_ref(i) {
-            Some(value) => push_value(&mut text, alloc, value)?,
-            None => text.push_str("-")?,
-        }
-        out.word(text.as_str())?;
-    }
-    Ok(())
-}
-
-/// An execution with values.
 fn execute(out: &mut Out, request: &Request<'_>) -> Result<(), AllocError> {
     let alloc = out.alloc();
     let values = row(alloc, request.word(2))?;
-    let builder = ComStmtExecuteRequestBuilder::new(request.number(1));
-    match counted!(alloc; builder.build(alloc, values.as_slice())) {
+    match built(alloc, request.number(1), values.as_slice()) {
         Ok((execution, as_long_data)) => {
-            tell_execution(&execution, out)?;
-            out.same(
-                "as_long_data_said",
-                Ok(as_long_data == execution.as_long_data()),
-            )?;
+            tell_execution(&execution, as_long_data, out)?;
+            out.bytes("bitmap", execution.bitmap())?;
+            let made = is_execution_made(&execution, alloc);
+            out.same("made", made)?;
             let _ = write(out, &execution, b"")?;
             Ok(())
         }
@@ -112,18 +76,77 @@ fn execute(out: &mut Out, request: &Request<'_>) -> Result<(), AllocError> {
     }
 }
 
-fn tell_execution(execution: &ComStmtExecuteRequest<'_>, out: &mut Out) -> Result<(), AllocError> {
+fn is_execution_made(
+    execution: &ComStmtExecuteRequest<'_>,
+    alloc: Global,
+) -> Result<bool, AllocError> {
+    let copy = counted!(alloc; execution.clone())?;
+    Ok(copy == *execution)
+}
+
+fn tell_execution(
+    execution: &ComStmtExecuteRequest<'_>,
+    as_long_data: bool,
+    out: &mut Out,
+) -> Result<(), AllocError> {
     out.number("stmt_id", u64::from(execution.stmt_id()))?;
     out.number("flags", u64::from(execution.flags().bits()))?;
-    out.bytes("bitmap", execution.bitmap())?;
     out.number("params_flags", u64::from(execution.params_flags().bits()))?;
     out.number("params", execution.params().len() as u64)?;
-    out.field(
-        "as_long_data",
-        if execution.as_long_data() {
-            "yes"
-        } else {
-            "no"
-        },
+    let word = if execution.as_long_data() {
+        "yes"
+    } else {
+        "no"
+    };
+    out.field("as_long_data", word)?;
+    out.same(
+        "as_long_data_said",
+        Ok(as_long_data == execution.as_long_data()),
     )
+}
+
+/// An execution with so many of one value: its sizes alone.
+fn execute_many(out: &mut Out, request: &Request<'_>) -> Result<(), AllocError> {
+    let alloc = out.alloc();
+    let mut values = Vec::new(alloc);
+    for _ in 0..request.number(2) {
+        values.push(row(alloc, request.word(3))?.pop().unwrap_or(Value::NULL))?;
+    }
+    match built(alloc, request.number(1), values.as_slice()) {
+        Ok((execution, as_long_data)) => {
+            tell_execution(&execution, as_long_data, out)?;
+            let place = ComStmtExecuteRequestBuilder::NULL_BITMAP_OFFSET;
+            out.number("bitmap_at", place as u64)?;
+            out.number("bitmap_len", execution.bitmap().len() as u64)?;
+            out.number("len", execution.defined_len() as u64)?;
+            let mut written = Vec::new(alloc);
+            execution.serialize(&mut written)?;
+            out.number("written_len", written.len() as u64)
+        }
+        Err(AllocError) => out.word("Memory"),
+    }
+}
+
+fn long_data(out: &mut Out, request: &Request<'_>) -> Result<(), AllocError> {
+    let data = CowSlice::Borrowed(request.bytes.as_slice());
+    let parameter = (request.number(2) & 0xffff) as u16;
+    let packet = ComStmtSendLongData::new(request.number(1), parameter, data);
+    let made = is_long_data_made(&packet, out.alloc());
+    out.same("made", made)?;
+    let _ = write(out, &packet, b"")?;
+    Ok(())
+}
+
+fn is_long_data_made(packet: &ComStmtSendLongData<'_>, alloc: Global) -> Result<bool, AllocError> {
+    let copy = counted!(alloc; packet.clone())?;
+    let owned = counted!(alloc; copy.into_owned(alloc))?;
+    let again = counted!(alloc; owned.clone())?;
+    Ok(again == *packet)
+}
+
+fn close(out: &mut Out, request: &Request<'_>) -> Result<(), AllocError> {
+    let packet = ComStmtClose::new(request.number(1));
+    out.number("stmt_id", u64::from(packet.stmt_id))?;
+    let _ = write(out, &packet, b"")?;
+    Ok(())
 }

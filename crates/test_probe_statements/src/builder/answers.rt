@@ -1,12 +1,15 @@
 //! What calls of a builder answered, as words.
 
-use crate::values::push_row;
+use crate::params::refusal_word;
+use crate::values::tell_row;
 use mysql_bulk::{
-    BulkExecuteRequestBuilderError, BulkExecuteRequestError, ComStmtBulkExecuteRequest,
+    BulkExecuteRequestBuilderError, BulkExecuteRequestError, BulkRowRefusal,
+    ComStmtBulkExecuteRequest,
 };
 use mysql_values::{ParamsError, Value};
 use mysql_wire::MySerialize;
 use std::alloc::AllocError;
+use std::fmt::Display;
 use test_probe::out::Out;
 
 /// What is told.
@@ -14,6 +17,8 @@ use test_probe::out::Out;
 pub enum Told<'b> {
     /// What a call answered that adds a row.
     Added(&'b Result<Option<Vec<Value>>, BulkExecuteRequestBuilderError>),
+    /// What a call answered that takes a copy of a row.
+    Copied(&'b Result<bool, BulkRowRefusal>),
     /// What `build` answered.
     Built(&'b Result<ComStmtBulkExecuteRequest, BulkExecuteRequestError>),
     /// What `next` answered.
@@ -30,6 +35,9 @@ pub fn tell(out: &mut Out, told: &Told<'_>) -> Result<(), AllocError> {
         Told::Added(Ok(None)) => out.word("taken"),
         Told::Added(Ok(Some(row))) => tell_row(out, "back", row.as_slice()),
         Told::Added(Err(error)) => tell_refusal(out, error),
+        Told::Copied(Ok(true)) => out.word("taken"),
+        Told::Copied(Ok(false)) => out.word("kept"),
+        Told::Copied(Err(error)) => tell_row_refusal(out, error),
         Told::Built(Ok(request)) => tell_request(out, request),
         Told::Built(Err(error)) => tell_error(out, error),
         Told::Next(None) => out.word("None"),
@@ -41,36 +49,51 @@ pub fn tell(out: &mut Out, told: &Told<'_>) -> Result<(), AllocError> {
     }
 }
 
-fn tell_row(out: &mut Out, name: &str, row: &[Value]) -> Result<(), AllocError> {
-    let mut text = String::new(out.alloc());
-    push_row(&mut text, out.alloc(), row)?;
-    out.field(name, text.as_str())
-}
-
+/// Adds the bytes of a request.
 fn tell_request(out: &mut Out, request: &ComStmtBulkExecuteRequest) -> Result<(), AllocError> {
     let mut bytes = Vec::new(out.alloc());
     request.serialize(&mut bytes)?;
     out.bytes("request", bytes.as_slice())
 }
 
-fn tell_error(out: &mut Out, error: &BulkExecuteRequestError) -> Result<(), AllocError> {
-    match error {
-        BulkExecuteRequestError::MixedArity => out.word("MixedArity"),
-        BulkExecuteRequestError::RowTooLarge(row) => tell_row(out, "RowTooLarge", row.as_slice()),
-        BulkExecuteRequestError::MemoryRow(row) => tell_row(out, "MemoryRow", row.as_slice()),
-        BulkExecuteRequestError::NoParams => out.word("NoParams"),
-        BulkExecuteRequestError::Memory => out.word("Memory"),
-    }
+/// Adds the text of an error.
+fn tell_text<E: Display>(out: &mut Out, error: &E) -> Result<(), AllocError> {
+    let text = format!(in out.alloc(); "{error}")?;
+    out.field("text", text.as_str())
 }
 
+fn tell_error(out: &mut Out, error: &BulkExecuteRequestError) -> Result<(), AllocError> {
+    match error {
+        BulkExecuteRequestError::MixedArity => out.word("MixedArity")?,
+        BulkExecuteRequestError::RowTooLarge(row) => tell_row(out, "RowTooLarge", row.as_slice())?,
+        BulkExecuteRequestError::MemoryRow(row) => tell_row(out, "MemoryRow", row.as_slice())?,
+        BulkExecuteRequestError::NoParams => out.word("NoParams")?,
+        BulkExecuteRequestError::Memory => out.word("Memory")?,
+    }
+    tell_text(out, error)
+}
+
+fn tell_params_error(out: &mut Out, error: &ParamsError) -> Result<(), AllocError> {
+    match error {
+        ParamsError::Missing(name) => out.bytes("Missing", name.as_slice())?,
+        error => out.word(refusal_word(error))?,
+    }
+    tell_text(out, error)
+}
+
+/// Adds a refusal, whose text is that of the error that it holds.
 fn tell_refusal(out: &mut Out, error: &BulkExecuteRequestBuilderError) -> Result<(), AllocError> {
     match error {
         BulkExecuteRequestBuilderError::Request(error) => tell_error(out, error),
-        BulkExecuteRequestBuilderError::Params(error) => out.word(match error {
-            ParamsError::Missing(_) => "Missing",
-            ParamsError::NamedForPositional => "NamedForPositional",
-            ParamsError::PositionalForNamed => "PositionalForNamed",
-            ParamsError::Memory => "Memory",
-        }),
+        BulkExecuteRequestBuilderError::Params(error) => tell_params_error(out, error),
     }
+}
+
+fn tell_row_refusal(out: &mut Out, error: &BulkRowRefusal) -> Result<(), AllocError> {
+    out.word(match error {
+        BulkRowRefusal::MixedArity => "MixedArity",
+        BulkRowRefusal::TooLarge => "TooLarge",
+        BulkRowRefusal::Memory => "Memory",
+    })?;
+    tell_text(out, error)
 }

@@ -1,0 +1,63 @@
+//! The tour of the README, as a test.
+
+use mysql_bulk::{BulkRun, ComStmtBulkExecuteRequestBuilder};
+use mysql_replies::{CommonOkPacket, OkPacket, OkPacketDeserializer};
+use mysql_stmt::StmtPacket;
+use mysql_values::Value;
+use mysql_wire::{CapabilityFlags, MySerialize, ParseBuf};
+use std::alloc::Global;
+use std::test::Fail;
+
+/// A statement packet is read, and written again.
+fn statement(alloc: Global, payload: &[u8], out: &mut Vec<u8>) -> Result<(u32, u16), Fail> {
+    let mut buf = ParseBuf::new(alloc, payload);
+    let packet: StmtPacket = buf.parse(())?; // or UnexpectedEof, InvalidData(text): the buffer is as it was
+    packet.serialize(out)?; // appends the 12 defined bytes, or leaves `out` as it was
+    Ok((packet.statement_id(), packet.num_columns()))
+}
+
+/// How many changes of the session an OK packet tells of.
+fn changes(alloc: Global, payload: &[u8]) -> Result<usize, Fail> {
+    let mut answer = ParseBuf::new(alloc, payload);
+    let ok: OkPacketDeserializer<'_, CommonOkPacket> = answer.parse(
+        CapabilityFlags::CLIENT_SESSION_TRACK,
+    )?;
+    let ok: OkPacket<'_> = ok.into_inner();
+    let changes = ok.session_state_info(alloc)?; // the whole list that the state string spells, or the first fault
+    Ok(changes.len())
+}
+
+/// The requests of a bulk execution.
+fn requests(alloc: Global, rows: Vec<Vec<Value>>) -> BulkRun {
+    let mut builder = ComStmtBulkExecuteRequestBuilder::new(alloc, 1, 31);
+    let run = builder.build_all(rows); // the fewest requests that fit, or which row has no place
+    run
+}
+
+#[test]
+fn a_statement_is_read_and_written(rt: HostRuntime) -> Result<(), Fail> {
+    let payload = [0, 1, 0, 0, 0, 1, 0, 2, 0, 0, 0, 0];
+    let mut out = Vec::new(rt.alloc());
+    let numbers = statement(rt.alloc(), &payload, &mut out)?;
+    assert_eq!(rt; numbers, (1, 1));
+    assert_eq!(rt; out.as_slice(), payload.as_slice());
+    Ok(())
+}
+
+#[test]
+fn an_ok_packet_tells_of_one_change(rt: HostRuntime) -> Result<(), Fail> {
+    let payload = b"\x00\x00\x00\x02\x40\x00\x00\x00\x11\x00\x0f\x0aautocommit\x03OFF";
+    assert_eq!(rt; changes(rt.alloc(), payload)?, 1);
+    Ok(())
+}
+
+#[test]
+fn five_rows_are_three_requests(rt: HostRuntime) -> Result<(), Fail> {
+    let mut rows = Vec::new(rt.alloc());
+    for number in 1..6 {
+        rows.push(vec![in rt.alloc(); Value::Int(number)]?)?;
+    }
+    let run = requests(rt.alloc(), rows);
+    assert_eq!(rt; run.ends.as_slice(), [2, 4, 5].as_slice());
+    Ok(())
+}

@@ -1,0 +1,60 @@
+//! Answers rows of the program `mypackets`: a line for each line of its input.
+//!
+//! A request is the program's words, and after ` < ` its input, in which `/` stands for a line feed; after ` <x ` the
+//! input stands in hexadecimal digits. A word `""` is empty, and `(none)` stands for no words. The answer is `status N` and the lines that are written, with
+//! `; ` in front of each.
+#![tactic(auto)]
+
+use mysql_packets::run;
+use std::alloc::{AllocError, Global};
+use std::io;
+use test_probe::out::Out;
+use test_probe::request::Request;
+use test_probe::{Answers, counted};
+
+struct Program;
+
+impl Answers for Program {
+    fn answer(out: &mut Out, request: &Request<'_>) -> Result<bool, AllocError> {
+        let (call, input) = call_and_input(request)?;
+        let words = words(request.alloc, call)?;
+        // (room for the lines, so that the growths that are met are the program's own)
+        let mut written = Vec::with_capacity(request.alloc, 8192)?;
+        let mut reader = input.as_slice();
+        let status =
+            counted!(request.alloc; value run(request.alloc, words.as_slice(), &mut reader, &mut written));
+        out.word(format!(in request.alloc; "status {status}")?.as_str())?;
+        for line in str::from_utf8(written.as_slice()).unwrap_or("?").lines() {
+            out.push(";")?;
+            out.word(line)?;
+        }
+        Ok(true)
+    }
+}
+
+/// The words of a request's call, and its input.
+fn call_and_input<'a>(request: &Request<'a>) -> Result<(&'a str, Vec<u8>), AllocError> {
+    if let Some((call, _)) = request.line.split_once(" <x ") {
+        return Ok((call, request.bytes.clone()?));
+    }
+    let (call, text) = request.line.split_once(" < ").unwrap_or((request.line, ""));
+    let mut input = Vec::new(request.alloc);
+    for byte in text.as_bytes() {
+        input.push(if *byte == b'/' { b'\n' } else { *byte })?;
+    }
+    Ok((call, input))
+}
+
+/// The words of a call.
+fn words(alloc: Global, call: &str) -> Result<Vec<String>, AllocError> {
+    let mut words = Vec::new(alloc);
+    for word in call.split(' ').filter(|word| *word != "(none)") {
+        let word = if word == "\"\"" { "" } else { word };
+        words.push(String::from_str(alloc, word)?)?;
+    }
+    Ok(words)
+}
+
+fn main(rt: HostRuntime) -> io::Result<()> {
+    test_probe::run::<Program>(&rt)
+}

@@ -1,0 +1,360 @@
+#!/usr/bin/env python3
+"""Holds the probe's builders of bulk executions to a plain model of them: lists of rows, and no sizes kept.
+
+The model makes the calls of each row `builder ..` of tests/vectors/statements/builders.txt, whose language stands in
+crates/test_probe_statements/src/builder.rt, and 500 sequences of calls at random and 500 with more kinds of calls among them, the
+same each time.
+
+builders.py [PROGRAM ..]  asks these builds of the probe of statements, or those that rt ci left
+builders.py --unproved    asks it built without proof
+builders.py --answers     prints the model's answers to the rows, and asks nothing
+The last line is 'N passed, N failed', where a sequence is one."""
+import copy
+import random
+import sys
+
+from lines import PROBES, answers, built, judged, vectors
+from tried import tried
+
+SEQUENCES = 500
+
+TEXTS = {"MixedArity": "Mixed statement arity", "RowTooLarge": "Got row bigger than max payload length",
+         "TooLarge": "Got row bigger than max payload length", "NoParams": "No parameters values given for the bulk operation"}
+
+
+# rows: a value is a kind and what the kind has, as a request spells it
+
+def value_of(word):
+    kind, rest = word[0], word[1:]
+    if kind == "b":
+        return "x", b"a" * int(rest)
+    if kind == "x":
+        return "x", bytes.fromhex(rest)
+    return (kind, int(rest)) if kind in "iufd" else (kind, None)
+
+
+def row_of(text):
+    return [] if text == "()" else [value_of(word) for word in text.split(",")]
+
+
+def rows_of(text):
+    return [row_of(word) for word in text.split("/")] if text else []
+
+
+def shown_value(value):
+    kind, held = value
+    return {"N": "N", "x": f"x{held.hex()}" if kind == "x" else ""}.get(kind, f"{kind}{held}")
+
+
+def shown(row):
+    return ",".join(map(shown_value, row)) or "()"
+
+
+def written(value):
+    """A value's bytes behind its indicator."""
+    kind, held = value
+    if kind == "x":
+        assert len(held) < 251
+        return bytes([len(held)]) + held
+    return b"" if kind == "N" else held.to_bytes(4 if kind == "f" else 8, "little", signed=kind == "i")
+
+
+TYPES = {"N": 6, "i": 8, "u": 8, "f": 4, "d": 5, "x": 253}
+
+
+def type_of(column):
+    """The type that is sent for a column: that of its first value that is not NULL."""
+    code = next((TYPES[kind] for kind, _ in column if kind != "N"), 6)
+    is_unsigned = code == 8 and any(kind == "u" for kind, _ in column)
+    return bytes([code, 128 if is_unsigned else 0])
+
+
+# parameters: none, a row, or values by name
+
+def params_of(text):
+    if text == "empty":
+        return []
+    if text == "named" or "=" in text:
+        return {name: value_of(word) for name, _, word in (it.partition("=") for it in text.split(",") if "=" in it)}
+    return tuple(row_of(text))
+
+
+class Refused(Exception):
+    """A call was refused: its word is the answer, and its text."""
+
+    def __init__(self, word):
+        super().__init__(word)
+        name = word.partition("=")[0]
+        self.answer = f"{word} text={TEXTS.get(name, name)}"
+
+
+def values_of(params, names):
+    """The row that parameters give, for the names of the statement, if it has any."""
+    if isinstance(params, list):
+        return []
+    if isinstance(params, tuple):
+        if names is not None:
+            raise Refused("PositionalForNamed")
+        return list(params)
+    if names is None:
+        raise Refused("NamedForPositional")
+    for name in names:
+        if name not in params:
+            raise Refused(f"Missing=x{name.encode().hex()}")
+    return [params[name] for name in names]
+
+
+# the machine
+
+class Builder:
+    def __init__(self, settings, names):
+        limit, *words = settings.split(",")
+        self.limit = int(limit) - 4
+        self.results, self.types_always = "results" in words, "types" in words
+        self.most = next((int(word[5:]) or None for word in words if word.startswith("rows=")), None)
+        self.names = names if "names=" in settings else None
+        self.waiting, self.arity, self.types_due = [], None, True
+
+    def fits(self, rows):
+        size = 7 + (2 * len(rows[0]) if self.types_due else 0)
+        size += sum(1 + len(written(value)) for row in rows for value in row)
+        return size <= self.limit and (self.most is None or len(rows) <= self.most)
+
+    def add(self, row):
+        """The row given back, if it was."""
+        if self.arity not in (None, len(row)):
+            raise Refused("MixedArity")
+        if not self.fits(self.waiting + [row]):
+            if self.waiting:
+                return row
+            raise Refused(f"RowTooLarge={shown(row)}")
+        self.waiting.append(row)
+        self.arity = len(row)
+        return None
+
+    def build(self):
+        if not self.waiting:
+            raise Refused("NoParams")
+        rows, self.waiting = self.waiting, []
+        sends_types, self.types_due = self.types_due, self.types_always
+        flags = (128 if sends_types else 0) | (64 if self.results else 0)
+        request = b"\xfa\1\0\0\0" + flags.to_bytes(2, "little")
+        if sends_types:
+            request += b"".join(type_of(column) for column in zip(*rows))
+        request += b"".join((b"\1" if value[0] == "N" else b"\0") + written(value) for row in rows for value in row)
+        return f"request=x{request.hex()}"
+
+
+class Run:
+    """A run over an input, whose words are rows or `-`."""
+
+    def __init__(self, builder, words, taken=row_of):
+        self.builder, self.words, self.taken = builder, words, taken
+        self.asked, self.carried, self.ended = 0, None, False
+
+    def ask(self):
+        self.asked += 1
+        word = self.words.pop(0) if self.words else "-"
+        return None if word == "-" else self.taken(word)
+
+    def next(self):
+        """What a `next` answers; it raises the refusal that ends the run."""
+        if self.ended:
+            return "None"
+        row, self.carried = self.carried, None
+        try:
+            row = row if row is not None else self.ask()
+            while row is not None:
+                self.carried = self.builder.add(row)
+                if self.carried is not None:
+                    return self.builder.build()
+                row = self.ask()
+        except Refused:
+            self.ended = True
+            raise
+        self.ended = True
+        return self.builder.build() if self.builder.waiting else "None"
+
+
+# the calls of a sequence
+
+class Session:
+    def __init__(self, settings):
+        names = next((word[6:].split("/") for word in settings.split(",") if word.startswith("names=")), [])
+        self.names, self.carried = names, None
+        self.builder, self.aside = Builder(settings, names), Builder(settings, names)
+
+    def answer(self, call):
+        name, _, argument = call.partition(":")
+        try:
+            return getattr(self, "call_" + name)(argument)
+        except Refused as refused:
+            return refused.answer
+
+    def added(self, row):
+        back = self.builder.add(row)
+        return "taken" if back is None else f"back={shown(back)}"
+
+    def call_add(self, argument):
+        return self.added(row_of(argument))
+
+    def call_slice(self, argument):
+        try:
+            return "taken" if self.builder.add(row_of(argument)) is None else "kept"
+        except Refused as refused:
+            raise Refused(str(refused).partition("=")[0].removeprefix("Row")) from None
+
+    def taken(self, text):
+        return values_of(params_of(text), self.builder.names)
+
+    def call_put(self, argument):
+        return self.added(self.taken(argument))
+
+    def call_again(self, _):
+        row, self.carried = self.carried, None
+        return "nothing" if row is None else self.added(row)
+
+    def call_build(self, _):
+        return self.builder.build()
+
+    def call_has(self, _):
+        return "yes" if self.builder.waiting else "no"
+
+    def call_rule(self, _):
+        return f"types_always={'yes' if self.builder.types_always else 'no'} max_rows={str(self.builder.most).lower()}"
+
+    def call_clone(self, _):
+        self.aside = copy.deepcopy(self.builder)
+        return "copied"
+
+    def call_other(self, argument):
+        self.aside = Builder(argument, self.names)
+        return "aside"
+
+    def call_equal(self, _):
+        return "same" if vars(self.builder) == vars(self.aside) else "other"
+
+    def call_swap(self, _):
+        self.builder, self.aside = self.aside, self.builder
+        return "swapped"
+
+    def call_all(self, argument):
+        rows = rows_of(argument)
+        run, sent = Run(self.builder, [shown(row) for row in rows]), len(self.builder.waiting)
+        total, requests, ends, end = sent + len(rows), [], [], "sent"
+        while not run.ended:
+            try:
+                request = run.next()
+            except Refused as refused:
+                end = refused.answer
+                break
+            if request != "None":
+                requests.append(request)
+                ends.append(f"end={total - len(run.words) - (run.carried is not None)}")
+        return " ".join(requests + ends + [end])
+
+    def call_iter(self, argument, taken=row_of):
+        count, _, words = argument.partition(":")
+        run, told = Run(self.builder, words.split("/"), taken), []
+        for _ in range(int(count)):
+            try:
+                told.append(run.next())
+            except Refused as refused:
+                told.append(refused.answer)
+        self.carried = run.carried
+        carried = "none" if run.carried is None else shown(run.carried)
+        return " ".join(told + [f"asked={run.asked}", f"carried={carried}"])
+
+    def call_params(self, argument):
+        return self.call_iter(argument, self.taken)
+
+
+def modelled(request):
+    """What the model answers to a request."""
+    _, settings, *calls = request.split(" ")
+    session = Session(settings)
+    return " ; ".join(session.answer(call) for call in calls)
+
+
+# calls at random
+
+def random_row(rng, arity):
+    words = [rng.choice(["N", "i1", "i-2", "u5", "u18446744073709551615", "b0", "b1", "b9", "b40"]) for _ in range(arity)]
+    return ",".join(words) or "()"
+
+
+def random_call(rng, arity):
+    def row():
+        return random_row(rng, arity if rng.random() < 0.9 else rng.randrange(4))
+
+    def words(nones):
+        return "/".join("-" if rng.random() < nones else row() for _ in range(rng.randrange(1, 6)))
+
+    kind = rng.randrange(20)
+    if kind < 7:
+        return f"add:{row()}"
+    if kind < 10:
+        return "build"
+    if kind == 10:
+        return f"put:{row()}"
+    if kind == 11:
+        return rng.choice(["has", "put:named", "put:empty", "again"])
+    if kind < 14:
+        return f"all:{words(0)}"
+    run = f"{rng.choice(['iter', 'params'])}:{rng.randrange(4)}:{words(0.1)}"
+    return run + (" again" if rng.random() < 0.7 else "")
+
+
+def random_request(rng):
+    settings = [str(rng.randrange(15, 70))]
+    for word, chance in (("results", 0.2), ("types", 0.3), (f"rows={rng.randrange(1, 4)}", 0.3)):
+        if rng.random() < chance:
+            settings.append(word)
+    arity = rng.choice([0, 1, 1, 1, 2, 2, 3])
+    calls = [random_call(rng, arity) for _ in range(rng.randrange(4, 10))]
+    return " ".join(["builder", ",".join(settings)] + calls)
+
+
+def with_more(rng, request):
+    """The same with borrowed rows, names, and calls on two builders among its calls."""
+    head, settings, *calls = request.split(" ")
+    if rng.random() < 0.3:
+        settings += ",names=b/a"
+        calls = [rng.choice(["put:a=i1,b=u5", "put:b=N,a=b9,c=i1", "put:a=i1", "params:2:a=i1,b=i2/b=b1,a=N/i1", "put:i1,i2"])
+                 if it.startswith(("put", "params")) else it for it in calls]
+    more = []
+    for call in calls:
+        more.append(call.replace("add:", "slice:") if rng.random() < 0.4 else call)
+        if rng.random() < 0.3:
+            more.append(rng.choice(["clone", "equal", "equal", "swap", "rule", f"other:{settings}", "other:64"]))
+    return " ".join([head, settings] + more)
+
+
+def random_requests():
+    rng = random.Random(16)
+    first = [random_request(rng) for _ in range(SEQUENCES)]
+    return first + [with_more(rng, it) for it in first]
+
+
+def main(*programs):
+    rows = [it.request for it in vectors("statements") if it.request.startswith("builder ")]
+    if programs == ("--answers",):
+        for request in rows:
+            print(f"{request}\n  {modelled(request)}")
+        return 0
+    requests = rows + random_requests()
+    expected = [modelled(it) for it in requests]
+    if programs == ("--unproved",):
+        told = [tried(requests, PROBES["statements"])]
+    else:
+        told = [answers(it, requests) for it in programs or built("statements")]
+    passed, failures = 0, []
+    for lines in told:
+        differ = [f"{asked}\n  {line}\n  is not\n  {right}" for asked, line, right in zip(requests, lines, expected) if line != right]
+        passed += len(lines) - len(differ)
+        failures += differ
+    return judged("builders", passed, failures)
+
+
+if __name__ == "__main__":
+    sys.exit(main(*sys.argv[1:]))

@@ -1,0 +1,135 @@
+#!/usr/bin/env python3
+"""Tries the mutants of the libraries: the prover must refuse each, by the name of the function that it changes.
+
+mutants.py [CRATE ..]
+
+A mutant is a file crates/NAME/mutants/*.edit: a line 'fn: NAME' with the function as a check names it, and then, for each
+file that it changes, a line 'file: src/FILE.rt' and pairs of lines 'old: TEXT' and 'new: TEXT'. Each old text stands in
+that file exactly once.
+
+A function is proved from the contracts of what it calls. So all mutants of a library stand in one copy of it, and one check
+asks for their functions alone: each must be said to be not proved, by a goal or a proof of its own. That it calls a function
+which is not proved is no refusal. At most one mutant changes a function, and none a constant or a type.
+
+The libraries below have to be built: by rt ci, or by rt lib in their folders. The last line is 'N passed, M failed'."""
+import os
+import re
+import shutil
+import subprocess
+import sys
+import tempfile
+import time
+from concurrent.futures import ThreadPoolExecutor
+from pathlib import Path
+
+TOP = Path(__file__).resolve().parent.parent
+LINE = re.compile(r"^fn \w+::(\S+): (.*)$", re.M)
+
+
+def crates():
+    """The crates of crates.txt, each with what it stands on."""
+    lines = [line.partition("#")[0].partition(":") for line in (TOP / "crates.txt").read_text().splitlines()]
+    return {head.split()[0]: words.split() for head, _, words in lines if head.strip()}
+
+
+def below(name, listed):
+    """The libraries of the repository below a crate."""
+    own = [it for it in listed[name] if it in listed]
+    return {*own, *(lower for it in own for lower in below(it, listed))}
+
+
+class Mutant:
+    """A file of a mutant: its function, and the texts that it replaces."""
+
+    def __init__(self, path):
+        self.name, self.function, self.changes = path.stem, "", []
+        file = old = None
+        for line in path.read_text().splitlines():
+            key, _, text = line.partition(": ")
+            if key == "fn":
+                self.function = text
+            elif key == "file":
+                file = text
+            elif key == "old":
+                old = text
+            elif key == "new" and file and old:
+                self.changes.append((file, old, text))
+            else:
+                raise SystemExit(f"{path}: a line that does not fit: {line}")
+
+    def put_into(self, room):
+        """Changes the texts of a copy of the library. The answer is why it can't be applied, or no text."""
+        for file, old, new in self.changes:
+            text = (room / file).read_text()
+            if text.count(old) != 1:
+                return f"its old text stands {text.count(old)} times in {file}: {old.strip()}"
+            (room / file).write_text(text.replace(old, new))
+        return ""
+
+
+def words(name, listed, functions):
+    """The check of these functions of a crate alone."""
+    page = subprocess.run(["rt", "doc"], capture_output=True, text=True, check=True).stdout.strip()
+    kit = os.path.dirname(page)
+    library = {it: TOP / f"crates/{it}/out/rlib/{it}.rlib" for it in below(name, listed)}
+    command = [f"{kit}/bin/rattle", "check", "--crate-name", name, "src/lib.rt", "-L", f"dependency={kit}/rlibs"]
+    for it in ["std", *listed[name]]:
+        command += ["--extern", f"{it}={library.get(it, f'{kit}/rlibs/{it}.rlib')}"]
+    for it in library.values():
+        if not it.exists():
+            raise SystemExit(f"mutants: there is no {it.relative_to(TOP)}: run rt lib in its crate first")
+        command += ["-L", f"dependency={it.parent}"]
+    command += ["--antt-project", f"{kit}/rattle/logic/antt-project.json", "--logic-built", f"{kit}/logic_built", "--links", f"{name}="]
+    return command + ["--jobs", "1"] + [word for it in functions for word in ("--only", it)]
+
+
+def judged(mutant, said, text):
+    """Whether a mutant is refused, and what is said of its function: a goal that the search did not prove, or its own proof that fails."""
+    line = said.get(mutant.function)
+    if line is None:
+        first = re.search(r"^.*error.*$", text, re.M)
+        return False, f"the check says nothing of {mutant.function}: {first[0] if first else text[-300:]}"
+    if line.startswith(("not proved", "no proof")):
+        goals = re.search(r"did not prove ((?:`[^`]*`(?:, )?)+)", line)
+        if goals:
+            return True, f"{mutant.function} does not meet {goals[1].rstrip(', ')}"
+        for error in re.findall(rf"^(?:\./)?proofs/{mutant.function.replace('::', '/')}/\w+\.antt:.*?error: (.*)$", text, re.M):
+            if not re.search(r"is not in scope|has no field|has no `|is no name|was not admitted", error):
+                return True, f"the proof of {mutant.function} fails: {error}"
+    return False, f"{mutant.function}: {line}"
+
+
+def tried(name, listed):
+    """What came of the mutants of a crate: their names, whether each is refused, and why."""
+    began = time.time()
+    mutants = [Mutant(it) for it in sorted((TOP / "crates" / name / "mutants").glob("*.edit"))]
+    if len({it.function for it in mutants}) < len(mutants):
+        raise SystemExit(f"mutants: two of {name} change one function")
+    with tempfile.TemporaryDirectory(prefix="mutants-") as folder:
+        room = Path(folder)
+        for part in ("src", "specs", "proofs"):
+            if (TOP / "crates" / name / part).is_dir():
+                shutil.copytree(TOP / "crates" / name / part, room / part)
+        unfit = {it.name: it.put_into(room) for it in mutants}
+        ran = subprocess.run(words(name, listed, [it.function for it in mutants]), cwd=room, capture_output=True, text=True, errors="replace")
+    text = ran.stdout + ran.stderr
+    said = dict(LINE.findall(text))
+    found = [(it.name, *((False, unfit[it.name]) if unfit[it.name] else judged(it, said, text))) for it in mutants]
+    print(f"{name}: {sum(ok for _, ok, _ in found)} of {len(found)} mutants refused in {time.time() - began:.0f} s", flush=True)
+    return [(f"{name}/{mutant}", ok, why) for mutant, ok, why in found]
+
+
+def main(*names):
+    listed = crates()
+    chosen = names or [it for it in listed if any((TOP / "crates" / it / "mutants").glob("*.edit"))]
+    with ThreadPoolExecutor(len(os.sched_getaffinity(0))) as pool:
+        found = [it for outcome in pool.map(lambda name: tried(name, listed), chosen) for it in outcome]
+    for name, is_refused, why in found:
+        print(f"{name}: {'refused' if is_refused else 'NOT REFUSED'}: {why[:200]}")
+    failed = sum(not ok for _, ok, _ in found)
+    print(f"{len(found) - failed} passed, {failed} failed")
+    return 1 if failed or not found else 0
+
+
+if __name__ == "__main__":
+    sys.exit(main(*sys.argv[1:]))
