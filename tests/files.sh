@@ -1,5 +1,5 @@
 #!/usr/bin/env bash
-# Holds files to what they must say: HANDLES, and the tables that are written from data.
+# Holds files to what they must say: HANDLES, and the lines that documents quote.
 # The last line is 'N passed, N failed'.
 set -uo pipefail
 cd -- "$(dirname -- "${BASH_SOURCE[0]}")/.." || exit 1
@@ -18,7 +18,6 @@ expect() {
 }
 
 expect 'HANDLES holds another line' cmp -s HANDLES <(printf 'Handles allowed: none.\n')
-expect 'a table of captured packets is stale' tools/captured_tables.py --check
 expect 'a page quotes other lines than the crate has' tools/quoted_lines.py
 
 printf '%d passed, %d failed\n' "$passed" "$failed"

@@ -73,6 +73,7 @@ expect 'a command without its words' 2 "$usage" "$top/mypackets" stmt
 expect 'a word too many' 2 "$usage" "$top/mypackets" stmt 00 00
 expect 'no digits' 2 "$usage" "$top/mypackets" stmt 'not hex'
 expect 'half a byte' 2 "$usage" "$top/mypackets" stmt 000
+expect 'digits in two parts' 2 "$usage" "$top/mypackets" ok common 800000 '00000002400000001100 0f'
 handshake=0a352e352e352d31302e31312e31392d4d6172696144422d302b646562313275312d6c6f67000d000000475f27415460655d00fef72d0200ff81150000000000001d0000002436265a7048575b427a5e49006d7973716c5f6e61746976655f70617373776f726400
 expect 'a handshake' 0 "protocol_version: 10
 server_version: x352e352e352d31302e31312e31392d4d6172696144422d302b646562313275312d6c6f67
@@ -168,7 +169,6 @@ mypackets: nothing of this run was proved\n' "$?"
 }
 
 unproved 'a statement packet without proof' 0 "$statement" stmt 000100000001000200000000
-unproved 'a cut statement packet without proof' 1 $'refused: UnexpectedEof\n' stmt 0001000000010002000000
 unproved 'no word without proof' 2 "$usage"
 printf 'i1\ni2\n' >input
 unproved 'two rows without proof' 0 'request: fa0100000080000800000100000000000000000200000000000000

@@ -15,7 +15,7 @@ PAGE = "docs/ARCHITECTURE.md"
 CRATE = "crates/example_packet"
 BLOCK = re.compile(r"^```\w+ (crates/\S+)\n(.*?)^```$", re.MULTILINE | re.DOTALL)
 TOUR = re.compile(r"^```rust\n(.*?)^```$", re.MULTILINE | re.DOTALL)
-TOUR_TESTS = "crates/packet_tests/src/tour.rt"
+TOUR_TESTS = "crates/test_calls/src/tour.rt"
 
 
 def lines(text):
@@ -33,7 +33,7 @@ def quoted(page):
 
 def sources():
     """The files of the crate that are quoted."""
-    for part in ("src", "specs", "wrong-bodies"):
+    for part in ("src", "specs", "mutants"):
         for name in sorted(os.listdir(f"{TOP}/{CRATE}/{part}")):
             yield f"{CRATE}/{part}/{name}"
 

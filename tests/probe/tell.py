@@ -31,4 +31,5 @@ def by(reader, tell, *told):
         words = Told(tell(record))
         words.record = record
         return words
+    read.reader = reader
     return read

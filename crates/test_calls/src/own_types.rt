@@ -32,7 +32,7 @@ impl ConstBytesValue<4> for Marker {
 }
 
 /// The fault of the marker in these bytes, and how many are left.
-fn marker(alloc: Global, bytes: &[u8]) -> (Option<Fault>, usize) {
+fn read_marker(alloc: Global, bytes: &[u8]) -> (Option<Fault>, usize) {
     let mut buf = ParseBuf::new(alloc, bytes);
     let read: Result<ConstBytes<Marker, 4>, Fault> = buf.parse(());
     (read.err(), buf.len())
@@ -40,10 +40,10 @@ fn marker(alloc: Global, bytes: &[u8]) -> (Option<Fault>, usize) {
 
 #[test]
 fn a_constant_of_ones_own(rt: HostRuntime) -> Result<(), Fail> {
-    assert!(rt; marker(rt.alloc(), b"\x03defabc") == (None, 3));
+    assert!(rt; read_marker(rt.alloc(), b"\x03defabc") == (None, 3));
     let invalid = Some(Fault::InvalidData("Invalid marker"));
-    assert!(rt; marker(rt.alloc(), b"\x03dex") == (invalid, 4));
-    assert!(rt; marker(rt.alloc(), b"\x03de") == (Some(Fault::UnexpectedEof), 3));
+    assert!(rt; read_marker(rt.alloc(), b"\x03dex") == (invalid, 4));
+    assert!(rt; read_marker(rt.alloc(), b"\x03de") == (Some(Fault::UnexpectedEof), 3));
     let mut out = Vec::new(rt.alloc());
     ConstBytes::<Marker, 4>::new().serialize(&mut out)?;
     (*b"ab").serialize(&mut out)?;

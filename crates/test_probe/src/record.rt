@@ -2,6 +2,7 @@
 
 use crate::counted;
 use crate::out::Out;
+use crate::request::Request;
 use mysql_wire::{Fault, FaultOf, MyDeserialize, MySerialize, ParseBuf};
 use std::alloc::{AllocError, Global};
 
@@ -67,40 +68,34 @@ pub fn write<T: MySerialize>(
     }
 }
 
-/// Whether what was written of a record is read again as what the bytes spell.
+/// Whether what was written of a record is read again as the same.
 pub fn again<'a, T: MyDeserialize<'a> + PartialEq + Drop>(
     out: &mut Out,
-    bytes: &'a [u8],
-    ctx: T::Ctx,
+    record: &T,
     written: &'a [u8],
-    written_ctx: T::Ctx,
+    ctx: T::Ctx,
 ) -> Result<(), AllocError> {
     let mut buf = ParseBuf::new(out.alloc(), written);
-    let answer: Result<T, FaultOf<'_>> = buf.parse(written_ctx);
-    let Ok(record) = answer else {
-        return out.field("again", "refused");
-    };
-    if !buf.is_empty() {
-        return out.field("again", "other");
+    let answer: Result<T, FaultOf<'_>> = buf.parse(ctx);
+    match answer {
+        Ok(again) => out.same("again", Ok(buf.is_empty() && again == *record)),
+        Err(_) => out.field("again", "refused"),
     }
-    let mut buf = ParseBuf::new(out.alloc(), bytes);
-    let first: Result<T, FaultOf<'_>> = buf.parse(ctx);
-    out.same("again", Ok(first.is_ok_and(|first| first == record)))
 }
 
-/// Reads a record and shows it as a program does, writes it, and reads it again.
-#[macro_export]
-macro_rules! read_and_write {
-    ($program:ty; $out:expr, $bytes:expr; $record:ty, $ctx:expr) => {{
-        let written = match $crate::record::read::<$program, $record>($out, $bytes, $ctx)? {
-            Some(record) => $crate::record::write($out, &record, $bytes)?,
-            None => None,
-        };
-        match written {
-            Some(written) => {
-                $crate::record::again::<$record>($out, $bytes, $ctx, written.as_slice(), $ctx)
-            }
-            None => Ok(()),
-        }
-    }};
+/// Reads the record of a request's bytes and shows it as a program does, writes it, and reads it again.
+pub fn round_trip<'a, P: Shows<T>, T: MyDeserialize<'a> + MySerialize + PartialEq + Drop>(
+    out: &mut Out,
+    request: &'a Request<'_>,
+    ctx: T::Ctx,
+    again_ctx: T::Ctx,
+) -> Result<(), AllocError> {
+    let bytes = request.bytes.as_slice();
+    let Some(record) = read::<P, T>(out, bytes, ctx)? else {
+        return Ok(());
+    };
+    match write(out, &record, bytes)? {
+        Some(written) => again(out, &record, request.keep(written), again_ctx),
+        None => Ok(()),
+    }
 }

@@ -7,24 +7,30 @@ use crate::{Connections, words};
 use indexmap::IndexMap;
 use mysql_auth::{AuthPlugin, ComChangeUser, ComChangeUserMoreData};
 use std::alloc::{AllocError, Global};
+use test_probe::counted;
 use test_probe::out::Out;
-use test_probe::record::{Shows, write};
+use test_probe::record::{Shows, round_trip, write};
 use test_probe::request::Request;
-use test_probe::{counted, read_and_write};
 
 /// The answer, where the request is one of these.
 pub fn answer(out: &mut Out, request: &Request<'_>) -> Result<bool, AllocError> {
     match request.word(0) {
-        "change_user" => change_user(out, request)?,
-        "more_data" => more_data(out, request)?,
+        "change_user" => round_trip::<Connections, ComChangeUser<'_>>(
+            out,
+            request,
+            request.capabilities(),
+            request.capabilities(),
+        )?,
+        "more_data" => round_trip::<Connections, ComChangeUserMoreData<'_>>(
+            out,
+            request,
+            request.capabilities(),
+            request.capabilities(),
+        )?,
         "make_change_user" => make(out, request)?,
         _ => return Ok(false),
     }
     Ok(true)
-}
-
-fn change_user(out: &mut Out, request: &Request<'_>) -> Result<(), AllocError> {
-    read_and_write!(Connections; out, request.bytes.as_slice(); ComChangeUser<'_>, request.capabilities())
 }
 
 /// It has no getters: what is written of it says what it is.
@@ -38,10 +44,6 @@ impl<'a> Shows<ComChangeUser<'a>> for Connections {
         let owned = counted!(alloc; copy.into_owned(alloc))?;
         words::is_cloned(alloc, &owned, record)
     }
-}
-
-fn more_data(out: &mut Out, request: &Request<'_>) -> Result<(), AllocError> {
-    read_and_write!(Connections; out, request.bytes.as_slice(); ComChangeUserMoreData<'_>, request.capabilities())
 }
 
 /// They have no getters either.

@@ -7,18 +7,18 @@ use mysql_repl::{ComBinlogDump, ComRegisterSlave, ComTableDump, SemiSyncAckPacke
 use mysql_wire::Flags;
 use std::alloc::{AllocError, Global};
 use std::borrow::CowSlice;
+use test_probe::counted;
 use test_probe::out::Out;
-use test_probe::record::Shows;
+use test_probe::record::{Shows, round_trip};
 use test_probe::request::Request;
-use test_probe::{counted, read_and_write};
 
 /// The answer, where the request is one of these.
 pub fn answer(out: &mut Out, request: &Request<'_>) -> Result<bool, AllocError> {
     match request.word(0) {
-        "register_slave" => register_slave(out, request)?,
-        "table_dump" => table_dump(out, request)?,
-        "binlog_dump" => binlog_dump(out, request)?,
-        "semi_sync_ack" => semi_sync_ack(out, request)?,
+        "register_slave" => round_trip::<Connections, ComRegisterSlave<'_>>(out, request, (), ())?,
+        "table_dump" => round_trip::<Connections, ComTableDump<'_>>(out, request, (), ())?,
+        "binlog_dump" => round_trip::<Connections, ComBinlogDump<'_>>(out, request, (), ())?,
+        "semi_sync_ack" => round_trip::<Connections, SemiSyncAckPacket<'_>>(out, request, (), ())?,
         _ => return Ok(false),
     }
     Ok(true)
@@ -27,10 +27,6 @@ pub fn answer(out: &mut Out, request: &Request<'_>) -> Result<bool, AllocError> 
 /// The bytes, on memory of their own.
 fn owned(alloc: Global, bytes: &[u8]) -> Result<CowSlice<'static, u8>, AllocError> {
     Ok(CowSlice::Owned(Vec::from_slice(alloc, bytes)?))
-}
-
-fn register_slave(out: &mut Out, request: &Request<'_>) -> Result<(), AllocError> {
-    read_and_write!(Connections; out, request.bytes.as_slice(); ComRegisterSlave<'_>, ())
 }
 
 impl<'a> Shows<ComRegisterSlave<'a>> for Connections {
@@ -67,10 +63,6 @@ fn tell_register_texts(packet: &ComRegisterSlave<'_>, out: &mut Out) -> Result<(
     out.text("password_str", counted!(alloc; packet.password(alloc)))
 }
 
-fn table_dump(out: &mut Out, request: &Request<'_>) -> Result<(), AllocError> {
-    read_and_write!(Connections; out, request.bytes.as_slice(); ComTableDump<'_>, ())
-}
-
 impl<'a> Shows<ComTableDump<'a>> for Connections {
     fn fields(record: &ComTableDump<'a>, out: &mut Out) -> Result<(), AllocError> {
         let alloc = out.alloc();
@@ -85,10 +77,6 @@ impl<'a> Shows<ComTableDump<'a>> for Connections {
         let table = owned(alloc, record.table_raw())?;
         words::is_cloned(alloc, &ComTableDump::new(database, table), record)
     }
-}
-
-fn binlog_dump(out: &mut Out, request: &Request<'_>) -> Result<(), AllocError> {
-    read_and_write!(Connections; out, request.bytes.as_slice(); ComBinlogDump<'_>, ())
 }
 
 impl<'a> Shows<ComBinlogDump<'a>> for Connections {
@@ -109,10 +97,6 @@ impl<'a> Shows<ComBinlogDump<'a>> for Connections {
             .with_filename(filename);
         words::is_cloned(alloc, &made, record)
     }
-}
-
-fn semi_sync_ack(out: &mut Out, request: &Request<'_>) -> Result<(), AllocError> {
-    read_and_write!(Connections; out, request.bytes.as_slice(); SemiSyncAckPacket<'_>, ())
 }
 
 impl<'a> Shows<SemiSyncAckPacket<'a>> for Connections {

@@ -11,8 +11,7 @@ use mysql_wire::{
 use std::alloc::{AllocError, Global};
 use std::fmt::Display;
 use test_probe::out::Out;
-use test_probe::read_and_write;
-use test_probe::record::Shows;
+use test_probe::record::{Shows, round_trip};
 use test_probe::request::Request;
 
 /// The answer, where the request is one of these.
@@ -34,14 +33,14 @@ pub fn answer(out: &mut Out, request: &Request<'_>) -> Result<bool, AllocError> 
 }
 
 /// Coded bytes.
-pub fn code(out: &mut Out, name: &str, bytes: &[u8]) -> Result<bool, AllocError> {
+pub fn code(out: &mut Out, name: &str, request: &Request<'_>) -> Result<bool, AllocError> {
     match name {
-        "column_type" => read_and_write!(Connections; out, bytes; Const<ColumnType, u8>, ())?,
+        "column_type" => round_trip::<Connections, Const<ColumnType, u8>>(out, request, (), ())?,
         "bulk_indicator" => {
-            read_and_write!(Connections; out, bytes; Const<MariadbBulkIndicator, u8>, ())?
+            round_trip::<Connections, Const<MariadbBulkIndicator, u8>>(out, request, (), ())?
         }
         "session_state_type" => {
-            read_and_write!(Connections; out, bytes; Const<SessionStateType, u8>, ())?
+            round_trip::<Connections, Const<SessionStateType, u8>>(out, request, (), ())?
         }
         _ => return Ok(false),
     }
@@ -49,36 +48,50 @@ pub fn code(out: &mut Out, name: &str, bytes: &[u8]) -> Result<bool, AllocError>
 }
 
 /// Flag words of packets, and those of one byte.
-pub fn word(out: &mut Out, name: &str, bytes: &[u8]) -> Result<bool, AllocError> {
+pub fn word(out: &mut Out, name: &str, request: &Request<'_>) -> Result<bool, AllocError> {
     match name {
-        "status_flags" => read_and_write!(Connections; out, bytes; Const<StatusFlags, LeU16>, ())?,
+        "status_flags" => round_trip::<Connections, Const<StatusFlags, LeU16>>(
+            out,
+            request,
+            (),
+            (),
+        )?,
         "capability_flags" => {
-            read_and_write!(Connections; out, bytes; Const<CapabilityFlags, LeU32>, ())?
+            round_trip::<Connections, Const<CapabilityFlags, LeU32>>(out, request, (), ())?
         }
         "mariadb_capabilities" => {
-            read_and_write!(Connections; out, bytes; Const<MariadbCapabilities, LeU32>, ())?
+            round_trip::<Connections, Const<MariadbCapabilities, LeU32>>(out, request, (), ())?
         }
-        "cursor_type" => read_and_write!(Connections; out, bytes; Const<CursorType, u8>, ())?,
-        _ => return word_of_statements(out, name, bytes),
+        "cursor_type" => round_trip::<Connections, Const<CursorType, u8>>(out, request, (), ())?,
+        _ => return word_of_statements(out, name, request),
     }
     Ok(true)
 }
 
 /// Flag words of columns, of executions and of dumps.
-fn word_of_statements(out: &mut Out, name: &str, bytes: &[u8]) -> Result<bool, AllocError> {
+fn word_of_statements(
+    out: &mut Out,
+    name: &str,
+    request: &Request<'_>,
+) -> Result<bool, AllocError> {
     match name {
-        "column_flags" => read_and_write!(Connections; out, bytes; Const<ColumnFlags, LeU16>, ())?,
+        "column_flags" => round_trip::<Connections, Const<ColumnFlags, LeU16>>(
+            out,
+            request,
+            (),
+            (),
+        )?,
         "dump_flags" => {
-            read_and_write!(Connections; out, bytes; Const<BinlogDumpFlags, LeU16>, ())?
+            round_trip::<Connections, Const<BinlogDumpFlags, LeU16>>(out, request, (), ())?
         }
         "bulk_flags" => {
-            read_and_write!(Connections; out, bytes; Const<StmtBulkExecuteFlags, LeU16>, ())?
+            round_trip::<Connections, Const<StmtBulkExecuteFlags, LeU16>>(out, request, (), ())?
         }
         "param_flags" => {
-            read_and_write!(Connections; out, bytes; Const<StmtExecuteParamFlags, u8>, ())?
+            round_trip::<Connections, Const<StmtExecuteParamFlags, u8>>(out, request, (), ())?
         }
         "params_flags" => {
-            read_and_write!(Connections; out, bytes; Const<StmtExecuteParamsFlags, u8>, ())?
+            round_trip::<Connections, Const<StmtExecuteParamsFlags, u8>>(out, request, (), ())?
         }
         _ => return Ok(false),
     }

@@ -9,10 +9,10 @@ use mysql_wire::{
 };
 use std::alloc::{AllocError, Global};
 use std::borrow::CowSlice;
+use test_probe::counted;
 use test_probe::out::Out;
-use test_probe::record::Shows;
+use test_probe::record::{Shows, round_trip};
 use test_probe::request::Request;
-use test_probe::{counted, read_and_write};
 
 /// The answer, where the request is a form.
 pub fn answer(out: &mut Out, request: &Request<'_>) -> Result<bool, AllocError> {
@@ -23,27 +23,27 @@ pub fn answer(out: &mut Out, request: &Request<'_>) -> Result<bool, AllocError> 
     let bytes = request.bytes.as_slice();
     let count = request.word(2).parse::<usize>().unwrap_or(0);
     Ok(
-        number(out, name, bytes)?
-            || string(out, name, bytes)?
-            || string_of_count(out, name, bytes, count)?
-            || constant(out, name, bytes)?
-            || flags::code(out, name, bytes)?
-            || flags::word(out, name, bytes)?
-            || lists::list(out, name, bytes, count)?
+        number(out, name, request)?
+            || string(out, name, request)?
+            || string_of_count(out, name, request, count)?
+            || constant(out, name, request)?
+            || flags::code(out, name, request)?
+            || flags::word(out, name, request)?
+            || lists::list(out, name, request, count)?
             || lists::to_the_end(out, name, bytes)?,
     )
 }
 
 /// Numbers.
-fn number(out: &mut Out, name: &str, bytes: &[u8]) -> Result<bool, AllocError> {
+fn number(out: &mut Out, name: &str, request: &Request<'_>) -> Result<bool, AllocError> {
     match name {
-        "u8" => read_and_write!(Connections; out, bytes; RawInt<u8>, ())?,
-        "le_u16" => read_and_write!(Connections; out, bytes; RawInt<LeU16>, ())?,
-        "le_u24" => read_and_write!(Connections; out, bytes; RawInt<LeU24>, ())?,
-        "le_u32" => read_and_write!(Connections; out, bytes; RawInt<LeU32>, ())?,
-        "le_u64" => read_and_write!(Connections; out, bytes; RawInt<LeU64>, ())?,
-        "lenenc" => read_and_write!(Connections; out, bytes; RawInt<LenEnc>, ())?,
-        "varlen" => read_and_write!(Connections; out, bytes; RawInt<VarLen>, ())?,
+        "u8" => round_trip::<Connections, RawInt<u8>>(out, request, (), ())?,
+        "le_u16" => round_trip::<Connections, RawInt<LeU16>>(out, request, (), ())?,
+        "le_u24" => round_trip::<Connections, RawInt<LeU24>>(out, request, (), ())?,
+        "le_u32" => round_trip::<Connections, RawInt<LeU32>>(out, request, (), ())?,
+        "le_u64" => round_trip::<Connections, RawInt<LeU64>>(out, request, (), ())?,
+        "lenenc" => round_trip::<Connections, RawInt<LenEnc>>(out, request, (), ())?,
+        "varlen" => round_trip::<Connections, RawInt<VarLen>>(out, request, (), ())?,
         _ => return Ok(false),
     }
     Ok(true)
@@ -62,14 +62,14 @@ impl<R: IntRepr> Shows<RawInt<R>> for Connections {
 }
 
 /// Byte strings.
-fn string(out: &mut Out, name: &str, bytes: &[u8]) -> Result<bool, AllocError> {
+fn string(out: &mut Out, name: &str, request: &Request<'_>) -> Result<bool, AllocError> {
     match name {
-        "lenenc_bytes" => read_and_write!(Connections; out, bytes; RawBytes<'_, LenEnc>, ())?,
-        "null_bytes" => read_and_write!(Connections; out, bytes; RawBytes<'_, NullBytes>, ())?,
-        "eof_bytes" => read_and_write!(Connections; out, bytes; RawBytes<'_, EofBytes>, ())?,
-        "u8_bytes" => read_and_write!(Connections; out, bytes; RawBytes<'_, U8Bytes>, ())?,
-        "u32_bytes" => read_and_write!(Connections; out, bytes; RawBytes<'_, U32Bytes>, ())?,
-        "last_name" => read_and_write!(Connections; out, bytes; RawBytes<'_, LastName>, ())?,
+        "lenenc_bytes" => round_trip::<Connections, RawBytes<'_, LenEnc>>(out, request, (), ())?,
+        "null_bytes" => round_trip::<Connections, RawBytes<'_, NullBytes>>(out, request, (), ())?,
+        "eof_bytes" => round_trip::<Connections, RawBytes<'_, EofBytes>>(out, request, (), ())?,
+        "u8_bytes" => round_trip::<Connections, RawBytes<'_, U8Bytes>>(out, request, (), ())?,
+        "u32_bytes" => round_trip::<Connections, RawBytes<'_, U32Bytes>>(out, request, (), ())?,
+        "last_name" => round_trip::<Connections, RawBytes<'_, LastName>>(out, request, (), ())?,
         _ => return Ok(false),
     }
     Ok(true)
@@ -96,17 +96,17 @@ impl<'a, R: BytesRepr> Shows<RawBytes<'a, R>> for Connections {
 fn string_of_count(
     out: &mut Out,
     name: &str,
-    bytes: &[u8],
+    request: &Request<'_>,
     count: usize,
 ) -> Result<bool, AllocError> {
     match name {
         "bare_bytes" => {
-            read_and_write!(Connections; out, bytes; RawBytes<'_, BareBytes<247>>, count)?
+            round_trip::<Connections, RawBytes<'_, BareBytes<247>>>(out, request, count, count)?
         }
-        "array" => read_and_write!(Connections; out, bytes; [u8; 8], ())?,
-        "array_of_2" => read_and_write!(Connections; out, bytes; [u8; 2], ())?,
-        "skip" => read_and_write!(Connections; out, bytes; Skip<6>, ())?,
-        "block" => block(out, bytes, count)?,
+        "array" => round_trip::<Connections, [u8; 8]>(out, request, (), ())?,
+        "array_of_2" => round_trip::<Connections, [u8; 2]>(out, request, (), ())?,
+        "skip" => round_trip::<Connections, Skip<6>>(out, request, (), ())?,
+        "block" => block(out, request.bytes.as_slice(), count)?,
         _ => return Ok(false),
     }
     Ok(true)
@@ -168,11 +168,11 @@ impl ConstBytesValue<4> for Marker {
 }
 
 /// Constants.
-fn constant(out: &mut Out, name: &str, bytes: &[u8]) -> Result<bool, AllocError> {
+fn constant(out: &mut Out, name: &str, request: &Request<'_>) -> Result<bool, AllocError> {
     match name {
-        "const_u8" => read_and_write!(Connections; out, bytes; ConstU8<Marker, 0>, ())?,
-        "const_u32" => read_and_write!(Connections; out, bytes; ConstU32<Marker, 1>, ())?,
-        "const_bytes" => read_and_write!(Connections; out, bytes; ConstBytes<Marker, 4>, ())?,
+        "const_u8" => round_trip::<Connections, ConstU8<Marker, 0>>(out, request, (), ())?,
+        "const_u32" => round_trip::<Connections, ConstU32<Marker, 1>>(out, request, (), ())?,
+        "const_bytes" => round_trip::<Connections, ConstBytes<Marker, 4>>(out, request, (), ())?,
         _ => return Ok(false),
     }
     Ok(true)

@@ -9,15 +9,15 @@ use mysql_repl::{ComBinlogDumpGtid, Sid};
 use mysql_wire::{BinlogDumpFlags, Fault, Flags, MySerialize, ParseBuf};
 use std::alloc::{AllocError, Global};
 use std::borrow::CowSlice;
+use test_probe::counted;
 use test_probe::out::Out;
-use test_probe::record::{Shows, write};
+use test_probe::record::{Shows, round_trip, write};
 use test_probe::request::Request;
-use test_probe::{counted, read_and_write};
 
 /// The answer, where the request is one of these.
 pub fn answer(out: &mut Out, request: &Request<'_>) -> Result<bool, AllocError> {
     match request.word(0) {
-        "gtid" => gtid(out, request)?,
+        "gtid" => round_trip::<Connections, ComBinlogDumpGtid<'_>>(out, request, (), ())?,
         "gtid_strict" => gtid_strict(out, request)?,
         "gtid_with_sid" => gtid_with_sid(out, request)?,
         "make_gtid" => make(out, request)?,
@@ -25,10 +25,6 @@ pub fn answer(out: &mut Out, request: &Request<'_>) -> Result<bool, AllocError> 
         _ => return Ok(false),
     }
     Ok(true)
-}
-
-fn gtid(out: &mut Out, request: &Request<'_>) -> Result<(), AllocError> {
-    read_and_write!(Connections; out, request.bytes.as_slice(); ComBinlogDumpGtid<'_>, ())
 }
 
 /// The same by the strict reader.

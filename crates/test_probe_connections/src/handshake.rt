@@ -8,24 +8,20 @@ use mysql_auth::HandshakePacket;
 use mysql_wire::{CapabilityFlags, Flags, StatusFlags};
 use std::alloc::{AllocError, Global};
 use std::borrow::CowSlice;
+use test_probe::counted;
 use test_probe::out::Out;
-use test_probe::record::{Shows, write};
+use test_probe::record::{Shows, round_trip, write};
 use test_probe::request::Request;
-use test_probe::{counted, read_and_write};
 
 /// The answer, where the request is one of these.
 pub fn answer(out: &mut Out, request: &Request<'_>) -> Result<bool, AllocError> {
     match request.word(0) {
-        "handshake" => handshake(out, request)?,
+        "handshake" => round_trip::<Connections, HandshakePacket<'_>>(out, request, (), ())?,
         "version" => version(out, request)?,
         "make_handshake" => make(out, request)?,
         _ => return Ok(false),
     }
     Ok(true)
-}
-
-fn handshake(out: &mut Out, request: &Request<'_>) -> Result<(), AllocError> {
-    read_and_write!(Connections; out, request.bytes.as_slice(); HandshakePacket<'_>, ())
 }
 
 impl<'a> Shows<HandshakePacket<'a>> for Connections {

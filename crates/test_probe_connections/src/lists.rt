@@ -8,10 +8,10 @@ use mysql_wire::{
     read_all,
 };
 use std::alloc::{AllocError, Global};
+use test_probe::counted;
 use test_probe::out::Out;
-use test_probe::record::Shows;
+use test_probe::record::{Shows, round_trip};
 use test_probe::request::Request;
-use test_probe::{counted, read_and_write};
 
 type Numbers<'a> = Seq<'a, RawInt<LeU64>, LeU64>;
 
@@ -29,11 +29,16 @@ pub fn answer(out: &mut Out, request: &Request<'_>) -> Result<bool, AllocError> 
 }
 
 /// Lists behind their counts, and of a count that is handed in.
-pub fn list(out: &mut Out, name: &str, bytes: &[u8], count: usize) -> Result<bool, AllocError> {
+pub fn list(
+    out: &mut Out,
+    name: &str,
+    request: &Request<'_>,
+    count: usize,
+) -> Result<bool, AllocError> {
     match name {
-        "seq" => read_and_write!(Connections; out, bytes; Numbers<'_>, ())?,
-        "seq_of_bytes" => read_and_write!(Connections; out, bytes; Strings<'_>, ())?,
-        "seq_of_count" => read_and_write!(Connections; out, bytes; Bytes<'_>, count)?,
+        "seq" => round_trip::<Connections, Numbers<'_>>(out, request, (), ())?,
+        "seq_of_bytes" => round_trip::<Connections, Strings<'_>>(out, request, (), ())?,
+        "seq_of_count" => round_trip::<Connections, Bytes<'_>>(out, request, count, count)?,
         _ => return Ok(false),
     }
     Ok(true)

@@ -7,15 +7,15 @@ use mysql_auth::{AuthPlugin, AuthPluginData, parse_parsec_salt};
 use mysql_wire::RawBytes;
 use std::alloc::{AllocError, Global};
 use std::borrow::CowSlice;
+use test_probe::counted;
 use test_probe::out::Out;
-use test_probe::record::{Shows, write};
+use test_probe::record::{Shows, round_trip, write};
 use test_probe::request::Request;
-use test_probe::{counted, read_and_write};
 
 /// The answer, where the request is one of these.
 pub fn answer(out: &mut Out, request: &Request<'_>) -> Result<bool, AllocError> {
     match request.word(0) {
-        "plugin" => plugin(out, request)?,
+        "plugin" => round_trip::<Connections, AuthPlugin<'_>>(out, request, (), ())?,
         "add_data" => add_data(out, request)?,
         "parsec" => parsec(out, request)?,
         "plugin_data" => plugin_data(out, request)?,
@@ -30,10 +30,6 @@ pub fn tell_plugin(plugin: &AuthPlugin<'_>, out: &mut Out) -> Result<(), AllocEr
         AuthPlugin::Other(name) => out.bytes("other_plugin", name.as_bytes()),
         _ => out.bytes("plugin", plugin.as_bytes()),
     }
-}
-
-fn plugin(out: &mut Out, request: &Request<'_>) -> Result<(), AllocError> {
-    read_and_write!(Connections; out, request.bytes.as_slice(); AuthPlugin<'_>, ())
 }
 
 /// The plugin's own name in the library.

@@ -9,23 +9,19 @@ use mysql_auth::{AuthPlugin, HandshakeResponse};
 use mysql_wire::{CapabilityFlags, Flags, MariadbCapabilities};
 use std::alloc::{AllocError, Global};
 use std::borrow::CowSlice;
+use test_probe::counted;
 use test_probe::out::Out;
-use test_probe::record::{Shows, write};
+use test_probe::record::{Shows, round_trip, write};
 use test_probe::request::Request;
-use test_probe::{counted, read_and_write};
 
 /// The answer, where the request is one of these.
 pub fn answer(out: &mut Out, request: &Request<'_>) -> Result<bool, AllocError> {
     match request.word(0) {
-        "response" => response(out, request)?,
+        "response" => round_trip::<Connections, HandshakeResponse<'_>>(out, request, (), ())?,
         "make_response" => make(out, request)?,
         _ => return Ok(false),
     }
     Ok(true)
-}
-
-fn response(out: &mut Out, request: &Request<'_>) -> Result<(), AllocError> {
-    read_and_write!(Connections; out, request.bytes.as_slice(); HandshakeResponse<'_>, ())
 }
 
 impl<'a> Shows<HandshakeResponse<'a>> for Connections {

@@ -5,18 +5,18 @@
 use crate::{Connections, words};
 use mysql_repl::{GnoInterval, InvalidGno, InvalidSid, Sid, Tag};
 use std::alloc::{AllocError, Global};
+use test_probe::counted;
 use test_probe::out::Out;
-use test_probe::record::{Shows, write};
+use test_probe::record::{Shows, round_trip, write};
 use test_probe::request::Request;
-use test_probe::{counted, read_and_write};
 
 /// The answer, where the request is one of these.
 pub fn answer(out: &mut Out, request: &Request<'_>) -> Result<bool, AllocError> {
     match request.word(0) {
         "sid" => sid_text(out, request)?,
-        "sid_bytes" => sid_bytes(out, request)?,
+        "sid_bytes" => round_trip::<Connections, Sid<'_>>(out, request, (), ())?,
         "make_sid" => make_sid(out, request)?,
-        "interval" => interval(out, request)?,
+        "interval" => round_trip::<Connections, GnoInterval>(out, request, (), ())?,
         "check_interval" => check_interval(out, request)?,
         _ => return Ok(false),
     }
@@ -58,10 +58,6 @@ fn sid_text(out: &mut Out, request: &Request<'_>) -> Result<(), AllocError> {
             out.field("text", text.as_str())
         }
     }
-}
-
-fn sid_bytes(out: &mut Out, request: &Request<'_>) -> Result<(), AllocError> {
-    read_and_write!(Connections; out, request.bytes.as_slice(); Sid<'_>, ())
 }
 
 /// The intervals, on memory of their own.
@@ -185,10 +181,6 @@ pub fn numbered_sids<'a>(
         }
     }
     Ok(sids)
-}
-
-fn interval(out: &mut Out, request: &Request<'_>) -> Result<(), AllocError> {
-    read_and_write!(Connections; out, request.bytes.as_slice(); GnoInterval, ())
 }
 
 impl Shows<GnoInterval> for Connections {

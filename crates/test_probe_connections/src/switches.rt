@@ -12,29 +12,25 @@ use mysql_auth::{
 use mysql_wire::{Flags, MariadbCapabilities};
 use std::alloc::{AllocError, Global};
 use std::borrow::CowSlice;
+use test_probe::counted;
 use test_probe::out::Out;
-use test_probe::record::{Shows, write};
+use test_probe::record::{Shows, round_trip, write};
 use test_probe::request::Request;
-use test_probe::{counted, read_and_write};
 
 /// The answer, where the request is one of these.
 pub fn answer(out: &mut Out, request: &Request<'_>) -> Result<bool, AllocError> {
     match request.word(0) {
-        "auth_switch" => auth_switch(out, request)?,
-        "old_switch" => old_switch(out, request)?,
-        "auth_more_data" => auth_more_data(out, request)?,
-        "key_request" => key_request(out, request)?,
-        "key" => key(out, request)?,
-        "tls" => tls(out, request)?,
+        "auth_switch" => round_trip::<Connections, AuthSwitchRequest<'_>>(out, request, (), ())?,
+        "old_switch" => round_trip::<Connections, OldAuthSwitchRequest>(out, request, (), ())?,
+        "auth_more_data" => round_trip::<Connections, AuthMoreData<'_>>(out, request, (), ())?,
+        "key_request" => round_trip::<Connections, PublicKeyRequest>(out, request, (), ())?,
+        "key" => round_trip::<Connections, PublicKeyResponse<'_>>(out, request, (), ())?,
+        "tls" => round_trip::<Connections, SslRequest>(out, request, (), ())?,
         "make_switch" => make_switch(out, request)?,
         "make_tls" => make_tls(out, request)?,
         _ => return Ok(false),
     }
     Ok(true)
-}
-
-fn auth_switch(out: &mut Out, request: &Request<'_>) -> Result<(), AllocError> {
-    read_and_write!(Connections; out, request.bytes.as_slice(); AuthSwitchRequest<'_>, ())
 }
 
 impl<'a> Shows<AuthSwitchRequest<'a>> for Connections {
@@ -62,10 +58,6 @@ fn make_switch(out: &mut Out, request: &Request<'_>) -> Result<(), AllocError> {
     }
 }
 
-fn old_switch(out: &mut Out, request: &Request<'_>) -> Result<(), AllocError> {
-    read_and_write!(Connections; out, request.bytes.as_slice(); OldAuthSwitchRequest, ())
-}
-
 impl Shows<OldAuthSwitchRequest> for Connections {
     fn fields(record: &OldAuthSwitchRequest, out: &mut Out) -> Result<(), AllocError> {
         tell_plugin(&record.auth_plugin(), out)
@@ -74,10 +66,6 @@ impl Shows<OldAuthSwitchRequest> for Connections {
     fn is_made(record: &OldAuthSwitchRequest, alloc: Global) -> Result<bool, AllocError> {
         words::is_cloned(alloc, &OldAuthSwitchRequest::new(), record)
     }
-}
-
-fn auth_more_data(out: &mut Out, request: &Request<'_>) -> Result<(), AllocError> {
-    read_and_write!(Connections; out, request.bytes.as_slice(); AuthMoreData<'_>, ())
 }
 
 impl<'a> Shows<AuthMoreData<'a>> for Connections {
@@ -93,10 +81,6 @@ impl<'a> Shows<AuthMoreData<'a>> for Connections {
     }
 }
 
-fn key_request(out: &mut Out, request: &Request<'_>) -> Result<(), AllocError> {
-    read_and_write!(Connections; out, request.bytes.as_slice(); PublicKeyRequest, ())
-}
-
 impl Shows<PublicKeyRequest> for Connections {
     fn fields(_record: &PublicKeyRequest, _out: &mut Out) -> Result<(), AllocError> {
         Ok(())
@@ -105,10 +89,6 @@ impl Shows<PublicKeyRequest> for Connections {
     fn is_made(record: &PublicKeyRequest, alloc: Global) -> Result<bool, AllocError> {
         words::is_cloned(alloc, &PublicKeyRequest::new(), record)
     }
-}
-
-fn key(out: &mut Out, request: &Request<'_>) -> Result<(), AllocError> {
-    read_and_write!(Connections; out, request.bytes.as_slice(); PublicKeyResponse<'_>, ())
 }
 
 /// The key is told as text alone: there is no other way to it.
@@ -129,10 +109,6 @@ impl<'a> Shows<PublicKeyResponse<'a>> for Connections {
                 && words::is_cloned(alloc, record, record)?,
         )
     }
-}
-
-fn tls(out: &mut Out, request: &Request<'_>) -> Result<(), AllocError> {
-    read_and_write!(Connections; out, request.bytes.as_slice(); SslRequest, ())
 }
 
 impl Shows<SslRequest> for Connections {

@@ -13,10 +13,10 @@ use mysql_stmt::NullBitmap;
 use mysql_values::{ClientSide, SerializationSide, ServerSide};
 use std::alloc::{AllocError, Global};
 use std::borrow::CowSlice;
+use test_probe::counted;
 use test_probe::out::Out;
-use test_probe::record::Shows;
+use test_probe::record::{Shows, round_trip};
 use test_probe::request::Request;
-use test_probe::{counted, read_and_write};
 
 /// The answer, where the request is one of these.
 pub fn answer(out: &mut Out, request: &Request<'_>) -> Result<bool, AllocError> {
@@ -32,7 +32,7 @@ pub fn answer(out: &mut Out, request: &Request<'_>) -> Result<bool, AllocError> 
 
 fn bitmap<S: SerializationSide>(out: &mut Out, request: &Request<'_>) -> Result<(), AllocError> {
     let count = request.word(2).parse::<usize>().unwrap_or(0);
-    read_and_write!(Statements; out, request.bytes.as_slice(); NullBitmap<'_, S>, count)
+    round_trip::<Statements, NullBitmap<'_, S>>(out, request, count, count)
 }
 
 impl<'a, S: SerializationSide> Shows<NullBitmap<'a, S>> for Statements {

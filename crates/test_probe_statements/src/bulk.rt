@@ -15,38 +15,37 @@ use mysql_values::Value;
 use mysql_wire::{Fault, Flags, MariadbBulkIndicator, ParseBuf};
 use std::alloc::{AllocError, Global};
 use std::convert::AsSlice;
+use test_probe::counted;
 use test_probe::out::Out;
-use test_probe::record::Shows;
+use test_probe::record::{Shows, round_trip};
 use test_probe::request::Request;
-use test_probe::{counted, read_and_write};
 
 /// The answer, where the request is one of these.
 pub fn answer(out: &mut Out, request: &Request<'_>) -> Result<bool, AllocError> {
     match request.word(0) {
-        "bulk" => bulk(out, request)?,
+        "bulk" => round_trip::<Statements, ComStmtBulkExecuteRequest>(
+            out,
+            request,
+            request.columns()?,
+            request.columns()?,
+        )?,
         "bulk_rows" => bulk_rows(out, request)?,
-        "bulk_type" => bulk_type(out, request)?,
-        "bulk_value" => bulk_value(out, request)?,
-        "bulk_values" => bulk_values(out, request)?,
+        "bulk_type" => round_trip::<Statements, StmtBulkExecuteParamType>(out, request, (), ())?,
+        "bulk_value" => round_trip::<Statements, StmtBulkExecuteParamValue>(
+            out,
+            request,
+            column(request)?,
+            column(request)?,
+        )?,
+        "bulk_values" => round_trip::<Statements, StmtBulkExecuteParamValues>(
+            out,
+            request,
+            request.columns()?,
+            request.columns()?,
+        )?,
         _ => return bulk_calls::answer(out, request),
     }
     Ok(true)
-}
-
-fn bulk(out: &mut Out, request: &Request<'_>) -> Result<(), AllocError> {
-    read_and_write!(Statements; out, request.bytes.as_slice(); ComStmtBulkExecuteRequest, request.columns()?)
-}
-
-fn bulk_type(out: &mut Out, request: &Request<'_>) -> Result<(), AllocError> {
-    read_and_write!(Statements; out, request.bytes.as_slice(); StmtBulkExecuteParamType, ())
-}
-
-fn bulk_values(out: &mut Out, request: &Request<'_>) -> Result<(), AllocError> {
-    read_and_write!(Statements; out, request.bytes.as_slice(); StmtBulkExecuteParamValues, request.columns()?)
-}
-
-fn bulk_value(out: &mut Out, request: &Request<'_>) -> Result<(), AllocError> {
-    read_and_write!(Statements; out, request.bytes.as_slice(); StmtBulkExecuteParamValue, column(request)?)
 }
 
 /// The code of an indicator.

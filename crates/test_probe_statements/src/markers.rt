@@ -14,8 +14,7 @@ use mysql_wire::{ConstBytes, ConstU8, ConstU32};
 use std::alloc::{AllocError, Global};
 use std::fmt::Display;
 use test_probe::out::Out;
-use test_probe::read_and_write;
-use test_probe::record::Shows;
+use test_probe::record::{Shows, round_trip};
 use test_probe::request::Request;
 
 /// What shows constant fields: they have nothing to show.
@@ -32,49 +31,37 @@ pub fn answer(out: &mut Out, request: &Request<'_>) -> Result<bool, AllocError> 
 
 fn marker(out: &mut Out, request: &Request<'_>) -> Result<bool, AllocError> {
     match request.word(1) {
-        "ColumnDefinitionCatalog" => catalog(out, request)?,
-        "FixedLengthFieldsLen" => fixed_length(out, request)?,
-        "ErrPacketHeader" => err_header(out, request)?,
-        "SqlStateMarker" => state_marker(out, request)?,
-        "LocalInfileHeader" => infile_header(out, request)?,
-        "ComStmtExecuteHeader" => execute_header(out, request)?,
-        "ComStmtSendLongDataHeader" => long_data_header(out, request)?,
-        "IterationCount" => iteration_count(out, request)?,
+        "ColumnDefinitionCatalog" => round_trip::<Markers, ColumnDefinitionCatalog>(
+            out,
+            request,
+            (),
+            (),
+        )?,
+        "FixedLengthFieldsLen" => round_trip::<Markers, FixedLengthFieldsLen>(
+            out,
+            request,
+            (),
+            (),
+        )?,
+        "ErrPacketHeader" => round_trip::<Markers, ErrPacketHeader>(out, request, (), ())?,
+        "SqlStateMarker" => round_trip::<Markers, SqlStateMarker>(out, request, (), ())?,
+        "LocalInfileHeader" => round_trip::<Markers, LocalInfileHeader>(out, request, (), ())?,
+        "ComStmtExecuteHeader" => round_trip::<Markers, ComStmtExecuteHeader>(
+            out,
+            request,
+            (),
+            (),
+        )?,
+        "ComStmtSendLongDataHeader" => round_trip::<Markers, ComStmtSendLongDataHeader>(
+            out,
+            request,
+            (),
+            (),
+        )?,
+        "IterationCount" => round_trip::<Markers, IterationCount>(out, request, (), ())?,
         _ => return Ok(false),
     }
     Ok(true)
-}
-
-fn catalog(out: &mut Out, request: &Request<'_>) -> Result<(), AllocError> {
-    read_and_write!(Markers; out, request.bytes.as_slice(); ColumnDefinitionCatalog, ())
-}
-
-fn fixed_length(out: &mut Out, request: &Request<'_>) -> Result<(), AllocError> {
-    read_and_write!(Markers; out, request.bytes.as_slice(); FixedLengthFieldsLen, ())
-}
-
-fn err_header(out: &mut Out, request: &Request<'_>) -> Result<(), AllocError> {
-    read_and_write!(Markers; out, request.bytes.as_slice(); ErrPacketHeader, ())
-}
-
-fn state_marker(out: &mut Out, request: &Request<'_>) -> Result<(), AllocError> {
-    read_and_write!(Markers; out, request.bytes.as_slice(); SqlStateMarker, ())
-}
-
-fn infile_header(out: &mut Out, request: &Request<'_>) -> Result<(), AllocError> {
-    read_and_write!(Markers; out, request.bytes.as_slice(); LocalInfileHeader, ())
-}
-
-fn execute_header(out: &mut Out, request: &Request<'_>) -> Result<(), AllocError> {
-    read_and_write!(Markers; out, request.bytes.as_slice(); ComStmtExecuteHeader, ())
-}
-
-fn long_data_header(out: &mut Out, request: &Request<'_>) -> Result<(), AllocError> {
-    read_and_write!(Markers; out, request.bytes.as_slice(); ComStmtSendLongDataHeader, ())
-}
-
-fn iteration_count(out: &mut Out, request: &Request<'_>) -> Result<(), AllocError> {
-    read_and_write!(Markers; out, request.bytes.as_slice(); IterationCount, ())
 }
 
 impl<E, const VALUE: u8> Shows<ConstU8<E, VALUE>> for Markers {

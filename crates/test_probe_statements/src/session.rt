@@ -12,22 +12,27 @@ use mysql_session::{
 use mysql_wire::{BytesRepr, ConstValue, SessionStateType};
 use std::alloc::{AllocError, Global};
 use std::borrow::CowSlice;
+use test_probe::counted;
 use test_probe::out::Out;
-use test_probe::record::{Shows, read, write};
+use test_probe::record::{Shows, read, round_trip, write};
 use test_probe::request::Request;
-use test_probe::{counted, read_and_write};
 
 /// The answer, where the request is one of these.
 pub fn answer(out: &mut Out, request: &Request<'_>) -> Result<bool, AllocError> {
     match request.word(0) {
         "change" => change(out, request)?,
-        "schema" => schema(out, request)?,
-        "gtids" => gtids(out, request)?,
-        "characteristics" => characteristics(out, request)?,
-        "state" => state(out, request)?,
-        "unsupported" => unsupported(out, request)?,
-        "variable" => variable(out, request)?,
-        "variables" => variables(out, request)?,
+        "schema" => round_trip::<Statements, Schema<'_>>(out, request, (), ())?,
+        "gtids" => round_trip::<Statements, Gtids<'_>>(out, request, (), ())?,
+        "characteristics" => round_trip::<Statements, TransactionCharacteristics<'_>>(
+            out,
+            request,
+            (),
+            (),
+        )?,
+        "state" => round_trip::<Statements, TransactionState<'_>>(out, request, (), ())?,
+        "unsupported" => round_trip::<Statements, Unsupported<'_>>(out, request, (), ())?,
+        "variable" => round_trip::<Statements, SystemVariable<'_>>(out, request, (), ())?,
+        "variables" => round_trip::<Statements, SystemVariables<'_>>(out, request, (), ())?,
         _ => return Ok(false),
     }
     Ok(true)
@@ -39,9 +44,7 @@ fn change(out: &mut Out, request: &Request<'_>) -> Result<(), AllocError> {
     }
     let code = request.word(1).parse::<u8>().unwrap_or(255);
     match SessionStateType::from_code(code) {
-        Some(kind) => {
-            read_and_write!(Statements; out, request.bytes.as_slice(); SessionStateChange<'_>, kind)
-        }
+        Some(kind) => { round_trip::<Statements, SessionStateChange<'_>>(out, request, kind, kind) }
         None => out.word("unknown"),
     }
 }
@@ -103,26 +106,6 @@ fn tell_text<N, R: BytesRepr>(
     out.text("text", counted!(alloc; text.as_str(alloc)))
 }
 
-fn schema(out: &mut Out, request: &Request<'_>) -> Result<(), AllocError> {
-    read_and_write!(Statements; out, request.bytes.as_slice(); Schema<'_>, ())
-}
-
-fn gtids(out: &mut Out, request: &Request<'_>) -> Result<(), AllocError> {
-    read_and_write!(Statements; out, request.bytes.as_slice(); Gtids<'_>, ())
-}
-
-fn characteristics(out: &mut Out, request: &Request<'_>) -> Result<(), AllocError> {
-    read_and_write!(Statements; out, request.bytes.as_slice(); TransactionCharacteristics<'_>, ())
-}
-
-fn state(out: &mut Out, request: &Request<'_>) -> Result<(), AllocError> {
-    read_and_write!(Statements; out, request.bytes.as_slice(); TransactionState<'_>, ())
-}
-
-fn unsupported(out: &mut Out, request: &Request<'_>) -> Result<(), AllocError> {
-    read_and_write!(Statements; out, request.bytes.as_slice(); Unsupported<'_>, ())
-}
-
 impl<'a, N, R: BytesRepr> Shows<SessionText<'a, N, R>> for Statements {
     fn fields(record: &SessionText<'a, N, R>, out: &mut Out) -> Result<(), AllocError> {
         tell_text("bytes", record, out)
@@ -135,10 +118,6 @@ impl<'a, N, R: BytesRepr> Shows<SessionText<'a, N, R>> for Statements {
         let again = counted!(alloc; owned.clone())?;
         Ok(again == *record)
     }
-}
-
-fn variable(out: &mut Out, request: &Request<'_>) -> Result<(), AllocError> {
-    read_and_write!(Statements; out, request.bytes.as_slice(); SystemVariable<'_>, ())
 }
 
 impl<'a> Shows<SystemVariable<'a>> for Statements {
@@ -167,10 +146,6 @@ fn tell_variable(variable: &SystemVariable<'_>, out: &mut Out) -> Result<(), All
 fn made_variable<'a>(variable: &'a SystemVariable<'_>) -> SystemVariable<'a> {
     let name = CowSlice::Borrowed(variable.name_bytes());
     SystemVariable::new(name, CowSlice::Borrowed(variable.value_bytes()))
-}
-
-fn variables(out: &mut Out, request: &Request<'_>) -> Result<(), AllocError> {
-    read_and_write!(Statements; out, request.bytes.as_slice(); SystemVariables<'_>, ())
 }
 
 impl<'a> Shows<SystemVariables<'a>> for Statements {

@@ -13,15 +13,15 @@ use mysql_values::Value;
 use mysql_wire::{Flags, MySerialize};
 use std::alloc::{AllocError, Global};
 use std::borrow::CowSlice;
+use test_probe::counted;
 use test_probe::out::Out;
-use test_probe::record::{Shows, write};
+use test_probe::record::{Shows, round_trip, write};
 use test_probe::request::Request;
-use test_probe::{counted, read_and_write};
 
 /// The answer, where the request is one of these.
 pub fn answer(out: &mut Out, request: &Request<'_>) -> Result<bool, AllocError> {
     match request.word(0) {
-        "stmt" => stmt(out, request)?,
+        "stmt" => round_trip::<Statements, StmtPacket>(out, request, (), ())?,
         "execute" => execute(out, request)?,
         "execute_many" => execute_many(out, request)?,
         "long_data" => long_data(out, request)?,
@@ -29,10 +29,6 @@ pub fn answer(out: &mut Out, request: &Request<'_>) -> Result<bool, AllocError> 
         _ => return Ok(false),
     }
     Ok(true)
-}
-
-fn stmt(out: &mut Out, request: &Request<'_>) -> Result<(), AllocError> {
-    read_and_write!(Statements; out, request.bytes.as_slice(); StmtPacket, ())
 }
 
 impl Shows<StmtPacket> for Statements {

@@ -12,10 +12,10 @@ use mysql_values::{
 };
 use mysql_wire::{ColumnFlags, ColumnType, Fault, Flags, MySerialize, ParseBuf};
 use std::alloc::{AllocError, Global};
+use test_probe::counted;
 use test_probe::out::Out;
-use test_probe::record::{Shows, read, write};
+use test_probe::record::{Shows, read, round_trip, write};
 use test_probe::request::Request;
-use test_probe::{counted, read_and_write};
 
 /// The answer, where the request is one of these, or of conversions, parameters, cuts and texts.
 pub fn answer(out: &mut Out, request: &Request<'_>) -> Result<bool, AllocError> {
@@ -23,7 +23,7 @@ pub fn answer(out: &mut Out, request: &Request<'_>) -> Result<bool, AllocError> 
         "value_text" => text(out, request)?,
         "value" => binary(out, request)?,
         "cell" => cell(out, request)?,
-        "param_type" => param_type(out, request)?,
+        "param_type" => round_trip::<Statements, ParamType>(out, request, (), ())?,
         "bin" => bin(out, request)?,
         "bin_len" => bin_len(out, request)?,
         "bit_offsets" => bit_offsets(out)?,
@@ -62,10 +62,6 @@ fn text(out: &mut Out, request: &Request<'_>) -> Result<(), AllocError> {
     let bytes = request.bytes.as_slice();
     let _ = read::<Statements, ValueDeserializer<TextValue>>(out, bytes, ())?;
     Ok(())
-}
-
-fn param_type(out: &mut Out, request: &Request<'_>) -> Result<(), AllocError> {
-    read_and_write!(Statements; out, request.bytes.as_slice(); ParamType, ())
 }
 
 fn binary(out: &mut Out, request: &Request<'_>) -> Result<(), AllocError> {

@@ -5,23 +5,19 @@ use mysql_replies::{Column, LocalInfilePacket};
 use mysql_wire::Flags;
 use std::alloc::{AllocError, Global};
 use std::borrow::CowSlice;
+use test_probe::counted;
 use test_probe::out::Out;
-use test_probe::record::Shows;
+use test_probe::record::{Shows, round_trip};
 use test_probe::request::Request;
-use test_probe::{counted, read_and_write};
 
 /// The answer, where the request is one of these.
 pub fn answer(out: &mut Out, request: &Request<'_>) -> Result<bool, AllocError> {
     match request.word(0) {
-        "column" => column(out, request)?,
-        "local_infile" => local_infile(out, request)?,
+        "column" => round_trip::<Statements, Column>(out, request, (), ())?,
+        "local_infile" => round_trip::<Statements, LocalInfilePacket<'_>>(out, request, (), ())?,
         _ => return Ok(false),
     }
     Ok(true)
-}
-
-fn column(out: &mut Out, request: &Request<'_>) -> Result<(), AllocError> {
-    read_and_write!(Statements; out, request.bytes.as_slice(); Column, ())
 }
 
 impl Shows<Column> for Statements {
@@ -71,10 +67,6 @@ fn made_column(column: &Column, alloc: Global) -> Result<Column, AllocError> {
             .with_flags(column.flags())
             .with_decimals(column.decimals()),
     )
-}
-
-fn local_infile(out: &mut Out, request: &Request<'_>) -> Result<(), AllocError> {
-    read_and_write!(Statements; out, request.bytes.as_slice(); LocalInfilePacket<'_>, ())
 }
 
 impl<'a> Shows<LocalInfilePacket<'a>> for Statements {

@@ -5,25 +5,26 @@ use crate::Statements;
 use mysql_replies::{ErrPacket, ProgressReport, ServerError, SqlState};
 use std::alloc::{AllocError, Global};
 use std::borrow::CowSlice;
+use test_probe::counted;
 use test_probe::out::Out;
-use test_probe::record::Shows;
+use test_probe::record::{Shows, round_trip};
 use test_probe::request::Request;
-use test_probe::{counted, read_and_write};
 
 /// The answer, where the request is one of these.
 pub fn answer(out: &mut Out, request: &Request<'_>) -> Result<bool, AllocError> {
     match request.word(0) {
-        "err" => err(out, request)?,
+        "err" => round_trip::<Statements, ErrPacket<'_>>(
+            out,
+            request,
+            request.capabilities(),
+            request.capabilities(),
+        )?,
         "server_error" => server_error(out, request)?,
-        "sql_state" => sql_state(out, request)?,
-        "progress" => progress(out, request)?,
+        "sql_state" => round_trip::<Statements, SqlState>(out, request, (), ())?,
+        "progress" => round_trip::<Statements, ProgressReport<'_>>(out, request, (), ())?,
         _ => return Ok(false),
     }
     Ok(true)
-}
-
-fn err(out: &mut Out, request: &Request<'_>) -> Result<(), AllocError> {
-    read_and_write!(Statements; out, request.bytes.as_slice(); ErrPacket<'_>, request.capabilities())
 }
 
 impl<'a> Shows<ErrPacket<'a>> for Statements {
@@ -51,7 +52,7 @@ impl<'a> Shows<ErrPacket<'a>> for Statements {
 fn server_error(out: &mut Out, request: &Request<'_>) -> Result<(), AllocError> {
     let code = (request.number(1) & 0xffff) as u16;
     let has_state = request.number(2) == 1;
-    read_and_write!(Statements; out, request.bytes.as_slice(); ServerError<'_>, (code, has_state))
+    round_trip::<Statements, ServerError<'_>>(out, request, (code, has_state), (code, has_state))
 }
 
 impl<'a> Shows<ServerError<'a>> for Statements {
@@ -86,10 +87,6 @@ fn made_error(error: &ServerError<'_>, alloc: Global) -> Result<ServerError<'sta
     counted!(alloc; made.into_owned(alloc))
 }
 
-fn sql_state(out: &mut Out, request: &Request<'_>) -> Result<(), AllocError> {
-    read_and_write!(Statements; out, request.bytes.as_slice(); SqlState, ())
-}
-
 impl Shows<SqlState> for Statements {
     fn fields(record: &SqlState, out: &mut Out) -> Result<(), AllocError> {
         let alloc = out.alloc();
@@ -100,10 +97,6 @@ impl Shows<SqlState> for Statements {
     fn is_made(record: &SqlState, _alloc: Global) -> Result<bool, AllocError> {
         Ok(SqlState::new(record.as_bytes()) == *record)
     }
-}
-
-fn progress(out: &mut Out, request: &Request<'_>) -> Result<(), AllocError> {
-    read_and_write!(Statements; out, request.bytes.as_slice(); ProgressReport<'_>, ())
 }
 
 impl<'a> Shows<ProgressReport<'a>> for Statements {

@@ -11,10 +11,10 @@ use mysql_replies::{
 use mysql_session::SessionStateChange;
 use mysql_wire::{Fault, Flags, ParseBuf};
 use std::alloc::{AllocError, Global};
+use test_probe::counted;
 use test_probe::out::Out;
-use test_probe::record::{Shows, read};
+use test_probe::record::{Shows, read, round_trip};
 use test_probe::request::Request;
-use test_probe::{counted, read_and_write};
 
 /// The answer, where the request is one of these.
 pub fn answer(out: &mut Out, request: &Request<'_>) -> Result<bool, AllocError> {
@@ -24,7 +24,7 @@ pub fn answer(out: &mut Out, request: &Request<'_>) -> Result<bool, AllocError> 
         "ok_eof" => ok::<OldEofPacket>(out, request)?,
         "ok_stream" => ok::<NetworkStreamTerminator>(out, request)?,
         "ok_body" => ok_body(out, request)?,
-        "session_info" => session_info(out, request)?,
+        "session_info" => round_trip::<Statements, SessionStateInfo<'_>>(out, request, (), ())?,
         _ => return Ok(false),
     }
     Ok(true)
@@ -129,10 +129,6 @@ fn tell_body(body: OkPacketBody<'_>, out: &mut Out) -> Result<(), AllocError> {
         },
         Err(AllocError) => out.field("copy", "Memory"),
     }
-}
-
-fn session_info(out: &mut Out, request: &Request<'_>) -> Result<(), AllocError> {
-    read_and_write!(Statements; out, request.bytes.as_slice(); SessionStateInfo<'_>, ())
 }
 
 impl<'a> Shows<SessionStateInfo<'a>> for Statements {

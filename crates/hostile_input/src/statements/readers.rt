@@ -1,5 +1,0 @@
-//! Each reader over some bytes.
-
-pub mod bulk;
-pub mod stmt;
-pub mod values;

@@ -1,1 +1,0 @@
-"""The parts of wrong_bodies.py."""
