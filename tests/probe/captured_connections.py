@@ -2,8 +2,8 @@
 fields that captured.py knows."""
 import json
 
-from hostile import Reading
 from lines import TOP
+from malformed import Reading
 from told import teller
 
 KINDS = {"handshake": "handshake", "handshake_response": "response", "auth_switch_request": "auth_switch",

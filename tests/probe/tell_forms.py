@@ -12,6 +12,10 @@ def content(record):
     return [f"content={x(record)}", f"content_str={lossy(record)}"]
 
 
+def bare(record):
+    return [f"content={x(record)}"]
+
+
 def code(record):
     return [f"code={record}"]
 
@@ -35,7 +39,7 @@ WORDS = {"capability_flags": "LeU32", "mariadb_capabilities": "LeU32", "cursor_t
          "dump_flags": "LeU16", "bulk_flags": "LeU16", "param_flags": "U8", "params_flags": "U8"}
 LISTS = {"seq": "Seq", "seq_of_bytes": "SeqOfByteStrings"}
 TELLS = [(NUMBERS, value), (STRINGS, content), (CONSTANTS, nothing), (CODES, code), (WORDS, code), (LISTS, counted)]
-OF_COUNT = {"bare_bytes": ("BareBytes", content), "block": ("Block", lambda it: [f"content={x(it)}"]),
+OF_COUNT = {"bare_bytes": ("BareBytes", content), "block": ("Block", bare),
             "seq_of_count": ("SeqOfACountHandedIn", counted)}
 TO_THE_END = {"all": "LeU64", "all_of_bytes": "LenEncBytes"}
 
@@ -58,8 +62,9 @@ def form(name, *count):
         return lambda buf: counted(to_the_end(buf, READERS[TO_THE_END[name]]))
     if name == "all_of_nothing":
         return all_of_nothing
-    size = {"array": 8, "array_of_2": 2}[name]
-    return lambda buf: [f"content={x(buf.take(size))}"]
+    if name == "array":
+        return by("ByteArray", bare)
+    return lambda buf: bare(buf.take(2))  # (array_of_2)
 
 
 TELLERS = {

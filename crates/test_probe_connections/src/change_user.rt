@@ -1,7 +1,7 @@
 //! The change of a session's user.
 //!
 //! `change_user CAPABILITIES BYTES`, `more_data CAPABILITIES BYTES`, and
-//! `make_change_user CAPABILITIES USER DATA DATABASE CHARACTER_SET PLUGIN ATTRIBUTES`, whose capabilities are for its reading.
+//! `make_change_user CAPABILITIES USER DATA DATABASE CHARACTER_SET PLUGIN ATTRIBUTES`: its capabilities are for its reading.
 
 use crate::{Connections, words};
 use indexmap::IndexMap;

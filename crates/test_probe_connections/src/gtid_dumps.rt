@@ -162,7 +162,7 @@ fn tell_again(
     dump: &ComBinlogDumpGtid<'_>,
     written: &[u8],
 ) -> Result<(), AllocError> {
-    words::read_as::<ComBinlogDumpGtid<'_>>(out, dump, written, ())?;
+    words::read_as::<ComBinlogDumpGtid<'_>>(out, &*dump, written, ())?;
     let mut buf = ParseBuf::new(out.alloc(), written);
     let strict = ComBinlogDumpGtid::parse_strict(&mut buf);
     out.same("strict", Ok(strict.is_ok_and(|again| again == *dump)))
