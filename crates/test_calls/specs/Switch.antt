@@ -2,7 +2,7 @@
 use Rattle.std.specs.Prelude.{◌≡◌, ℤ, pos, Bool, true, false}
 use Rattle.mysql_values.specs.declared.value.Value.{Value}
 use Rattle.mysql_values.specs.declared.value.Value.TheVariants.{Int}
-use Rattle.test_calls.specs.declared.own_types.Switch.{Switch}
+use Rattle.test_calls.specs.declared.switch.Switch.{Switch}
 
 -- 0 or 1
 abbrev pub number_of : Bool → ℤ

@@ -11,5 +11,6 @@ mod ok_kinds;
 mod own_types;
 #[cfg(test)]
 mod sizes;
+pub mod switch;
 #[cfg(test)]
 mod tour;

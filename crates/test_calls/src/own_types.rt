@@ -1,8 +1,9 @@
 //! A user's own index of columns, own conversion of values, and own constant.
 
+use crate::switch::Switch;
 use mysql_replies::Column;
 use mysql_stmt::{ColumnIndex, Row, new_row_raw};
-use mysql_values::{FromValue, FromValueError, Value};
+use mysql_values::{FromValueError, Value};
 use mysql_wire::{
     ColumnType, ConstBytes, ConstBytesValue, ConstFault, Fault, MySerialize, ParseBuf,
 };
@@ -49,24 +50,6 @@ fn a_constant_of_ones_own(rt: HostRuntime) -> Result<(), Fail> {
     (*b"ab").serialize(&mut out)?;
     assert_eq!(rt; out.as_slice(), b"\x03defab".as_slice());
     Ok(())
-}
-
-/// A number that is 0 or 1, as a truth value.
-#[derive(Clone, Copy, Debug, PartialEq)]
-struct Switch(bool);
-
-impl FromValue for Switch {
-    ghost use Rattle.test_calls.specs.Switch.{AsSwitch};
-
-    ghost Converts = { AsSwitch };
-
-    fn from_value_opt(value: Value) -> Result<Switch, FromValueError> {
-        match value {
-            Value::Int(0) => Ok(Switch(false)),
-            Value::Int(1) => Ok(Switch(true)),
-            other => Err(FromValueError(other)),
-        }
-    }
 }
 
 /// A row of two numbers.
