@@ -11,7 +11,7 @@ A function is proved from the contracts of what it calls. So all mutants of a li
 asks for their functions alone: each must be said to be not proved, by a goal or a proof of its own. That it calls a function
 which is not proved is no refusal. At most one mutant changes a function, and none a constant or a type.
 
-The libraries below have to be built: by rt ci, or by rt lib in their folders. The last line is 'N passed, M failed'."""
+The libraries below are those that rt ci leaves, or are built. The last line is 'N passed, M failed'."""
 import os
 import re
 import shutil
@@ -36,6 +36,17 @@ def below(name, listed):
     """The libraries of the repository below a crate."""
     own = [it for it in listed[name] if it in listed]
     return {*own, *(lower for it in own for lower in below(it, listed))}
+
+
+def build(name, listed):
+    """Builds the libraries below a crate that are not there, or that are older than their sources."""
+    for it in sorted(below(name, listed), key=lambda lower: len(below(lower, listed))):
+        crate = TOP / "crates" / it
+        made = crate / f"out/rlib/{it}.rlib/format"
+        sources = [file.stat().st_mtime for part in ("src", "specs") for file in (crate / part).rglob("*.*t")]
+        if not made.exists() or made.stat().st_mtime < max(sources):
+            print(f"mutants: builds {it}", flush=True)
+            subprocess.run(["rt", "lib"], cwd=crate, stdin=subprocess.DEVNULL, stdout=subprocess.DEVNULL, check=True)
 
 
 class Mutant:
@@ -76,8 +87,6 @@ def words(name, listed, functions):
     for it in ["std", *listed[name]]:
         command += ["--extern", f"{it}={library.get(it, f'{kit}/rlibs/{it}.rlib')}"]
     for it in library.values():
-        if not it.exists():
-            raise SystemExit(f"mutants: there is no {it.relative_to(TOP)}: run rt lib in its crate first")
         command += ["-L", f"dependency={it.parent}"]
     command += ["--antt-project", f"{kit}/rattle/logic/antt-project.json", "--logic-built", f"{kit}/logic_built", "--links", f"{name}="]
     return command + ["--jobs", "1"] + [word for it in functions for word in ("--only", it)]
@@ -122,6 +131,8 @@ def tried(name, listed):
 def main(*names):
     listed = crates()
     chosen = names or [it for it in listed if any((TOP / "crates" / it / "mutants").glob("*.edit"))]
+    for name in chosen:
+        build(name, listed)
     with ThreadPoolExecutor(len(os.sched_getaffinity(0))) as pool:
         found = [it for outcome in pool.map(lambda name: tried(name, listed), chosen) for it in outcome]
     for name, is_refused, why in found:
