@@ -71,8 +71,6 @@ impl<'de> MyDeserialize<'de> for AuthMoreData<'de> {
 
     type Size = AnyWidth;
 
-    ghost takes_memory = { false };
-
     type Ctx = ();
 
     ghost form = { spec.auth_more_data.form };

@@ -164,8 +164,6 @@ impl<'de> MyDeserialize<'de> for AuthPlugin<'de> {
 
     type Size = AnyWidth;
 
-    ghost takes_memory = { false };
-
     type Ctx = ();
 
     ghost form = { spec.auth_plugin.form };

@@ -87,8 +87,6 @@ impl<'de> MyDeserialize<'de> for AuthSwitchRequest<'de> {
 
     type Size = AnyWidth;
 
-    ghost takes_memory = { false };
-
     type Ctx = ();
 
     ghost form = { spec.auth_switch_request.form };

@@ -317,8 +317,6 @@ impl<'de> MyDeserialize<'de> for HandshakePacket<'de> {
 
     type Size = AnyWidth;
 
-    ghost takes_memory = { false };
-
     type Ctx = ();
 
     ghost form = { spec.handshake.form };

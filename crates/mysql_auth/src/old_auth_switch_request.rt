@@ -51,8 +51,6 @@ impl<'de> MyDeserialize<'de> for OldAuthSwitchRequest {
 
     type Size = Fixed<1>;
 
-    ghost takes_memory = { false };
-
     type Ctx = ();
 
     ghost form = { spec.old_auth_switch_request.form };

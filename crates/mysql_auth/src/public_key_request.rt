@@ -54,8 +54,6 @@ impl<'de> MyDeserialize<'de> for PublicKeyRequest {
 
     type Size = AnyWidth;
 
-    ghost takes_memory = { false };
-
     type Ctx = ();
 
     ghost form = { spec.public_key_request.form };

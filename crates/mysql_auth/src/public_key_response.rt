@@ -62,8 +62,6 @@ impl<'de> MyDeserialize<'de> for PublicKeyResponse<'de> {
 
     type Size = AnyWidth;
 
-    ghost takes_memory = { false };
-
     type Ctx = ();
 
     ghost form = { spec.public_key_response.form };

@@ -93,8 +93,6 @@ impl<'de> MyDeserialize<'de> for SslRequest {
 
     type Size = Fixed<32>;
 
-    ghost takes_memory = { false };
-
     type Ctx = ();
 
     ghost form = { spec.ssl_request.form };

@@ -132,8 +132,6 @@ impl<'de> MyDeserialize<'de> for ComBinlogDump<'de> {
 
     type Size = AnyWidth;
 
-    ghost takes_memory = { false };
-
     type Ctx = ();
 
     ghost form = { spec.binlog_dump.form };

@@ -79,8 +79,6 @@ impl<'de> MyDeserialize<'de> for GnoInterval {
 
     type Size = Fixed<16>;
 
-    ghost takes_memory = { false };
-
     type Ctx = ();
 
     ghost form = { spec.interval.form };

@@ -233,8 +233,6 @@ impl<'de> MyDeserialize<'de> for ComRegisterSlave<'de> {
 
     type Size = AnyWidth;
 
-    ghost takes_memory = { false };
-
     type Ctx = ();
 
     ghost form = { spec.register_slave.form };

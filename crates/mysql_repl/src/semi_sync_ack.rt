@@ -97,8 +97,6 @@ impl<'de> MyDeserialize<'de> for SemiSyncAckPacket<'de> {
 
     type Size = AnyWidth;
 
-    ghost takes_memory = { false };
-
     type Ctx = ();
 
     ghost form = { spec.semi_sync_ack.form };

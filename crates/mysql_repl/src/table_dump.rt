@@ -88,8 +88,6 @@ impl<'de> MyDeserialize<'de> for ComTableDump<'de> {
 
     type Size = AnyWidth;
 
-    ghost takes_memory = { false };
-
     type Ctx = ();
 
     ghost form = { spec.table_dump.form };

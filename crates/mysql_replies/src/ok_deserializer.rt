@@ -49,8 +49,6 @@ impl<'de, T: OkPacketKind> MyDeserialize<'de> for OkPacketDeserializer<'de, T> {
 
     type Size = AnyWidth;
 
-    ghost takes_memory = { false };
-
     /// What both sides can do.
     type Ctx = CapabilityFlags;
 

@@ -20,8 +20,6 @@ impl<'de> MyDeserialize<'de> for OkTail<'de> {
 
     type Size = AnyWidth;
 
-    ghost takes_memory = { false };
-
     type Ctx = (CapabilityFlags, StatusFlags);
 
     ghost form = { λ ctx. spec.ok_tail ctx.0 ctx.1 };

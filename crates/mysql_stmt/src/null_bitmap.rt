@@ -227,8 +227,6 @@ impl<'de, T: SerializationSide> MyDeserialize<'de> for NullBitmap<'de, T> {
 
     type Size = AnyWidth;
 
-    ghost takes_memory = { false };
-
     type Ctx = usize;
 
     ghost use Rattle.mysql_stmt.specs.NullBitmap.{null_bitmap, size-null_bitmap};

@@ -68,8 +68,6 @@ impl<'de> MyDeserialize<'de> for ParamType {
 
     type Size = Fixed<2>;
 
-    ghost takes_memory = { false };
-
     type Ctx = ();
 
     ghost use Rattle.mysql_values.specs.ParamType.{param_type, size-param_type};

@@ -201,8 +201,6 @@ impl<'de> MyDeserialize<'de> for Day {
 
     type Size = Fixed<4>;
 
-    ghost takes_memory = { false };
-
     type Ctx = ();
 
     ghost use Rattle.mysql_values.specs.Temporal.{day, size-day};
@@ -232,8 +230,6 @@ impl<'de> MyDeserialize<'de> for Clock {
     const SIZE: Option<usize> = Some(3);
 
     type Size = Fixed<3>;
-
-    ghost takes_memory = { false };
 
     type Ctx = ();
 
@@ -265,8 +261,6 @@ impl<'de> MyDeserialize<'de> for DateTime {
 
     type Size = AnyWidth;
 
-    ghost takes_memory = { false };
-
     type Ctx = ();
 
     ghost use Rattle.mysql_values.specs.Temporal.{date_time, size-date_time};
@@ -297,8 +291,6 @@ impl<'de> MyDeserialize<'de> for TimeSpan {
     const SIZE: Option<usize> = None;
 
     type Size = AnyWidth;
-
-    ghost takes_memory = { false };
 
     type Ctx = ();
 

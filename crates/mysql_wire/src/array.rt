@@ -12,8 +12,6 @@ impl<'de, const N: usize> MyDeserialize<'de> for [u8; N] {
 
     type Size = Fixed<N>;
 
-    ghost takes_memory = { false };
-
     type Ctx = ();
 
     ghost use Rattle.mysql_wire.specs.Form.{bytes, size-bytes};

@@ -15,8 +15,6 @@ impl<'de> MyDeserialize<'de> for ParseBuf<'de> {
 
     type Size = AnyWidth;
 
-    ghost takes_memory = { false };
-
     type Ctx = usize;
 
     ghost use Rattle.mysql_wire.specs.Form.{unsized};

@@ -189,8 +189,6 @@ impl<'de, R: BytesRepr> MyDeserialize<'de> for RawBytes<'de, R> {
 
     type Size = AnyWidth;
 
-    ghost takes_memory = { false };
-
     type Ctx = R::Ctx;
 
     ghost form = { λ ctx. R.form ctx };

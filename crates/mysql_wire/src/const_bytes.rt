@@ -47,8 +47,6 @@ impl<'de, T: ConstBytesValue<LEN>, const LEN: usize> MyDeserialize<'de> for Cons
 
     type Size = Fixed<LEN>;
 
-    ghost takes_memory = { false };
-
     type Ctx = ();
 
     ghost use Rattle.mysql_wire.specs.ConstBytes.{const_bytes, size-const_bytes};

@@ -40,8 +40,6 @@ impl<'de, T: ConstFault, const VALUE: u8> MyDeserialize<'de> for ConstU8<T, VALU
 
     type Size = Fixed<1>;
 
-    ghost takes_memory = { false };
-
     type Ctx = ();
 
     ghost use Rattle.mysql_wire.specs.Constant.{const_byte, size-const_byte};
@@ -99,8 +97,6 @@ impl<'de, T: ConstFault, const VALUE: u32> MyDeserialize<'de> for ConstU32<T, VA
     const SIZE: Option<usize> = Some(4);
 
     type Size = Fixed<4>;
-
-    ghost takes_memory = { false };
 
     type Ctx = ();
 

@@ -54,8 +54,6 @@ impl<'de, T: ConstValue<U::Primitive>, U: IntRepr> MyDeserialize<'de> for Const<
 
     type Size = IntWidth<U>;
 
-    ghost takes_memory = { false };
-
     type Ctx = ();
 
     ghost use Rattle.mysql_wire.specs.ConstantValue.{coded, size-coded};

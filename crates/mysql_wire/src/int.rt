@@ -78,8 +78,6 @@ impl<'de, R: IntRepr> MyDeserialize<'de> for RawInt<R> {
 
     type Size = IntWidth<R>;
 
-    ghost takes_memory = { false };
-
     type Ctx = ();
 
     ghost use Rattle.mysql_wire.specs.Int.{raw, size-raw};

@@ -4,7 +4,7 @@ ghost use Rattle.std.specs.Prelude.{true, false, ◌≡◌, ◌≤◌, ◌+◌, 
 ghost use Rattle.std.specs.Cow.{cow_slice_items};
 ghost use Rattle.mysql_wire.specs.Reading.{Answers, IsTail};
 ghost use Rattle.mysql_wire.specs.Form.{Form, give};
-ghost use Rattle.mysql_wire.specs.Seq.{counted, items_of, seq, seq_bytes, IsHeld};
+ghost use Rattle.mysql_wire.specs.Seq.{counted, counts_any, items_of, seq, seq_bytes, IsHeld};
 
 use crate::buf::ParseBuf;
 use crate::fault::FaultOf;
@@ -272,15 +272,21 @@ impl<'de, T: MyDeserialize<'de, Ctx = ()> + Drop, L: SeqRepr> MyDeserialize<'de>
 
     type Size = AnyWidth;
 
-    ghost takes_memory = { true };
+    ghost takes_memory = { λ ctx bytes. counts_any ((L.form ctx).reads bytes) };
 
     type Ctx = L::Ctx;
 
     ghost form = { λ ctx. seq (L.form ctx) (T.form tt) };
 
+    #[tactic(auto, unfolding(crate::specs::Seq::counted))]
     fn deserialize<'s>(ctx: L::Ctx, buf: &mut ParseBuf<'de>) -> Result<Self, FaultOf<'s>> {
         let mut rest = buf.rest();
         let count = L::read_count(ctx, &mut rest)?;
+        // (for no value no memory is taken)
+        if count == 0 {
+            *buf = rest;
+            return Ok(Seq::borrowed(&[]));
+        }
         let items = read_items(count, &mut rest)?;
         *buf = rest;
         Ok(Seq::owned(items))

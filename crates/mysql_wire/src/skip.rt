@@ -16,8 +16,6 @@ impl<'de, const N: usize> MyDeserialize<'de> for Skip<N> {
 
     type Size = Fixed<N>;
 
-    ghost takes_memory = { false };
-
     type Ctx = ();
 
     ghost use Rattle.mysql_wire.specs.Skip.{skip, size-skip};
