@@ -1,7 +1,7 @@
 #!/usr/bin/env python3
 """Holds pages to the code that they quote.
 
-The quoted blocks of a file in docs/ARCHITECTURE.md are the whole file, in order. Each line of the tour in README.md is a
+The quoted blocks of a file in docs/ADD_A_PACKET.md are the whole file, in order. Each line of the tour in README.md is a
 line of the tests that run it.
 
 quoted_lines.py: the status is 0 where each file of crates/example_packet is quoted whole, and the tour is that of the tests.
@@ -11,7 +11,7 @@ import re
 import sys
 
 TOP = os.path.dirname(os.path.dirname(os.path.realpath(__file__)))
-PAGE = "docs/ARCHITECTURE.md"
+PAGE = "docs/ADD_A_PACKET.md"
 CRATE = "crates/example_packet"
 BLOCK = re.compile(r"^```\w+ (crates/\S+)\n(.*?)^```$", re.MULTILINE | re.DOTALL)
 TOUR = re.compile(r"^```rust\n(.*?)^```$", re.MULTILINE | re.DOTALL)

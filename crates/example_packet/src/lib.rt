@@ -1,4 +1,4 @@
-//! A packet that docs/ARCHITECTURE.md puts together, step by step.
+//! A packet that docs/ADD_A_PACKET.md puts together, step by step.
 #![tactic(auto)]
 
 pub mod laws;

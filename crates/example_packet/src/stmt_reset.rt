@@ -24,7 +24,7 @@ impl ConstFault for InvalidComStmtResetHeader {
 /// | Bytes | Field |
 /// |---|---|
 /// | 1 | the byte `1a` |
-/// | 4 | `stmt_id`, the low byte first |
+/// | 4 | `stmt_id`, little-endian |
 ///
 /// Fewer than five bytes are refused as `UnexpectedEof`, another first byte as `InvalidData`.
 #[derive(Clone, Debug, PartialEq, Eq, Drop)]

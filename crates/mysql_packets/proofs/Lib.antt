@@ -6,6 +6,7 @@ pub mod OkRefused
 pub mod HandshakeRefused
 pub mod Decimals
 pub mod Inputs
+pub mod Outputs
 pub mod Rows
 pub mod BulkAnswers
 pub mod Calls

@@ -1,6 +1,5 @@
 -- What the program answers.
-use Rattle.std.specs.Prelude.{◌≡◌, ℕ, List, [], ◌++◌, length, Option, Ok, Err, codes}
-use Rattle.std.specs.Io.KnownBytes.{Appends}
+use Rattle.std.specs.Prelude.{◌≡◌, ℕ, List, [], ◌++◌, length, Ok, Err, codes}
 use Rattle.mysql_wire.specs.declared.fault.FaultOf.{FaultOf}
 use Rattle.mysql_wire.specs.declared.fault.FaultOf.TheVariants as fault
 use Rattle.mysql_wire.specs.declared.fault.FaultKind.{FaultKind}
@@ -49,11 +48,3 @@ out_of_memory = record { text = codes "refused: Memory\n"; status = 1 }
 abbrev pub of_reading : {A : Type 0} → (A → ℕ → List ℕ) → Reading A → Answer
 of_reading lines (Ok x) = done (lines x.0 (length x.1))
 of_reading lines (Err k) = refused [] k
-
--- the lines of the answer stand behind what the writer held, and its status is given
-abbrev pub IsWritten : Answer → Option (List ℕ) → Option (List ℕ) → ℕ → Type 0
-IsWritten answer old new status = Appends old new answer.text × (status ≡ answer.status)
-
--- a read or a write failed, which the status 3 says; what then stands in the writer is not known
-abbrev pub IsFailedReadOrWrite : ℕ → Type 0
-IsFailedReadOrWrite status = status ≡ 3

@@ -8,6 +8,7 @@ pub mod Named
 pub mod BulkCall
 pub mod Lines
 pub mod Answer
+pub mod Output
 pub mod Stmt
 pub mod Infile
 pub mod Column

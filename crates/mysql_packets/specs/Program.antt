@@ -2,9 +2,10 @@
 use Rattle.std.specs.Prelude.{◌≡◌, ◌⊎◌, ℕ, List, true, false, Option, Some, None}
 use Rattle.mysql_packets.specs.declared.command.Command.{Command}
 use Rattle.mysql_packets.specs.declared.command.Command.TheVariants as command
-use Rattle.mysql_packets.specs.Answer.{Answer, IsWritten, usage, out_of_memory}
+use Rattle.mysql_packets.specs.Answer.{Answer, usage, out_of_memory}
 use Rattle.mysql_packets.specs.Command.{reads_input}
 use Rattle.mysql_packets.specs.Input.{GaveAll}
+use Rattle.mysql_packets.specs.Output.{IsWritten, IsUnread}
 use Rattle.mysql_packets.specs.Stmt.{stmt_answer}
 use Rattle.mysql_packets.specs.Infile.{infile_answer}
 use Rattle.mysql_packets.specs.Column.{column_answer}
@@ -36,7 +37,8 @@ pub record IsCommandAnswered (c : Command) (before after old new : Option (List 
   pub answers : AnswersCommand c input answer
   pub written : IsWritten answer old new status
 
--- a bad call was told; or a command was answered, or a growth was refused, which is told
+-- a bad call was told; or a command was answered, or a growth was refused, which is told, or its input was not read
 abbrev pub IsAnswered : Option Command → Option (List ℕ) → Option (List ℕ) → Option (List ℕ) → Option (List ℕ) → ℕ → Type 0
 IsAnswered None before after old new status = IsWritten usage old new status
-IsAnswered (Some c) before after old new status = IsCommandAnswered c before after old new status ⊎ IsWritten out_of_memory old new status
+IsAnswered (Some c) before after old new status =
+    IsCommandAnswered c before after old new status ⊎ IsWritten out_of_memory old new status ⊎ ((reads_input (Some c) ≡ true) × IsUnread old new status)

@@ -1,4 +1,6 @@
 //! The packets of the MySQL and MariaDB protocol under one roof, and the program that shows them.
+//!
+//! A crate that reads or writes packets depends on this one alone: the modules have the original's names.
 #![tactic(auto)]
 
 mod answer;
@@ -6,15 +8,22 @@ mod bulk_call;
 mod capabilities;
 mod command;
 mod commands;
+pub mod constants;
 mod decimal;
 mod digits;
 mod input;
+pub mod io;
 mod lines;
+pub mod misc;
+mod output;
 pub mod packets;
+pub mod params;
 mod parts;
 mod program;
+pub mod proto;
 pub mod row;
 mod row_text;
+pub mod value;
 mod word;
 
 pub use program::{refuse_memory, run};

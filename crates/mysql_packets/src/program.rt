@@ -1,14 +1,16 @@
 //! The program: what it writes for the words behind its name, and its status.
 
-ghost use Rattle.std.specs.Prelude.{◌≡◌, ◌⊎◌, IfOk, Some, true, false, map, string_bytes};
-ghost use Rattle.mysql_packets.specs.Answer.{IsFailedReadOrWrite, IsWritten, out_of_memory};
+ghost use Rattle.std.specs.Prelude.{◌≡◌, IfOk, OnErr, Some, true, false, map, string_bytes};
+ghost use Rattle.mysql_packets.specs.Answer.{out_of_memory};
 ghost use Rattle.mysql_packets.specs.Command.{command_of, reads_input};
 ghost use Rattle.mysql_packets.specs.Input.{GaveAll};
+ghost use Rattle.mysql_packets.specs.Output.{IsWritten};
 ghost use Rattle.mysql_packets.specs.Program.{IsAnswered};
 
 use crate::answer::USAGE;
 use crate::command::Command;
 use crate::input::{InputError, read_input};
+use crate::output::write_front;
 use std::alloc::Global;
 use std::io::{Read, Write};
 
@@ -19,13 +21,14 @@ use std::io::{Read, Write};
 /// | 0 | done; the lines are written |
 /// | 1 | refused; the last line is `refused: NAME` |
 /// | 2 | a bad call; the one line is `usage: mypackets COMMAND ARGS` |
-/// | 3 | a read or write failed; some of the lines may be written |
+/// | 3 | a read failed, and nothing is written; or a write failed, and a front of the lines is written |
 ///
 /// The words are judged first, which takes no memory. `bulk` alone then reads: all of the input, before the first line
 /// is written, by at most 1,048,576 calls of `read`. An input that has not ended by then is a failed read. Where a
 /// growth is refused, the one line is `refused: Memory` and the status 1. Only a failed read or write gives 3.
+#[tactic(auto, using(crate::proofs::Outputs::keeps_same))]
 pub fn run<R: Read, W: Write>(alloc: Global, args: &[String], reader: &mut R, writer: &mut W) -> u8
-    ensures answer { IsFailedReadOrWrite result ⊎ IsAnswered (command_of (map string_bytes args.now)) (R.remaining reader.old) (R.remaining reader.new) (W.contents writer.old) (W.contents writer.new) result }
+    ensures answer { IsAnswered (command_of (map string_bytes args.now)) (R.remaining reader.old) (R.remaining reader.new) (W.contents writer.old) (W.contents writer.new) result }
     ensures unread { reads_input (command_of (map string_bytes args.now)) ≡ false → reader.new ≡ reader.old }
 {
     let Some(command) = Command::of(args) else {
@@ -42,7 +45,7 @@ pub fn run<R: Read, W: Write>(alloc: Global, args: &[String], reader: &mut R, wr
     }
 }
 
-/// The input, where the command reads it.
+/// The input, where the command reads it; only that may fail.
 fn input_of<R: Read>(
     alloc: Global,
     command: &Command<'_>,
@@ -50,6 +53,7 @@ fn input_of<R: Read>(
 ) -> Result<Vec<u8>, InputError>
     ensures read { reads_input (Some command.now) ≡ true → IfOk result (λ input. GaveAll (R.remaining reader.old) (R.remaining reader.new) input.items) }
     ensures unread { reads_input (Some command.now) ≡ false → reader.new ≡ reader.old }
+    ensures err { OnErr result (reads_input (Some command.now) ≡ true) }
 {
     if command.reads_input() {
         read_input(alloc, reader)
@@ -60,17 +64,18 @@ fn input_of<R: Read>(
 
 /// Writes that a growth was refused, `refused: Memory`, and answers 1, or 3 where the write failed.
 pub fn refuse_memory<W: Write>(writer: &mut W) -> u8
-    ensures value { IsFailedReadOrWrite result ⊎ IsWritten out_of_memory (W.contents writer.old) (W.contents writer.new) result }
+    ensures value { IsWritten out_of_memory (W.contents writer.old) (W.contents writer.new) result }
 {
     write_lines(writer, "refused: Memory\n", 1)
 }
 
-/// Writes the lines, and answers the status, or 3 where the write failed.
+/// Writes the lines, and answers the status, or 3 where a write failed: a front of the lines is written then.
 fn write_lines<W: Write>(writer: &mut W, text: &str, status: u8) -> u8
-    ensures value { IsFailedReadOrWrite result ⊎ IsWritten (record { text = text.now; status = status }) (W.contents writer.old) (W.contents writer.new) result }
+    ensures value { IsWritten (record { text = text.now; status = status }) (W.contents writer.old) (W.contents writer.new) result }
 {
-    match writer.write_all(text.as_bytes()) {
-        Ok(()) => status,
-        Err(_) => 3,
+    if write_front(writer, text.as_bytes()) {
+        status
+    } else {
+        3
     }
 }

@@ -1,10 +1,13 @@
 //! The tour of the README, as a test.
 
-use mysql_bulk::{BulkRun, ComStmtBulkExecuteRequestBuilder};
-use mysql_replies::{CommonOkPacket, OkPacket, OkPacketDeserializer};
-use mysql_stmt::StmtPacket;
-use mysql_values::Value;
-use mysql_wire::{CapabilityFlags, MySerialize, ParseBuf};
+use mysql_packets::constants::CapabilityFlags;
+use mysql_packets::io::ParseBuf;
+use mysql_packets::packets::{
+    BulkRun, ComStmtBulkExecuteRequestBuilder, CommonOkPacket, OkPacket, OkPacketDeserializer,
+    StmtPacket,
+};
+use mysql_packets::proto::MySerialize;
+use mysql_packets::value::Value;
 use std::alloc::Global;
 use std::test::Fail;
 
@@ -16,14 +19,13 @@ fn statement(alloc: Global, payload: &[u8], out: &mut Vec<u8>) -> Result<(u32, u
     Ok((packet.statement_id(), packet.num_columns()))
 }
 
-/// How many changes of the session an OK packet tells of.
+/// How many changes of the session an OK packet has.
 fn changes(alloc: Global, payload: &[u8]) -> Result<usize, Fail> {
-    let mut answer = ParseBuf::new(alloc, payload);
-    let ok: OkPacketDeserializer<'_, CommonOkPacket> = answer.parse(
-        CapabilityFlags::CLIENT_SESSION_TRACK,
-    )?;
+    let mut buf = ParseBuf::new(alloc, payload);
+    let flags = CapabilityFlags::CLIENT_SESSION_TRACK;
+    let ok: OkPacketDeserializer<'_, CommonOkPacket> = buf.parse(flags)?;
     let ok: OkPacket<'_> = ok.into_inner();
-    let changes = ok.session_state_info(alloc)?; // the whole list that the state string spells, or the first fault
+    let changes = ok.session_state_info(alloc)?; // every change of the session, or the first fault
     Ok(changes.len())
 }
 
@@ -45,7 +47,7 @@ fn a_statement_is_read_and_written(rt: HostRuntime) -> Result<(), Fail> {
 }
 
 #[test]
-fn an_ok_packet_tells_of_one_change(rt: HostRuntime) -> Result<(), Fail> {
+fn an_ok_packet_has_one_change(rt: HostRuntime) -> Result<(), Fail> {
     let payload = b"\x00\x00\x00\x02\x40\x00\x00\x00\x11\x00\x0f\x0aautocommit\x03OFF";
     assert_eq!(rt; changes(rt.alloc(), payload)?, 1);
     Ok(())

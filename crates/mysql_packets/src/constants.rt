@@ -1,0 +1,8 @@
+//! Flag words and codes.
+
+pub use mysql_wire::{
+    BinlogDumpFlags, CapabilityFlags, ColumnFlags, ColumnType, CursorType, FlagNames, FlagWord,
+    Flags, MariadbBulkIndicator, MariadbCapabilities, SessionStateType, StatusFlags,
+    StmtBulkExecuteFlags, StmtExecuteParamFlags, StmtExecuteParamsFlags, UnknownColumnType,
+    UnknownMariadbBulkIndicator, UnknownSessionStateType,
+};

@@ -1,0 +1,3 @@
+//! The parameters of a statement.
+
+pub use mysql_values::{Params, ParamsError};

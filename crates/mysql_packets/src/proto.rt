@@ -1,0 +1,6 @@
+//! What is read and what is written, and the two protocols of rows.
+
+pub use mysql_values::{Binary, Text};
+pub use mysql_wire::{
+    AnyWidth, Fixed, MyDeserialize, MySerialize, Width, append_items, items_len, read_all,
+};
