@@ -23,7 +23,7 @@ call bench_statements_read, bench_statements_written, bench_columns_read, bench_
 
 struct batch {
     uint8_t *bytes;
-    size_t len, room;
+    size_t len, capacity;
 };
 
 static uint64_t state = 88172645463325252u;
@@ -39,9 +39,9 @@ static uint64_t varied(void)
 
 static void put(struct batch *batch, const void *bytes, size_t len)
 {
-    if (batch->room - batch->len < len) {
-        batch->room = 2 * batch->room + len;
-        batch->bytes = realloc(batch->bytes, batch->room);
+    if (batch->capacity - batch->len < len) {
+        batch->capacity = 2 * batch->capacity + len;
+        batch->bytes = realloc(batch->bytes, batch->capacity);
         if (!batch->bytes)
             exit(3);
     }
@@ -67,7 +67,7 @@ static void put_statement(struct batch *batch)
     put_number(batch, varied() % 4, 2);
 }
 
-/* bytes of a length from 1 to most, behind that length (a length-encoded string, most being below 251) */
+/* bytes of a length from 1 to most, after that length (a length-encoded string, most being below 251) */
 static void put_string(struct batch *batch, size_t most)
 {
     uint8_t bytes[256];
@@ -78,7 +78,7 @@ static void put_string(struct batch *batch, size_t most)
     put(batch, bytes, 1 + len);
 }
 
-/* what `fill` puts, behind its length in two bytes */
+/* what `fill` puts, after its length in two bytes */
 static void put_framed(struct batch *batch, void (*fill)(struct batch *))
 {
     size_t start = batch->len, len;
@@ -193,7 +193,7 @@ static void put_bulk_row(struct batch *batch)
         put_number(batch, 'a' + varied() % 26, 1);
 }
 
-/* a handshake of MariaDB 10.11, whose scrambles and numbers vary: 31 bytes behind the version, then the second scramble
+/* a handshake of MariaDB 10.11, whose scrambles and numbers vary: 31 bytes after the version, then the second scramble
  * and the plugin's name, which end in a zero */
 static void fill_handshake(struct batch *batch)
 {
@@ -229,7 +229,7 @@ static void put_text(struct batch *batch, const char *text)
 }
 
 /* a response of MariaDB's Connector/C, whose scramble varies: 32 bytes, the user, the scramble, the plugin's name, and
- * attributes of the connection behind their length */
+ * attributes of the connection after their length */
 static void fill_response(struct batch *batch)
 {
     static const char *const attributes[] = { "_os", "Linux", "_client_name", "libmariadb", "_pid", "15147",

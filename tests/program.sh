@@ -12,8 +12,8 @@ ln -s -- "$top/mypackets" linked
 passed=0
 failed=0
 
-# judge WHAT TEXT: a text says what is wrong
-judge() {
+# hold WHAT TEXT: a text says what is wrong
+hold() {
     if [[ -z $2 ]]; then
         passed=$((passed + 1))
     else
@@ -32,7 +32,7 @@ compare() {
     elif ! cmp -s errors <(printf '%s' "$4"); then
         wrong="it wrote to standard error: $(head -c 400 errors)"
     fi
-    judge "$1" "$wrong"
+    hold "$1" "$wrong"
 }
 
 # expect WHAT STATUS OUTPUT COMMAND ..: on what stands in the file input, it writes the lines of OUTPUT and
@@ -48,7 +48,7 @@ fails_to_write() {
     local status=$? wrong=
     ((status == 3)) || wrong="it ended with status $status, and not 3"
     [[ -s errors ]] && wrong="it wrote to standard error: $(head -c 400 errors)"
-    judge "$1" "$wrong"
+    hold "$1" "$wrong"
 }
 
 usage=$'usage: mypackets COMMAND ARGS\n'
@@ -56,7 +56,7 @@ statement=$'statement_id: 1\nnum_columns: 1\nnum_params: 2\nwarning_count: 0\nre
 : >input
 
 "$top/mypackets" >build_output 2>build_errors
-judge 'the first call' "$( (($? == 2)) || cat build_errors)"
+hold 'the first call' "$( (($? == 2)) || cat build_errors)"
 if ((failed > 0)); then
     printf '%d passed, %d failed\n' "$passed" "$failed"
     exit 1
@@ -103,8 +103,8 @@ bytes: $dump
 longer=1e04002a0000000000000004000000000000005e00000000020000000000013e11fa4771ca11e19e33c80aa942956206617070010000000000000001000000000000006400000000000000a0b1c2d3e4f56789abcdef01234567890001000000000000000100000000000000320000000000000000
 expect 'a dump by GTID set' 0 "$dump_lines" "$top/mypackets" gtid "$dump"
 expect 'a dump by GTID set, read strictly' 0 "$dump_lines" "$top/mypackets" gtidstrict "$dump"
-expect 'a byte behind the last sid' 0 "$dump_lines" "$top/mypackets" gtid "$longer"
-expect 'a byte behind the last sid, read strictly' 1 $'refused: InvalidData\n' "$top/mypackets" gtidstrict "$longer"
+expect 'a byte after the last sid' 0 "$dump_lines" "$top/mypackets" gtid "$longer"
+expect 'a byte after the last sid, read strictly' 1 $'refused: InvalidData\n' "$top/mypackets" gtidstrict "$longer"
 expect 'the text of a sid' 0 $'sid: 3e11fa47-71ca-11e1-9e33-c80aa9429562:domain_a:5\n' "$top/mypackets" \
     sid 3E11FA47-71CA-11E1-9E33-C80AA9429562:domain_a:5-5
 expect 'the text of no sid' 1 $'refused: Gno\n' "$top/mypackets" sid 3E11FA47-71CA-11E1-9E33-C80AA9429562:4-3
@@ -147,7 +147,7 @@ bulk_on $'\n' 'an empty row' 0 $'request: fa010000008000\nrequests: 1\nrows: 1\n
 bulk_on $'i1\ni1 i2\n' 'rows of two lengths' 1 $'refused: MixedArity\n' 1 31
 bulk_on "i1
 b$(printf '%0200d' 0)
-" 'a row too large behind another' 1 $'request: fa0100000080000800000100000000000000\nrefused: RowTooLarge\n' 1 31
+" 'a row too large after another' 1 $'request: fa0100000080000800000100000000000000\nrefused: RowTooLarge\n' 1 31
 bulk_on $'N\ni5\n' 'a row too large with types' 1 $'request: fa010000008000060001\nrefused: RowTooLarge\n' 1 21 types
 bulk_on $'i1\nx\n' 'a line that is no row' 2 "$usage" 1 31
 bulk_on $'i1\n' 'a limit below 4' 2 "$usage" 1 3
@@ -155,7 +155,7 @@ bulk_on $'i1\n' 'no row a request' 2 "$usage" 1 31 rows=0
 bulk_on $'i1\n' 'options in the other order' 2 "$usage" 1 31 rows=1 types
 fails_to_write 'bulk requests on a full device' "$top/mypackets" bulk 1 31
 "$top/mypackets" bulk 1 31 <. >output 2>errors
-judge 'an input that cannot be read' "$( (($? == 3)) && [[ ! -s output && ! -s errors ]] || printf 'it did not end with status 3 alone')"
+hold 'an input that cannot be read' "$( (($? == 3)) && [[ ! -s output && ! -s errors ]] || printf 'it did not end with status 3 alone')"
 
 # unproved WHAT STATUS OUTPUT WORD ..: on what comes from the file input with a pause, the program without proof
 # writes OUTPUT, and says that nothing was proved; it takes half a minute on a quiet host, and more than 40 seconds are
@@ -179,7 +179,7 @@ fewest: yes
 
 # A repository of two libraries, and an rt that builds nothing, for what the first run says.
 mkdir -p -- small/bin small/crates/{upper,lower,mypackets}/{src,specs,proofs} && cp -- "$top/mypackets" small/
-printf '%s\n' 'mypackets: upper kit' 'upper: lower  # behind the one below it' 'lower:' 'other: upper' >small/crates.txt
+printf '%s\n' 'mypackets: upper kit' 'upper: lower  # after the one below it' 'lower:' 'other: upper' >small/crates.txt
 printf '%s\n' '#!/bin/sh' 'test "$1" = lib && sleep "${LIB_SECONDS:-0}" && exit "${LIB_STATUS:-0}"' \
     'printf "#!/bin/sh\necho ran\n" >out/new.$$ && chmod +x out/new.$$ && mv out/new.$$ out/mypackets' \
     "echo 'usage: mypackets COMMAND ARGS'" 'exit 2' >small/bin/rt

@@ -68,13 +68,13 @@ class Mutant:
             else:
                 raise SystemExit(f"{path}: a line that does not fit: {line}")
 
-    def put_into(self, room):
+    def put_into(self, copy):
         """Changes the texts of a copy of the library. The answer is why it can't be applied, or no text."""
         for file, old, new in self.changes:
-            text = (room / file).read_text()
+            text = (copy / file).read_text()
             if text.count(old) != 1:
                 return f"its old text stands {text.count(old)} times in {file}: {old.strip()}"
-            (room / file).write_text(text.replace(old, new))
+            (copy / file).write_text(text.replace(old, new))
         return ""
 
 
@@ -92,7 +92,7 @@ def words(name, listed, functions):
     return command + ["--jobs", "1"] + [word for it in functions for word in ("--only", it)]
 
 
-def judged(mutant, said, text):
+def verdict(mutant, said, text):
     """Whether a mutant is refused, and what is said of its function: a goal that the search did not prove, or its own proof that fails."""
     line = said.get(mutant.function)
     if line is None:
@@ -115,15 +115,15 @@ def tried(name, listed):
     if len({it.function for it in mutants}) < len(mutants):
         raise SystemExit(f"mutants: two of {name} change one function")
     with tempfile.TemporaryDirectory(prefix="mutants-") as folder:
-        room = Path(folder)
+        copy = Path(folder)
         for part in ("src", "specs", "proofs"):
             if (TOP / "crates" / name / part).is_dir():
-                shutil.copytree(TOP / "crates" / name / part, room / part)
-        unfit = {it.name: it.put_into(room) for it in mutants}
-        ran = subprocess.run(words(name, listed, [it.function for it in mutants]), cwd=room, capture_output=True, text=True, errors="replace")
+                shutil.copytree(TOP / "crates" / name / part, copy / part)
+        unfit = {it.name: it.put_into(copy) for it in mutants}
+        ran = subprocess.run(words(name, listed, [it.function for it in mutants]), cwd=copy, capture_output=True, text=True, errors="replace")
     text = ran.stdout + ran.stderr
     said = dict(LINE.findall(text))
-    found = [(it.name, *((False, unfit[it.name]) if unfit[it.name] else judged(it, said, text))) for it in mutants]
+    found = [(it.name, *((False, unfit[it.name]) if unfit[it.name] else verdict(it, said, text))) for it in mutants]
     print(f"{name}: {sum(ok for _, ok, _ in found)} of {len(found)} mutants refused in {time.time() - began:.0f} s", flush=True)
     return [(f"{name}/{mutant}", ok, why) for mutant, ok, why in found]
 

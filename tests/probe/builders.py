@@ -13,7 +13,7 @@ import copy
 import random
 import sys
 
-from lines import PROBES, answers, built, judged, vectors
+from lines import PROBES, answers, built, summary, vectors
 from tried import tried
 
 SEQUENCES = 500
@@ -51,7 +51,7 @@ def shown(row):
 
 
 def written(value):
-    """A value's bytes behind its indicator."""
+    """A value's bytes after its indicator."""
     kind, held = value
     if kind == "x":
         assert len(held) < 251
@@ -255,15 +255,15 @@ class Session:
 
     def call_iter(self, argument, taken=row_of):
         count, _, words = argument.partition(":")
-        run, told = Run(self.builder, words.split("/"), taken), []
+        run, answered = Run(self.builder, words.split("/"), taken), []
         for _ in range(int(count)):
             try:
-                told.append(run.next())
+                answered.append(run.next())
             except Refused as refused:
-                told.append(refused.answer)
+                answered.append(refused.answer)
         self.carried = run.carried
         carried = "none" if run.carried is None else shown(run.carried)
-        return " ".join(told + [f"asked={run.asked}", f"carried={carried}"])
+        return " ".join(answered + [f"asked={run.asked}", f"carried={carried}"])
 
     def call_params(self, argument):
         return self.call_iter(argument, self.taken)
@@ -345,15 +345,15 @@ def main(*programs):
     requests = rows + random_requests()
     expected = [modelled(it) for it in requests]
     if programs == ("--unproved",):
-        told = [tried(requests, PROBES["statements"])]
+        answered = [tried(requests, PROBES["statements"])]
     else:
-        told = [answers(it, requests) for it in programs or built("statements")]
+        answered = [answers(it, requests) for it in programs or built("statements")]
     passed, failures = 0, []
-    for lines in told:
+    for lines in answered:
         differ = [f"{asked}\n  {line}\n  is not\n  {right}" for asked, line, right in zip(requests, lines, expected) if line != right]
         passed += len(lines) - len(differ)
         failures += differ
-    return judged("builders", passed, failures)
+    return summary("builders", passed, failures)
 
 
 if __name__ == "__main__":

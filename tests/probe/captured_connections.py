@@ -4,7 +4,7 @@ import json
 
 from lines import TOP
 from malformed import Reading
-from told import teller
+from described import describer
 
 KINDS = {"handshake": "handshake", "handshake_response": "response", "auth_switch_request": "auth_switch",
          "auth_switch_request_old": "old_switch", "auth_more_data": "auth_more_data", "ssl_request": "tls",
@@ -16,7 +16,7 @@ def x(text):
     return "x" + text.encode().hex()
 
 
-# what was reported, as what the probe tells: name, name there, and how it is written
+# what was reported, as what the probe shows: name, name there, and how it is written
 REPORTED = {
     "server_version": ("server_version", x), "server_version_without_5.5.5_prefix": ("server_version", lambda it: x(f"5.5.5-{it}")),
     "scramble": ("nonce", lambda it: f"x{it}"), "auth_plugin": ("auth_plugin_name", x), "pos": ("pos", str), "file": ("filename", x),
@@ -31,7 +31,7 @@ def dumped_file():
 
 
 def further(packet, asked, words):
-    """What else must be told of a packet, as what it is, whether it is so; and what that depends on."""
+    """What else must be answered of a packet, as what it is, whether it is so; and what that depends on."""
     expected = {key: value for source in packet.get("expected", {}).values() for key, value in source.items()}
     kind = packet["kind"]
     if "server_version_id" in expected:
@@ -49,12 +49,12 @@ def further(packet, asked, words):
     if kind == "semi_sync_ack":
         yield "the file of the dump", f"filename={x(dumped_file())}" in words
     if kind == "change_user":
-        # (the packet has no getters: what the second reading finds is what is written, and read again)
-        (user, _data, database), _more = Reading(teller(asked), bytes.fromhex(packet["payload"])).words.record
+        # (the packet has no getters: what the reference decoder finds is what is written, and read again)
+        (user, _data, database), _more = Reading(describer(asked), bytes.fromhex(packet["payload"])).words.record
         yield "the user and the database", (user.decode(), database.decode()) == (expected["user"], expected["db"])
 
 
 def differing(packet, asked, answer):
     """What differs of that; and how many reports there are."""
-    told = list(further(packet, asked, answer.split(" ")))
-    return len(told), [f"{what} is another" for what, is_so in told if not is_so]
+    answered = list(further(packet, asked, answer.split(" ")))
+    return len(answered), [f"{what} is another" for what, is_so in answered if not is_so]

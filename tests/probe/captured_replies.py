@@ -1,6 +1,6 @@
 """The captured replies, statements, rows and bulk executions: what is asked of each, and what differs from what was reported.
 
-A report of None tells nothing, but for the info of an OK packet."""
+A report of None says nothing, but for the info of an OK packet."""
 import json
 from itertools import zip_longest
 
@@ -18,12 +18,12 @@ READ_ALONE = {"ok_common": "ok CAPS", "ok_terminator": "ok_end CAPS", "eof_old":
 WRITTEN_ALONE = {"stmt_close": "close {stmt_id}", "stmt_send_long_data": "long_data {stmt_id} {param} {data}"}
 KINDS = {*WRITTEN_AGAIN, *READ_ALONE, *WRITTEN_ALONE}
 
-# names that an API gives, and those that the probe tells
+# names that an API gives, and those that the probe shows
 TEXTS = {"db": "schema", "table": "table", "org_table": "org_table", "name": "name", "org_name": "org_name", "sqlstate": "sql_state", "message": "message"}
 NUMBERS = {"charsetnr": "character_set", "length": "column_length", "type": "column_type", "flags": "flags", "decimals": "decimals",
            "errno": "error", "affected_rows": "affected_rows", "server_status": "status_flags", "warnings": "warnings",
            "stage": "stage", "max_stage": "max_stage", "stmt_id": "statement_id", "field_count": "num_columns", "param_count": "num_params"}
-# what may change in a session, by its type: the name that an API gives, and the names of the words that tell it
+# what may change in a session, by its type: the name that an API gives, and the names of the words that describe it
 CHANGES = {0: ("system_variables", ("name", "value")), 1: ("schema", ("schema",)), 2: ("state_change", ("data",)), 3: ("gtids", ("gtids",)),
            4: ("transaction_characteristics", ("characteristics",)), 5: ("transaction_state", ("state",))}
 
@@ -55,7 +55,7 @@ def request(packet):
 
 
 def reported(packet):
-    """The words that must be told of a packet, by what was reported."""
+    """The words that must be answered of a packet, by what was reported."""
     api = packet.get("expected", {}).get("api", {})
     words = [f"{TEXTS[name]}=x{value.encode().hex()}" for name, value in api.items() if name in TEXTS and value is not None]
     words += [f"{NUMBERS[name]}={int(value)}" for name, value in api.items() if name in NUMBERS and value is not None]
@@ -71,7 +71,7 @@ def reported(packet):
 
 
 def changes(words):
-    """What the words tell of a session, as an API reports it."""
+    """What the words describe of a session, as an API reports it."""
     found, kind = {}, None
     for word in words:
         name, _, value = word.partition("=")
@@ -85,13 +85,13 @@ def changes(words):
 def differing_rows(packet, words):
     """The values of rows, and what was reported of them where something was."""
     if packet["kind"] == "stmt_bulk_execute":
-        told = [it.removeprefix("values=").split(",") for it in words if it.startswith("values=")]
+        answered = [it.removeprefix("values=").split(",") for it in words if it.startswith("values=")]
         wanted = bound_rows(packet, PACKETS)[1]
     else:
-        told, wanted = [words[1:words.index("rest=0")]], [row_of(packet, columns(packet).count(",") + 1)]
-    if len(told) != len(wanted):
-        return 0, [f"{len(wanted)} rows were reported, and not {len(told)}"]
-    pairs = [pair for row in zip(told, wanted) for pair in zip_longest(*row, fillvalue="nothing")]
+        answered, wanted = [words[1:words.index("rest=0")]], [row_of(packet, columns(packet).count(",") + 1)]
+    if len(answered) != len(wanted):
+        return 0, [f"{len(wanted)} rows were reported, and not {len(answered)}"]
+    pairs = [pair for row in zip(answered, wanted) for pair in zip_longest(*row, fillvalue="nothing")]
     # (whether a number is one without a sign is not reported)
     wrong = [f"{right} was reported, and not {value}" for value, right in pairs if right not in ("-", value, "n" + value[1:])]
     return sum(right != "-" for _, right in pairs), wrong
@@ -119,6 +119,6 @@ def differing(packet, answer):
         wrong += [] if flags % 0x8000 == api["flags_low15"] else [f"flags {api['flags_low15']} were reported"]
     if "session_track" in api:
         wanted.append("session_track")
-        told = changes(words)
-        wrong += [] if told == {name: value for name, value in api["session_track"].items() if value} else [f"{api['session_track']} were reported, and not {told}"]
+        answered = changes(words)
+        wrong += [] if answered == {name: value for name, value in api["session_track"].items() if value} else [f"{api['session_track']} were reported, and not {answered}"]
     return len(wanted), wrong

@@ -1,6 +1,6 @@
 """The words for captured values: what an API reported of rows, and what was handed in for bulk executions.
 
-They are the probe's words, but for an integer, which is a number behind an n; '-' stands for a value of which nothing is known."""
+They are the probe's words, but for an integer, which is a number after an n; '-' stands for a value of which nothing is known."""
 import re
 import struct
 
@@ -72,7 +72,7 @@ def row_of(packet, count):
 
 
 def handed_word(kind, handed):
-    """The word for a value that was handed in, or for an indicator, behind which no value stands."""
+    """The word for a value that was handed in, or for an indicator, after which no value stands."""
     if handed in (None, "DEFAULT", "IGNORE"):
         return "N"
     if isinstance(handed, dict):

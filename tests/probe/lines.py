@@ -73,7 +73,7 @@ def differing(found, lines):
     return [f"{it.place()}\n  {' '.join(words)}\n  is not\n  {' '.join(it.wanted)}" for it, words in pairs if words != it.wanted]
 
 
-def judged(name, passed, failures, most=20):
+def summary(name, passed, failures, most=20):
     for it in failures[:most]:
         print(f"{name}: {it}")
     print(f"{passed} passed, {len(failures)} failed")

@@ -8,8 +8,8 @@ import multiprocessing
 import random
 import sys
 
-from lines import answers, built, judged, vectors
-from told import Buf, Eof, Invalid, teller
+from lines import answers, built, summary, vectors
+from described import Buf, Eof, Invalid, describer
 
 EDGES = [0x00, 0x7F, 0xFB, 0xFC, 0xFD, 0xFE, 0xFF]
 # What may be written longer than it was: a state of tracking always has one digit, and texts with a bare length get their own.
@@ -60,7 +60,7 @@ def seeds_of(probe):
     seeds = []
     for it in vectors(probe):
         head, _, digits = it.request.rpartition(" ")
-        if teller(it.request) and it.wanted[:1] == ["read"]:
+        if describer(it.request) and it.wanted[:1] == ["read"]:
             seeds.append((head, bytes.fromhex(digits)))
     return seeds
 
@@ -80,13 +80,13 @@ def inputs(probe, count, seed):
 
 
 class Reading:
-    """A reading of some bytes by the reference decoder: what must be told, and what is left; or the kind of the refusal."""
+    """A reading of some bytes by the reference decoder: what must be answered, and what is left; or the kind of the refusal."""
 
-    def __init__(self, teller_, content):
+    def __init__(self, describer_, content):
         buf = Buf(content)
         self.words, self.refused = [], ""
         try:
-            self.words = teller_(buf)
+            self.words = describer_(buf)
         except Eof:
             self.refused = "UnexpectedEof"
         except Invalid:
@@ -96,46 +96,46 @@ class Reading:
 
 def can_be_made(words):
     """Whether the `with_` calls make such a record: those of a dump by sids set its flag for them where there are some, and clear it elsewhere."""
-    told = dict(it.partition("=")[::2] for it in words)
-    return "sids" not in told or (int(told["flags"]) & 4 != 0) == (told["sids"] != "0")
+    answered = dict(it.partition("=")[::2] for it in words)
+    return "sids" not in answered or (int(answered["flags"]) & 4 != 0) == (answered["sids"] != "0")
 
 
-def wrong(teller_, content, answer):
+def wrong(describer_, content, answer):
     """What is wrong with an answer, or nothing."""
     words = answer.split(" ")
-    right = Reading(teller_, content)
+    right = Reading(describer_, content)
     if right.refused or words[0] == "refused":
         return "" if words[:3] == ["refused", right.refused, "kept"] else f"the reference decoder: {right.refused or right.words}"
     count = len(right.words)
     if words[:1 + count] != ["read", *right.words]:
         return f"the reference decoder: {' '.join(right.words)}"
-    told = dict(it.partition("=")[::2] for it in words[1 + count:])
-    if told.get("rest") != str(right.left):
+    answered = dict(it.partition("=")[::2] for it in words[1 + count:])
+    if answered.get("rest") != str(right.left):
         return f"the reference decoder leaves {right.left}"
-    if "made" in told and told["made"] != ("same" if can_be_made(right.words) else "other"):
+    if "made" in answered and answered["made"] != ("same" if can_be_made(right.words) else "other"):
         return "what is made of the fields is another record, or is no other where it must be"
-    if "written" not in told:
+    if "written" not in answered:
         return ""
     taken = len(content) - right.left
-    size = int(told["len"])
-    if size > taken and not teller_.may_grow:
+    size = int(answered["len"])
+    if size > taken and not describer_.may_grow:
         return "it is written longer than it was"
-    written = content[:size] if told["written"] == "same" else bytes.fromhex(told["written"][1:])
+    written = content[:size] if answered["written"] == "same" else bytes.fromhex(answered["written"][1:])
     if len(written) != size:
         return f"its length is said to be {size}"
-    again = Reading(teller_, written)
+    again = Reading(describer_, written)
     same = (again.words, getattr(again.words, "record", None)) == (right.words, getattr(right.words, "record", None)) and not again.refused and not again.left
-    if "again" in told and told["again"] != ("refused" if again.refused else "same" if same else "other"):
+    if "again" in answered and answered["again"] != ("refused" if again.refused else "same" if same else "other"):
         return f"the reference decoder, of what is written: {again.refused or again.words}"
     return ""
 
 
 def part(task):
-    """Makes, asks and judges a part of the inputs: how many, what failed, and how many answers of each kind there are."""
+    """Makes, asks and compares a part of the inputs: how many, what failed, and how many answers of each kind there are."""
     probe, seed, count = task
     requests = list(inputs(probe, count, seed))
     lines = answers(built(probe)[0], [f"{head} {content.hex()}" for head, content in requests])
-    return (len(requests), *judge(requests, lines))
+    return (len(requests), *compare(requests, lines))
 
 
 def main(count="2000000"):
@@ -144,22 +144,22 @@ def main(count="2000000"):
           "those of seed 0 have all cuts, turned bits and edges before them", flush=True)
     whole, failures, kinds = 0, [], {}
     with multiprocessing.Pool() as pool:
-        for made, wrong_, told in pool.imap_unordered(part, tasks):
+        for made, wrong_, answered in pool.imap_unordered(part, tasks):
             whole += made
             failures += wrong_
-            kinds = {kind: kinds.get(kind, 0) + told.get(kind, 0) for kind in {*kinds, *told}}
+            kinds = {kind: kinds.get(kind, 0) + answered.get(kind, 0) for kind in {*kinds, *context}}
     print(f"malformed input: {whole} inputs, {kinds}")
-    return judged("malformed input", whole - len(failures), failures, 10)
+    return summary("malformed input", whole - len(failures), failures, 10)
 
 
-def judge(requests, lines):
+def compare(requests, lines):
     """The failures, and how many answers of each kind there are."""
-    tellers, failures, kinds = {}, [], {}
+    describers, failures, kinds = {}, [], {}
     for (head, content), answer in zip(requests, lines):
-        if head not in tellers:
-            tellers[head] = teller(f"{head} 00")
-            tellers[head].may_grow = head.startswith(MAY_GROW)
-        why = wrong(tellers[head], content, answer)
+        if head not in describers:
+            describers[head] = describer(f"{head} 00")
+            describers[head].may_grow = head.startswith(MAY_GROW)
+        why = wrong(describers[head], content, answer)
         if why:
             failures.append(f"{head} {content.hex()}\n  {answer}\n  {why}")
         kinds[answer.split(" ")[0]] = kinds.get(answer.split(" ")[0], 0) + 1

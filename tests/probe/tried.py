@@ -28,13 +28,13 @@ def parts(requests):
 def tried(requests, crate):
     """What a probe answers to each request, without any proof."""
     lists = list(parts(requests))
-    with tempfile.TemporaryDirectory() as room:
+    with tempfile.TemporaryDirectory() as folder:
         for number, part in enumerate(lists):
-            (Path(room) / f"{number:04}").write_text("".join(f"{it}\n" for it in part))
-        ran = subprocess.run(["rt", "try", "--steps", "1", "--cases", room], cwd=TOP / "crates" / crate, stdin=subprocess.DEVNULL,
+            (Path(folder) / f"{number:04}").write_text("".join(f"{it}\n" for it in part))
+        ran = subprocess.run(["rt", "try", "--steps", "1", "--cases", folder], cwd=TOP / "crates" / crate, stdin=subprocess.DEVNULL,
                              capture_output=True, text=True)
-    told = re.split(r"^== (\d{4})\n", ran.stdout, flags=re.M)[1:]
-    lines = {int(number): [it for it in text.splitlines() if not it.startswith(("case=", "cases="))] for number, text in zip(told[::2], told[1::2])}
+    answered = re.split(r"^== (\d{4})\n", ran.stdout, flags=re.M)[1:]
+    lines = {int(number): [it for it in text.splitlines() if not it.startswith(("case=", "cases="))] for number, text in zip(answered[::2], answered[1::2])}
     for number, part in enumerate(lists):
         if len(lines.get(number, [])) != len(part):
             raise SystemExit(f"the probe could not be tried: {len(lines.get(number, []))} answers to {len(part)} requests, "

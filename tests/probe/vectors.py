@@ -8,7 +8,7 @@ vectors.py --write PROBE FILE    prints the requests of a file with their answer
 import sys
 from pathlib import Path
 
-from lines import PROBES, answers, built, differing, judged, plain, vectors
+from lines import PROBES, answers, built, differing, summary, plain, vectors
 from tried import tried
 
 
@@ -28,7 +28,7 @@ def main(how="", *names):
             differ = differing(found, lines)
             passed += len(found) - len(differ)
             wrong += differ
-    return judged("vectors", passed, wrong)
+    return summary("vectors", passed, wrong)
 
 
 if __name__ == "__main__":

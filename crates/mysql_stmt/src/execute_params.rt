@@ -8,7 +8,7 @@ use crate::null_bitmap::NullBitmap;
 use crate::sent_values::{ParamTypes, SentValues};
 use mysql_values::{ClientSide, Value};
 use mysql_wire::{
-    BareBytes, Const, End, Parts, RawBytes, Sink, StmtExecuteParamsFlags, items_len, parts,
+    BareBytes, Const, Parts, RawBytes, Sink, StmtExecuteParamsFlags, items_len, parts,
 };
 use std::alloc::{AllocError, Global};
 use std::borrow::CowSlice;
@@ -91,7 +91,7 @@ impl Parts for ExecuteParams<'_> {
     #[tactic(auto, using(crate::proofs::ParamLengths::whole))]
     fn put<S: Sink>(&self, sink: &mut S) {
         if self.values.is_empty() {
-            sink.part(&End);
+            sink.part(&parts!());
         } else {
             let bitmap: RawBytes<'_, WrittenBitmap> = RawBytes::new(CowSlice::Borrowed(
                 self.bitmap.as_bytes(),

@@ -98,6 +98,14 @@ impl<'a, R> RawBytes<'a, R> {
         self.as_bytes().to_str_lossy(alloc)
     }
 
+    /// The content, in the slice or the `Vec` that holds it.
+    #[inline(always)]
+    pub fn into_inner(self) -> CowSlice<'a, u8>
+        ensures value { cow_slice_items result ≡ self.entry }
+    {
+        self.0
+    }
+
     /// The same content, on memory of its own.
     ///
     /// Where memory is refused, the string is given up.

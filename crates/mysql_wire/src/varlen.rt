@@ -92,7 +92,7 @@ pub fn read_varlen_uint<'s>(buf: &mut ParseBuf<'_>) -> Result<u64, FaultOf<'s>>
 /// eight bytes. The buffer grows once at the most.
 ///
 /// Where that growth is refused, the buffer is as it was.
-pub fn write_varlen_uint(value: u64, out: &mut Vec<u8>) -> Result<(), AllocError>
+pub fn write_varlen_uint(out: &mut Vec<u8>, value: u64) -> Result<(), AllocError>
     ensures ok { OnOk result (out.new.items ≡ out.old.items ++ varlen_bytes value) }
     ensures err { OnErr result (out.new.items ≡ out.old.items) }
 {

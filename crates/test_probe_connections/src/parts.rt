@@ -147,7 +147,7 @@ fn tell_varlen(out: &mut Out, value: u64) -> Result<(), AllocError> {
     let alloc = out.alloc();
     out.number("size", varlen_uint_size(value) as u64)?;
     let mut buffer = Vec::from_slice(alloc, b"\xaa")?;
-    match counted!(alloc; write_varlen_uint(value, &mut buffer)) {
+    match counted!(alloc; write_varlen_uint(&mut buffer, value)) {
         Ok(()) => out.bytes(
             "shortest",
             buffer.as_slice().strip_prefix(b"\xaa").unwrap_or(b""),

@@ -1,10 +1,10 @@
 """What is shown of values and of bulk requests, by the reference decoder."""
-import tell  # noqa: F401  (it finds the reference decoder)
+import describe  # noqa: F401  (it finds the reference decoder)
 
-from second_reading import codes, statements, values
-from second_reading.buf import Buf, Invalid
+from reference_decoder import codes, statements, values
+from reference_decoder.buf import Buf, Invalid
 
-from tell import x
+from describe import x
 
 
 def word_of(value, unsigned=False):
@@ -88,29 +88,29 @@ def bulk_head(buf, columns):
     # (all of their bytes have to be there before one is looked at)
     sent = Buf(buf.take(2 * len(columns))) if flags & 128 else None
     types = [statements.bulk_type(sent) for _ in columns] if sent else []
-    told = [(code, codes.UNSIGNED if sent & 128 else 0) for code, sent in types] or columns
-    return head + [f"bulk_flags={flags}"] + [word for code, sent in types for word in (f"type={code}", f"flags={sent}")], told
+    answered = [(code, codes.UNSIGNED if sent & 128 else 0) for code, sent in types] or columns
+    return head + [f"bulk_flags={flags}"] + [word for code, sent in types for word in (f"type={code}", f"flags={sent}")], answered
 
 
 def bulk(buf, columns):
-    head, told = bulk_head(buf, columns)
-    cells = [bulk_cell(buf, it) for it in told]
+    head, answered = bulk_head(buf, columns)
+    cells = [bulk_cell(buf, it) for it in answered]
     row, indicators = ",".join(word for _, word in cells) or "()", "".join(str(it) for it, _ in cells)
     return head + [f"values={row}", f"indicators={indicators}."]
 
 
 def bulk_rows(buf, columns):
-    _, told = bulk_head(buf, columns)
+    _, answered = bulk_head(buf, columns)
     rows = []
     while buf.data:
         before = len(buf.data)
-        rows.append("values=" + ",".join(bulk_cell(buf, it)[1] for it in told))
+        rows.append("values=" + ",".join(bulk_cell(buf, it)[1] for it in answered))
         if len(buf.data) == before:
             raise Invalid
     return rows
 
 
-TELLERS = {
+DESCRIBERS = {
     "value_text": lambda: text_value,
     "value": lambda column: lambda buf: value(buf, column_of(column)),
     "cell": lambda column: lambda buf: [cell(buf, column_of(column))],

@@ -1,4 +1,4 @@
-"""What each name of reader.rt stands for: a reading, told what stands behind the name there."""
+"""What each name of reader.rt stands for: a reading, answered what stands after the name there."""
 from . import authentication, replication, replies, statements, values
 from .buf import Buf, counted, to_the_end
 from .codes import COLUMN_TYPES

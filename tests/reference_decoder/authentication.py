@@ -52,8 +52,8 @@ def handshake_response(buf):
     plugin = None
     if capabilities & PLUGIN_AUTH:
         plugin = buf.null_string() if 0 in buf.data else buf.all()
-    told = attributes(buf) if capabilities & CONNECT_ATTRS else None
-    return capabilities, packet_size, collation, mariadb, user, data, database, plugin, told
+    answered = attributes(buf) if capabilities & CONNECT_ATTRS else None
+    return capabilities, packet_size, collation, mariadb, user, data, database, plugin, answered
 
 
 def change_user(buf, capabilities):

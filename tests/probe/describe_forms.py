@@ -1,7 +1,7 @@
 """What is shown of wire forms, by the reference decoder."""
-from tell import READERS, by, lossy, x
+from describe import READERS, by, lossy, x
 
-from second_reading.buf import Invalid, to_the_end
+from reference_decoder.buf import Invalid, to_the_end
 
 
 def value(record):
@@ -38,7 +38,7 @@ CODES = {"column_type": "ColumnType", "bulk_indicator": "BulkIndicator", "sessio
 WORDS = {"capability_flags": "LeU32", "mariadb_capabilities": "LeU32", "cursor_type": "U8", "column_flags": "LeU16",
          "dump_flags": "LeU16", "bulk_flags": "LeU16", "param_flags": "U8", "params_flags": "U8"}
 LISTS = {"seq": "Seq", "seq_of_bytes": "SeqOfByteStrings"}
-TELLS = [(NUMBERS, value), (STRINGS, content), (CONSTANTS, nothing), (CODES, code), (WORDS, code), (LISTS, counted)]
+DESCRIBES = [(NUMBERS, value), (STRINGS, content), (CONSTANTS, nothing), (CODES, code), (WORDS, code), (LISTS, counted)]
 OF_COUNT = {"bare_bytes": ("BareBytes", content), "block": ("Block", bare),
             "seq_of_count": ("SeqOfACountHandedIn", counted)}
 TO_THE_END = {"all": "LeU64", "all_of_bytes": "LenEncBytes"}
@@ -52,12 +52,12 @@ def all_of_nothing(buf):
 
 def form(name, *count):
     """A form's reading, with the count that is handed in."""
-    for names, tell in TELLS:
+    for names, describe in DESCRIBES:
         if name in names:
-            return by(names[name], tell)
+            return by(names[name], describe)
     if name in OF_COUNT:
-        reader, tell = OF_COUNT[name]
-        return by(reader, tell, int(count[0]))
+        reader, describe = OF_COUNT[name]
+        return by(reader, describe, int(count[0]))
     if name in TO_THE_END:
         return lambda buf: counted(to_the_end(buf, READERS[TO_THE_END[name]]))
     if name == "all_of_nothing":
@@ -67,7 +67,7 @@ def form(name, *count):
     return lambda buf: bare(buf.take(2))  # (array_of_2)
 
 
-TELLERS = {
+DESCRIBERS = {
     "form": form,
     "varlen": lambda: by("VarLen", value),
 }

@@ -39,21 +39,21 @@ def bulk_head(buf, columns):
     buf.const(b"\xfa")
     stmt_id, flags = buf.number(4), buf.number(2)
     types = [bulk_type(buf) for _ in columns] if flags & 128 else []
-    told = [(code, UNSIGNED if sent & 128 else 0) for code, sent in types] or columns
-    return (stmt_id, flags, types), told
+    answered = [(code, UNSIGNED if sent & 128 else 0) for code, sent in types] or columns
+    return (stmt_id, flags, types), answered
 
 
 def bulk_request(buf):
-    head, told = bulk_head(buf, COLUMNS)
-    return head, [bulk_value(buf, *column) for column in told]
+    head, answered = bulk_head(buf, COLUMNS)
+    return head, [bulk_value(buf, *column) for column in answered]
 
 
 def bulk_rows(buf):
-    _head, told = bulk_head(buf, COLUMNS[:1])
+    _head, answered = bulk_head(buf, COLUMNS[:1])
 
     def row(buf):
         before = len(buf.data)
-        values = [bulk_value(buf, *column)[1] for column in told]
+        values = [bulk_value(buf, *column)[1] for column in answered]
         if len(buf.data) == before:
             raise Invalid
         return values

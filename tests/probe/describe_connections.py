@@ -1,9 +1,9 @@
 """What is shown of authentication and replication, by the reference decoder."""
 import re
 
-from tell import by, lossy, numbers, x
+from describe import by, lossy, numbers, x
 
-from second_reading.fields import PLUGINS
+from reference_decoder.fields import PLUGINS
 
 
 def plugin(name):
@@ -19,11 +19,11 @@ def version(name, pattern, text):
 
 
 def mariadb_version(text):
-    told = version("maria_db", rb"5\.5\.5-" + VERSION + b"-MariaDB", text)
-    return told if len(told) > 1 else version("maria_db", VERSION + b"-MariaDB", text)
+    answered = version("maria_db", rb"5\.5\.5-" + VERSION + b"-MariaDB", text)
+    return answered if len(answered) > 1 else version("maria_db", VERSION + b"-MariaDB", text)
 
 
-def tell_handshake(record):
+def describe_handshake(record):
     protocol, text, connection, first, second, capabilities, collation, status, mariadb, name = record
     return (numbers(("protocol_version",), (protocol,)) + [f"server_version={x(text)}"] + numbers(("connection_id",), (connection,))
             + [f"scramble_1={x(first)}", f"scramble_2={x(second)}"]
@@ -38,7 +38,7 @@ def nonce(first, second):
     return (first + (second or b""))[:20].ljust(20, b"\0")
 
 
-def tell_response(record):
+def describe_response(record):
     capabilities, _size, collation, mariadb, user, data, database, name, attributes = record
     words = numbers(("capabilities", "collation", "mariadb"), (capabilities, collation, mariadb))
     words += [f"user={x(user)}", f"scramble_buf={x(data)}", f"db_name={x(database)}", plugin(name) if name is not None else "plugin=none"]
@@ -50,7 +50,7 @@ def tell_response(record):
     return words + [f"attributes={len(texts)}"] + [word for k, v in texts.items() for word in (f"key={k}", f"value={v}")]
 
 
-def tell_plugin(name):
+def describe_plugin(name):
     words = [plugin(name), f"variant={VARIANTS.get(name, 'Other')}"]
     return words + (["iterations=0", "salt=x" + "00" * 18] if name == b"parsec" else [])
 
@@ -60,17 +60,17 @@ VARIANTS = {b"mysql_old_password": "MysqlOldPassword", b"mysql_clear_password": 
             b"client_ed25519": "Ed25519", b"parsec": "MariadbParsec"}
 
 
-def tell_tls(record):
+def describe_tls(record):
     fields, _mariadb = record
     return numbers(("capabilities", "max_packet_size", "character_set"), fields)
 
 
-def tell_switch(record):
+def describe_switch(record):
     name, data = record
     return [plugin(name), f"plugin_data={x(data[:-1] if data.endswith(bytes(1)) else data)}"]
 
 
-def tell_register(record):
+def describe_register(record):
     server, texts, port, rank, master = record
     keys = ("hostname", "user", "password")
     return ([f"server_id={server}"] + [f"{k}={x(v)}" for k, v in zip(keys, texts)]
@@ -78,60 +78,60 @@ def tell_register(record):
             + [f"{k}_str={lossy(v)}" for k, v in zip(keys, texts)])
 
 
-def tell_sid(sid):
+def describe_sid(sid):
     uuid, tag, intervals = sid
     return ([f"uuid={x(uuid)}", f"tag={tag.decode() or 'none'}", f"intervals={len(intervals)}"]
             + [word for start, end in intervals for word in (f"start={start}", f"end={end}")])
 
 
-def tell_shown_sid(sid):
+def describe_shown_sid(sid):
     """A sid in the form without tags, and its text: the last number of an interval is the one before its end."""
     uuid, _tag, intervals = sid
     digits = uuid.hex()
     text = "-".join((digits[:8], digits[8:12], digits[12:16], digits[16:20], digits[20:]))
     shown = [str(start) if end and start == end - 1 else f"{start}-{max(end - 1, 0)}" for start, end in intervals]
-    return tell_sid(sid) + [f"shown={':'.join([text, *shown])}"]
+    return describe_sid(sid) + [f"shown={':'.join([text, *shown])}"]
 
 
-def tell_binlog_dump(record):
+def describe_binlog_dump(record):
     *found, name = record
     return numbers(("pos", "flags", "server_id"), found) + [f"filename={x(name)}", f"filename_str={lossy(name)}"]
 
 
-def tell_ack(record):
+def describe_ack(record):
     position, name = record
     return [f"position={position}", f"filename={x(name)}", f"filename_str={lossy(name)}"]
 
 
-def tell_table(record):
+def describe_table(record):
     database, table = record
     return [f"database={x(database)}", f"table={x(table)}", f"database_str={lossy(database)}", f"table_str={lossy(table)}"]
 
 
-def tell_gtid(record):
+def describe_gtid(record):
     flags, server, name, position, sids = record
     return ([f"server_id={server}", f"flags={flags}", f"filename={x(name)}", f"filename_str={lossy(name)}", f"pos={position}",
-             f"sids={len(sids)}"] + [word for sid in sids for word in tell_sid(sid)])
+             f"sids={len(sids)}"] + [word for sid in sids for word in describe_sid(sid)])
 
 
-TELLERS = {
-    "handshake": lambda: by("HandshakePacket", tell_handshake),
-    "response": lambda: by("HandshakeResponse", tell_response),
+DESCRIBERS = {
+    "handshake": lambda: by("HandshakePacket", describe_handshake),
+    "response": lambda: by("HandshakeResponse", describe_response),
     "change_user": lambda caps: by("ComChangeUser", lambda it: [], int(caps)),
     "more_data": lambda caps: by("ComChangeUserMoreData", lambda it: [], int(caps)),
-    "auth_switch": lambda: by("AuthSwitchRequest", tell_switch),
+    "auth_switch": lambda: by("AuthSwitchRequest", describe_switch),
     "old_switch": lambda: by("OldAuthSwitchRequest", lambda it: [plugin(b"mysql_old_password")]),
     "auth_more_data": lambda: by("AuthMoreData", lambda it: [f"data={x(it[1])}"]),
     "key_request": lambda: by("PublicKeyRequest", lambda it: []),
     "key": lambda: by("PublicKeyResponse", lambda it: [f"rsa_key={lossy(it[1])}"]),
-    "tls": lambda: by("SslRequest", tell_tls),
-    "plugin": lambda: by("AuthPlugin", tell_plugin),
-    "register_slave": lambda: by("ComRegisterSlave", tell_register),
-    "table_dump": lambda: by("ComTableDump", tell_table),
-    "binlog_dump": lambda: by("ComBinlogDump", tell_binlog_dump),
-    "semi_sync_ack": lambda: by("SemiSyncAckPacket", tell_ack),
+    "tls": lambda: by("SslRequest", describe_tls),
+    "plugin": lambda: by("AuthPlugin", describe_plugin),
+    "register_slave": lambda: by("ComRegisterSlave", describe_register),
+    "table_dump": lambda: by("ComTableDump", describe_table),
+    "binlog_dump": lambda: by("ComBinlogDump", describe_binlog_dump),
+    "semi_sync_ack": lambda: by("SemiSyncAckPacket", describe_ack),
     "interval": lambda: by("GnoInterval", lambda it: numbers(("start", "end"), it)),
-    "sid_bytes": lambda: by("Sid", tell_shown_sid),
-    "gtid": lambda: by("ComBinlogDumpGtid", tell_gtid),
-    "gtid_strict": lambda: by("StrictDumpGtid", tell_gtid),
+    "sid_bytes": lambda: by("Sid", describe_shown_sid),
+    "gtid": lambda: by("ComBinlogDumpGtid", describe_gtid),
+    "gtid_strict": lambda: by("StrictDumpGtid", describe_gtid),
 }

@@ -4,7 +4,7 @@ from pathlib import Path
 
 sys.path.insert(0, str(Path(__file__).resolve().parent.parent))
 
-from second_reading.readers import READERS  # noqa: E402
+from reference_decoder.readers import READERS  # noqa: E402
 
 
 def x(content):
@@ -19,16 +19,16 @@ def numbers(names, values):
     return [f"{name}={'none' if value is None else value}" for name, value in zip(names, values)]
 
 
-class Told(list):
-    """What is told of a record, and the record."""
+class Described(list):
+    """What is answered of a record, and the record."""
 
     record = None
 
 
-def by(reader, tell, *told):
+def by(reader, describe, *context):
     def read(buf):
-        record = READERS[reader](buf, *told)
-        words = Told(tell(record))
+        record = READERS[reader](buf, *context)
+        words = Described(describe(record))
         words.record = record
         return words
     read.reader = reader

@@ -1,12 +1,12 @@
 """What is shown of replies, of session changes, of statements and of rows, by the reference decoder."""
-from tell import READERS, by, lossy, numbers, x
-from tell_values import cell, columns_of, word_of
+from describe import READERS, by, lossy, numbers, x
+from describe_values import cell, columns_of, word_of
 
-from second_reading import replies, values
-from second_reading.buf import Buf, Eof, Invalid, to_the_end
+from reference_decoder import replies, values
+from reference_decoder.buf import Buf, Eof, Invalid, to_the_end
 
 
-def tell_column(record):
+def describe_column(record):
     names, (charset, length, kind, flags, decimals) = record
     keys = "schema table org_table name org_name".split()
     return ([f"{k}={x(v)}" for k, v in zip(keys, names)]
@@ -19,7 +19,7 @@ def shown_progress(stage, most, progress, info):
     return f"Stage: {stage} of {most} '{info.decode('utf-8', 'replace')}'  {whole}% of stage done"
 
 
-def tell_err(record):
+def describe_err(record):
     if len(record) == 4:
         stage, most, progress, info = record
         return (numbers(("stage", "max_stage", "progress"), record) + [f"stage_info={x(info)}", f"stage_info_str={lossy(info)}"]
@@ -30,37 +30,37 @@ def tell_err(record):
     return [f"error={code}", f"sql_state={x(state)}", f"message={x(message)}", f"message_str={lossy(message)}", f"shown={x(shown.encode())}"]
 
 
-def tell_infos(data):
+def describe_infos(data):
     try:
         infos = to_the_end(Buf(data), READERS["SessionStateInfo"])
     except Eof:
         return ["changes=UnexpectedEof"]
     except Invalid:
         return ["changes=InvalidData"]
-    return [f"changes={len(infos)}"] + [word for it in infos for word in tell_info(it)]
+    return [f"changes={len(infos)}"] + [word for it in infos for word in describe_info(it)]
 
 
-def tell_ok(record):
+def describe_ok(record):
     numbers_, status, warnings, (info, state) = record
     rows, insert_id = numbers_ or (0, None)
     return (numbers(("affected_rows", "last_insert_id", "status_flags", "warnings"), (rows, insert_id, status, warnings))
-            + [f"info={x(info)}", f"session_state_info={x(state)}", f"info_str={lossy(info)}"] + tell_infos(state or b""))
+            + [f"info={x(info)}", f"session_state_info={x(state)}", f"info_str={lossy(info)}"] + describe_infos(state or b""))
 
 
-def tell_eof(record):
+def describe_eof(record):
     warnings, status = record
-    return tell_ok((None, status, warnings, (None, None)))
+    return describe_ok((None, status, warnings, (None, None)))
 
 
-def tell_text(text):
+def describe_text(text):
     return [f"bytes={x(text)}", f"as_str={lossy(text)}"]
 
 
-def tell_state(state):
+def describe_state(state):
     return [f"sql_state={x(state)}", f"sql_state_str={lossy(state)}"]
 
 
-def tell_variable(record):
+def describe_variable(record):
     name, value = record
     return [f"name={x(name)}", f"value={x(value)}", f"name_str={lossy(name)}", f"value_str={lossy(value)}"]
 
@@ -68,24 +68,24 @@ def tell_variable(record):
 TEXTS = {1: "schema", 3: "gtids", 4: "characteristics", 5: "state"}
 
 
-def tell_change(kind, record):
+def describe_change(kind, record):
     if kind == 2:
         return ["is_tracked=" + ("yes" if record else "no")]
     if kind == 0:
-        return [f"variables={len(record)}"] + [word for it in record for word in (*tell_variable(it), "variable=same")]
+        return [f"variables={len(record)}"] + [word for it in record for word in (*describe_variable(it), "variable=same")]
     return [f"{TEXTS[kind]}={x(record)}", f"as_str={lossy(record)}"]
 
 
-def tell_other_change(buf):
+def describe_other_change(buf):
     text = replies.session_state_change(buf, 1)
-    return tell_text(text)
+    return describe_text(text)
 
 
-def tell_info(record):
+def describe_info(record):
     kind, data = record
     words = [f"data_type={kind}", f"data={x(data)}"]
     try:
-        return words + ["change=read"] + tell_change(kind, replies.session_state_change(Buf(data), kind))
+        return words + ["change=read"] + describe_change(kind, replies.session_state_change(Buf(data), kind))
     except Eof:
         return words + ["change=UnexpectedEof"]
     except Invalid:
@@ -94,10 +94,10 @@ def tell_info(record):
 
 def ok_body(capabilities):
     """An OK packet without its first byte."""
-    return lambda buf: tell_ok(replies.ok_packet(buf, int(capabilities), b"", True))
+    return lambda buf: describe_ok(replies.ok_packet(buf, int(capabilities), b"", True))
 
 
-def tell_stmt(record):
+def describe_stmt(record):
     (statement, columns, params), warnings = record
     return numbers(("statement_id", "num_columns", "num_params", "warning_count"), (statement, columns, params, warnings))
 
@@ -115,10 +115,10 @@ def text_row(buf, columns):
 def bitmap(side, count):
     reader, offset = {"client": ("ClientBitmap", 0), "server": ("ServerBitmap", 2)}[side]
 
-    def tell(content):
+    def describe(content):
         bits = int.from_bytes(content, "little") >> offset
         return [f"bytes={x(content)}"] + [f"null={i}" for i in range(64) if bits >> i & 1]
-    return by(reader, tell, int(count))
+    return by(reader, describe, int(count))
 
 
 # constant fields, by their names
@@ -127,28 +127,28 @@ MARKERS = {"ColumnDefinitionCatalog": b"\x03def", "FixedLengthFieldsLen": b"\x0c
            "ComStmtSendLongDataHeader": b"\x18", "IterationCount": b"\1\0\0\0"}
 
 
-TELLERS = {
-    "column": lambda: by("Column", tell_column),
-    "err": lambda caps: by("ErrPacket", tell_err, int(caps)),
-    "ok": lambda caps: by("CommonOkPacket", tell_ok, int(caps)),
-    "ok_end": lambda caps: by("ResultSetTerminator", tell_ok, int(caps)),
-    "ok_eof": lambda caps: by("OldEofPacket", tell_eof, int(caps)),
-    "ok_stream": lambda caps: by("NetworkStreamTerminator", tell_eof, int(caps)),
+DESCRIBERS = {
+    "column": lambda: by("Column", describe_column),
+    "err": lambda caps: by("ErrPacket", describe_err, int(caps)),
+    "ok": lambda caps: by("CommonOkPacket", describe_ok, int(caps)),
+    "ok_end": lambda caps: by("ResultSetTerminator", describe_ok, int(caps)),
+    "ok_eof": lambda caps: by("OldEofPacket", describe_eof, int(caps)),
+    "ok_stream": lambda caps: by("NetworkStreamTerminator", describe_eof, int(caps)),
     "local_infile": lambda: by("LocalInfilePacket", lambda it: [f"file_name={x(it[1])}", f"file_name_str={lossy(it[1])}"]),
     "ok_body": ok_body,
-    "session_info": lambda: by("SessionStateInfo", tell_info),
-    "server_error": lambda code, state: by("ServerError", tell_err, int(code), state == "1"),
-    "sql_state": lambda: by("SqlState", tell_state),
-    "progress": lambda: by("ProgressReport", tell_err),
-    "change": lambda kind: tell_other_change if kind == "other" else lambda buf: tell_change(int(kind), replies.session_state_change(buf, int(kind))),
-    "schema": lambda: by("Schema", tell_text),
-    "gtids": lambda: by("Gtids", tell_text),
-    "characteristics": lambda: by("TransactionCharacteristics", tell_text),
-    "state": lambda: by("TransactionState", tell_text),
-    "unsupported": lambda: by("Unsupported", tell_text),
-    "variable": lambda: by("SystemVariable", tell_variable),
-    "variables": lambda: by("SystemVariables", lambda it: tell_change(0, it)),
-    "stmt": lambda: by("StmtPacket", tell_stmt),
+    "session_info": lambda: by("SessionStateInfo", describe_info),
+    "server_error": lambda code, state: by("ServerError", describe_err, int(code), state == "1"),
+    "sql_state": lambda: by("SqlState", describe_state),
+    "progress": lambda: by("ProgressReport", describe_err),
+    "change": lambda kind: describe_other_change if kind == "other" else lambda buf: describe_change(int(kind), replies.session_state_change(buf, int(kind))),
+    "schema": lambda: by("Schema", describe_text),
+    "gtids": lambda: by("Gtids", describe_text),
+    "characteristics": lambda: by("TransactionCharacteristics", describe_text),
+    "state": lambda: by("TransactionState", describe_text),
+    "unsupported": lambda: by("Unsupported", describe_text),
+    "variable": lambda: by("SystemVariable", describe_variable),
+    "variables": lambda: by("SystemVariables", lambda it: describe_change(0, it)),
+    "stmt": lambda: by("StmtPacket", describe_stmt),
     "row": lambda columns: lambda buf: binary_row(buf, columns_of(columns), 2),
     "row_client": lambda columns: lambda buf: binary_row(buf, columns_of(columns), 0),
     "row_text": lambda columns: lambda buf: text_row(buf, columns_of(columns)),

@@ -1,4 +1,0 @@
-"""A second reading of the packets, by the protocol's pages: it shares nothing with the crates.
-
-Each reading takes a Buf, and what the reader is told; it gives the record, or raises Eof or Invalid.
-"""
