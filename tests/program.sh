@@ -159,7 +159,7 @@ hold 'an input that cannot be read' "$( (($? == 3)) && [[ ! -s output && ! -s er
 
 # unproved WHAT STATUS OUTPUT WORD ..: on what comes from the file input with a pause, the program without proof
 # writes OUTPUT, and says that nothing was proved; it takes half a minute on a quiet host, and more than 40 seconds are
-# told. One whose processors other guests share may take some times as long: only a run that seems never to end fails
+# printed. One whose processors other guests share may take some times as long: only a run that seems never to end fails
 unproved() {
     local began=$SECONDS
     (cat input && sleep 3) | timeout 900 "$top/mypackets" --unproved "${@:4}" >output 2>errors
@@ -178,18 +178,18 @@ fewest: yes
 ' bulk 1 31
 
 # A repository of two libraries, and an rt that builds nothing, for what the first run says.
-mkdir -p -- small/bin small/crates/{upper,lower,mypackets}/{src,specs,proofs} && cp -- "$top/mypackets" small/
-printf '%s\n' 'mypackets: upper kit' 'upper: lower  # after the one below it' 'lower:' 'other: upper' >small/crates.txt
+mkdir -p -- small/bin small/crates/{mysql_upper,mysql_lower,mypackets}/{src,specs,proofs,out} && cp -- "$top/mypackets" small/
+printf '%s\n' 'mysql_lower:' 'mysql_upper: mysql_lower  # after the one below it' 'mypackets: mysql_upper kit' 'other: mysql_upper' >small/crates.txt
 printf '%s\n' '#!/bin/sh' 'test "$1" = lib && sleep "${LIB_SECONDS:-0}" && exit "${LIB_STATUS:-0}"' \
     'printf "#!/bin/sh\necho ran\n" >out/new.$$ && chmod +x out/new.$$ && mv out/new.$$ out/mypackets' \
     "echo 'usage: mypackets COMMAND ARGS'" 'exit 2' >small/bin/rt
 chmod +x small/bin/rt
-first='mypackets: proves and builds the program and its 2 libraries, which takes ten to twenty minutes on four processors
+first='mypackets: proves and builds the program and its libraries, which takes ten to twenty minutes on four processors
 mypackets: meanwhile ./mypackets --unproved WORDS answers in half a minute, without proof
-mypackets: lower, 1 of 3
+mypackets: mysql_lower
 '
-first_run="${first}mypackets: upper, 2 of 3
-mypackets: mypackets, 3 of 3
+first_run="${first}mypackets: mysql_upper
+mypackets: mypackets
 "
 PATH=$PWD/small/bin:$PATH
 LIB_STATUS=7 small/mypackets stmt >output 2>errors
@@ -200,7 +200,7 @@ compare 'a first run' 0 $'ran\n' "$first_run" "$?"
 small/mypackets stmt >output 2>errors
 compare 'a second run' 0 $'ran\n' '' "$?"
 # (each begins to build before the other has ended)
-rm -- small/crates/mypackets/out/*
+rm -- small/crates/mypackets/out/mypackets
 LIB_SECONDS=0.5 small/mypackets stmt >other_output 2>other_errors &
 # ("$!" names what compare starts, once it has run)
 other=$!
