@@ -1,10 +1,13 @@
 -- A column of a result.
-use Rattle.std.specs.Prelude.{ℕ, List, [], ◌∷◌, codes, refl}
+use Rattle.std.specs.Prelude.{ℕ, Bool, is_ok, List, [], ◌∷◌, codes, refl}
 use Rattle.mysql_wire.specs.declared.codes.column_type.ColumnType.{ColumnType}
 use Rattle.mysql_wire.specs.Codec.{Codec, Fields}
 use Rattle.mysql_wire.specs.Codecs.{◌>>=◌, give, field, packet, const_bytes}
 use Rattle.mysql_wire.specs.Flags.{ColumnFlags}
+use Rattle.mysql_wire.specs.Form as form
+use Rattle.mysql_replies.specs.declared.column.Catalog.{Catalog}
 use Rattle.mysql_replies.specs.declared.column.Column.{Column}
+use Rattle.mysql_replies.specs.declared.column_names.ColumnMeta.{ColumnMeta}
 use Rattle.mysql_replies.specs.ColumnFields.{column_fields, fields_of}
 use Rattle.mysql_replies.specs.ColumnNames.{column_meta, meta_of}
 
@@ -94,3 +97,11 @@ column_parts = do
 
 unfoldable pub column : Codec (Unit {0}) Column
 column = packet column_parts (λ c. refl)
+
+-- the catalog, and the names
+abbrev pub column_front : form.Form ColumnMeta
+column_front = form.◌>>=◌ ((const_bytes {T = Catalog} 4 catalog_bytes).form (tt {0})) (λ catalog. column_meta.form (tt {0}))
+
+-- whether the bytes begin with the catalog and five names
+abbrev pub begins_with_names : List ℕ → Bool
+begins_with_names bytes = is_ok (column_front.reads bytes)
