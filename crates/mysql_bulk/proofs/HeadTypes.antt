@@ -1,5 +1,6 @@
 -- The types of a request are read from a block of two bytes for each.
-use Rattle.std.proofs.Common.{◌≡◌, ℕ, zero, suc, ◌+◌, ◌*◌, ◌<◌, true, List, length, Ok, Err, refl, ap, arith}
+use Rattle.std.proofs.Common.{◌≡◌, ℕ, zero, suc, ◌+◌, ◌*◌, ◌<◌, Bool, true, List, [], length, Ok, Err, refl, ap, arith}
+use Rattle.std.proofs.lemmas.Bool.{le-ltb}
 use Rattle.mysql_wire.proofs.Blocks.{block_length, ended_whole}
 use Rattle.mysql_wire.specs.declared.fault.FaultKind.TheVariants as kind
 use Rattle.mysql_wire.specs.Form.{bytes, give}
@@ -32,3 +33,11 @@ types_read count old block rest left types e q =
 pub types_short : (count : ℕ) (old : List ℕ) → length old < 2 * count → (types_block true count).reads old ≡ Err kind.UnexpectedEof
 unfolding bytes
 types_short count old lt = rw ((bytes (2 * count)).sized.short old lt) refl
+
+-- for no column there is no type
+no_types : (old : List ℕ) → (types_block true 0).reads old ≡ Ok ([], old)
+unfolding bytes counted
+no_types old = rw (le-ltb (length old) 0 (omega arith)) refl
+
+pub no_types_sent : (sent : Bool) (count : ℕ) (types : List ParamType) (old : List ℕ) → sent ≡ true → count ≡ 0 → types ≡ [] → (types_block sent count).reads old ≡ Ok (types, old)
+no_types_sent sent count types old is none empty = rw (is, none, empty) (no_types old)

@@ -13,3 +13,5 @@ pub mod ParamsRunSteps
 pub mod ReadingBack
 pub mod BuilderEq
 pub mod HeadTypes
+pub mod Memory
+pub mod NoColumns

@@ -21,7 +21,7 @@ use Rattle.mysql_bulk.specs.WholeRunRefusal.{equal_front, measure, RefusalOfRows
 use Rattle.mysql_bulk.specs.Request.{BulkRequest, request_flags}
 use Rattle.mysql_bulk.specs.Row.{contents_of_row, first_length, EqualLengths}
 use Rattle.mysql_bulk.specs.Run.{Accepts}
-use Rattle.mysql_bulk.specs.WholeRun.{IsNew, HadMemory, AreRequests, due_after, left_by, EndsBy, RefusalOfList, RunGives}
+use Rattle.mysql_bulk.specs.WholeRun.{IsNew, HadMemory, AreRequests, due_after, left_by, RequestIsDue, EndsBy, RefusalOfList, RunGives}
 
 EqualLengths-push : (a : ℕ) (rows : List (List Content)) (row : List Content) → EqualLengths a rows → length row ≡ a → EqualLengths a (rows ++ row ∷ [])
 EqualLengths-push a [] row e h = (h, tt)
@@ -261,8 +261,8 @@ module _ {s : BuilderState} {all : List (List Content)} {requests : List BulkReq
       (λ n h. packed_fewest (measure s all) r.cut all (subst Q w (subst P (sym (append-nil (rows_in r.cut ++ b.waiting)) ∙ r.whole) (packed_new [] r n))))
 
   -- there was no memory for the next request
-  pub gives_memory : (rest : List (List Content)) → Running s all requests ends sent b rest → b.waiting ≢ [] → RunGives s all requests ends (Some (Request Memory)) b
-  gives_memory rest r w = gives rest (Some (Request Memory)) r w (λ n h. absurd h) (λ n h. cc)
+  pub gives_memory : (rest : List (List Content)) → Running s all requests ends sent b rest → RequestIsDue b rest → RunGives s all requests ends (Some (Request Memory)) b
+  gives_memory rest r due = gives rest (Some (Request Memory)) r due (λ n h. absurd h) (λ n h. cc)
 
   -- parameters gave no row
   pub gives_params : (e : ParamsError) → Running s all requests ends sent b [] → RunGives s all requests ends (Some (Params e)) b

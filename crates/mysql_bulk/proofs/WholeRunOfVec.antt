@@ -17,7 +17,7 @@ use Rattle.mysql_bulk.specs.WholeRunRefusal.{measure}
 use Rattle.mysql_bulk.specs.Request.{BulkRequest}
 use Rattle.mysql_bulk.specs.Row.{contents_of_row, contents_of_rows}
 use Rattle.mysql_bulk.specs.Run.{NextRowAfter, NextRow, AcceptsUntilFull}
-use Rattle.mysql_bulk.specs.WholeRun.{PutsRequest, RunGives}
+use Rattle.mysql_bulk.specs.WholeRun.{RequestIsDue, PutsRequest, RunGives}
 use Rattle.mysql_bulk.proofs.WholeRun.{Running, running_none, running_accepts, running_sends, next_long, fits_from, gives_all, gives_memory, gives_refused}
 
 abbrev pub Input : Type 0
@@ -88,13 +88,18 @@ module _ {s : BuilderState} {all : List (List Content)} {requests : List BulkReq
   pub ends_done : held carried input ≡ [] → b.waiting ≡ [] → RunGives s all requests ends None b
   ends_done e m = let R : List (Vec Value) → Type 0 = λ h. Running s all requests ends sent b (contents_of_rows h) in gives_all (subst R e w.running) m
 
-  -- there is no memory for the next request, and nothing changed
-  pub ends_memory : (t : BuilderState) (more : List BulkRequest) (further : List ℕ) → b.waiting ≢ [] → t ≡ b → more ≡ requests → further ≡ ends → RunGives s all more further (Some (Request Memory)) t
-  ends_memory t more further n x y z =
+  request_is_due : b.waiting ≢ [] → (o : Option (Vec Value)) → IfSome o (λ row. Adds b row (Ok (Some row)) b) → (o ≡ None → held o input ≡ []) → RequestIsDue b (contents_of_rows (held o input))
+  request_is_due n None a e = let D : List (Vec Value) → Type 0 = λ h. RequestIsDue b (contents_of_rows h) in subst D (sym (e refl)) n
+  request_is_due n (Some row) a e = (n, a.0, a.1)
+
+  -- there is no memory for the request that is due, and nothing changed
+  pub ends_memory : (t : BuilderState) (more : List BulkRequest) (further : List ℕ) → b.waiting ≢ [] → IfSome carried (λ row. Adds b row (Ok (Some row)) b) → (carried ≡ None → held carried input ≡ [])
+      → t ≡ b → more ≡ requests → further ≡ ends → RunGives s all more further (Some (Request Memory)) t
+  ends_memory t more further n a e x y z =
       let P : BuilderState → Type 0 = λ u. RunGives s all more further (Some (Request Memory)) u in
       let Q : List BulkRequest → Type 0 = λ q. RunGives s all q further (Some (Request Memory)) b in
       let R : List ℕ → Type 0 = λ e. RunGives s all requests e (Some (Request Memory)) b in
-      subst P (sym x) (subst Q (sym y) (subst R (sym z) (gives_memory (contents_of_rows (held carried input)) w.running n)))
+      subst P (sym x) (subst Q (sym y) (subst R (sym z) (gives_memory (contents_of_rows (held carried input)) w.running (request_is_due n carried a e))))
 
   next_does_not_fit : IfSome carried (λ row. Adds b row (Ok (Some row)) b) → (carried ≡ None → held carried input ≡ [])
       → NextDoesNotFit (measure s all) (types_after (measure s all) s.types_due w.running.cut) b.waiting (contents_of_rows (held carried input))

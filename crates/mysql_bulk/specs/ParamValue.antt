@@ -1,14 +1,15 @@
 -- Values in bulk requests.
-use Rattle.std.specs.Prelude.{ℕ, ◌++◌, Bool, true, false, List, map}
+use Rattle.std.specs.Prelude.{ℕ, ◌++◌, Bool, true, false, List, map, Ok, Err}
 use Rattle.std.specs.List.{flat_map}
 use Rattle.mysql_wire.specs.declared.codes.column_type.ColumnType.{ColumnType}
 use Rattle.mysql_wire.specs.declared.codes.mariadb_bulk_indicator.MariadbBulkIndicator.{MariadbBulkIndicator}
 use Rattle.mysql_wire.specs.declared.codes.mariadb_bulk_indicator.MariadbBulkIndicator.TheVariants.{BULK_INDICATOR_NONE, BULK_INDICATOR_NULL}
 use Rattle.mysql_wire.specs.MariadbBulkIndicator.{mariadb_bulk_indicator, mariadb_bulk_indicator_code}
 use Rattle.mysql_wire.specs.Writing.{le_bytes}
+use Rattle.mysql_wire.specs.Reading.{Reading}
 use Rattle.mysql_wire.specs.Form.{Form, ◌>>=◌, give, either}
 use Rattle.mysql_values.specs.Value.{Content, NULL, bin}
-use Rattle.mysql_values.specs.ValueDeserializer.{bin_value}
+use Rattle.mysql_values.specs.ValueDeserializer.{bin_value, has_bytes}
 
 -- a value as it is sent
 pub record ParamValue : Type 0 where
@@ -40,6 +41,11 @@ param_value column is_unsigned = do
   indicator ← mariadb_bulk_indicator
   content ← either (value_follows indicator.0) (bin_value column is_unsigned) (give NULL)
   give (record { indicator = indicator.0; content = content })
+
+-- a string of at least one byte stands behind the indicator: this alone takes memory
+abbrev pub param_has_bytes : Reading ParamValue → Bool
+param_has_bytes (Ok x) = has_bytes x.0.content
+param_has_bytes (Err e) = false
 
 -- the indicator's byte, and the value's binary form
 abbrev pub param_value_bytes : ParamValue → List ℕ

@@ -1,5 +1,5 @@
 -- The values of a row in a bulk request.
-use Rattle.std.specs.Prelude.{ℕ, List}
+use Rattle.std.specs.Prelude.{ℕ, Bool, false, List, [], ◌∷◌, is_ok}
 use Rattle.mysql_wire.specs.FlagMasks.{UNSIGNED_FLAG}
 use Rattle.mysql_wire.specs.declared.codes.column_type.ColumnType.{ColumnType}
 use Rattle.mysql_wire.specs.Flags.{ColumnFlags, has}
@@ -18,3 +18,8 @@ value_of_column place column = param_value column.0 (has column.1.0 UNSIGNED_FLA
 -- a value of each column
 abbrev pub values_of_columns : List BulkColumn → Form (List ParamValue)
 values_of_columns columns = each value_of_column 0 columns
+
+-- there is a column, and a value of the first one can be read: it is kept in a list
+abbrev pub reads_first : List BulkColumn → List ℕ → Bool
+reads_first [] bytes = false
+reads_first (column ∷ columns) bytes = is_ok ((value_of_column 0 column).reads bytes)

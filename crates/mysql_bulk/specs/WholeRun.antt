@@ -1,5 +1,5 @@
 -- What a whole run gives: all its requests, why it ended, and what it leaves.
-use Rattle.std.specs.Prelude.{◌≡◌, ◌≢◌, ℕ, true, List, [], ◌∷◌, ◌++◌, Option, Some, None, Result, Ok, Err, Bool}
+use Rattle.std.specs.Prelude.{◌≡◌, ◌≢◌, ℕ, true, List, [], ◌∷◌, ◌++◌, length, Option, Some, None, Result, Ok, Err, Bool}
 use Rattle.std.specs.Global.{Vec}
 use Rattle.mysql_cuts.specs.Cut.{rows_in, NoneEmpty, FullFrom, IsFewest, IsFullFromFront, ends_after}
 use Rattle.mysql_values.specs.declared.value.Value.{Value}
@@ -8,7 +8,7 @@ use Rattle.mysql_bulk.specs.declared.error.BulkExecuteRequestError.{BulkExecuteR
 use Rattle.mysql_bulk.specs.declared.error.BulkExecuteRequestError.TheVariants.{MemoryRow, Memory}
 use Rattle.mysql_bulk.specs.declared.error.BulkExecuteRequestBuilderError.{BulkExecuteRequestBuilderError}
 use Rattle.mysql_bulk.specs.declared.error.BulkExecuteRequestBuilderError.TheVariants.{Request, Params}
-use Rattle.mysql_bulk.specs.Builder.{BuilderState, IsRequest, Adds, BuildsRequest, after_request, arity_after}
+use Rattle.mysql_bulk.specs.Builder.{BuilderState, TakesArity, RowFits, IsRequest, Adds, BuildsRequest, after_request, arity_after}
 use Rattle.mysql_bulk.specs.WholeRunRefusal.{RefusalOfRows, equal_front, measure}
 use Rattle.mysql_bulk.specs.Request.{BulkRequest}
 use Rattle.mysql_bulk.specs.Row.{contents_of_row}
@@ -43,12 +43,17 @@ pub record RefusesNextRow (t : BuilderState) (e : BulkExecuteRequestError) (drop
   pub is_next : dropped ≡ contents_of_row row ∷ behind
   pub refused : Adds t row (Err e) t
 
+-- the request of the rows that wait is due: no row is left, or the next one is as long and does not fit with them
+abbrev pub RequestIsDue : BuilderState → List (List Content) → Type 0
+RequestIsDue t [] = t.waiting ≢ []
+RequestIsDue t (row ∷ behind) = (t.waiting ≢ []) × TakesArity t.arity (length row) × (RowFits t row → ⊥)
+
 -- why a run ended that left this builder, and before these rows
 abbrev pub EndsBy : Option BulkExecuteRequestBuilderError → BuilderState → List (List Content) → Type 0
 -- all rows were sent
 EndsBy None t dropped = (t.waiting ≡ []) × (dropped ≡ [])
--- no memory was had for the answer, and the rows of the request that would have been next wait
-EndsBy (Some (Request Memory)) t dropped = t.waiting ≢ []
+-- no memory was had for the answer, and the rows of the request that was due wait
+EndsBy (Some (Request Memory)) t dropped = RequestIsDue t dropped
 EndsBy (Some (Request e)) t dropped = RefusesNextRow t e dropped
 -- parameters gave no row
 EndsBy (Some (Params e)) t dropped = dropped ≡ []

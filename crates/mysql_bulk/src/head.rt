@@ -1,9 +1,9 @@
 //! What stands before the values of a bulk request.
 #![tactic(auto, using(mysql_wire::proofs::Packets::packets), unfolding(crate::specs::Head::head))]
 
-ghost use Rattle.std.specs.Prelude.{true, ◌≡◌, length, IfOk, OnErr, map};
+ghost use Rattle.std.specs.Prelude.{true, ◌≡◌, [], length, IfOk, OnErr, map};
 ghost use Rattle.mysql_wire.specs.Reading.{Answers};
-ghost use Rattle.mysql_wire.specs.Seq.{items_of};
+ghost use Rattle.mysql_wire.specs.Seq.{is_any, items_of};
 ghost use Rattle.mysql_bulk.specs.Head.{head, value_columns, column_of_type, sends_types};
 ghost use Rattle.mysql_bulk.specs.HeadTypes.{types_block};
 
@@ -77,24 +77,28 @@ fn read_types<'s>(count: usize, buf: &mut ParseBuf<'_>) -> Result<Vec<ParamType>
     Ok(owned_types(buf.alloc(), types)?)
 }
 
-/// Reads the types of so many columns, where they are sent.
+/// Reads the types of so many columns, where they are sent. For no column it takes no memory.
 fn read_types_sent<'s>(
     sent: bool,
     count: usize,
     buf: &mut ParseBuf<'_>,
 ) -> Result<Vec<ParamType>, FaultOf<'s>>
-    ensures value { Answers true (items_of result) buf.new ((types_block sent count).reads buf.old) }
+    ensures value { Answers (is_any count) (items_of result) buf.new ((types_block sent count).reads buf.old) }
+    ensures none { count ≡ 0 → IfOk result (λ types. types.items ≡ []) }
 {
-    if sent {
-        read_types(count, buf)
-    } else {
-        Ok(Vec::new(buf.alloc()))
+    if !sent {
+        return Ok(Vec::new(buf.alloc()));
     }
+    if count == 0 {
+        return Ok(Vec::new(buf.alloc()));
+    }
+    read_types(count, buf)
 }
 
 /// Reads the head of a request of so many columns. After a refusal the buffer is as it was.
 pub(crate) fn read_head<'s>(count: usize, buf: &mut ParseBuf<'_>) -> Result<Head, FaultOf<'s>>
-    ensures value { Answers true result buf.new ((head.form count).reads buf.old) }
+    ensures value { Answers (is_any count) result buf.new ((head.form count).reads buf.old) }
+    ensures none { count ≡ 0 → IfOk result (λ head. head.types ≡ []) }
     ensures err { OnErr result (buf.new ≡ buf.old) }
 {
     let mut rest = buf.rest();

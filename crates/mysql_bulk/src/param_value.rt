@@ -1,6 +1,6 @@
 //! A value in a bulk request, with its indicator.
 
-ghost use Rattle.std.specs.Prelude.{true, ◌≡◌, ◌≤◌, ◌+◌, ◌++◌, length, List, ℕ, Option, Some, None, refl};
+ghost use Rattle.std.specs.Prelude.{◌≡◌, ◌≤◌, ◌+◌, ◌++◌, length, List, ℕ, Option, Some, None, refl};
 ghost use Rattle.mysql_bulk.specs.ParamValue.{indicator_of};
 ghost use Rattle.mysql_values.specs.Value.{content_of};
 
@@ -104,13 +104,13 @@ impl<'de> MyDeserialize<'de> for StmtBulkExecuteParamValue {
 
     type Size = AnyWidth;
 
-    ghost takes_memory = { true };
+    ghost takes_memory = { λ column bytes. param_has_bytes ((param_value column.0 (has column.1.0 UNSIGNED_FLAG)).reads bytes) };
 
     type Ctx = (ColumnType, ColumnFlags);
 
     ghost use Rattle.mysql_wire.specs.FlagMasks.{UNSIGNED_FLAG};
     ghost use Rattle.mysql_wire.specs.Flags.{has};
-    ghost use Rattle.mysql_bulk.specs.ParamValue.{param_value};
+    ghost use Rattle.mysql_bulk.specs.ParamValue.{param_has_bytes, param_value};
 
     ghost form = { λ column. param_value column.0 (has column.1.0 UNSIGNED_FLAG) };
 

@@ -1,11 +1,11 @@
 //! The values of a row in a bulk request.
 
-ghost use Rattle.std.specs.Prelude.{true, ◌≡◌, ◌≤◌, ◌+◌, ◌++◌, length, map, List, ℕ, None, IfOk, OnErr};
+ghost use Rattle.std.specs.Prelude.{◌≡◌, ◌≤◌, ◌+◌, ◌++◌, length, map, List, ℕ, None, IfOk, OnErr};
 ghost use Rattle.mysql_wire.specs.Reading.{Answers, IsTail};
 ghost use Rattle.mysql_wire.specs.Seq.{items_of};
 ghost use Rattle.mysql_values.specs.Value.{contents_of};
 ghost use Rattle.mysql_bulk.specs.ParamValue.{with_indicator};
-ghost use Rattle.mysql_bulk.specs.ParamValues.{values_of_columns};
+ghost use Rattle.mysql_bulk.specs.ParamValues.{reads_first, values_of_columns};
 
 use crate::param_value::StmtBulkExecuteParamValue;
 use mysql_values::Value;
@@ -22,7 +22,7 @@ pub(crate) fn read_values<'s>(
     columns: &[(ColumnType, ColumnFlags)],
     buf: &mut ParseBuf<'_>,
 ) -> Result<Vec<StmtBulkExecuteParamValue>, FaultOf<'s>>
-    ensures value { Answers true (items_of result) buf.new ((values_of_columns columns.now).reads buf.old) }
+    ensures value { Answers (reads_first columns.now buf.old) (items_of result) buf.new ((values_of_columns columns.now).reads buf.old) }
     ensures err { OnErr result (buf.new ≡ buf.old) }
 {
     let mut rest = buf.rest();
@@ -100,7 +100,7 @@ impl<'de> MyDeserialize<'de> for StmtBulkExecuteParamValues {
 
     type Size = AnyWidth;
 
-    ghost takes_memory = { true };
+    ghost takes_memory = { λ columns bytes. reads_first columns.items bytes };
 
     type Ctx = Vec<(ColumnType, ColumnFlags)>;
 

@@ -1,6 +1,6 @@
 //! A bulk request.
 
-ghost use Rattle.std.specs.Prelude.{true, ◌≡◌, ◌≤◌, ◌+◌, ◌*◌, ◌++◌, length, List, ℕ, None, refl, IfOk, if◌then◌else◌, fold, [], slice_get};
+ghost use Rattle.std.specs.Prelude.{◌≡◌, ◌≤◌, ◌+◌, ◌*◌, ◌++◌, length, List, ℕ, None, refl, IfOk, if◌then◌else◌, fold, [], slice_get};
 ghost use Rattle.std.specs.Option.{option_map};
 ghost use Rattle.mysql_wire.specs.Writing.{saturated};
 ghost use Rattle.mysql_cuts.specs.Cut.{rows_in};
@@ -249,10 +249,11 @@ impl<'de> MyDeserialize<'de> for ComStmtBulkExecuteRequest {
 
     type Size = AnyWidth;
 
-    ghost takes_memory = { true };
+    ghost takes_memory = { λ columns bytes. is_any (length columns.items) };
 
     type Ctx = Vec<(ColumnType, ColumnFlags)>;
 
+    ghost use Rattle.mysql_wire.specs.Seq.{is_any};
     ghost use Rattle.mysql_bulk.specs.RequestForm.{bulk_request};
 
     ghost form = { λ columns. bulk_request columns.items };
@@ -263,7 +264,13 @@ impl<'de> MyDeserialize<'de> for ComStmtBulkExecuteRequest {
         buf: &mut ParseBuf<'de>,
     ) -> Result<Self, FaultOf<'s>> {
         let mut rest = buf.rest();
-        let head = read_head(columns.len(), &mut rest)?;
+        let count = columns.len();
+        let head = read_head(count, &mut rest)?;
+        // (for no column no memory is taken)
+        if count == 0 {
+            *buf = rest;
+            return Ok(with_head(head, Vec::new(buf.alloc()), Vec::new(buf.alloc())));
+        }
         let columns = head.value_columns(buf.alloc(), columns.as_slice())?;
         let values = read_values(columns.as_slice(), &mut rest)?;
         let parts = part_from_indicators(buf.alloc(), values)?;

@@ -1,10 +1,13 @@
 -- A column of a result.
-use Rattle.std.specs.Prelude.{ℕ, List, [], ◌∷◌, codes, refl}
+use Rattle.std.specs.Prelude.{ℕ, ◌<◌, ◌^◌, Bool, is_ok, List, [], ◌∷◌, length, codes, refl}
 use Rattle.mysql_wire.specs.declared.codes.column_type.ColumnType.{ColumnType}
 use Rattle.mysql_wire.specs.Codec.{Codec, Fields}
 use Rattle.mysql_wire.specs.Codecs.{◌>>=◌, give, field, packet, const_bytes}
 use Rattle.mysql_wire.specs.Flags.{ColumnFlags}
+use Rattle.mysql_wire.specs.Form as form
+use Rattle.mysql_replies.specs.declared.column.Catalog.{Catalog}
 use Rattle.mysql_replies.specs.declared.column.Column.{Column}
+use Rattle.mysql_replies.specs.declared.column_names.ColumnMeta.{ColumnMeta}
 use Rattle.mysql_replies.specs.ColumnFields.{column_fields, fields_of}
 use Rattle.mysql_replies.specs.ColumnNames.{column_meta, meta_of}
 
@@ -94,3 +97,23 @@ column_parts = do
 
 unfoldable pub column : Codec (Unit {0}) Column
 column = packet column_parts (λ c. refl)
+
+-- the catalog, and the names
+abbrev pub column_front : form.Form ColumnMeta
+column_front = form.◌>>=◌ ((const_bytes {T = Catalog} 4 catalog_bytes).form (tt {0})) (λ catalog. column_meta.form (tt {0}))
+
+-- whether the bytes begin with the catalog and five names
+abbrev pub begins_with_names : List ℕ → Bool
+begins_with_names bytes = is_ok (column_front.reads bytes)
+
+-- what makes a column be read again: lengths that a number of eight bytes can tell, and numbers of their widths
+pub record ColumnFits (c : Column) : Type 0 where
+  pub schema : length (schema c) < 2 ^ 64
+  pub table : length (table c) < 2 ^ 64
+  pub org_table : length (org_table c) < 2 ^ 64
+  pub name : length (name c) < 2 ^ 64
+  pub org_name : length (org_name c) < 2 ^ 64
+  pub character_set : character_set c < 2 ^ 16
+  pub column_length : column_length c < 2 ^ 32
+  pub flags : (flags c).0 < 2 ^ 16
+  pub decimals : decimals c < 2 ^ 8

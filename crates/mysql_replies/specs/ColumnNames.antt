@@ -1,5 +1,5 @@
 -- The names of a column, and how they stand behind one another in one buffer.
-use Rattle.std.specs.Prelude.{ℕ, ◌≤◌, List, length, take, slice_range, refl}
+use Rattle.std.specs.Prelude.{ℕ, ◌≤◌, Bool, is_ok, List, length, take, slice_range, refl}
 use Rattle.mysql_wire.specs.Codec.{Codec, Fields}
 use Rattle.mysql_wire.specs.Codecs.{◌>>=◌, give, field, packet, string_lenenc}
 use Rattle.mysql_replies.specs.declared.column_names.ColumnMeta.{ColumnMeta}
@@ -20,6 +20,10 @@ column_meta_fields = do
 
 unfoldable pub column_meta : Codec (Unit {0}) ColumnMeta
 column_meta = packet column_meta_fields (λ m. refl)
+
+-- whether the bytes begin with five names
+abbrev pub names_are_there : List ℕ → Bool
+names_are_there bytes = is_ok ((column_meta.form tt).reads bytes)
 
 -- the names that end at these places of the bytes
 abbrev pub names_at : List ℕ → (schema_end table_end org_table_end name_end : ℕ) → ColumnMeta

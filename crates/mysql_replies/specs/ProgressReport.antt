@@ -1,5 +1,5 @@
 -- How far a server is with a long statement.
-use Rattle.std.specs.Prelude.{ℕ, ◌/◌, ◌%◌, List, ◌++◌, codes, decimal, refl}
+use Rattle.std.specs.Prelude.{ℕ, ◌/◌, ◌%◌, ◌<◌, ◌^◌, List, ◌++◌, length, codes, decimal, refl}
 use Rattle.mysql_wire.specs.declared.int.RawInt.{RawInt}
 use Rattle.mysql_wire.specs.declared.little_endian.LeU24.{LeU24}
 use Rattle.mysql_wire.specs.Text.{lossy_text}
@@ -48,3 +48,10 @@ abbrev pub progress_text : ProgressReport → List ℕ
 progress_text r =
     codes "Stage: " ++ (decimal (stage r) ++ (codes " of " ++ (decimal (max_stage r) ++ (codes " '" ++ (lossy_text (stage_info r) ++ (codes "'  "
     ++ (decimal (progress r / 1000) ++ (codes "." ++ (decimal (progress r % 1000 / 100) ++ (decimal (progress r % 100 / 10) ++ codes "% of stage done"))))))))))
+
+-- what makes a report be read again: numbers of their widths
+pub record ProgressReportFits (r : ProgressReport) : Type 0 where
+  pub stage : stage r < 2 ^ 8
+  pub max_stage : max_stage r < 2 ^ 8
+  pub progress : progress r < 2 ^ 24
+  pub stage_info : length (stage_info r) < 2 ^ 64

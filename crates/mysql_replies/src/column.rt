@@ -50,7 +50,7 @@ pub type ColumnDefinitionCatalog = ConstBytes<Catalog, 4>;
 /// the low byte first.
 ///
 /// A short definition is `UnexpectedEof`; another catalog, another byte for `0c`, or a byte that is
-/// no type is `InvalidData`. Reading copies the names, and answers `Memory` where that is refused.
+/// no type is `InvalidData`. Reading copies the names once all five are there, and answers `Memory` where that is refused.
 #[derive(Clone, Debug, PartialEq, Eq, Drop)]
 pub struct Column {
     catalog: ColumnDefinitionCatalog,
@@ -306,7 +306,7 @@ impl<'de> MyDeserialize<'de> for Column {
 
     type Size = AnyWidth;
 
-    ghost takes_memory = { true };
+    ghost takes_memory = { λ _ bytes. spec.begins_with_names bytes };
 
     type Ctx = ();
 

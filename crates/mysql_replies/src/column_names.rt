@@ -212,7 +212,7 @@ impl<'de> MyDeserialize<'de> for ColumnNames {
 
     type Size = AnyWidth;
 
-    ghost takes_memory = { true };
+    ghost takes_memory = { λ _ bytes. spec.names_are_there bytes };
 
     type Ctx = ();
 

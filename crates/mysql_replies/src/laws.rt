@@ -3,34 +3,41 @@
 //! Each law is a function with nothing in it, whose contract holds for all values.
 #![tactic(auto, using(mysql_wire::proofs::Packets::packets))]
 
-ghost use Rattle.std.specs.Prelude.{◌≡◌, ◌++◌, [], List, ℕ, Bool, None, Some, true};
+ghost use Rattle.std.specs.Prelude.{◌≡◌, ◌++◌, ◌<◌, ◌^◌, ◌↔◌, [], List, ℕ, length, Bool, None, Some, true, IsTrue};
 ghost use Rattle.mysql_wire.specs.Flags.{CapabilityFlags};
 ghost use Rattle.mysql_replies.specs.declared.column.Column.{Column};
 ghost use Rattle.mysql_replies.specs.declared.err_packet.ErrPacket.{ErrPacket};
 ghost use Rattle.mysql_replies.specs.declared.local_infile.LocalInfilePacket.{LocalInfilePacket};
+ghost use Rattle.mysql_replies.specs.declared.ok_packet.OkPacket.{OkPacket};
 ghost use Rattle.mysql_replies.specs.declared.progress_report.ProgressReport.{ProgressReport};
 ghost use Rattle.mysql_replies.specs.declared.server_error.ServerError.{ServerError};
 ghost use Rattle.mysql_replies.specs.declared.session_state_info.SessionStateInfo.{SessionStateInfo};
 ghost use Rattle.mysql_replies.specs.declared.sql_state.SqlState.{SqlState};
-ghost use Rattle.mysql_replies.specs.Column.{column};
+ghost use Rattle.mysql_replies.specs.Column.{column, ColumnFits};
 ghost use Rattle.mysql_replies.specs.ErrPacket.{err_packet, ErrPacketFits};
 ghost use Rattle.mysql_replies.specs.LocalInfile.{local_infile};
-ghost use Rattle.mysql_replies.specs.ProgressReport.{progress_report};
-ghost use Rattle.mysql_replies.specs.ServerError.{server_error};
-ghost use Rattle.mysql_replies.specs.SessionStateInfo.{session_state_info, state_string};
-ghost use Rattle.mysql_replies.specs.SqlState.{sql_state};
+ghost use Rattle.mysql_replies.specs.ProgressReport.{progress_report, ProgressReportFits};
+ghost use Rattle.mysql_replies.specs.ServerError.{server_error, error_code, sql_state_of, StateFits};
+ghost use Rattle.mysql_replies.specs.SessionStateInfo.{session_state_info, data_bytes, state_string};
+ghost use Rattle.mysql_replies.specs.SqlState.{sql_state, state_bytes};
+
+pub mod values;
 
 use mysql_wire::MyDeserialize;
 use std::hash::Hash;
 
 /// What is written of a request for a local file is read again, where nothing follows.
+#[tactic(auto, using(mysql_wire::proofs::Packets::packets, crate::proofs::PlainFits::plain))]
 pub fn local_infile_again()
     ensures spelled { (p : LocalInfilePacket) (rest : List ℕ) → local_infile.fits tt p rest → (local_infile.form tt).Spells p (local_infile.bytes p ++ rest) rest }
+    ensures plain { (p : LocalInfilePacket) → (local_infile.form tt).Spells p (local_infile.bytes p) [] }
 {}
 
 /// What is written of an SQL state is read again, whatever follows.
+#[tactic(auto, using(mysql_wire::proofs::Packets::packets, crate::proofs::PlainFits::plain))]
 pub fn sql_state_again()
     ensures spelled { (s : SqlState) (rest : List ℕ) → sql_state.fits tt s rest → (sql_state.form tt).Spells s (sql_state.bytes s ++ rest) rest }
+    ensures plain { (s : SqlState) (rest : List ℕ) → length (state_bytes s) ≡ 5 → (sql_state.form tt).Spells s (sql_state.bytes s ++ rest) rest }
 {}
 
 /// Equal SQL states hash equally.
@@ -40,13 +47,17 @@ pub fn equal_sql_states_hash_equally()
 
 /// What is written of an error is read again, where nothing follows and the reader is told the
 /// code, and whether there is a state.
+#[tactic(auto, using(mysql_wire::proofs::Packets::packets, crate::proofs::PlainFits::plain))]
 pub fn server_error_again()
     ensures spelled { (told : ℕ × Bool) (e : ServerError) (rest : List ℕ) → server_error.fits told e rest → (server_error.form told).Spells e (server_error.bytes e ++ rest) rest }
+    ensures plain { (has_state : Bool) (e : ServerError) → StateFits has_state (sql_state_of e) → (server_error.form (error_code e, has_state)).Spells e (server_error.bytes e) [] }
 {}
 
 /// What is written of a progress report is read again, whatever follows.
+#[tactic(auto, using(mysql_wire::proofs::Packets::packets, crate::proofs::PlainFits::plain))]
 pub fn progress_report_again()
     ensures spelled { (r : ProgressReport) (rest : List ℕ) → progress_report.fits tt r rest → (progress_report.form tt).Spells r (progress_report.bytes r ++ rest) rest }
+    ensures plain { (r : ProgressReport) (rest : List ℕ) → ProgressReportFits r → (progress_report.form tt).Spells r (progress_report.bytes r ++ rest) rest }
 {}
 
 /// What is written of an error or a progress report is read again.
@@ -61,8 +72,10 @@ pub fn err_packet_fits()
 {}
 
 /// What is written of an entry of a state string is read again, whatever follows.
+#[tactic(auto, using(mysql_wire::proofs::Packets::packets, crate::proofs::PlainFits::plain))]
 pub fn session_state_info_again()
     ensures spelled { (i : SessionStateInfo) (rest : List ℕ) → session_state_info.fits tt i rest → (session_state_info.form tt).Spells i (session_state_info.bytes i ++ rest) rest }
+    ensures plain { (i : SessionStateInfo) (rest : List ℕ) → length (data_bytes i) < 2 ^ 64 → (session_state_info.form tt).Spells i (session_state_info.bytes i ++ rest) rest }
 {}
 
 /// A state string spells at most one list of entries.
@@ -72,8 +85,10 @@ pub fn state_string_once()
 {}
 
 /// What is written of a column is read again, whatever follows.
+#[tactic(auto, using(mysql_wire::proofs::Packets::packets, crate::proofs::PlainFits::plain))]
 pub fn column_again()
     ensures spelled { (c : Column) (rest : List ℕ) → column.fits tt c rest → (column.form tt).Spells c (column.bytes c ++ rest) rest }
+    ensures plain { (c : Column) (rest : List ℕ) → ColumnFits c → (column.form tt).Spells c (column.bytes c ++ rest) rest }
 {}
 
 /// A column has no constant size.
@@ -131,3 +146,30 @@ pub fn sql_state_size() -> Option<usize>
 {
     <crate::sql_state::SqlState as MyDeserialize>::SIZE
 }
+
+/// Columns are equal exactly where they are the same.
+#[tactic(auto, using(crate::proofs::EqualColumns::equal_columns))]
+pub fn equal_columns_are_the_same()
+    ensures same { (x y : Column) → IsTrue (⟦<crate::column::Column as PartialEq>⟧.eq x y) ↔ (x ≡ y) }
+{}
+
+/// OK packets are equal exactly where they are the same.
+#[tactic(auto, using(crate::proofs::EqualReplies::equal_replies))]
+pub fn equal_ok_packets_are_the_same()
+    ensures same { (x y : OkPacket) → IsTrue (⟦<crate::ok_packet::OkPacket<'static> as PartialEq>⟧.eq x y) ↔ (x ≡ y) }
+{}
+
+/// Entries of a state string are equal exactly where they are the same.
+#[tactic(auto, using(crate::proofs::EqualReplies::equal_replies))]
+pub fn equal_session_state_infos_are_the_same()
+    ensures same { (x y : SessionStateInfo) → IsTrue (⟦<crate::session_state_info::SessionStateInfo<'static> as PartialEq>⟧.eq x y) ↔ (x ≡ y) }
+{}
+
+/// Errors and progress reports are equal exactly where they are the same.
+#[tactic(auto, using(crate::proofs::EqualReplies::equal_replies))]
+pub fn equal_err_packets_are_the_same()
+    ensures packet { (x y : ErrPacket) → IsTrue (⟦<crate::err_packet::ErrPacket<'static> as PartialEq>⟧.eq x y) ↔ (x ≡ y) }
+    ensures error { (x y : ServerError) → IsTrue (⟦<crate::server_error::ServerError<'static> as PartialEq>⟧.eq x y) ↔ (x ≡ y) }
+    ensures report { (x y : ProgressReport) → IsTrue (⟦<crate::progress_report::ProgressReport<'static> as PartialEq>⟧.eq x y) ↔ (x ≡ y) }
+    ensures state { (x y : SqlState) → IsTrue (⟦<crate::sql_state::SqlState as PartialEq>⟧.eq x y) ↔ (x ≡ y) }
+{}

@@ -3,7 +3,7 @@
 
 ghost use Rattle.std.specs.Prelude.{true, ◌≡◌, [], List, ℕ, None, refl, IfOk};
 ghost use Rattle.mysql_wire.specs.Reading.{Answers};
-ghost use Rattle.mysql_session.specs.SessionStateChange.{session_state_change};
+ghost use Rattle.mysql_session.specs.SessionStateChange.{session_state_change, lists_variables};
 ghost use Rattle.mysql_replies.specs.SessionStateInfo as spec;
 
 use mysql_session::SessionStateChange;
@@ -42,9 +42,10 @@ impl<'a> SessionStateInfo<'a> {
 
     /// The change that the data begins with; bytes behind it are dropped.
     ///
-    /// The fault is that of reading the data as a change of this type.
+    /// The fault is that of reading the data as a change of this type. Memory is taken for a list of system variables
+    /// alone.
     pub fn decode(&self, alloc: Global) -> Result<SessionStateChange<'_>, Fault>
-        ensures value { Answers true result [] (spec.decoded self.now) }
+        ensures value { Answers (lists_variables (spec.data_type self.now) (spec.data_bytes self.now)) result [] (spec.decoded self.now) }
         ensures spelled { IfOk result (λ change. (rest : List ℕ) × (session_state_change (spec.data_type self.now)).Spells change (spec.data_bytes self.now) rest) }
     {
         let mut data = ParseBuf::new(alloc, self.content.as_bytes());

@@ -1,8 +1,9 @@
 -- A change of a session's state.
-use Rattle.std.specs.Prelude.{refl, ◌≡◌, ℕ, List, [], ◌∷◌, None, true, false, codes, nat_eq}
+use Rattle.std.specs.Prelude.{refl, ◌≡◌, ℕ, List, [], ◌∷◌, None, Bool, true, false, codes, nat_eq}
 use Rattle.std.specs.Cmp.Lexicographic.{pointwise}
 use Rattle.mysql_wire.specs.declared.codes.session_state_type.SessionStateType.{SessionStateType}
 use Rattle.mysql_wire.specs.declared.codes.session_state_type.SessionStateType.TheVariants as kind
+use Rattle.mysql_wire.specs.CodecFits.{is_there}
 use Rattle.mysql_wire.specs.Form.{Form, map}
 use Rattle.mysql_wire.specs.LenEnc.{lenenc_string, size-lenenc_string}
 use Rattle.mysql_wire.specs.Many.{size-many}
@@ -32,6 +33,15 @@ size-session_state_change kind.SESSION_TRACK_STATE_CHANGE = size-lenenc_string
 size-session_state_change kind.SESSION_TRACK_GTIDS = refl
 size-session_state_change kind.SESSION_TRACK_TRANSACTION_CHARACTERISTICS = refl
 size-session_state_change kind.SESSION_TRACK_TRANSACTION_STATE = refl
+
+-- whether the data lists any system variable
+abbrev pub lists_variables : SessionStateType → List ℕ → Bool
+lists_variables kind.SESSION_TRACK_SYSTEM_VARIABLES bytes = is_there bytes
+lists_variables kind.SESSION_TRACK_SCHEMA bytes = false
+lists_variables kind.SESSION_TRACK_STATE_CHANGE bytes = false
+lists_variables kind.SESSION_TRACK_GTIDS bytes = false
+lists_variables kind.SESSION_TRACK_TRANSACTION_CHARACTERISTICS bytes = false
+lists_variables kind.SESSION_TRACK_TRANSACTION_STATE bytes = false
 
 -- the bytes of each kind; `01 31` or `01 30` of whether changes are tracked
 unfoldable pub session_state_change_bytes : SessionStateChange → List ℕ

@@ -64,7 +64,7 @@ impl<'de> MyDeserialize<'de> for SessionStateChange<'de> {
 
     type Size = AnyWidth;
 
-    ghost takes_memory = { true };
+    ghost takes_memory = { spec.lists_variables };
 
     /// What of the session's state has changed.
     type Ctx = Kind;

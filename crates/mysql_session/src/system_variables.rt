@@ -2,6 +2,7 @@
 #![tactic(auto, using(mysql_wire::proofs::Packets::packets), unfolding(crate::specs::SystemVariables::system_variables))]
 
 ghost use Rattle.std.specs.Prelude.{true, ◌≡◌, None, refl, IfOk};
+ghost use Rattle.mysql_wire.specs.CodecFits.{is_there};
 ghost use Rattle.mysql_wire.specs.Many.{size-many};
 ghost use Rattle.mysql_session.specs.SystemVariables as spec;
 
@@ -103,13 +104,18 @@ impl<'de> MyDeserialize<'de> for SystemVariables<'de> {
 
     type Size = AnyWidth;
 
-    ghost takes_memory = { true };
+    ghost takes_memory = { λ _ bytes. is_there bytes };
 
     type Ctx = ();
 
     ghost form = { spec.system_variables.form };
 
+    #[tactic(auto, using(mysql_wire::proofs::Packets::packets), unfolding(crate::specs::SystemVariables::system_variables, mysql_wire::specs::Many::many))]
     fn deserialize<'s>(_ctx: (), buf: &mut ParseBuf<'de>) -> Result<Self, FaultOf<'s>> {
+        // (for no variable no memory is taken)
+        if buf.is_empty() {
+            return Ok(SystemVariables(Vec::new(buf.alloc())));
+        }
         Ok(SystemVariables(read_all(buf)?))
     }
 

@@ -1,8 +1,13 @@
 pub mod Cells
+pub mod RowMemory
 pub mod Nulls
 pub mod ParamLengths
 pub mod Copies
 pub mod NullBits
 pub mod BitmapAgain
+pub mod Converted
+pub mod HeadLength
 pub mod CellsEq
+pub mod EqualRows
+pub mod StmtAgain
 pub mod PutCells

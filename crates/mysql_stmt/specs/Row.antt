@@ -4,6 +4,7 @@ use Rattle.std.specs.List.{position}
 use Rattle.std.specs.Cmp.Lexicographic.{pointwise}
 use Rattle.mysql_replies.specs.declared.column.Column.{Column}
 use Rattle.mysql_replies.specs.Column as column
+use Rattle.mysql_values.specs.ByContent.{IsConvertible}
 use Rattle.mysql_values.specs.declared.from_value.FromValueError.{FromValueError}
 use Rattle.mysql_values.specs.declared.value.Value.{Value}
 use Rattle.mysql_values.specs.Value.{Content, content_of}
@@ -55,10 +56,16 @@ module _ {X : Type 0} (Converts : Value → X → Type 0) where
   abbrev pub IsCopyAs : Value → X → Type 0
   IsCopyAs value x = (copy : Value) × (content_of copy ≡ content_of value) × Converts copy x
 
-  -- the value converts
-  abbrev pub IsConvertible : Value → Type 0
-  IsConvertible value = (x : X) × Converts value x
+-- ---- values that an index finds
 
-  -- each copy of the value converts
-  abbrev pub IsConvertibleCopied : Value → Type 0
-  IsConvertibleCopied value = (copy : Value) → content_of copy ≡ content_of value → (x : X) × Converts copy x
+-- each value that may be found converts
+abbrev pub FoundConverts : {X : Type 0} → (Finds : Option ℕ → Type 0) → List (Option Value) → (Value → X → Type 0) → Type 0
+FoundConverts Finds cells Converts = (place : Option ℕ) (value : Value) → Finds place → value_at cells place ≡ Some value → IsConvertible Converts value
+
+-- the answer is made of the value at a place that is found, and there is none where there is no value
+abbrev pub AnswersFound : {Y : Type 0} → (Finds : Option ℕ → Type 0) → List (Option Value) → (Value → Y → Type 0) → Option Y → Type 0
+AnswersFound Finds cells Makes answer = (place : Option ℕ) × Finds place × Answered Makes (value_at cells place) answer
+
+-- the same, and that value is gone
+abbrev pub TakesFound : {Y : Type 0} → (Finds : Option ℕ → Type 0) → (before after : List (Option Value)) → (Value → Y → Type 0) → Option Y → Type 0
+TakesFound Finds before after Makes answer = (place : Option ℕ) × Finds place × Answered Makes (value_at before place) answer × (after ≡ without before place)

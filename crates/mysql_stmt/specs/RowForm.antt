@@ -1,18 +1,19 @@
 -- Rows in the bytes.
-use Rattle.std.specs.Prelude.{ℕ, ◌+◌, ◌==◌, Bool, List, length, Option, Some, Result, Ok, Err}
+use Rattle.std.specs.Prelude.{ℕ, ◌+◌, ◌==◌, ◌&&◌, Bool, is_ok, List, length, Option, Some, Result, Ok, Err}
 use Rattle.std.specs.Global.{Vec}
 use Rattle.mysql_wire.specs.declared.fault.FaultOf.{FaultOf}
 use Rattle.mysql_wire.specs.FlagMasks.{UNSIGNED_FLAG}
 use Rattle.mysql_wire.specs.Flags.{has}
 use Rattle.mysql_wire.specs.Form.{Form, ◌>>=◌, give, either, map}
 use Rattle.mysql_wire.specs.Each.{each}
+use Rattle.mysql_wire.specs.Seq.{is_any}
 use Rattle.mysql_wire.specs.Skip.{skip}
 use Rattle.mysql_replies.specs.declared.column.Column.{Column}
 use Rattle.mysql_replies.specs.Column.{column_type, flags}
 use Rattle.mysql_values.specs.declared.value.Value.{Value}
 use Rattle.mysql_values.specs.Value.{Content, NULL}
 use Rattle.mysql_values.specs.ValueDeserializer.{text_value, bin_value}
-use Rattle.mysql_stmt.specs.Bitmap.{cell}
+use Rattle.mysql_stmt.specs.Bitmap.{Bitmap, cell}
 use Rattle.mysql_stmt.specs.NullBitmap.{null_bitmap}
 use Rattle.mysql_values.specs.Cells.{held}
 
@@ -48,6 +49,18 @@ bin_row offset columns = do
   header ← skip 1
   nulls ← null_bitmap offset (length columns)
   bin_cells nulls.bytes offset columns
+
+-- the byte and the bitmap
+abbrev pub bin_row_front : (offset : ℕ) → List Column → Form Bitmap
+bin_row_front offset columns = skip 1 >>= (λ header. null_bitmap offset (length columns))
+
+-- Memory is taken for the values, which there are where there are columns: in text at once, in the binary protocol where
+-- the bitmap is there.
+abbrev pub text_row_takes_memory : List Column → Bool
+text_row_takes_memory columns = is_any (length columns)
+
+abbrev pub bin_row_takes_memory : (offset : ℕ) → List Column → List ℕ → Bool
+bin_row_takes_memory offset columns bytes = is_any (length columns) && is_ok ((bin_row_front offset columns).reads bytes)
 
 -- the row of these columns
 abbrev pub row_of : (List Column → Form (List (Option Content))) → List Column → Form RowContent

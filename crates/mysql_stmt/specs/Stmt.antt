@@ -1,5 +1,5 @@
 -- The answer to a prepared statement.
-use Rattle.std.specs.Prelude.{ℕ, refl}
+use Rattle.std.specs.Prelude.{ℕ, ◌<◌, ◌^◌, refl}
 use Rattle.mysql_wire.specs.Codecs.{Codec, Fields, ◌>>=◌, give, field, block, packet, const_u8, skip, u16, u32}
 use Rattle.mysql_stmt.specs.declared.stmt.StmtPacket.{StmtPacket}
 
@@ -38,3 +38,10 @@ num_params p = p.num_params.0
 
 abbrev pub warning_count : StmtPacket → ℕ
 warning_count p = p.warning_count.0
+
+-- what makes the packet be read again: numbers of their widths
+pub record StmtPacketFits (p : StmtPacket) : Type 0 where
+  pub statement_id : statement_id p < 2 ^ 32
+  pub num_columns : num_columns p < 2 ^ 16
+  pub num_params : num_params p < 2 ^ 16
+  pub warning_count : warning_count p < 2 ^ 16

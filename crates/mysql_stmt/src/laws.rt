@@ -3,25 +3,38 @@
 //! Each law is a function with nothing in it, whose contract holds for all values.
 #![tactic(auto, using(mysql_wire::proofs::Packets::packets))]
 
-ghost use Rattle.std.specs.Prelude.{◌≡◌, ◌+◌, ◌<◌, ◌^◌, ◌++◌, ℕ, List, Ok, Option, Some, length};
+ghost use Rattle.std.specs.Prelude.{◌≡◌, ◌+◌, ◌<◌, ◌^◌, ◌++◌, ◌↔◌, ℕ, List, Ok, Option, Some, IsTrue, true, length};
 ghost use Rattle.mysql_stmt.specs.Bitmap.{bytes_for};
 ghost use Rattle.mysql_stmt.specs.NullBitmap.{null_bitmap, borrowed};
 ghost use Rattle.mysql_stmt.specs.declared.stmt.StmtPacket.{StmtPacket};
-ghost use Rattle.mysql_stmt.specs.Stmt.{stmt};
+ghost use Rattle.mysql_stmt.specs.Stmt.{stmt, StmtPacketFits};
 ghost use Rattle.mysql_stmt.specs.declared.close.ComStmtClose.{ComStmtClose};
 ghost use Rattle.mysql_stmt.specs.Close.{close};
 ghost use Rattle.mysql_stmt.specs.declared.long_data.ComStmtSendLongData.{ComStmtSendLongData};
 ghost use Rattle.mysql_stmt.specs.LongData.{long_data};
 ghost use Rattle.mysql_replies.specs.declared.column.Column.{Column};
 ghost use Rattle.mysql_values.specs.Value.{Content};
+ghost use Rattle.mysql_stmt.specs.Execute.{execute_head};
+ghost use Rattle.mysql_stmt.specs.declared.execute.ComStmtExecuteRequest.{ComStmtExecuteRequest};
+ghost use Rattle.mysql_stmt.specs.Row.{AnswersFound, Cells, CopyConvertsTo, FoundConverts};
 ghost use Rattle.mysql_stmt.specs.RowForm.{text_row, bin_row};
+ghost use Rattle.mysql_values.specs.ByContent.{IsConvertible};
+ghost use Rattle.mysql_values.specs.Cells.{held};
+ghost use Rattle.mysql_values.specs.declared.value.Value.{Value};
 
+pub mod values;
+
+use crate::column_index::ColumnIndex;
+use mysql_values::FromValue;
 use mysql_wire::MyDeserialize;
+use std::hash::Hash;
 
 /// What is written of a statement packet is read again, whatever follows.
+#[tactic(auto, using(mysql_wire::proofs::Packets::packets, crate::proofs::StmtAgain::stmt_again))]
 pub fn stmt_packet_again()
     ensures spelled { (p : StmtPacket) (rest : List ℕ) → stmt.fits tt p rest → (stmt.form tt).Spells p (stmt.bytes p ++ rest) rest }
     ensures read { (p : StmtPacket) (rest : List ℕ) → stmt.fits tt p rest → (stmt.form tt).reads (stmt.bytes p ++ rest) ≡ Ok (p, rest) }
+    ensures plain { (p : StmtPacket) (rest : List ℕ) → StmtPacketFits p → (stmt.form tt).Spells p (stmt.bytes p ++ rest) rest }
 {}
 
 /// A statement packet takes 12 bytes.
@@ -61,4 +74,34 @@ pub fn null_bitmap_again()
 pub fn row_once()
     ensures text { (columns : List Column) (v w : List (Option Content)) (bytes rest left : List ℕ) → (text_row columns).Spells v bytes rest → (text_row columns).Spells w bytes left → (v ≡ w) × (rest ≡ left) }
     ensures binary { (offset : ℕ) (columns : List Column) (v w : List (Option Content)) (bytes rest left : List ℕ) → (bin_row offset columns).Spells v bytes rest → (bin_row offset columns).Spells w bytes left → (v ≡ w) × (rest ≡ left) }
+{}
+
+/// The bitmap of an execution stands behind its first ten bytes.
+#[tactic(auto, using(crate::proofs::HeadLength::head_length))]
+pub fn null_bitmap_offset() -> usize
+    ensures value { result ≡ 10 }
+    ensures before { (r : ComStmtExecuteRequest) → length (execute_head.bytes r) ≡ result }
+{
+    crate::execute::ComStmtExecuteRequestBuilder::NULL_BITMAP_OFFSET
+}
+
+/// Statement packets are equal exactly where they are the same, and equal ones hash equally.
+#[tactic(auto, using(crate::proofs::StmtAgain::stmt_again))]
+pub fn equal_stmt_packets_are_the_same()
+    ensures same { (x y : StmtPacket) → IsTrue (⟦<crate::stmt::StmtPacket as PartialEq>⟧.eq x y) ↔ (x ≡ y) }
+    ensures hash { (x y : StmtPacket) → ⟦<crate::stmt::StmtPacket as PartialEq>⟧.eq x y ≡ true → ⟦<crate::stmt::StmtPacket as Hash>⟧.hash_input x ≡ ⟦<crate::stmt::StmtPacket as Hash>⟧.hash_input y }
+{}
+
+/// Rows are equal exactly where their values hold the same, and their columns are the same.
+#[tactic(auto, using(crate::proofs::EqualRows::equal_rows))]
+pub fn equal_rows_hold_the_same()
+    ensures same { (x y : Cells) → IsTrue (⟦<crate::row::Row as PartialEq>⟧.eq x y) ↔ ((held x.cells ≡ held y.cells) × (x.columns ≡ y.columns)) }
+{}
+
+/// A value of which [`Row::get_opt`](crate::Row::get_opt) answered a copy, converted, converts itself. So where an index
+/// finds one place alone, its value may be asked for by `get` and `take`.
+pub fn get_after_get_opt<T: FromValue, I: ColumnIndex>()
+    ensures value { (value : Value) (x : T) → CopyConvertsTo T.Converts value (Ok x) → IsConvertible T.Converts value }
+    ensures found { (index : I) (columns : List Column) (cells : List (Option Value)) (x : T) → ((p q : Option ℕ) → I.Finds index columns p → I.Finds index columns q → p ≡ q)
+        → AnswersFound (I.Finds index columns) cells (CopyConvertsTo T.Converts) (Some (Ok x)) → FoundConverts (I.Finds index columns) cells T.Converts }
 {}

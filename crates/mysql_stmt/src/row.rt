@@ -5,7 +5,7 @@ ghost use Rattle.std.specs.Option.{option_copied};
 ghost use Rattle.std.specs.Rc.{rc_slice_items};
 ghost use Rattle.mysql_values.specs.declared.value.Value.{Value};
 ghost use Rattle.mysql_values.specs.Cells.{held};
-ghost use Rattle.mysql_stmt.specs.Row.{AllThere, Answered, ConvertsTo, CopyConvertsTo, IsCopyAs, IsConvertible, IsConvertibleCopied, place_of_name, value_at, without};
+ghost use Rattle.mysql_stmt.specs.Row.{AllThere, AnswersFound, ConvertsTo, CopyConvertsTo, FoundConverts, IsCopyAs, TakesFound, place_of_name, value_at};
 
 use crate::column_index::ColumnIndex;
 use mysql_replies::Column;
@@ -109,8 +109,8 @@ impl Row {
         &self,
         index: I,
     ) -> Result<Option<T>, AllocError>
-        requires converts { (place : Option ℕ) (value : Value) → I.Finds index self.now.columns place → value_at self.now.cells place ≡ Some value → IsConvertibleCopied T.Converts value }
-        ensures value { IfOk result (λ answer. (place : Option ℕ) × I.Finds index self.now.columns place × Answered (IsCopyAs T.Converts) (value_at self.now.cells place) answer) }
+        requires converts { FoundConverts (I.Finds index self.now.columns) self.now.cells T.Converts }
+        ensures value { IfOk result (λ answer. AnswersFound (I.Finds index self.now.columns) self.now.cells (IsCopyAs T.Converts) answer) }
     {
         let Some(place) = index.idx(&self.columns) else {
             return Ok(None);
@@ -128,7 +128,7 @@ impl Row {
         &self,
         index: I,
     ) -> Result<Option<Result<T, FromValueError>>, AllocError>
-        ensures value { IfOk result (λ answer. (place : Option ℕ) × I.Finds index self.now.columns place × Answered (CopyConvertsTo T.Converts) (value_at self.now.cells place) answer) }
+        ensures value { IfOk result (λ answer. AnswersFound (I.Finds index self.now.columns) self.now.cells (CopyConvertsTo T.Converts) answer) }
     {
         let Some(place) = index.idx(&self.columns) else {
             return Ok(None);
@@ -143,8 +143,8 @@ impl Row {
     ///
     /// The value converts, as [`get_opt`](Self::get_opt) tells. Other values stay.
     pub fn take<T: FromValue, I: ColumnIndex + Drop>(&mut self, index: I) -> Option<T>
-        requires converts { (place : Option ℕ) (value : Value) → I.Finds index self.old.columns place → value_at self.old.cells place ≡ Some value → IsConvertible T.Converts value }
-        ensures value { (place : Option ℕ) × I.Finds index self.old.columns place × Answered T.Converts (value_at self.old.cells place) result × (self.new.cells ≡ without self.old.cells place) }
+        requires converts { FoundConverts (I.Finds index self.old.columns) self.old.cells T.Converts }
+        ensures value { TakesFound (I.Finds index self.old.columns) self.old.cells self.new.cells T.Converts result }
         ensures columns { self.new.columns ≡ self.old.columns }
     {
         let place = index.idx(&self.columns)?;
@@ -160,7 +160,7 @@ impl Row {
         &mut self,
         index: I,
     ) -> Option<Result<T, FromValueError>>
-        ensures value { (place : Option ℕ) × I.Finds index self.old.columns place × Answered (ConvertsTo T.Converts) (value_at self.old.cells place) result × (self.new.cells ≡ without self.old.cells place) }
+        ensures value { TakesFound (I.Finds index self.old.columns) self.old.cells self.new.cells (ConvertsTo T.Converts) result }
         ensures columns { self.new.columns ≡ self.old.columns }
     {
         let place = index.idx(&self.columns)?;

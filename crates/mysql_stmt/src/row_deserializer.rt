@@ -1,6 +1,6 @@
 //! Rows read from the bytes of a result.
 
-ghost use Rattle.std.specs.Prelude.{true, ◌≡◌, refl, IfOk};
+ghost use Rattle.std.specs.Prelude.{◌≡◌, refl, IfOk};
 ghost use Rattle.std.specs.Rc.{rc_slice_items};
 ghost use Rattle.mysql_values.specs.Cells.{held};
 
@@ -77,7 +77,7 @@ impl<'de, S: SerializationSide, P: RowProtocol> MyDeserialize<'de> for RowDeseri
 
     type Size = AnyWidth;
 
-    ghost takes_memory = { true };
+    ghost takes_memory = { λ columns bytes. P.takes_memory S.BIT_OFFSET (rc_slice_items columns) bytes };
 
     type Ctx = RcSlice<Column>;
 

@@ -1,8 +1,9 @@
 //! The values of a binary row.
 
-ghost use Rattle.std.specs.Prelude.{true, ◌≡◌, ◌+◌, ◌*◌, ◌<◌, ◌≤◌, ℕ, length, vec_len, vec_capacity, All, IfOk, OnOk, IsTrue, ◌↔◌};
+ghost use Rattle.std.specs.Prelude.{◌≡◌, ◌+◌, ◌*◌, ◌<◌, ◌≤◌, ℕ, Ok, length, vec_len, vec_capacity, All, IfOk, IfErr, OnOk, IsTrue, ◌↔◌};
 ghost use Rattle.mysql_wire.specs.Reading.{Answers};
-ghost use Rattle.mysql_values.specs.Cells.{held, PutsOne};
+ghost use Rattle.mysql_wire.specs.Seq.{is_any};
+ghost use Rattle.mysql_values.specs.Cells.{held, with_cell, RefusesValue};
 ghost use Rattle.mysql_stmt.specs.Bitmap.{cell};
 ghost use Rattle.mysql_stmt.specs.RowForm.{bin_cells, bin_value_unless, cells_in};
 
@@ -19,8 +20,9 @@ fn put_cell<'s>(
     buf: &mut ParseBuf<'_>,
     cells: &mut Vec<Option<Value>>,
 ) -> Result<(), FaultOf<'s>>
-    requires { vec_len cells.old < vec_capacity cells.old }
-    ensures value { PutsOne true result (held cells.old.items) (held cells.new.items) buf.new ((bin_value_unless is_null column.now).reads buf.old) }
+    requires room { vec_len cells.old < vec_capacity cells.old }
+    ensures put { OnOk result ((with_cell (held cells.old.items) (bin_value_unless is_null column.now)).reads buf.old ≡ Ok (held cells.new.items, buf.new)) }
+    ensures refused { IfErr result (λ fault. RefusesValue fault ((bin_value_unless is_null column.now).reads buf.old)) }
     ensures len { OnOk result (vec_len cells.new ≡ vec_len cells.old + 1) }
     ensures room { vec_capacity cells.old ≤ vec_capacity cells.new }
 {
@@ -54,7 +56,7 @@ pub(crate) fn read_values<'s, S: SerializationSide>(
     buf: &mut ParseBuf<'_>,
 ) -> Result<Vec<Option<Value>>, FaultOf<'s>>
     requires { (i : ℕ) → i < length columns.now → i + S.BIT_OFFSET < 8 * length nulls.now.bytes }
-    ensures value { Answers true (cells_in result) buf.new ((bin_cells nulls.now.bytes S.BIT_OFFSET columns.now).reads buf.old) }
+    ensures value { Answers (is_any (length columns.now)) (cells_in result) buf.new ((bin_cells nulls.now.bytes S.BIT_OFFSET columns.now).reads buf.old) }
     ensures len { IfOk result (λ cells. length cells.items ≡ length columns.now) }
 {
     let none = nulls.as_bytes().iter().all(|byte| *byte == 0);

@@ -2,12 +2,22 @@
 use Rattle.std.specs.Prelude.{◌≡◌, ℕ, ◌++◌, ◌∷◌, [], Bool, List, map, Option, Some, Result, Ok, Err, option_map}
 use Rattle.mysql_wire.specs.declared.fault.FaultOf.{FaultOf}
 use Rattle.mysql_wire.specs.Reading.{Reading, Faults, then_read}
+use Rattle.mysql_wire.specs.Form as form
 use Rattle.mysql_values.specs.declared.value.Value.{Value}
 use Rattle.mysql_values.specs.Value.{Content, content_of}
+use Rattle.mysql_values.specs.ValueDeserializer.{reads_bytes}
 
 -- what the values hold, whoever keeps their bytes
 abbrev pub held : List (Option Value) → List (Option Content)
 held cells = map (option_map content_of) cells
+
+-- the cells, with a value that is read behind them
+abbrev pub with_cell : List (Option Content) → form.Form Content → form.Form (List (Option Content))
+with_cell cells value = form.map (λ v. cells ++ Some v ∷ []) value
+
+-- the fault is the one that reading the value gives; or memory ran out for its bytes
+abbrev pub RefusesValue : FaultOf → Reading Content → Type 0
+RefusesValue fault read = Faults (reads_bytes read) fault read
 
 -- what is read stands behind the cells before it, with these bytes left; or reading gives the fault, or memory ran out
 abbrev pub PutsOne : {E : Type 0} → (takes_memory : Bool) → Result E FaultOf → (before after : List (Option Content)) → List ℕ → Reading Content → Type 0

@@ -10,3 +10,4 @@ pub mod ParamsEq
 pub mod ContentEq
 pub mod SentType
 pub mod Cells
+pub mod ByContent

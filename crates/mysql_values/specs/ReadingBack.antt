@@ -1,5 +1,5 @@
 -- Which values are read again from their binary form.
-use Rattle.std.specs.Prelude.{◌≡◌, ◌<◌, ◌^◌, Bool, true, false, length}
+use Rattle.std.specs.Prelude.{◌≡◌, ◌<◌, ◌^◌, Bool, true, false, IsTrue, IsFalse, length}
 use Rattle.std.specs.Int.{w64}
 use Rattle.std.specs.Int.RustNames.{FitsSigned}
 use Rattle.mysql_wire.specs.declared.codes.column_type.ColumnType.{ColumnType}
@@ -45,17 +45,17 @@ pub record DateFits (t : DateTime) : Type 0 where
 pub record TimeFits (t : TimeSpan) : Type 0 where
   pub days : t.days < 2 ^ 32
   pub micros : t.micros < 2 ^ 32
-  pub sign : t.days ≡ 0 → is_midnight t.clock ≡ true → t.micros ≡ 0 → t.is_negative ≡ false
+  pub sign : t.days ≡ 0 → IsTrue (is_midnight t.clock) → t.micros ≡ 0 → IsFalse t.is_negative
 
 -- the type is the one that the content's binary form is read under, and its numbers have their widths
 abbrev pub ReadsBack : ColumnType → Bool → Content → Type 0
 ReadsBack type is_unsigned NULL = type ≡ column_type.MYSQL_TYPE_NULL
-ReadsBack type is_unsigned (Bytes bytes) = (is_string type ≡ true) × (length bytes < 2 ^ 64)
-ReadsBack type is_unsigned (Int x) = (type ≡ column_type.MYSQL_TYPE_LONGLONG) × (is_unsigned ≡ false) × FitsSigned w64 x
-ReadsBack type is_unsigned (UInt n) = (type ≡ column_type.MYSQL_TYPE_LONGLONG) × (is_unsigned ≡ true) × (n < 2 ^ 64)
+ReadsBack type is_unsigned (Bytes bytes) = IsTrue (is_string type) × (length bytes < 2 ^ 64)
+ReadsBack type is_unsigned (Int x) = (type ≡ column_type.MYSQL_TYPE_LONGLONG) × IsFalse is_unsigned × FitsSigned w64 x
+ReadsBack type is_unsigned (UInt n) = (type ≡ column_type.MYSQL_TYPE_LONGLONG) × IsTrue is_unsigned × (n < 2 ^ 64)
 ReadsBack type is_unsigned (Float bits) = (type ≡ column_type.MYSQL_TYPE_FLOAT) × (bits < 2 ^ 32)
 ReadsBack type is_unsigned (Double bits) = (type ≡ column_type.MYSQL_TYPE_DOUBLE) × (bits < 2 ^ 64)
-ReadsBack type is_unsigned (Date date) = (is_date type ≡ true) × DateFits date
+ReadsBack type is_unsigned (Date date) = IsTrue (is_date type) × DateFits date
 ReadsBack type is_unsigned (Time time) = (type ≡ column_type.MYSQL_TYPE_TIME) × TimeFits time
 
 -- its numbers have their widths, and its sign is not lost

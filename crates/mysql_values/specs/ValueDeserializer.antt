@@ -1,12 +1,25 @@
 -- How values are read from rows and requests.
-use Rattle.std.specs.Prelude.{◌≡◌, ℕ, ℤ, pos, Bool, true, false, List, [], ◌∷◌, ◌==◌, None, refl}
+use Rattle.std.specs.Prelude.{◌≡◌, ℕ, ℤ, pos, Bool, true, false, List, [], ◌∷◌, ◌==◌, None, Ok, Err, refl}
 use Rattle.std.specs.Int.{Width, w8, w16, w32, w64, cast_signed}
 use Rattle.mysql_wire.specs.declared.codes.column_type.ColumnType.{ColumnType}
 use Rattle.mysql_wire.specs.declared.codes.column_type.ColumnType.TheVariants as column_type
+use Rattle.mysql_wire.specs.FlagMasks.{UNSIGNED_FLAG}
+use Rattle.mysql_wire.specs.Flags.{ColumnFlags, has}
+use Rattle.mysql_wire.specs.Reading.{Reading}
 use Rattle.mysql_wire.specs.Form.{Form, map, bytes, number, give, refuse, either, looking}
 use Rattle.mysql_wire.specs.LenEnc.{lenenc_string}
 use Rattle.mysql_values.specs.Value.{Content, NULL, Bytes, Int, UInt, Float, Double, Date, Time}
 use Rattle.mysql_values.specs.Temporal.{date_time, time_span}
+
+-- the content is a string of at least one byte
+abbrev pub has_bytes : Content → Bool
+has_bytes (Bytes (first ∷ rest)) = true
+has_bytes _ = false
+
+-- a string of at least one byte is there, which is copied: this alone takes memory
+abbrev pub reads_bytes : Reading Content → Bool
+reads_bytes (Ok x) = has_bytes x.0
+reads_bytes (Err e) = false
 
 -- the next byte says that there is no value
 abbrev pub starts_null : List ℕ → Bool
@@ -88,3 +101,7 @@ bin_value column_type.MYSQL_TYPE_BLOB u = string_value
 bin_value column_type.MYSQL_TYPE_VAR_STRING u = string_value
 bin_value column_type.MYSQL_TYPE_STRING u = string_value
 bin_value column_type.MYSQL_TYPE_GEOMETRY u = string_value
+
+-- how a value is spelled in a column, of whose flags it is told whether numbers have no sign
+abbrev pub value_in_column : ColumnType × ColumnFlags → Form Content
+value_in_column column = bin_value column.0 (has column.1.0 UNSIGNED_FLAG)

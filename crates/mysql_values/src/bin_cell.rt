@@ -1,13 +1,10 @@
 //! Values of a binary row, each put into its cell where it is read.
 
-ghost use Rattle.std.specs.Prelude.{◌≡◌, ◌+◌, ◌<◌, ◌≤◌, ◌++◌, ◌∷◌, [], Some, vec_len, vec_capacity, OnOk, OnErr};
-ghost use Rattle.mysql_wire.specs.FlagMasks.{UNSIGNED_FLAG};
-ghost use Rattle.mysql_wire.specs.Flags.{has};
+ghost use Rattle.std.specs.Prelude.{◌≡◌, ◌+◌, ◌<◌, ◌≤◌, ◌++◌, ◌∷◌, [], Some, vec_len, vec_capacity, Ok, IfErr, OnOk, OnErr};
 ghost use Rattle.mysql_wire.specs.Reading.{Answers};
-ghost use Rattle.mysql_values.specs.Cells.{held, PutsOne};
-ghost use Rattle.mysql_values.specs.ReadingBack.{is_string};
+ghost use Rattle.mysql_values.specs.Cells.{held, with_cell, PutsOne, RefusesValue};
 ghost use Rattle.mysql_values.specs.Value.{content_of, contents};
-ghost use Rattle.mysql_values.specs.ValueDeserializer.{bin_value};
+ghost use Rattle.mysql_values.specs.ValueDeserializer.{bin_value, reads_bytes, value_in_column};
 
 use crate::value::Value;
 use crate::value_deserializer::{read_bin, read_long, read_string};
@@ -32,7 +29,7 @@ fn read_other<'s>(
     is_unsigned: bool,
     buf: &mut ParseBuf<'_>,
 ) -> Result<Value, FaultOf<'s>>
-    ensures value { Answers (is_string column_type) (contents result) buf.new ((bin_value column_type is_unsigned).reads buf.old) }
+    ensures value { Answers (reads_bytes ((bin_value column_type is_unsigned).reads buf.old)) (contents result) buf.new ((bin_value column_type is_unsigned).reads buf.old) }
 {
     read_bin(column_type, is_unsigned, buf)
 }
@@ -46,7 +43,7 @@ fn put_other<'s>(
     cells: &mut Vec<Option<Value>>,
 ) -> Result<(), FaultOf<'s>>
     requires { vec_len cells.old < vec_capacity cells.old }
-    ensures value { PutsOne (is_string column_type) result (held cells.old.items) (held cells.new.items) buf.new ((bin_value column_type is_unsigned).reads buf.old) }
+    ensures value { PutsOne (reads_bytes ((bin_value column_type is_unsigned).reads buf.old)) result (held cells.old.items) (held cells.new.items) buf.new ((bin_value column_type is_unsigned).reads buf.old) }
     ensures len { OnOk result (vec_len cells.new ≡ vec_len cells.old + 1) }
     ensures room { vec_capacity cells.old ≤ vec_capacity cells.new }
     ensures err { OnErr result (cells.new.items ≡ cells.old.items) }
@@ -69,7 +66,7 @@ fn put_bin<'s>(
     cells: &mut Vec<Option<Value>>,
 ) -> Result<(), FaultOf<'s>>
     requires { vec_len cells.old < vec_capacity cells.old }
-    ensures value { PutsOne (is_string column_type) result (held cells.old.items) (held cells.new.items) buf.new ((bin_value column_type is_unsigned).reads buf.old) }
+    ensures value { PutsOne (reads_bytes ((bin_value column_type is_unsigned).reads buf.old)) result (held cells.old.items) (held cells.new.items) buf.new ((bin_value column_type is_unsigned).reads buf.old) }
     ensures len { OnOk result (vec_len cells.new ≡ vec_len cells.old + 1) }
     ensures room { vec_capacity cells.old ≤ vec_capacity cells.new }
     ensures err { OnErr result (cells.new.items ≡ cells.old.items) }
@@ -118,10 +115,11 @@ pub fn read_bin_cell<'s>(
     buf: &mut ParseBuf<'_>,
     cells: &mut Vec<Option<Value>>,
 ) -> Result<(), FaultOf<'s>>
-    requires { vec_len cells.old < vec_capacity cells.old }
-    ensures value { PutsOne (is_string column.0) result (held cells.old.items) (held cells.new.items) buf.new ((bin_value column.0 (has column.1.0 UNSIGNED_FLAG)).reads buf.old) }
+    requires room { vec_len cells.old < vec_capacity cells.old }
+    ensures put { OnOk result ((with_cell (held cells.old.items) (value_in_column column)).reads buf.old ≡ Ok (held cells.new.items, buf.new)) }
     ensures len { OnOk result (vec_len cells.new ≡ vec_len cells.old + 1) }
     ensures room { vec_capacity cells.old ≤ vec_capacity cells.new }
+    ensures refused { IfErr result (λ fault. RefusesValue fault ((value_in_column column).reads buf.old)) }
     ensures err { OnErr result (cells.new.items ≡ cells.old.items) }
 {
     let (column_type, flags) = column;

@@ -22,6 +22,12 @@ pub trait FromValue: Sized {
     fn from_value_opt(value: Value) -> Result<Self, FromValueError>
         ensures ok { IfOk result (λ converted. Converts value converted) }
         ensures err { IfErr result (λ refusal. (refusal.0 ≡ value) × ((x : Self) → Converts value x → ⊥)) };
+
+    ghost use Rattle.mysql_values.specs.ByContent.{GoesByContent};
+
+    /// Converting goes by what a value holds: of two values that hold the same, both convert or neither does. So a copy
+    /// converts where the value does.
+    ghost by_content: { GoesByContent Converts };
 }
 
 /// Every value, as it is.
@@ -31,6 +37,10 @@ impl FromValue for Value {
     fn from_value_opt(value: Value) -> Result<Value, FromValueError> {
         Ok(value)
     }
+
+    ghost use Rattle.mysql_values.specs.ByContent.{value_by_content};
+
+    ghost by_content = { value_by_content };
 }
 
 /// A number in range, or bytes that write one in decimal, with an optional `+` or `-`.
@@ -52,6 +62,10 @@ impl FromValue for i64 {
             other => Err(FromValueError(other)),
         }
     }
+
+    ghost use Rattle.mysql_values.specs.ByContent.{i64_by_content};
+
+    ghost by_content = { i64_by_content };
 }
 
 /// A number in range, or bytes that write one in decimal, with an optional `+`.
@@ -73,6 +87,10 @@ impl FromValue for u64 {
             other => Err(FromValueError(other)),
         }
     }
+
+    ghost use Rattle.mysql_values.specs.ByContent.{u64_by_content};
+
+    ghost by_content = { u64_by_content };
 }
 
 /// Bytes, as they are.
@@ -87,6 +105,10 @@ impl FromValue for Vec<u8> {
             other => Err(FromValueError(other)),
         }
     }
+
+    ghost use Rattle.mysql_values.specs.ByContent.{bytes_by_content};
+
+    ghost by_content = { bytes_by_content };
 }
 
 /// Bytes that are UTF-8.
@@ -104,6 +126,10 @@ impl FromValue for String {
             other => Err(FromValueError(other)),
         }
     }
+
+    ghost use Rattle.mysql_values.specs.ByContent.{text_by_content};
+
+    ghost by_content = { text_by_content };
 }
 
 /// NULL is None; another value is what it is as `T`.
@@ -118,6 +144,10 @@ impl<T: FromValue> FromValue for Option<T> {
             other => Ok(Some(T::from_value_opt(other)?)),
         }
     }
+
+    ghost use Rattle.mysql_values.specs.ByContent.{option_by_content};
+
+    ghost by_content = { option_by_content T.Converts T.by_content };
 }
 
 ghost use Rattle.mysql_values.specs.Numeral.{WritesSigned, WritesUnsigned};

@@ -1,10 +1,11 @@
 //! Laws over the forms of values.
 
-ghost use Rattle.std.specs.Prelude.{◌≡◌, ◌<◌, ◌^◌, ◌++◌, ℕ, List, Bool, Ok, length};
+ghost use Rattle.std.specs.Prelude.{◌≡◌, ◌<◌, ◌^◌, ◌++◌, ◌↔◌, ℕ, List, Bool, false, Ok, length, IsTrue};
 ghost use Rattle.mysql_wire.specs.declared.codes.column_type.ColumnType.{ColumnType};
 ghost use Rattle.mysql_values.specs.Value.{Content, bin, bin_size, content_of};
-ghost use Rattle.mysql_values.specs.ValueDeserializer.{bin_value};
-ghost use Rattle.mysql_values.specs.ReadingBack.{Agrees, IsInRange, ReadsBack};
+ghost use Rattle.mysql_wire.specs.Flags.{ColumnFlags};
+ghost use Rattle.mysql_values.specs.ValueDeserializer.{bin_value, reads_bytes, starts_null, text_value, value_in_column};
+ghost use Rattle.mysql_values.specs.ReadingBack.{Agrees, IsInRange, ReadsBack, is_string};
 ghost use Rattle.mysql_values.specs.SentType.{sent_type, is_uint};
 ghost use Rattle.mysql_values.specs.declared.value.Value.{Value};
 ghost use Rattle.mysql_values.specs.ContentEq.{content_eq};
@@ -12,6 +13,7 @@ ghost use Rattle.mysql_values.specs.ParamType.{param_type, type_flags};
 
 use crate::param_type::ParamType;
 pub use crate::param_type::param_type_size;
+pub use crate::temporal::{clock_size, day_size, no_date_or_time_has_a_constant_size};
 pub use crate::value_deserializer::no_value_has_a_constant_size;
 
 /// The binary form of a value has the length that `Value::bin_len` answers.
@@ -39,9 +41,20 @@ pub fn sent_value_agrees()
     ensures { (content : Content) → IsInRange content → Agrees (sent_type content) (is_uint content) content }
 {}
 
-/// Values are equal where they hold the same: the same kind, with the same bytes or numbers.
+/// Values are equal exactly where they hold the same: the same kind, with the same bytes or numbers, and floats with the
+/// same bits.
+#[tactic(auto, using(crate::proofs::ContentEq::equal_values))]
 pub fn equal_values_hold_the_same()
-    ensures { (a b : Value) → ⟦<crate::value::Value as PartialEq>⟧.eq a b ≡ content_eq (content_of a) (content_of b) }
+    ensures same { (a b : Value) → IsTrue (⟦<crate::value::Value as PartialEq>⟧.eq a b) ↔ (content_of a ≡ content_of b) }
+    ensures compared { (a b : Value) → ⟦<crate::value::Value as PartialEq>⟧.eq a b ≡ content_eq (content_of a) (content_of b) }
+{}
+
+/// Reading a value takes memory only for a string of at least one byte: under a type of strings, or in text where the first
+/// byte is not that of NULL.
+#[tactic(auto, using(crate::proofs::Memory::memory))]
+pub fn strings_alone_take_memory()
+    ensures binary { (column : ColumnType × ColumnFlags) (bytes : List ℕ) → IsTrue (reads_bytes ((value_in_column column).reads bytes)) → IsTrue (is_string column.0) }
+    ensures text { (bytes : List ℕ) → IsTrue (reads_bytes (text_value.reads bytes)) → starts_null bytes ≡ false }
 {}
 
 /// What is written of a parameter type is read again, whatever follows.

@@ -1,7 +1,7 @@
 //! Values read from rows and requests.
 
 ghost use Rattle.std.specs.Int.{w8, w16, w32};
-ghost use Rattle.std.specs.Prelude.{true, false, ◌≡◌, OnErr, refl};
+ghost use Rattle.std.specs.Prelude.{false, ◌≡◌, OnErr, refl};
 ghost use Rattle.mysql_wire.specs.Reading.{Answers, IsTail};
 
 use crate::temporal::{DateTime, TimeSpan};
@@ -50,11 +50,11 @@ impl<'de> MyDeserialize<'de> for ValueDeserializer<TextValue> {
 
     type Size = AnyWidth;
 
-    ghost takes_memory = { true };
+    ghost takes_memory = { λ _ bytes. reads_bytes (text_value.reads bytes) };
 
     type Ctx = ();
 
-    ghost use Rattle.mysql_values.specs.ValueDeserializer.{text_value, size-text_value};
+    ghost use Rattle.mysql_values.specs.ValueDeserializer.{reads_bytes, text_value, size-text_value};
 
     ghost form = { λ _. text_value };
 
@@ -71,18 +71,21 @@ impl<'de> MyDeserialize<'de> for ValueDeserializer<TextValue> {
 }
 
 ghost use Rattle.mysql_values.specs.Value.{contents};
-ghost use Rattle.mysql_values.specs.ReadingBack.{is_string};
-ghost use Rattle.mysql_values.specs.ValueDeserializer.{string_value, short_integer, long_integer, date_value, time_value, bin_value};
+ghost use Rattle.mysql_values.specs.ValueDeserializer.{reads_bytes, string_value, short_integer, long_integer, date_value, time_value, bin_value};
 
-/// The content of a length-encoded string, on memory of its own.
+/// The content of a length-encoded string, on memory of its own, which an empty one does not need.
 #[tactic(auto, using(mysql_wire::proofs::Tails::tails))]
 #[inline(always)]
 pub(crate) fn read_string<'s>(buf: &mut ParseBuf<'_>) -> Result<Value, FaultOf<'s>>
-    ensures value { Answers true (contents result) buf.new (string_value.reads buf.old) }
+    ensures value { Answers (reads_bytes (string_value.reads buf.old)) (contents result) buf.new (string_value.reads buf.old) }
     ensures tail { OnErr result (IsTail buf.new buf.old) }
 {
     let content: RawBytes<LenEnc> = buf.parse(())?;
-    Ok(Value::Bytes(Vec::from_slice(buf.alloc(), content.as_bytes())?))
+    let bytes = content.as_bytes();
+    if bytes.is_empty() {
+        return Ok(Value::Bytes(Vec::new(buf.alloc())));
+    }
+    Ok(Value::Bytes(Vec::from_slice(buf.alloc(), bytes)?))
 }
 
 #[inline(never)]
@@ -178,7 +181,7 @@ fn read_longlong<'s>(is_unsigned: bool, buf: &mut ParseBuf<'_>) -> Result<Value,
     })
 }
 
-/// A value of a column's type. A string alone takes memory.
+/// A value of a column's type. A string of at least one byte alone takes memory.
 #[tactic(auto, unfolding(mysql_wire::specs::Int::raw))]
 #[inline(always)]
 pub(crate) fn read_bin<'s>(
@@ -186,7 +189,7 @@ pub(crate) fn read_bin<'s>(
     is_unsigned: bool,
     buf: &mut ParseBuf<'_>,
 ) -> Result<Value, FaultOf<'s>>
-    ensures value { Answers (is_string column_type) (contents result) buf.new ((bin_value column_type is_unsigned).reads buf.old) }
+    ensures value { Answers (reads_bytes ((bin_value column_type is_unsigned).reads buf.old)) (contents result) buf.new ((bin_value column_type is_unsigned).reads buf.old) }
     ensures tail { OnErr result (IsTail buf.new buf.old) }
 {
     match column_type {
@@ -240,15 +243,14 @@ impl<'de> MyDeserialize<'de> for ValueDeserializer<BinValue> {
 
     type Size = AnyWidth;
 
-    ghost takes_memory = { true };
+    ghost takes_memory = { λ column bytes. reads_bytes ((value_in_column column).reads bytes) };
 
     type Ctx = (ColumnType, ColumnFlags);
 
-    ghost use Rattle.mysql_wire.specs.FlagMasks.{UNSIGNED_FLAG};
-    ghost use Rattle.mysql_wire.specs.Flags.{has};
     ghost use Rattle.mysql_wire.specs.Form.{unsized};
+    ghost use Rattle.mysql_values.specs.ValueDeserializer.{value_in_column};
 
-    ghost form = { λ column. unsized (bin_value column.0 (has column.1.0 UNSIGNED_FLAG)) };
+    ghost form = { λ column. unsized (value_in_column column) };
 
     #[inline(always)]
     fn deserialize<'s>(

@@ -18,4 +18,8 @@ impl FromValue for Switch {
             other => Err(FromValueError(other)),
         }
     }
+
+    ghost use Rattle.test_calls.specs.Switch.{switch_by_content};
+
+    ghost by_content = { switch_by_content };
 }

@@ -1,4 +1,4 @@
-use Rattle.std.proofs.Common.{◌≡◌, ◌++◌, ◌∷◌, [], Ok, true, ◌∙◌, ap}
+use Rattle.std.proofs.Common.{◌≡◌, ◌++◌, ◌∷◌, [], Ok, ◌∙◌, ap}
 use Rattle.std.proofs.lemmas.List.{map_push}
 use Rattle.std.proofs.lemmas.Result.{err_from_is_err_and}
 use Rattle.mysql_wire.specs.Reading.{Reading, then_read}
@@ -11,8 +11,8 @@ use Rattle.mysql_bulk.proofs.read_rows.read_row.Goals as goal
 pub returns-in_err-value-clause-value : goal.returns-in_err-value-clause-value
 returns-in_err-value-clause-value c =
     let p = err_from_is_err_and c.from_residual.result c.from_residual.ensures.1 in
-    rw (p.1, p.2) (one-fails content_of_column (contents_of c.loop-column.row.items) c.args.columns.now c.loop-column.column-index c.loop-column.rest _ c.loop-column.invariant _ true c.in_err-value.field-0.0
-    c.loop-column-test.true (mapped-fails (λ (v : ParamValue). v.content) true c.in_err-value.field-0.0 _ c.in_err-value.ensures.value))
+    rw (p.1, p.2) (one-fails content_of_column (contents_of c.loop-column.row.items) c.args.columns.now c.loop-column.column-index c.loop-column.rest _ c.loop-column.invariant _ _ c.in_err-value.field-0.0
+    c.loop-column-test.true (mapped-fails (λ (v : ParamValue). v.content) _ c.in_err-value.field-0.0 _ c.in_err-value.ensures.value))
 
 pub loop-column-preserved : goal.loop-column-preserved
 loop-column-preserved c =

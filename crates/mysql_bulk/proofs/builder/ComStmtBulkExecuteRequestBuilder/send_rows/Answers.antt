@@ -23,8 +23,9 @@ pub returns-in-Err-send : goal.returns-in-Err-send
 returns-in-Err-send c =
     let stands = run_accepts c.rows.invariant c.fill.new.builder c.in-Ok.last c.fill.new.rows c.in-Ok.ensures.accepts in
     let some : c.fill.new.builder.waiting ≢ [] = search rules in
+    let end = accepts_end c.rows.self c.fill.new.builder c.rows.carried c.in-Ok.last c.rows.input c.fill.new.rows c.in-Ok.ensures.accepts in
     let same = c.in-Err-send.ensures.unchanged in
-    ends_memory stands c.send.new.builder c.send.new.requests.items c.send.new.ends.items some same.0 same.1 same.2
+    ends_memory stands c.send.new.builder c.send.new.requests.items c.send.new.ends.items some c.in-Ok.ensures.accepts.3 end same.0 same.1 same.2
 
 pub returns-then-is_none : goal.returns-then-is_none
 returns-then-is_none c =

@@ -7,13 +7,14 @@ use Rattle.mysql_values.specs.Value.{Content, content_of}
 use Rattle.mysql_values.specs.Cells.{held}
 use Rattle.mysql_stmt.specs.RowForm.{text_cell}
 use Rattle.mysql_wire.proofs.Each.{next-one, one-fails, none-left, mapped-fails}
+use Rattle.mysql_stmt.proofs.RowMemory.{some_any}
 use Rattle.mysql_stmt.proofs.row_protocol.TextRowProtocol.read_cells.Goals as goal
 
 pub returns-in_err-value-clause-value : goal.returns-in_err-value-clause-value
 returns-in_err-value-clause-value g c =
     let p = err_from_is_err_and c.from_residual-in_err-value.result c.from_residual-in_err-value.ensures.1 in
-    rw (p.1, p.2) (one-fails text_cell (held c.loop.cells.items) c.args.columns.now c.loop.index c.loop.rest _ c.loop.invariant.so_far c.loop-item.result true c.in_err-value.field-0.0
-    c.loop-test.true (mapped-fails (λ (v : Content). Some v) true c.in_err-value.field-0.0 _ c.in_err-value.ensures.value))
+    rw (p.1, p.2, some_any _ _ c.loop-test.true) (one-fails text_cell (held c.loop.cells.items) c.args.columns.now c.loop.index c.loop.rest _ c.loop.invariant.so_far c.loop-item.result _ c.in_err-value.field-0.0
+    c.loop-test.true (mapped-fails (λ (v : Content). Some v) _ c.in_err-value.field-0.0 _ c.in_err-value.ensures.value))
 
 pub loop-preserved : goal.loop-preserved
 loop-preserved g c =

@@ -1,0 +1,72 @@
+//! Laws on a value at hand: what a caller can use of a packet that was made or read.
+//!
+//! Each function reads the numbers and lengths of its value, which shows that they have their widths.
+#![tactic(auto, using(crate::proofs::PlainFits::plain))]
+
+ghost use Rattle.std.specs.Prelude.{◌++◌, ◌<◌, ◌^◌, [], ℕ, List, is_some};
+ghost use Rattle.mysql_replies.specs.Column as spec;
+ghost use Rattle.mysql_replies.specs.LocalInfile.{local_infile};
+ghost use Rattle.mysql_replies.specs.ProgressReport.{progress_report, progress};
+ghost use Rattle.mysql_replies.specs.ServerError.{server_error, error_code, sql_state_of};
+ghost use Rattle.mysql_replies.specs.SessionStateInfo.{session_state_info};
+ghost use Rattle.mysql_replies.specs.SqlState.{sql_state};
+
+use crate::column::Column;
+use crate::local_infile::LocalInfilePacket;
+use crate::progress_report::ProgressReport;
+use crate::server_error::ServerError;
+use crate::session_state_info::SessionStateInfo;
+use crate::sql_state::SqlState;
+
+/// What is written of this column is read again, whatever follows.
+pub fn this_column_again(column: &Column)
+    ensures spelled { (rest : List ℕ) → (spec.column.form tt).Spells column.now (spec.column.bytes column.now ++ rest) rest }
+{
+    let _schema = column.schema_ref().len();
+    let _table = column.table_ref().len();
+    let _org_table = column.org_table_ref().len();
+    let _name = column.name_ref().len();
+    let _org_name = column.org_name_ref().len();
+    let _character_set = column.character_set();
+    let _column_length = column.column_length();
+    let _flags = column.flags();
+    let _decimals = column.decimals();
+}
+
+/// What is written of this request for a local file is read again, where nothing follows.
+pub fn this_local_infile_again(request: &LocalInfilePacket<'_>)
+    ensures spelled { (local_infile.form tt).Spells request.now (local_infile.bytes request.now) [] }
+{}
+
+/// What is written of this progress report is read again, whatever follows, where its progress has three bytes.
+pub fn this_progress_report_again(report: &ProgressReport<'_>)
+    ensures spelled { (rest : List ℕ) → progress report.now < 2 ^ 24 → (progress_report.form tt).Spells report.now (progress_report.bytes report.now ++ rest) rest }
+{
+    let _stage = report.stage();
+    let _max_stage = report.max_stage();
+    let _stage_info = report.stage_info_ref().len();
+}
+
+/// What is written of this error is read again, where nothing follows and the reader is told its code, and whether it has
+/// a state.
+pub fn this_server_error_again(error: &ServerError<'_>)
+    ensures spelled { (server_error.form (error_code error.now, is_some (sql_state_of error.now))).Spells error.now (server_error.bytes error.now) [] }
+{
+    if let Some(state) = error.sql_state_ref() {
+        let _bytes = state.as_bytes();
+    }
+}
+
+/// What is written of this entry of a state string is read again, whatever follows.
+pub fn this_session_state_info_again(info: &SessionStateInfo<'_>)
+    ensures spelled { (rest : List ℕ) → (session_state_info.form tt).Spells info.now (session_state_info.bytes info.now ++ rest) rest }
+{
+    let _data = info.data_ref().len();
+}
+
+/// What is written of this SQL state is read again, whatever follows.
+pub fn this_sql_state_again(state: &SqlState)
+    ensures spelled { (rest : List ℕ) → (sql_state.form tt).Spells state.now (sql_state.bytes state.now ++ rest) rest }
+{
+    let _bytes = state.as_bytes();
+}
