@@ -53,7 +53,7 @@ pub type ComBinlogDumpGtidHeader = ConstU8<InvalidComBinlogDumpGtidHeader, 0x1e>
 ///
 /// Missing bytes are `UnexpectedEof`. Another first byte, or the bytes of a tag that are no tag, are
 /// `InvalidData`. Reading takes room for the sids as it comes to them, and answers `Memory` where
-/// that is refused.
+/// that is refused; where the head counts no sid, it takes none.
 ///
 /// The block is written with tags where some sid has one, and whole; its length is written as
 /// 2^32 - 1 where it is more. The first 2^32 - 1 bytes of the name are written.

@@ -6,6 +6,7 @@ ghost use Rattle.mysql_wire.specs.Reading.{Answers};
 ghost use Rattle.mysql_wire.specs.Seq.{counts_any};
 ghost use Rattle.mysql_repl.specs.Counts.{interval_count};
 ghost use Rattle.mysql_repl.specs.Sid as spec;
+ghost use Rattle.mysql_repl.specs.TagString.{OptionalTag};
 
 use crate::gno_interval::GnoInterval;
 use crate::tag::Tag;
@@ -57,8 +58,16 @@ impl<'a> Sid<'a> {
     #[inline]
     pub fn tag(&self) -> Option<&Tag<'a>>
         ensures value { option_map (λ t. t.now) result ≡ spec.tag self.now }
+        ensures tag { OptionalTag (spec.tag self.now) }
     {
-        self.tag.as_ref()
+        match &self.tag {
+            Some(tag) => {
+                // (the text is that of a tag)
+                let _text = tag.as_str();
+                Some(tag)
+            }
+            None => None,
+        }
     }
 
     /// The intervals.
