@@ -1,5 +1,5 @@
 -- A loop that reads pairs into a map.
-use Rattle.std.proofs.Common.{◌≡◌, ◌≢◌, ℕ, ◌+◌, ◌<◌, ◌≤◌, List, [], ◌∷◌, length, Ok, Err, Bool, true, refl, sym, ap, ◌∙◌, arith}
+use Rattle.std.proofs.Common.{◌≡◌, ◌≢◌, ℕ, ◌+◌, ◌<◌, ◌≤◌, List, [], ◌∷◌, length, Ok, Err, Bool, true, false, refl, sym, ap, ◌∙◌, arith}
 use Rattle.std.proofs.lemmas.Bool.{lt-ltb}
 use Rattle.std.proofs.lemmas.List.{length-append}
 use Rattle.std.specs.Cmp.Lexicographic.{pointwise}
@@ -14,6 +14,7 @@ use Rattle.mysql_wire.specs.Int.{raw, byte}
 use Rattle.mysql_wire.specs.LenEnc.{lenenc, lenenc_from, lenenc_string}
 use Rattle.mysql_wire.specs.Many.{many, value_and_more}
 use Rattle.mysql_wire.specs.ManyLaws.{many-next}
+use Rattle.mysql_wire.specs.Seq.{is_any}
 use Rattle.mysql_auth.specs.Attributes.{Attribute, attribute}
 
 abbrev same : List ℕ → List ℕ → Bool
@@ -74,10 +75,16 @@ pair-fails : (entries : List Attribute) (bytes : List ℕ) (e : FaultKind) → b
 pair-fails entries bytes e some h = rw (opened bytes some, h) refl
 
 -- the first pair that has a fault
-pub pair-faults : (entries : List Attribute) (bytes : List ℕ) (b : Bool) (e : FaultOf) → bytes ≢ [] → Faults b e (f.reads bytes) → Faults true e (put_behind entries ((many f).reads bytes))
-pair-faults entries bytes b fault.Memory some h = refl
-pair-faults entries bytes b fault.UnexpectedEof some h = pair-fails entries bytes _ some h
-pair-faults entries bytes b (fault.InvalidData text) some h = pair-fails entries bytes _ some h
-pair-faults entries bytes b (fault.InvalidInput text) some h = pair-fails entries bytes _ some h
+pub pair-faults : (entries : List Attribute) (bytes : List ℕ) (takes_memory : Bool) (e : FaultOf) → bytes ≢ [] → Faults false e (f.reads bytes) → Faults takes_memory e (put_behind entries ((many f).reads bytes))
+pair-faults entries bytes takes_memory fault.Memory some h = absurd cc
+pair-faults entries bytes takes_memory fault.UnexpectedEof some h = pair-fails entries bytes _ some h
+pair-faults entries bytes takes_memory (fault.InvalidData text) some h = pair-fails entries bytes _ some h
+pair-faults entries bytes takes_memory (fault.InvalidInput text) some h = pair-fails entries bytes _ some h
 
-pub ruleset pair_loops = (one-pair, no-pair, pair-faults, pair-shorter)
+-- where some bytes are left, there were some
+pub any-left : (bytes whole : List ℕ) → bytes ≢ [] → length bytes ≤ length whole → is_any (length whole) ≡ true
+any-left [] whole some le = absurd (some refl)
+any-left (b ∷ bytes) [] some le = absurd (omega (arith, le))
+any-left (b ∷ bytes) (w ∷ whole) some le = refl
+
+pub ruleset pair_loops = (one-pair, no-pair, pair-faults, pair-shorter, any-left)

@@ -42,6 +42,11 @@ plugin_named name =
 abbrev pub plugin_of : List ℕ → AuthPlugin
 plugin_of bytes = plugin_named (without_last_zero bytes)
 
+-- a plugin that has a variant of its own, and so no bytes of a name
+abbrev pub IsKnown : AuthPlugin → Type 0
+IsKnown (plugin.Other name) = ⊥
+IsKnown _ = Unit {0}
+
 -- parsec takes in its rounds and its salt
 abbrev pub with_salt : AuthPlugin → List ℕ → Option AuthPlugin
 with_salt (plugin.MariadbParsec iterations ext_salt) payload = option_map (λ told. plugin.MariadbParsec told.0 told.1) (parsec_salt payload)

@@ -16,3 +16,8 @@ abbrev pub auth_plugin_data_bytes : AuthPluginData → List ℕ
 auth_plugin_data_bytes (answer.Old bytes) = bytes ++ 0 ∷ []
 auth_plugin_data_bytes (answer.Clear password) = password ++ 0 ∷ []
 auth_plugin_data_bytes other = data_bytes other
+
+-- bytes of a fixed count
+abbrev pub IsFixed : AuthPluginData → Type 0
+IsFixed (answer.Clear password) = ⊥
+IsFixed _ = Unit {0}

@@ -17,3 +17,4 @@ pub mod PluginName
 pub mod Attributes
 pub mod HandshakeResponse
 pub mod ComChangeUser
+pub mod AttributeBytes

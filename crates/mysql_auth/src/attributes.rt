@@ -1,9 +1,11 @@
 //! Attributes of a connection.
 #![tactic(auto, using(mysql_wire::proofs::Packets::packets), unfolding(crate::specs::Attributes::attributes, crate::specs::Attributes::attribute))]
 
-ghost use Rattle.std.specs.Prelude.{true, false, vec_len, vec_capacity, ◌≡◌, ◌+◌, ◌++◌, ◌≤◌, ◌<◌, [], List, ℕ, length, map, option_map, IfOk, refl};
+ghost use Rattle.std.specs.Prelude.{true, false, vec_len, vec_capacity, ◌≡◌, ◌+◌, ◌++◌, ◌≤◌, ◌<◌, [], List, ℕ, length, map, option_map, IfOk, is_ok, None, refl};
 ghost use Rattle.mysql_wire.specs.Reading.{Answers};
+ghost use Rattle.mysql_wire.specs.Seq.{counts_any, is_any};
 ghost use Rattle.mysql_wire.specs.Writing.{saturated};
+ghost use Rattle.mysql_auth.specs.AttributeBytes.{attributes_len};
 ghost use Rattle.mysql_auth.specs.Attributes as spec;
 
 use indexmap::IndexMap;
@@ -74,7 +76,7 @@ fn attribute_texts(
 /// The attributes that these bytes are the pairs of.
 #[tactic(auto, using(crate::proofs::PairsRead::pair_loops))]
 fn read_pairs<'s, 'a>(mut inside: ParseBuf<'a>) -> Result<Attributes<'a>, FaultOf<'s>>
-    ensures value { Answers true result [] (spec.pairs.reads inside.entry) }
+    ensures value { Answers (is_any (length inside.entry)) result [] (spec.pairs.reads inside.entry) }
 {
     let mut map = IndexMap::new(inside.alloc());
     while !inside.is_empty() {
@@ -161,6 +163,7 @@ pub(crate) fn attributes_of(
     texts: Option<IndexMap<String, String>>,
 ) -> Result<Option<Attributes<'static>>, AllocError>
     ensures value { IfOk result (λ a. a ≡ option_map (λ texts. map spec.text_pair texts.entries) texts) }
+    ensures none { texts ≡ None → is_ok result ≡ true }
 {
     match texts {
         Some(texts) => Ok(Some(Attributes::from_texts(alloc, texts)?)),
@@ -208,7 +211,7 @@ impl<'de> MyDeserialize<'de> for Attributes<'de> {
 
     type Size = AnyWidth;
 
-    ghost takes_memory = { true };
+    ghost takes_memory = { λ _ bytes. counts_any (attributes_len.reads bytes) };
 
     type Ctx = ();
 

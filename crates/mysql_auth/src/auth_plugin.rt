@@ -1,7 +1,7 @@
 //! Authentication plugins.
 #![tactic(auto, using(mysql_wire::proofs::Packets::packets), unfolding(crate::specs::AuthPlugin::auth_plugin))]
 
-ghost use Rattle.std.specs.Prelude.{false, ◌≡◌, None, Some, IfOk, IfSome, IfNone};
+ghost use Rattle.std.specs.Prelude.{false, true, ◌≡◌, None, Some, IfOk, IfSome, IfNone, is_ok};
 ghost use Rattle.mysql_auth.specs.AuthPlugin as spec;
 
 use crate::parsec::parse_parsec_salt;
@@ -93,11 +93,12 @@ impl<'a> AuthPlugin<'a> {
         }
     }
 
-    /// The same plugin, on memory of its own.
+    /// The same plugin, on memory of its own. Another name alone takes any.
     ///
     /// Where the copy is refused, the plugin is given up, and the bytes that it borrowed stay.
     pub fn into_owned(self, alloc: Global) -> Result<AuthPlugin<'static>, AllocError>
         ensures value { IfOk result (λ owned. owned ≡ self.entry) }
+        ensures known { spec.IsKnown self.entry → is_ok result ≡ true }
     {
         Ok(match self {
             AuthPlugin::MysqlOldPassword => AuthPlugin::MysqlOldPassword,

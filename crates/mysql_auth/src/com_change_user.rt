@@ -5,6 +5,8 @@ ghost use Rattle.std.specs.Prelude.{true, [], ◌≡◌, IfOk, None};
 ghost use Rattle.std.specs.Cow.{cow_slice_items};
 ghost use Rattle.std.specs.Option.{option_map_or};
 ghost use Rattle.mysql_wire.specs.Reading.{Answers};
+ghost use Rattle.mysql_wire.specs.Seq.{counts_any};
+ghost use Rattle.mysql_auth.specs.AttributeBytes.{in_change_user, in_last_part};
 ghost use Rattle.mysql_auth.specs.ComChangeUser as spec;
 
 use crate::com_change_user_more_data::ComChangeUserMoreData;
@@ -150,7 +152,7 @@ fn read_more_data<'s, 'a>(
     capabilities: CapabilityFlags,
     buf: &mut ParseBuf<'a>,
 ) -> Result<Option<ComChangeUserMoreData<'a>>, FaultOf<'s>>
-    ensures value { Answers true result buf.new ((spec.last_part.form capabilities).reads buf.old) }
+    ensures value { Answers (counts_any ((in_last_part capabilities).reads buf.old)) result buf.new ((spec.last_part.form capabilities).reads buf.old) }
 {
     if buf.first().is_none() {
         return Ok(None);
@@ -163,7 +165,7 @@ impl<'de> MyDeserialize<'de> for ComChangeUser<'de> {
 
     type Size = AnyWidth;
 
-    ghost takes_memory = { true };
+    ghost takes_memory = { λ capabilities bytes. counts_any ((in_change_user capabilities).reads bytes) };
 
     /// What both sides can do.
     type Ctx = CapabilityFlags;

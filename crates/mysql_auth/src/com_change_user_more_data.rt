@@ -1,8 +1,10 @@
 //! What a change of a session's user tells besides.
 #![tactic(auto, using(mysql_wire::proofs::Packets::packets), unfolding(crate::specs::ComChangeUser::more_data))]
 
-ghost use Rattle.std.specs.Prelude.{true, false, ◌≡◌, IfOk, None, map, option_map};
+ghost use Rattle.std.specs.Prelude.{true, false, ◌≡◌, IfOk, is_ok, None, map, option_map};
 ghost use Rattle.mysql_wire.specs.Reading.{Answers};
+ghost use Rattle.mysql_wire.specs.Seq.{counts_any};
+ghost use Rattle.mysql_auth.specs.AttributeBytes.{in_more_data, sent_len};
 ghost use Rattle.mysql_auth.specs.Attributes.{text_pair};
 ghost use Rattle.mysql_auth.specs.ComChangeUser as spec;
 
@@ -61,6 +63,8 @@ impl<'a> ComChangeUserMoreData<'a> {
     ) -> Result<Self, AllocError>
         ensures value { IfOk result (λ p. p ≡ spec.more_data_of (spec.character_set self.entry) (spec.auth_plugin self.entry)
             (option_map (λ texts. map text_pair texts.entries) connect_attributes)) }
+        // Without attributes it takes no memory.
+        ensures none { connect_attributes ≡ None → is_ok result ≡ true }
     {
         let connect_attributes = attributes_of(alloc, connect_attributes)?;
         Ok(ComChangeUserMoreData {
@@ -73,6 +77,8 @@ impl<'a> ComChangeUserMoreData<'a> {
     /// The same, on memory of its own.
     pub fn into_owned(self, alloc: Global) -> Result<ComChangeUserMoreData<'static>, AllocError>
         ensures value { IfOk result (λ owned. owned ≡ self.entry) }
+        // Without a plugin and without attributes it takes no memory.
+        ensures none { spec.auth_plugin self.entry ≡ None → spec.connect_attributes self.entry ≡ None → is_ok result ≡ true }
     {
         let ComChangeUserMoreData {
             character_set,
@@ -115,7 +121,7 @@ fn read_attributes<'s, 'a>(
     capabilities: CapabilityFlags,
     buf: &mut ParseBuf<'a>,
 ) -> Result<Option<Attributes<'a>>, FaultOf<'s>>
-    ensures value { Answers true result buf.new ((spec.written_attributes.form capabilities).reads buf.old) }
+    ensures value { Answers (counts_any ((sent_len (spec.sends_attributes capabilities)).reads buf.old)) result buf.new ((spec.written_attributes.form capabilities).reads buf.old) }
 {
     if !capabilities.contains(CapabilityFlags::CLIENT_CONNECT_ATTRS) {
         return Ok(None);
@@ -128,7 +134,7 @@ impl<'de> MyDeserialize<'de> for ComChangeUserMoreData<'de> {
 
     type Size = AnyWidth;
 
-    ghost takes_memory = { true };
+    ghost takes_memory = { λ capabilities bytes. counts_any ((in_more_data capabilities).reads bytes) };
 
     /// What both sides can do.
     type Ctx = CapabilityFlags;

@@ -1,7 +1,7 @@
 //! The answer to a handshake.
 #![tactic(auto, using(mysql_wire::proofs::Packets::packets), unfolding(crate::specs::HandshakeResponse::handshake_response))]
 
-ghost use Rattle.std.specs.Prelude.{true, false, [], ◌≡◌, ◌≢◌, ◌<◌, ℕ, List, Ok, Option, Some, None, Bool, IfOk, map, option_map, is_some};
+ghost use Rattle.std.specs.Prelude.{true, false, [], ◌≡◌, ◌≢◌, ◌<◌, ℕ, List, Ok, Option, Some, None, Bool, IfOk, is_ok, map, option_map, is_some};
 ghost use Rattle.std.specs.Cow.{cow_slice_items};
 ghost use Rattle.std.specs.Int.{bit_at};
 ghost use Rattle.std.specs.Option.{option_map_or};
@@ -12,6 +12,8 @@ ghost use Rattle.mysql_wire.specs.CountedBytes.{u8_string_bytes};
 ghost use Rattle.mysql_wire.specs.LenEnc.{lenenc_string_bytes};
 ghost use Rattle.mysql_wire.specs.Null.{null_bytes};
 ghost use Rattle.mysql_wire.specs.Reading.{Answers};
+ghost use Rattle.mysql_wire.specs.Seq.{counts_any};
+ghost use Rattle.mysql_auth.specs.AttributeBytes.{in_response, sent_len};
 ghost use Rattle.mysql_auth.specs.Attributes.{Attribute, merged, text_pair, lossy_pairs};
 ghost use Rattle.mysql_auth.specs.HandshakeResponse as spec;
 
@@ -113,6 +115,8 @@ impl<'a> HandshakeResponse<'a> {
         ensures db_name { IfOk result (λ p. spec.db_name p ≡ option_map cow_slice_items db_name.entry) }
         ensures auth_plugin { IfOk result (λ p. spec.auth_plugin p ≡ auth_plugin.entry) }
         ensures connect_attributes { IfOk result (λ p. spec.connect_attributes p ≡ option_map (λ texts. map text_pair texts.entries) connect_attributes) }
+        // Without attributes it takes no memory.
+        ensures no_attributes { connect_attributes ≡ None → is_ok result ≡ true }
         ensures max_packet_size { IfOk result (λ p. spec.max_packet_size p ≡ max_packet_size) }
         ensures mariadb_ext_capabilities { IfOk result (λ p. (spec.mariadb_ext_capabilities p).0 ≡ 0) }
         ensures database_flag { IfOk result (λ p. has (spec.capabilities p).0 CLIENT_CONNECT_WITH_DB ≡ is_some db_name.entry) }
@@ -305,7 +309,7 @@ fn read_attributes<'s, 'a>(
     head: &SslRequest,
     buf: &mut ParseBuf<'a>,
 ) -> Result<Option<Attributes<'a>>, FaultOf<'s>>
-    ensures value { Answers true result buf.new (((spec.told_attributes head.now).form tt).reads buf.old) }
+    ensures value { Answers (counts_any ((sent_len (spec.sends_attributes head.now)).reads buf.old)) result buf.new (((spec.told_attributes head.now).form tt).reads buf.old) }
 {
     if !head
         .capabilities()
@@ -321,7 +325,7 @@ impl<'de> MyDeserialize<'de> for HandshakeResponse<'de> {
 
     type Size = AnyWidth;
 
-    ghost takes_memory = { true };
+    ghost takes_memory = { λ _ bytes. counts_any (in_response.reads bytes) };
 
     type Ctx = ();
 

@@ -1,9 +1,9 @@
 //! Laws over the grammars and the defined bytes of this crate's packets.
 //!
-//! Each law is a function with nothing in it, whose contract holds for all values.
+//! Each law but those on sizes is a function with nothing in it, whose contract holds for all values.
 #![tactic(auto, using(mysql_wire::proofs::Packets::packets))]
 
-ghost use Rattle.std.specs.Prelude.{◌≡◌, ◌++◌, ℕ, List, Ok};
+ghost use Rattle.std.specs.Prelude.{◌≡◌, ◌++◌, ℕ, List, Ok, Some, None};
 ghost use Rattle.mysql_auth.specs.declared.auth_more_data.AuthMoreData.{AuthMoreData};
 ghost use Rattle.mysql_auth.specs.declared.auth_switch_request.AuthSwitchRequest.{AuthSwitchRequest};
 ghost use Rattle.mysql_auth.specs.declared.old_auth_switch_request.OldAuthSwitchRequest.{OldAuthSwitchRequest};
@@ -27,6 +27,8 @@ ghost use Rattle.mysql_auth.specs.OldAuthSwitchRequest.{old_auth_switch_request}
 ghost use Rattle.mysql_auth.specs.PublicKeyRequest.{public_key_request};
 ghost use Rattle.mysql_auth.specs.PublicKeyResponse.{public_key_response};
 ghost use Rattle.mysql_auth.specs.SslRequest.{ssl_request};
+
+use mysql_wire::MyDeserialize;
 
 /// What is written of a plugin is read again, where nothing follows and the plugin is that of its name.
 pub fn auth_plugin_again()
@@ -123,3 +125,80 @@ pub fn one_version()
     ensures one { (text : List ℕ) (v w : ℕ × ℕ × ℕ) → HasVersion text v → HasVersion text w → v ≡ w }
     ensures one_mariadb { (text : List ℕ) (v w : ℕ × ℕ × ℕ) → HasMariadbVersion text v → HasMariadbVersion text w → v ≡ w }
 {}
+
+/// A plugin's name has no constant size.
+pub fn auth_plugin_has_no_constant_size() -> Option<usize>
+    ensures value { result ≡ None }
+{
+    <crate::auth_plugin::AuthPlugin<'static> as MyDeserialize>::SIZE
+}
+
+/// Further data has no constant size.
+pub fn auth_more_data_has_no_constant_size() -> Option<usize>
+    ensures value { result ≡ None }
+{
+    <crate::auth_more_data::AuthMoreData<'static> as MyDeserialize>::SIZE
+}
+
+/// A request for a public key has no constant size that is told, though it is one byte.
+pub fn public_key_request_has_no_constant_size() -> Option<usize>
+    ensures value { result ≡ None }
+{
+    <crate::public_key_request::PublicKeyRequest as MyDeserialize>::SIZE
+}
+
+/// A public key has no constant size.
+pub fn public_key_response_has_no_constant_size() -> Option<usize>
+    ensures value { result ≡ None }
+{
+    <crate::public_key_response::PublicKeyResponse<'static> as MyDeserialize>::SIZE
+}
+
+/// A switch to another plugin has no constant size.
+pub fn auth_switch_request_has_no_constant_size() -> Option<usize>
+    ensures value { result ≡ None }
+{
+    <crate::auth_switch_request::AuthSwitchRequest<'static> as MyDeserialize>::SIZE
+}
+
+/// A handshake has no constant size.
+pub fn handshake_has_no_constant_size() -> Option<usize>
+    ensures value { result ≡ None }
+{
+    <crate::handshake::HandshakePacket<'static> as MyDeserialize>::SIZE
+}
+
+/// A response to a handshake has no constant size.
+pub fn handshake_response_has_no_constant_size() -> Option<usize>
+    ensures value { result ≡ None }
+{
+    <crate::handshake_response::HandshakeResponse<'static> as MyDeserialize>::SIZE
+}
+
+/// A change of user has no constant size.
+pub fn change_user_has_no_constant_size() -> Option<usize>
+    ensures value { result ≡ None }
+{
+    <crate::com_change_user::ComChangeUser<'static> as MyDeserialize>::SIZE
+}
+
+/// A change of user's more data has no constant size.
+pub fn more_data_has_no_constant_size() -> Option<usize>
+    ensures value { result ≡ None }
+{
+    <crate::com_change_user_more_data::ComChangeUserMoreData<'static> as MyDeserialize>::SIZE
+}
+
+/// A switch to the oldest plugin takes one byte.
+pub fn old_auth_switch_request_size() -> Option<usize>
+    ensures value { result ≡ Some 1 }
+{
+    <crate::old_auth_switch_request::OldAuthSwitchRequest as MyDeserialize>::SIZE
+}
+
+/// A request for TLS takes 32 bytes.
+pub fn ssl_request_size() -> Option<usize>
+    ensures value { result ≡ Some 32 }
+{
+    <crate::ssl_request::SslRequest as MyDeserialize>::SIZE
+}

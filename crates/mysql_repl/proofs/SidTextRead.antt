@@ -16,7 +16,7 @@ use Rattle.mysql_repl.specs.declared.sid_text.InvalidSid.{InvalidSid}
 use Rattle.mysql_repl.specs.declared.sid_text.InvalidSid.TheVariants as fault
 use Rattle.mysql_repl.specs.declared.tag.InvalidTag.{InvalidTag}
 use Rattle.mysql_repl.specs.GnoInterval.{interval_of, start, end}
-use Rattle.mysql_repl.specs.ProperSid.{ProperInterval, AllProper, ProperIntervals, IsSidValue}
+use Rattle.mysql_repl.specs.ProperSid.{ProperInterval, AllProper, ProperIntervals}
 use Rattle.mysql_repl.specs.SidGrammar.{AreDigitsOf, SpellsNumber, SpellsTwo, SpellsInterval, SpellsEach, DigitBehindColon, SpellsSid}
 use Rattle.mysql_repl.specs.SidText.{Answered, colon, hyphen, is, has, before, behind, number_of, checked, from_numbers, read_interval, onto, read_each, parts_of, read_intervals, sid_with, read_tagged, read_behind, read_with, read_sid, tag_text, sid_text}
 use Rattle.mysql_repl.specs.Tag.{tag_fault}
@@ -26,6 +26,7 @@ use Rattle.mysql_repl.proofs.SidSpelled.{sid-spelled}
 use Rattle.mysql_repl.proofs.SidTextAgain.{sid-text-again}
 use Rattle.mysql_repl.proofs.SidTexts.{which, numeral-from}
 use Rattle.mysql_repl.proofs.Tags.{no_fault-tag}
+use Rattle.mysql_repl.proofs.UuidBytes.{uuid-is}
 
 same-ok : {A : Type 0} (x y : A) → ◌≡◌ {A = Result A InvalidSid} (Ok x) (Ok y) → x ≡ y
 same-ok x y e = cc
@@ -292,11 +293,12 @@ some-proper : (list : List GnoInterval) → AllProper list → 0 < length list �
 some-proper [] h lt = omega (arith, lt)
 some-proper (i ∷ more) h lt = h
 
-pub sid-read-again : (text : List ℕ) (s : Sid) → IsSidValue s → read_sid text ≡ Ok s → read_sid (sid_text s) ≡ Ok s
-sid-read-again text s v h =
-    let spelled : SpellsSid text s = (sid-from text s h).0 v.tag in
+pub sid-read-again : (text : List ℕ) (s : Sid) → IsUtf8 text → read_sid text ≡ Ok s → read_sid (sid_text s) ≡ Ok s
+sid-read-again text s utf8 h =
+    let spelled : SpellsSid text s = read-spelled text s utf8 h in
+    let id = uuid-is spelled.id s.uuid spelled.uuid in
     let proper = some-proper s.intervals (all-proper s.intervals spelled.more spelled.intervals) spelled.some in
-    sid-text-again s (record { uuid = v.uuid; bytes = v.bytes; tag = v.tag; intervals = proper })
+    sid-text-again s (record { uuid = id.size; bytes = id.bytes; tag = spelled.tag; intervals = proper })
 
 pub ruleset sid_reads_again = (sid-read-again)
 

@@ -1,5 +1,6 @@
 -- The request for a binary log without the transactions of a GTID set.
-use Rattle.std.specs.Prelude.{◌≡◌, ℕ, ◌<◌, ◌^◌, ◌==◌, List, [], ◌∷◌, ◌++◌, length, None, Bool, not, refl}
+use Rattle.std.specs.Prelude.{◌≡◌, ℕ, ◌<◌, ◌^◌, ◌==◌, ◌≢◌, ◌↔◌, List, [], ◌∷◌, ◌++◌, length, None, Bool, true, not, refl}
+use Rattle.std.specs.Int.{bit_at}
 use Rattle.mysql_wire.specs.declared.constant.ConstU8.{ConstU8}
 use Rattle.mysql_wire.specs.declared.constant_value.Const.{Const}
 use Rattle.mysql_wire.specs.declared.int.RawInt.{RawInt}
@@ -7,7 +8,8 @@ use Rattle.mysql_wire.specs.declared.little_endian.LeU16.{LeU16}
 use Rattle.mysql_wire.specs.declared.little_endian.LeU32.{LeU32}
 use Rattle.mysql_wire.specs.Codec.{Codec, Fields}
 use Rattle.mysql_wire.specs.Codecs.{◌>>=◌, give, field, block, packet, const_u8, flags, string_u32, u32, u64}
-use Rattle.mysql_wire.specs.Flags.{BinlogDumpFlags, switched}
+use Rattle.mysql_wire.specs.FlagMasks.{BINLOG_THROUGH_GTID}
+use Rattle.mysql_wire.specs.Flags.{BinlogDumpFlags, switched, has}
 use Rattle.mysql_wire.specs.Int.{raw_int}
 use Rattle.mysql_repl.specs.declared.binlog_dump_gtid.ComBinlogDumpGtid.{ComBinlogDumpGtid}
 use Rattle.mysql_repl.specs.declared.binlog_dump_gtid.InvalidComBinlogDumpGtidHeader.{InvalidComBinlogDumpGtidHeader}
@@ -48,7 +50,7 @@ sids p = p.sid_block
 
 -- the flags, with BINLOG_THROUGH_GTID exactly if there is a sid
 abbrev pub through_gtid : List Sid → ℕ → ℕ
-through_gtid list bits = switched 16 (not (length list == 0)) 4 bits
+through_gtid list bits = switched 16 (not (length list == 0)) BINLOG_THROUGH_GTID bits
 
 abbrev pub with_server_id : ℕ → ComBinlogDumpGtid → ComBinlogDumpGtid
 with_server_id number p = record p { server_id = raw_int number }
@@ -67,6 +69,14 @@ with_sids list p = record p { flags = word_of (through_gtid list p.flags.0.0); s
 
 abbrev pub with_sid : Sid → ComBinlogDumpGtid → ComBinlogDumpGtid
 with_sid s p = with_sids (p.sid_block ++ s ∷ []) p
+
+-- BINLOG_THROUGH_GTID is set exactly if there is a sid
+abbrev pub TellsSids : ComBinlogDumpGtid → Type 0
+TellsSids p = (has (flag_bits p) BINLOG_THROUGH_GTID ≡ true) ↔ (sids p ≢ [])
+
+-- each flag but BINLOG_THROUGH_GTID, the third of sixteen, is as in this word
+abbrev pub KeepsOthers : ℕ → ComBinlogDumpGtid → Type 0
+KeepsOthers bits p = (i : ℕ) → i < 16 → i ≢ 2 → bit_at (flag_bits p) i ≡ bit_at bits i
 
 -- ---- the layout
 

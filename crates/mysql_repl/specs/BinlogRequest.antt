@@ -2,6 +2,7 @@
 use Rattle.std.specs.Prelude.{ℕ, ◌%◌, ◌^◌, List, Bool, true, false, bit_and}
 use Rattle.mysql_wire.specs.declared.either.Either.{Either}
 use Rattle.mysql_wire.specs.declared.either.Either.TheVariants.{Left, Right}
+use Rattle.mysql_wire.specs.FlagMasks.{BINLOG_DUMP_NON_BLOCK}
 use Rattle.mysql_wire.specs.Flags.{BinlogDumpFlags}
 use Rattle.mysql_repl.specs.declared.binlog_dump.ComBinlogDump.{ComBinlogDump}
 use Rattle.mysql_repl.specs.declared.binlog_dump_gtid.ComBinlogDumpGtid.{ComBinlogDumpGtid}
@@ -30,7 +31,7 @@ sids r = r.sids
 
 -- by position: the low 32 bits of the position, and BINLOG_DUMP_NON_BLOCK alone of the flags
 abbrev pub position_dump : BinlogRequest → ComBinlogDump
-position_dump r = by_position.dump_of r.server_id (r.pos % 2 ^ 32) (bit_and r.flags.0 1) (filename r)
+position_dump r = by_position.dump_of r.server_id (r.pos % 2 ^ 32) (bit_and r.flags.0 BINLOG_DUMP_NON_BLOCK) (filename r)
 
 -- by GTID set: all, with BINLOG_THROUGH_GTID exactly if there is a sid
 abbrev pub gtid_dump : BinlogRequest → ComBinlogDumpGtid

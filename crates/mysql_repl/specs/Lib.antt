@@ -11,6 +11,7 @@ pub mod Beginning
 pub mod SidBlock
 pub mod SidBlockAgain
 pub mod BinlogDumpGtid
+pub mod Counts
 pub mod BinlogRequest
 pub mod SidText
 pub mod SidTextParts

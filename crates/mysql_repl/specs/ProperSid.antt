@@ -27,9 +27,3 @@ pub record ProperSid (s : Sid) : Type 0 where
   pub bytes : All (λ b. b < 256) s.uuid
   pub tag : OptionalTag s.tag
   pub intervals : ProperIntervals s.intervals
-
--- what every sid meets: sixteen bytes, and a tag that is one
-pub record IsSidValue (s : Sid) : Type 0 where
-  pub uuid : length s.uuid ≡ 16
-  pub bytes : All (λ b. b < 256) s.uuid
-  pub tag : OptionalTag s.tag

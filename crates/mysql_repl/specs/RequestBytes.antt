@@ -1,6 +1,7 @@
 -- The bytes of either command that a request for a binary log makes.
 use Rattle.std.specs.Prelude.{ℕ, ◌%◌, ◌^◌, List, ◌∷◌, ◌++◌, Bool, true, false, bit_and}
 use Rattle.mysql_wire.specs.CountedBytes.{u32_string_bytes}
+use Rattle.mysql_wire.specs.FlagMasks.{BINLOG_DUMP_NON_BLOCK}
 use Rattle.mysql_wire.specs.Writing.{le_bytes}
 use Rattle.mysql_repl.specs.declared.binlog_request.BinlogRequest.{BinlogRequest}
 use Rattle.mysql_repl.specs.BinlogRequest.{server_id, use_gtid, flags, filename, pos, sids}
@@ -9,7 +10,7 @@ use Rattle.mysql_repl.specs.SidBlock.{block_bytes}
 
 -- by position: 12; the position's low 32 bits; of the flags BINLOG_DUMP_NON_BLOCK alone; the replica's number; the file's name
 abbrev pub position_bytes : BinlogRequest → List ℕ
-position_bytes r = 0x12 ∷ (le_bytes 4 (pos r % 2 ^ 32) ++ (le_bytes 2 (bit_and (flags r).0 1) ++ (le_bytes 4 (server_id r) ++ filename r)))
+position_bytes r = 0x12 ∷ (le_bytes 4 (pos r % 2 ^ 32) ++ (le_bytes 2 (bit_and (flags r).0 BINLOG_DUMP_NON_BLOCK) ++ (le_bytes 4 (server_id r) ++ filename r)))
 
 -- by GTID set: 1e; the flags, with BINLOG_THROUGH_GTID exactly if there is a sid; the replica's number; the file's name
 -- behind its length; the position; the block of the sids

@@ -1,5 +1,5 @@
 -- What the text of a sid is read as, and the text that is written.
-use Rattle.std.specs.Prelude.{◌≡◌, ℕ, ◌+◌, ◌-◌, ◌^◌, List, [], ◌∷◌, ◌++◌, length, Option, Some, None, Result, Ok, Err, Bool, ◌&&◌, ◌==◌, nat_lt, nat_le, codes, if◌then◌else◌}
+use Rattle.std.specs.Prelude.{◌≡◌, ℕ, ◌+◌, ◌-◌, ◌^◌, List, [], ◌∷◌, ◌++◌, length, Option, Some, None, option_map, Result, Ok, Err, Bool, ◌&&◌, ◌==◌, nat_lt, nat_le, codes, if◌then◌else◌}
 use Rattle.std.specs.Char.{is_ascii_digit}
 use Rattle.std.specs.Fmt.{decimal}
 use Rattle.std.specs.List.{slice_split, position_or_len, before_first, after_first, flat_map}
@@ -110,6 +110,23 @@ read_with (Some id) text = read_behind id text
 -- the sid, or the first refusal
 unfoldable pub read_sid : List ℕ → Result Sid InvalidSid
 read_sid text = if has colon text then read_with (parsed (before colon text)) (behind colon text) else Err fault.NoColon
+
+-- ---- refusals that come before the intervals, and so before any memory is taken
+
+-- the tag, where there is one, is refused, or no intervals are there
+unfoldable pub early_behind : List ℕ → Option InvalidSid
+early_behind [] = Some fault.Empty
+early_behind (c ∷ cs) =
+    if is_ascii_digit c then None
+    else if has colon (c ∷ cs) then option_map fault.Tag (tag_fault (before colon (c ∷ cs)))
+    else Some fault.NoIntervals
+
+abbrev pub early_with : Option (List ℕ) → List ℕ → Option InvalidSid
+early_with None text = Some fault.Uuid
+early_with (Some id) text = early_behind text
+
+unfoldable pub early_refusal : List ℕ → Option InvalidSid
+early_refusal text = if has colon text then early_with (parsed (before colon text)) (behind colon text) else Some fault.NoColon
 
 -- an answer is what reading gives, unless memory ran out
 abbrev pub Answered : {A : Type 0} → Result A InvalidSid → Result A InvalidSid → Type 0

@@ -4,9 +4,11 @@
 ghost use Rattle.std.specs.Prelude.{false, true, ◌≡◌, [], IfOk, OnErr, Ok, List, ℕ};
 ghost use Rattle.std.specs.Cow.{cow_slice_items, cow_str_bytes};
 ghost use Rattle.mysql_wire.specs.Reading.{Answers, IsTail};
+ghost use Rattle.mysql_wire.specs.Seq.{counts_any};
 ghost use Rattle.mysql_wire.specs.Text.{lossy_text, BorrowsUtf8};
 ghost use Rattle.mysql_repl.specs.declared.binlog_dump_gtid.ComBinlogDumpGtid.{ComBinlogDumpGtid};
 ghost use Rattle.mysql_repl.specs.BinlogDumpGtid as spec;
+ghost use Rattle.mysql_repl.specs.Counts.{sid_count};
 
 use crate::sid::Sid;
 use crate::sid_block::{SidBlock, read_block};
@@ -51,7 +53,7 @@ pub type ComBinlogDumpGtidHeader = ConstU8<InvalidComBinlogDumpGtidHeader, 0x1e>
 ///
 /// Missing bytes are `UnexpectedEof`. Another first byte, or the bytes of a tag that are no tag, are
 /// `InvalidData`. Reading takes room for the sids as it comes to them, and answers `Memory` where
-/// that is refused.
+/// that is refused; where the head counts no sid, it takes none.
 ///
 /// The block is written with tags where some sid has one, and whole; its length is written as
 /// 2^32 - 1 where it is more. The first 2^32 - 1 bytes of the name are written.
@@ -188,9 +190,9 @@ impl<'a> ComBinlogDumpGtid<'a> {
     ///
     /// What it reads is what `parse` reads. After a refusal the buffer is as it was.
     pub fn parse_strict(buf: &mut ParseBuf<'a>) -> Result<Self, Fault>
-        ensures value { Answers true result buf.new ((spec.gtid_dump.form true).reads buf.old) }
+        ensures value { Answers (counts_any ((sid_count true).reads buf.old)) result buf.new ((spec.gtid_dump.form true).reads buf.old) }
         ensures spelled { IfOk result (λ p. (spec.gtid_dump.form true).Spells p buf.old buf.new) }
-        ensures read { (p : ComBinlogDumpGtid) (rest : List ℕ) → (spec.gtid_dump.form true).Spells p buf.old rest → Answers true result buf.new (Ok (p, rest)) }
+        ensures read { (p : ComBinlogDumpGtid) (rest : List ℕ) → (spec.gtid_dump.form true).Spells p buf.old rest → Answers (counts_any ((sid_count true).reads buf.old)) result buf.new (Ok (p, rest)) }
         ensures err { OnErr result (buf.new ≡ buf.old) }
     {
         let mut rest = buf.rest();
@@ -246,7 +248,7 @@ fn read<'s, 'de>(
     strict: bool,
     buf: &mut ParseBuf<'de>,
 ) -> Result<ComBinlogDumpGtid<'de>, FaultOf<'s>>
-    ensures value { Answers true result buf.new ((spec.gtid_dump.form strict).reads buf.old) }
+    ensures value { Answers (counts_any ((sid_count strict).reads buf.old)) result buf.new ((spec.gtid_dump.form strict).reads buf.old) }
 {
     let (header, flags, server_id) = read_head(strict, buf)?;
     let filename = buf.parse(())?;
@@ -282,7 +284,7 @@ impl<'de> MyDeserialize<'de> for ComBinlogDumpGtid<'de> {
 
     type Size = AnyWidth;
 
-    ghost takes_memory = { true };
+    ghost takes_memory = { λ _ bytes. counts_any ((sid_count false).reads bytes) };
 
     type Ctx = ();
 

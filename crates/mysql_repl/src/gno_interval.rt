@@ -1,7 +1,7 @@
 //! Intervals of transaction numbers.
 #![tactic(auto, using(mysql_wire::proofs::Packets::packets), unfolding(crate::specs::GnoInterval::interval))]
 
-ghost use Rattle.std.specs.Prelude.{false, ◌≡◌, ◌<◌, ◌≤◌, Ok, Err};
+ghost use Rattle.std.specs.Prelude.{false, ◌≡◌, ◌<◌, ◌≤◌, ◌^◌, Ok, Err};
 ghost use Rattle.mysql_repl.specs.GnoInterval as spec;
 ghost use Rattle.mysql_repl.specs.declared.gno_interval.InvalidGno.TheVariants.{Order, Zero};
 
@@ -46,6 +46,7 @@ impl GnoInterval {
     #[inline]
     pub fn start(&self) -> u64
         ensures value { result ≡ spec.start self.now }
+        ensures range { spec.start self.now < 2 ^ 64 }
     {
         self.start
     }
@@ -54,6 +55,7 @@ impl GnoInterval {
     #[inline]
     pub fn end(&self) -> u64
         ensures value { result ≡ spec.end self.now }
+        ensures range { spec.end self.now < 2 ^ 64 }
     {
         self.end
     }

@@ -1,21 +1,24 @@
 //! Laws over the grammars and the defined bytes of this crate's packets, and over texts.
 //!
-//! Each law but the last is a function with nothing in it, whose contract holds for all values.
+//! Each law but those on sizes and the last is a function with nothing in it, whose contract holds for all values. The
+//! laws that begin with `this` speak of the value at hand.
 #![tactic(auto, using(mysql_wire::proofs::Packets::packets, crate::proofs::Fits::plain_fits, crate::proofs::SidFits::sid_fits))]
 
-ghost use Rattle.std.specs.Prelude.{◌≡◌, ◌++◌, ℕ, List, None, Ok, OnErr, OnOk, IsUtf8, true, false};
+ghost use Rattle.std.specs.Prelude.{◌≡◌, ◌++◌, ℕ, List, None, Some, Ok, OnErr, OnOk, IsUtf8, true, false};
 ghost use Rattle.mysql_repl.specs.declared.binlog_dump.ComBinlogDump.{ComBinlogDump};
 ghost use Rattle.mysql_repl.specs.declared.binlog_dump_gtid.ComBinlogDumpGtid.{ComBinlogDumpGtid};
+ghost use Rattle.mysql_repl.specs.declared.binlog_request.BinlogRequest.{BinlogRequest};
 ghost use Rattle.mysql_repl.specs.declared.register_slave.ComRegisterSlave.{ComRegisterSlave};
 ghost use Rattle.mysql_repl.specs.declared.semi_sync_ack.SemiSyncAckPacket.{SemiSyncAckPacket};
 ghost use Rattle.mysql_repl.specs.declared.sid.Sid.{Sid};
 ghost use Rattle.mysql_repl.specs.declared.table_dump.ComTableDump.{ComTableDump};
 ghost use Rattle.mysql_repl.specs.BinlogDump.{binlog_dump, BinlogDumpFits};
-ghost use Rattle.mysql_repl.specs.BinlogDumpGtid.{gtid_dump, GtidDumpFits};
+ghost use Rattle.mysql_repl.specs.BinlogDumpGtid.{gtid_dump, GtidDumpFits, TellsSids, KeepsOthers, flag_bits, with_flags, with_sids};
+ghost use Rattle.mysql_repl.specs.BinlogRequest as request_spec;
 ghost use Rattle.mysql_repl.specs.RegisterSlave.{register_slave, RegisterSlaveFits};
 ghost use Rattle.mysql_repl.specs.SemiSyncAck.{semi_sync_ack, SemiSyncAckFits};
 ghost use Rattle.mysql_repl.specs.Sid.{sid, tagged_sid, IsSid};
-ghost use Rattle.mysql_repl.specs.ProperSid.{IsSidValue, ProperSid};
+ghost use Rattle.mysql_repl.specs.ProperSid.{ProperSid};
 ghost use Rattle.mysql_repl.specs.RequestBytes.{request_bytes};
 ghost use Rattle.mysql_repl.specs.SidGrammar.{SpellsSid};
 ghost use Rattle.mysql_repl.specs.SidText.{read_sid, sid_text};
@@ -23,8 +26,17 @@ ghost use Rattle.mysql_repl.specs.Tag.{IsTag, tag_fault};
 ghost use Rattle.mysql_repl.specs.TableDump.{table_dump, TableDumpFits};
 
 use crate::binlog_request::BinlogRequest;
-use mysql_wire::MySerialize;
+use crate::tag::Tag;
+use mysql_wire::{MyDeserialize, MySerialize};
 use std::alloc::AllocError;
+use std::hash::Hash;
+
+mod values;
+
+pub use values::{
+    this_binlog_dump_again, this_binlog_dump_gtid_again, this_register_slave_again,
+    this_semi_sync_ack_again, this_sid_again, this_sid_text_again, this_table_dump_again,
+};
 
 /// What is written of a registration is read again, whatever follows.
 pub fn register_slave_again()
@@ -64,6 +76,15 @@ pub fn strict_is_lenient()
     ensures spelled { (p : ComBinlogDumpGtid) (bytes rest : List ℕ) → (gtid_dump.form true).Spells p bytes rest → (gtid_dump.form false).Spells p bytes rest }
 {}
 
+/// A dump that is made or changed has the flag BINLOG_THROUGH_GTID exactly if it has a sid. Each other flag is as it was
+/// handed in, or as it stood.
+#[tactic(auto, using(crate::proofs::ThroughGtid::through_gtids))]
+pub fn through_gtid_is_set_for_sids()
+    ensures flags { (bits : ℕ) (p : ComBinlogDumpGtid) → TellsSids (with_flags bits p) × KeepsOthers bits (with_flags bits p) }
+    ensures sids { (list : List Sid) (p : ComBinlogDumpGtid) → TellsSids (with_sids list p) × KeepsOthers (flag_bits p) (with_sids list p) }
+    ensures request { (r : BinlogRequest) → TellsSids (request_spec.gtid_dump r) × KeepsOthers (request_spec.flags r).0 (request_spec.gtid_dump r) }
+{}
+
 /// A text spells one sid at the most, and what it spells is what it is read as. So a text that spells no sid is refused.
 #[tactic(auto, using(crate::proofs::SidTextRead::texts_spelled))]
 pub fn sid_text_is_spelled()
@@ -80,10 +101,10 @@ pub fn sid_text_again()
     ensures read { (s : Sid) → ProperSid s → read_sid (sid_text s) ≡ Ok s }
 {}
 
-/// A text that was read, printed and read again gives the first reading.
+/// A text in UTF-8 that was read, printed and read again gives the first reading.
 #[tactic(auto, using(crate::proofs::SidTextRead::sid_reads_again))]
 pub fn sid_text_read_again()
-    ensures read { (text : List ℕ) (s : Sid) → IsSidValue s → read_sid text ≡ Ok s → read_sid (sid_text s) ≡ Ok s }
+    ensures read { (text : List ℕ) (s : Sid) → IsUtf8 text → read_sid text ≡ Ok s → read_sid (sid_text s) ≡ Ok s }
 {}
 
 /// A text is a tag exactly where it has no fault of one.
@@ -103,4 +124,65 @@ pub fn request_written(request: &BinlogRequest<'_>, out: &mut Vec<u8>) -> Result
     ensures refused { OnErr result (out.new.items ≡ out.old.items) }
 {
     request.as_cmd().serialize(out)
+}
+
+/// Equal tags hash equally, borrowed or owned.
+pub fn equal_tags_hash_equally()
+    ensures hash { (x y : List ℕ) → ⟦<Tag<'static> as PartialEq>⟧.eq x y ≡ true → ⟦<Tag<'static> as Hash>⟧.hash_input x ≡ ⟦<Tag<'static> as Hash>⟧.hash_input y }
+{}
+
+/// A tag has at most 32 bytes.
+pub fn tag_max_len() -> usize
+    ensures value { result ≡ 32 }
+{
+    Tag::MAX_LEN
+}
+
+/// An interval takes 16 bytes.
+pub fn gno_interval_size() -> Option<usize>
+    ensures value { result ≡ Some 16 }
+{
+    <crate::gno_interval::GnoInterval as MyDeserialize>::SIZE
+}
+
+/// A registration has no constant size.
+pub fn register_slave_has_no_constant_size() -> Option<usize>
+    ensures value { result ≡ None }
+{
+    <crate::register_slave::ComRegisterSlave<'static> as MyDeserialize>::SIZE
+}
+
+/// A request for a table has no constant size.
+pub fn table_dump_has_no_constant_size() -> Option<usize>
+    ensures value { result ≡ None }
+{
+    <crate::table_dump::ComTableDump<'static> as MyDeserialize>::SIZE
+}
+
+/// A dump by position has no constant size.
+pub fn binlog_dump_has_no_constant_size() -> Option<usize>
+    ensures value { result ≡ None }
+{
+    <crate::binlog_dump::ComBinlogDump<'static> as MyDeserialize>::SIZE
+}
+
+/// An acknowledgement has no constant size.
+pub fn semi_sync_ack_has_no_constant_size() -> Option<usize>
+    ensures value { result ≡ None }
+{
+    <crate::semi_sync_ack::SemiSyncAckPacket<'static> as MyDeserialize>::SIZE
+}
+
+/// A sid has no constant size.
+pub fn sid_has_no_constant_size() -> Option<usize>
+    ensures value { result ≡ None }
+{
+    <crate::sid::Sid<'static> as MyDeserialize>::SIZE
+}
+
+/// A dump by GTID set has no constant size.
+pub fn binlog_dump_gtid_has_no_constant_size() -> Option<usize>
+    ensures value { result ≡ None }
+{
+    <crate::binlog_dump_gtid::ComBinlogDumpGtid<'static> as MyDeserialize>::SIZE
 }

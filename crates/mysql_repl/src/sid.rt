@@ -3,7 +3,10 @@
 
 ghost use Rattle.std.specs.Prelude.{false, true, ◌≡◌, IfOk, option_map, Option, List, ℕ};
 ghost use Rattle.mysql_wire.specs.Reading.{Answers};
+ghost use Rattle.mysql_wire.specs.Seq.{counts_any};
+ghost use Rattle.mysql_repl.specs.Counts.{interval_count};
 ghost use Rattle.mysql_repl.specs.Sid as spec;
+ghost use Rattle.mysql_repl.specs.TagString.{OptionalTag};
 
 use crate::gno_interval::GnoInterval;
 use crate::tag::Tag;
@@ -55,8 +58,16 @@ impl<'a> Sid<'a> {
     #[inline]
     pub fn tag(&self) -> Option<&Tag<'a>>
         ensures value { option_map (λ t. t.now) result ≡ spec.tag self.now }
+        ensures tag { OptionalTag (spec.tag self.now) }
     {
-        self.tag.as_ref()
+        match &self.tag {
+            Some(tag) => {
+                // (the text is that of a tag)
+                let _text = tag.as_str();
+                Some(tag)
+            }
+            None => None,
+        }
     }
 
     /// The intervals.
@@ -116,7 +127,7 @@ impl<'de> MyDeserialize<'de> for Sid<'de> {
 
     type Size = AnyWidth;
 
-    ghost takes_memory = { true };
+    ghost takes_memory = { λ _ bytes. counts_any ((interval_count false).reads bytes) };
 
     type Ctx = ();
 
@@ -144,7 +155,7 @@ impl Parts for Sid<'_> {
 
 /// Reads a sid in the form with tags.
 fn read_tagged<'s, 'de>(buf: &mut ParseBuf<'de>) -> Result<Sid<'de>, FaultOf<'s>>
-    ensures value { Answers true result buf.new ((spec.tagged_sid.form tt).reads buf.old) }
+    ensures value { Answers (counts_any ((interval_count true).reads buf.old)) result buf.new ((spec.tagged_sid.form tt).reads buf.old) }
 {
     Ok(Sid {
         uuid: buf.parse(())?,
@@ -158,7 +169,7 @@ pub(crate) fn read_sid<'s, 'de>(
     tagged: bool,
     buf: &mut ParseBuf<'de>,
 ) -> Result<Sid<'de>, FaultOf<'s>>
-    ensures value { Answers true result buf.new (((spec.sid_as tagged).form tt).reads buf.old) }
+    ensures value { Answers (counts_any ((interval_count tagged).reads buf.old)) result buf.new (((spec.sid_as tagged).form tt).reads buf.old) }
 {
     if tagged {
         read_tagged(buf)

@@ -4,8 +4,9 @@
 ghost use Rattle.std.specs.Prelude.{false, true, ◌≡◌, ◌+◌, ◌++◌, ◌≤◌, length, vec_len, vec_capacity, OnErr, List, ℕ};
 ghost use Rattle.std.specs.List.{flat_map};
 ghost use Rattle.mysql_wire.specs.Reading.{Answers, IsTail};
-ghost use Rattle.mysql_wire.specs.Seq.{items_of, counted};
+ghost use Rattle.mysql_wire.specs.Seq.{items_of, counted, counts_any, is_any};
 ghost use Rattle.mysql_wire.specs.Writing.{saturated};
+ghost use Rattle.mysql_repl.specs.Counts.{head_count, block_count};
 ghost use Rattle.mysql_repl.specs.Sid.{sid_as};
 ghost use Rattle.mysql_repl.specs.SidBlock as spec;
 
@@ -38,7 +39,7 @@ fn read_counted<'s, 'de>(
     count: u64,
     block: &mut ParseBuf<'de>,
 ) -> Result<Vec<Sid<'de>>, FaultOf<'s>>
-    ensures value { Answers true (items_of result) block.new ((counted count ((sid_as tagged).form tt)).reads block.old) }
+    ensures value { Answers (is_any count) (items_of result) block.new ((counted count ((sid_as tagged).form tt)).reads block.old) }
 {
     let mut sids = Vec::new(block.alloc());
     for _ in 0..count {
@@ -51,7 +52,7 @@ fn read_counted<'s, 'de>(
 /// Reads the head, and so many sids. A strict reader knows the layouts 0 and 1 alone.
 #[tactic(auto, using(mysql_wire::proofs::Packets::packets), unfolding(crate::specs::SidBlock::sids_form))]
 fn read_sids<'s, 'de>(strict: bool, block: &mut ParseBuf<'de>) -> Result<Vec<Sid<'de>>, FaultOf<'s>>
-    ensures value { Answers true (items_of result) block.new ((spec.sids_form strict).reads block.old) }
+    ensures value { Answers (counts_any ((head_count strict).reads block.old)) (items_of result) block.new ((spec.sids_form strict).reads block.old) }
 {
     let head: RawInt<LeU64> = block.parse(())?;
     let head = head.0;
@@ -66,7 +67,7 @@ fn read_sids<'s, 'de>(strict: bool, block: &mut ParseBuf<'de>) -> Result<Vec<Sid
 fn read_whole_block<'s, 'de>(
     buf: &mut ParseBuf<'de>,
 ) -> Result<Seq<'de, Sid<'de>, LeU64>, FaultOf<'s>>
-    ensures value { Answers true result buf.new ((spec.block_form true).reads buf.old) }
+    ensures value { Answers (counts_any ((block_count true).reads buf.old)) result buf.new ((spec.block_form true).reads buf.old) }
 {
     let mut block = <U32Bytes as BytesRepr>::deserialize((), buf)?;
     let sids = read_sids(true, &mut block)?;
@@ -81,7 +82,7 @@ fn read_whole_block<'s, 'de>(
 fn read_lenient_block<'s, 'de>(
     buf: &mut ParseBuf<'de>,
 ) -> Result<Seq<'de, Sid<'de>, LeU64>, FaultOf<'s>>
-    ensures value { Answers true result buf.new ((spec.block_form false).reads buf.old) }
+    ensures value { Answers (counts_any ((block_count false).reads buf.old)) result buf.new ((spec.block_form false).reads buf.old) }
 {
     let mut block = <U32Bytes as BytesRepr>::deserialize((), buf)?;
     let sids = read_sids(false, &mut block)?;
@@ -93,7 +94,7 @@ pub(crate) fn read_block<'s, 'de>(
     strict: bool,
     buf: &mut ParseBuf<'de>,
 ) -> Result<Seq<'de, Sid<'de>, LeU64>, FaultOf<'s>>
-    ensures value { Answers true result buf.new ((spec.block_form strict).reads buf.old) }
+    ensures value { Answers (counts_any ((block_count strict).reads buf.old)) result buf.new ((spec.block_form strict).reads buf.old) }
 {
     if strict {
         read_whole_block(buf)

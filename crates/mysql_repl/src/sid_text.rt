@@ -1,6 +1,6 @@
 //! The text of a sid.
 
-ghost use Rattle.std.specs.Prelude.{◌≡◌, ◌++◌, ◌+◌, ◌<◌, ◌∷◌, ℕ, List, Option, Some, None, Ok, Err, true, false, option_map, MatchOption, IfOk, codes};
+ghost use Rattle.std.specs.Prelude.{◌≡◌, ◌++◌, ◌+◌, ◌<◌, ◌∷◌, ℕ, List, Option, Some, None, Ok, Err, true, false, option_map, MatchOption, IfOk, IfSome, codes};
 ghost use Rattle.std.specs.List.{flat_map};
 ghost use Rattle.uuid.specs.Text.{parsed};
 ghost use Rattle.mysql_repl.specs.declared.sid.Sid.{Sid};
@@ -191,9 +191,10 @@ fn read_intervals(alloc: Global, text: &str) -> Result<Vec<GnoInterval>, Invalid
 }
 
 /// The sid with that uuid whose tag and intervals a text spells.
-#[tactic(auto, unfolding(crate::specs::SidText::read_behind))]
+#[tactic(auto, unfolding(crate::specs::SidText::read_behind, crate::specs::SidText::early_behind))]
 fn read_behind(alloc: Global, uuid: [u8; 16], text: &str) -> Result<Sid<'static>, InvalidSid>
     ensures value { spec.Answered result (spec.read_behind uuid text.now) }
+    ensures early { IfSome (spec.early_behind text.now) (λ e. result ≡ Err e) }
 {
     let Some(first) = text.as_bytes().first() else {
         return Err(InvalidSid::Empty);
@@ -219,21 +220,25 @@ impl Sid<'static> {
     /// below 2^64 - 1. A number is one or more digits, behind a plus or none. Without a tag the
     /// intervals begin with a digit.
     ///
-    /// Another text is refused by its first fault.
+    /// Another text is refused by its first fault. No memory is asked for before the uuid, the tag and the colon behind
+    /// it are found.
     #[tactic(auto, using(crate::proofs::SidTextRead::answers))]
     pub fn from_str(alloc: Global, text: &str) -> Result<Sid<'static>, InvalidSid>
         ensures spelled { IfOk result (SpellsSid text.now) }
         ensures read { (s : Sid) → SpellsSid text.now s → spec.Answered result (Ok s) }
         ensures value { spec.Answered result (spec.read_sid text.now) }
+        // Memory is asked for behind these alone.
+        ensures early { IfSome (spec.early_refusal text.now) (λ e. result ≡ Err e) }
     {
         read_sid(alloc, text)
     }
 }
 
 /// The sid that a text spells, or the text's first refusal.
-#[tactic(auto, unfolding(crate::specs::SidText::read_sid))]
+#[tactic(auto, unfolding(crate::specs::SidText::read_sid, crate::specs::SidText::early_refusal))]
 fn read_sid(alloc: Global, text: &str) -> Result<Sid<'static>, InvalidSid>
     ensures value { spec.Answered result (spec.read_sid text.now) }
+    ensures early { IfSome (spec.early_refusal text.now) (λ e. result ≡ Err e) }
 {
     let Some((uuid, text)) = cut_at_colon(text) else {
         return Err(InvalidSid::NoColon);

@@ -5,7 +5,7 @@ ghost use Rattle.std.specs.Cow.{cow_str_bytes};
 ghost use Rattle.std.specs.List.{find};
 ghost use Rattle.std.specs.Str.{chars};
 ghost use Rattle.std.specs.String.{string_bytes};
-ghost use Rattle.mysql_repl.specs.Tag.{tag_fault, is_first, is_later};
+ghost use Rattle.mysql_repl.specs.Tag.{IsTag, tag_fault, is_first, is_later};
 
 use std::alloc::{AllocError, Global};
 use std::borrow::CowStr;
@@ -91,10 +91,13 @@ pub struct Tag<'a>(CowStr<'a>);
 impl<'a> Model for Tag<'a> {
     ghost use Rattle.std.specs.Prelude.{ℕ, List};
     ghost use Rattle.std.specs.Cow.{cow_str_bytes};
+    ghost use Rattle.mysql_repl.specs.Tag.{IsTag};
 
     ghost Value = { List ℕ };
 
     ghost view = { λ t. cow_str_bytes t.0 };
+
+    ghost invariant = { λ t. IsTag (cow_str_bytes t.0) };
 }
 
 impl<'a> Tag<'a> {
@@ -102,6 +105,7 @@ impl<'a> Tag<'a> {
     pub const MAX_LEN: usize = 32;
 
     /// The tag of this text, or the text's first fault. It takes no memory.
+    #[tactic(auto, using(crate::proofs::Tags::tag_faults))]
     pub fn new(text: CowStr<'a>) -> Result<Self, InvalidTag>
         ensures ok { IfOk result (λ tag. (tag ≡ cow_str_bytes text.entry) × (tag_fault (cow_str_bytes text.entry) ≡ None)) }
         ensures err { IfErr result (λ fault. tag_fault (cow_str_bytes text.entry) ≡ Some fault) }
@@ -112,10 +116,11 @@ impl<'a> Tag<'a> {
         }
     }
 
-    /// The text.
+    /// The text, which is that of a tag.
     #[inline]
     pub fn as_str(&self) -> &str
         ensures value { result.now ≡ self.now }
+        ensures tag { IsTag self.now }
     {
         self.0.as_str()
     }

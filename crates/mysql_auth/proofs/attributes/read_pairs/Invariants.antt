@@ -1,11 +1,15 @@
-use Rattle.std.proofs.Common.{◌≡◌, [], length}
+use Rattle.std.proofs.Common.{◌≡◌, ◌≤◌, [], length}
 use Rattle.mysql_wire.specs.Many.{many}
 use Rattle.mysql_auth.specs.Attributes.{attribute}
 use Rattle.mysql_auth.proofs.PairsRead.{put_behind}
 use Rattle.mysql_auth.proofs.attributes.read_pairs.Given as goal
 
 abbrev pub invariant-loop-inside : goal.invariant-loop-inside
-invariant-loop-inside l = put_behind l.map.entries ((many (attribute.form tt)).reads l.inside) ≡ put_behind [] ((many (attribute.form tt)).reads l.initial.inside)
+invariant-loop-inside l =
+    record {
+      pairs : put_behind l.map.entries ((many (attribute.form tt)).reads l.inside) ≡ put_behind [] ((many (attribute.form tt)).reads l.initial.inside);
+      left : length l.inside ≤ length l.initial.inside;
+    }
 
 abbrev pub decreases-loop-inside : goal.decreases-loop-inside
 decreases-loop-inside l = length l.inside

@@ -1,0 +1,116 @@
+//! Laws on a value at hand: what a caller can use of a packet that was made or read.
+//!
+//! Each function reads the numbers of its value, which shows that they have their widths.
+
+ghost use Rattle.std.specs.Prelude.{◌≡◌, ◌++◌, ◌<◌, ◌^◌, [], ℕ, List, None, Ok, length, true, false};
+ghost use Rattle.std.specs.List.{All};
+ghost use Rattle.mysql_repl.specs.BinlogDump.{binlog_dump};
+ghost use Rattle.mysql_repl.specs.BinlogDumpGtid.{gtid_dump};
+ghost use Rattle.mysql_repl.specs.RegisterSlave.{register_slave, hostname, user, password};
+ghost use Rattle.mysql_repl.specs.SemiSyncAck.{semi_sync_ack};
+ghost use Rattle.mysql_repl.specs.ProperSid.{ProperIntervals};
+ghost use Rattle.mysql_repl.specs.Sid as spec;
+ghost use Rattle.mysql_repl.specs.SidGrammar.{SpellsSid};
+ghost use Rattle.mysql_repl.specs.SidText.{read_sid, sid_text};
+ghost use Rattle.mysql_repl.specs.TableDump.{table_dump, database, table};
+
+use crate::binlog_dump::ComBinlogDump;
+use crate::binlog_dump_gtid::ComBinlogDumpGtid;
+use crate::register_slave::ComRegisterSlave;
+use crate::semi_sync_ack::SemiSyncAckPacket;
+use crate::sid::{Sid, UUID_LEN};
+use crate::table_dump::ComTableDump;
+
+/// What is written of this registration is read again, whatever follows, where no string has more than 255 bytes.
+pub fn this_register_slave_again(registration: &ComRegisterSlave<'_>)
+    ensures spelled { (rest : List ℕ) → length (hostname registration.now) < 2 ^ 8 → length (user registration.now) < 2 ^ 8 → length (password registration.now) < 2 ^ 8
+        → (register_slave.form tt).Spells registration.now (register_slave.bytes registration.now ++ rest) rest }
+{
+    let _server_id = registration.server_id();
+    let _port = registration.port();
+    let _replication_rank = registration.replication_rank();
+    let _master_id = registration.master_id();
+}
+
+/// What is written of this request for a table is read again, whatever follows, where no name has more than 255 bytes.
+#[tactic(auto, using(crate::proofs::Fits::plain_fits))]
+pub fn this_table_dump_again(request: &ComTableDump<'_>)
+    ensures spelled { (rest : List ℕ) → length (database request.now) < 2 ^ 8 → length (table request.now) < 2 ^ 8
+        → (table_dump.form tt).Spells request.now (table_dump.bytes request.now ++ rest) rest }
+{}
+
+/// What is written of this dump by position is read again, where nothing follows.
+pub fn this_binlog_dump_again(dump: &ComBinlogDump<'_>)
+    ensures spelled { (binlog_dump.form tt).Spells dump.now (binlog_dump.bytes dump.now ++ []) [] }
+{
+    let _pos = dump.pos();
+    let _flags = dump.flags();
+    let _server_id = dump.server_id();
+}
+
+/// What is written of this acknowledgement is read again, where nothing follows.
+pub fn this_semi_sync_ack_again(ack: &SemiSyncAckPacket<'_>)
+    ensures spelled { (semi_sync_ack.form tt).Spells ack.now (semi_sync_ack.bytes ack.now ++ []) [] }
+{
+    let _position = ack.position();
+}
+
+/// What is written of this sid is read again, whatever follows: where it has no tag, and in the form with tags.
+pub fn this_sid_again(sid: &Sid<'_>)
+    ensures untagged { (rest : List ℕ) → spec.tag sid.now ≡ None → (spec.sid.form tt).Spells sid.now (spec.sid.bytes sid.now ++ rest) rest }
+    ensures tagged { (rest : List ℕ) → (spec.tagged_sid.form tt).Spells sid.now (spec.tagged_sid.bytes sid.now ++ rest) rest }
+{
+    is_sid(sid);
+}
+
+/// A sid is one: its uuid has sixteen bytes, its tag is one, and its numbers have their widths.
+fn is_sid(sid: &Sid<'_>)
+    ensures value { spec.IsSid sid.now }
+{
+    let _uuid = sid.uuid();
+    let _tag = sid.tag();
+    for interval in sid.intervals() {
+        let _start = interval.start();
+        let _end = interval.end();
+    }
+}
+
+/// Sids are sids.
+fn are_sids(sids: &[Sid<'_>])
+    ensures value { spec.AreSids sids.now }
+{
+    for sid in sids {
+        is_sid(sid);
+    }
+}
+
+/// What is written of this dump by GTID set is read again, whatever follows, by either reader, where it is written as
+/// less than 2^32 bytes.
+pub fn this_binlog_dump_gtid_again(dump: &ComBinlogDumpGtid<'_>)
+    ensures lenient { (rest : List ℕ) → length (gtid_dump.bytes dump.now) < 2 ^ 32 → (gtid_dump.form false).Spells dump.now (gtid_dump.bytes dump.now ++ rest) rest }
+    ensures strict { (rest : List ℕ) → length (gtid_dump.bytes dump.now) < 2 ^ 32 → (gtid_dump.form true).Spells dump.now (gtid_dump.bytes dump.now ++ rest) rest }
+{
+    let _flags = dump.flags();
+    let _server_id = dump.server_id();
+    let _pos = dump.pos();
+    are_sids(dump.sids());
+}
+
+/// The text that is written of this sid spells it, and is read as it, where it has at least one interval, and each is
+/// proper.
+pub fn this_sid_text_again(sid: &Sid<'_>)
+    ensures spelled { ProperIntervals (spec.intervals sid.now) → SpellsSid (sid_text sid.now) sid.now }
+    ensures read { ProperIntervals (spec.intervals sid.now) → read_sid (sid_text sid.now) ≡ Ok sid.now }
+{
+    is_sid(sid);
+    has_bytes(sid.uuid());
+}
+
+/// An array of bytes has bytes.
+fn has_bytes(array: [u8; UUID_LEN])
+    ensures value { All (λ b. b < 256) array }
+{
+    for byte in &array {
+        let _byte = *byte;
+    }
+}
