@@ -249,12 +249,11 @@ impl<'de> MyDeserialize<'de> for ComStmtBulkExecuteRequest {
 
     type Size = AnyWidth;
 
-    ghost takes_memory = { λ columns bytes. is_any (length columns.items) };
+    ghost takes_memory = { λ columns bytes. keeps_lists (length columns.items) bytes };
 
     type Ctx = Vec<(ColumnType, ColumnFlags)>;
 
-    ghost use Rattle.mysql_wire.specs.Seq.{is_any};
-    ghost use Rattle.mysql_bulk.specs.RequestForm.{bulk_request};
+    ghost use Rattle.mysql_bulk.specs.RequestForm.{bulk_request, keeps_lists};
 
     ghost form = { λ columns. bulk_request columns.items };
 
