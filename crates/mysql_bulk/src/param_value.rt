@@ -98,7 +98,8 @@ impl PartialEq for StmtBulkExecuteParamValue {
     }
 }
 
-/// The indicator in a byte; after `BULK_INDICATOR_NONE` a value of the column's type, else none.
+/// The indicator in a byte; after `BULK_INDICATOR_NONE` a value of the column's type, else none. A string of at least one
+/// byte alone takes memory.
 impl<'de> MyDeserialize<'de> for StmtBulkExecuteParamValue {
     const SIZE: Option<usize> = None;
 

@@ -243,7 +243,7 @@ impl PartialEq for ComStmtBulkExecuteRequest {
 /// The header, the statement's number, the flags, the types where they are sent, and one row of values.
 ///
 /// The types and flags of the columns are handed in; where the request sends types, those stand in their place.
-/// Further rows stay unread: see `read_bulk_rows`.
+/// Further rows stay unread: see `read_bulk_rows`. Without a column, and for bytes that begin no request, it takes no memory.
 impl<'de> MyDeserialize<'de> for ComStmtBulkExecuteRequest {
     const SIZE: Option<usize> = None;
 
