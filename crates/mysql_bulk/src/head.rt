@@ -1,7 +1,7 @@
 //! What stands before the values of a bulk request.
 #![tactic(auto, using(mysql_wire::proofs::Packets::packets), unfolding(crate::specs::Head::head))]
 
-ghost use Rattle.std.specs.Prelude.{true, ◌≡◌, [], length, is_ok, IfOk, IsTrue, OnOk, OnErr, map};
+ghost use Rattle.std.specs.Prelude.{true, ◌≡◌, [], is_ok, IfOk, IsTrue, OnOk, OnErr, map};
 ghost use Rattle.mysql_wire.specs.Reading.{Answers};
 ghost use Rattle.mysql_wire.specs.Seq.{is_any, items_of};
 ghost use Rattle.mysql_bulk.specs.Head.{head, value_columns, column_of_type, sends_types};

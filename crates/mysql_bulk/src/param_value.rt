@@ -1,6 +1,6 @@
 //! A value in a bulk request, with its indicator.
 
-ghost use Rattle.std.specs.Prelude.{◌≡◌, ◌≤◌, ◌+◌, ◌++◌, length, List, ℕ, Option, Some, None, refl};
+ghost use Rattle.std.specs.Prelude.{◌≡◌, Option, None, refl};
 ghost use Rattle.mysql_bulk.specs.ParamValue.{indicator_of};
 ghost use Rattle.mysql_values.specs.Value.{content_of};
 

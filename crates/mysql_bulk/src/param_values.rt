@@ -1,7 +1,7 @@
 //! The values of a row in a bulk request.
 
-ghost use Rattle.std.specs.Prelude.{◌≡◌, ◌≤◌, ◌+◌, ◌++◌, length, map, List, ℕ, None, IfOk, OnErr};
-ghost use Rattle.mysql_wire.specs.Reading.{Answers, IsTail};
+ghost use Rattle.std.specs.Prelude.{◌≡◌, map, List, None, IfOk, OnErr};
+ghost use Rattle.mysql_wire.specs.Reading.{Answers};
 ghost use Rattle.mysql_wire.specs.Seq.{items_of};
 ghost use Rattle.mysql_values.specs.Value.{contents_of};
 ghost use Rattle.mysql_bulk.specs.ParamValue.{with_indicator};

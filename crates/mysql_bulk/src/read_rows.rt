@@ -1,7 +1,7 @@
 //! Rows read from a bulk request.
 
-ghost use Rattle.std.specs.Prelude.{true, false, [], ◌≡◌, ◌≤◌, length, List, ℕ, IfOk, OnErr};
-ghost use Rattle.mysql_wire.specs.Reading.{Answers, IsTail};
+ghost use Rattle.std.specs.Prelude.{true, false, [], ◌≡◌, length, OnErr};
+ghost use Rattle.mysql_wire.specs.Reading.{Answers};
 ghost use Rattle.mysql_wire.specs.Many.{many};
 ghost use Rattle.mysql_bulk.specs.RequestForm.{keeps_lists};
 ghost use Rattle.mysql_bulk.specs.ReadRows.{row_of_columns, bulk_rows, row_read, rows_read};

@@ -1,6 +1,6 @@
 //! A bulk request.
 
-ghost use Rattle.std.specs.Prelude.{◌≡◌, ◌≤◌, ◌+◌, ◌*◌, ◌++◌, length, List, ℕ, None, refl, IfOk, if◌then◌else◌, fold, [], slice_get};
+ghost use Rattle.std.specs.Prelude.{◌≡◌, ◌+◌, ◌*◌, length, None, refl, IfOk, if◌then◌else◌, fold, [], slice_get};
 ghost use Rattle.std.specs.Option.{option_map};
 ghost use Rattle.mysql_wire.specs.Writing.{saturated};
 ghost use Rattle.mysql_cuts.specs.Cut.{rows_in};
