@@ -74,7 +74,7 @@ module _ {S : Type 0} (steps : S → Option (Vec Value) → S → Type 0) where
               let E : List (List Content) → Type 0 = λ l. Running s₀ all before ends sent s.builder (contents_of_rows f.accepted.taken ++ l) in
               let R : List (List Content) → Type 0 = λ l. (further : List ℕ) × ((n : ℕ) × Running s₀ all (before ++ request ∷ []) further n t.builder l) in
               let here = running_accepts f.full (contents_of_rows f.accepted.taken) [] (subst E (none rest is_rest) r) f.accepted.accepts in
-              subst R (sym (none rest is_rest)) (ends ++ length (rows_in here.cut ++ f.full.waiting) ∷ [], (length (rows_in here.cut ++ f.full.waiting), running_sends t.builder [] request here f.builds tt));
+              subst R (sym (none rest is_rest)) (ends ++ length (rows_in here.cut ++ f.full.waiting) ∷ [], (length (rows_in here.cut ++ f.full.waiting), running_sends t.builder [] request here f.builds tt tt));
         }
 
     -- the rows from a state that carries a row begin with it, or it is the one where they end
@@ -121,8 +121,8 @@ module _ {S : Type 0} (steps : S → Option (Vec Value) → S → Type 0) where
               ∙ append_assoc (contents_of_rows f.accepted.taken) (contents_of_rows later.rows) rest
               ∙ ap (λ (l : List (List Content)). contents_of_rows f.accepted.taken ++ l) first.1 in
               let here = running_accepts f.full (contents_of_rows f.accepted.taken) (contents_of_row row ∷ first.0) (subst P seam r) f.accepted.accepts in
-              let there = running_sends t.builder (contents_of_row row ∷ first.0) request here f.builds
-              (λ g. full.1 (fits_from (contents_of_row row) first.0 here (next_long (contents_of_row row) first.0 here full.0) g)) in
+              let long = next_long (contents_of_row row) first.0 here full.0 in
+              let there = running_sends t.builder (contents_of_row row ∷ first.0) request here f.builds long (λ g. full.1 (fits_from (contents_of_row row) first.0 here long g)) in
               let V : List (List Content) → Type 0 = Running s₀ all (before ++ request ∷ []) (ends ++ length (rows_in here.cut ++ f.full.waiting) ∷ []) (length (rows_in here.cut ++ f.full.waiting)) t.builder in
               let end = later.run_over_list rest is_rest all (before ++ request ∷ []) (ends ++ length (rows_in here.cut ++ f.full.waiting) ∷ []) (length (rows_in here.cut ++ f.full.waiting)) (subst V (sym first.1) there) in
               let Q : List BulkRequest → Type 0 = λ q. Running s₀ all q end.0 end.1.0 m rest in

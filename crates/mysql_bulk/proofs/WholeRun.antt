@@ -19,9 +19,9 @@ use Rattle.mysql_bulk.specs.Builder.{BuilderState, packing, TakesArity, RowFits,
 use Rattle.mysql_bulk.specs.DeclaredTypes.{declared_types}
 use Rattle.mysql_bulk.specs.WholeRunRefusal.{equal_front, measure, RefusalOfRows}
 use Rattle.mysql_bulk.specs.Request.{BulkRequest, request_flags}
-use Rattle.mysql_bulk.specs.Row.{contents_of_row, first_length, EqualLengths}
+use Rattle.mysql_bulk.specs.Row.{contents_of_row, first_length, EqualLengths, OneLength}
 use Rattle.mysql_bulk.specs.Run.{Accepts}
-use Rattle.mysql_bulk.specs.WholeRun.{IsNew, HadMemory, AreRequests, due_after, left_by, RequestIsDue, EndsBy, RefusalOfList, RunGives}
+use Rattle.mysql_bulk.specs.WholeRun.{IsNew, HadMemory, AreRequests, due_after, left_by, RequestIsDue, holding, EachWasDue, EndsBy, RefusalOfList, RunGives}
 
 EqualLengths-push : (a : ℕ) (rows : List (List Content)) (row : List Content) → EqualLengths a rows → length row ≡ a → EqualLengths a (rows ++ row ∷ [])
 EqualLengths-push a [] row e h = (h, tt)
@@ -58,6 +58,10 @@ ends_after-push n (p ∷ parts) part =
     omega (arith, length-append (p ++ rows_in parts) part, length-append p (rows_in parts), length-append (rows_in parts) part) in
     ap (λ (l : List ℕ). (n + length p) ∷ l) (more ∙ ap (λ m. ends_after (n + length p) parts ++ m ∷ []) count)
 
+due_sent : (s : BuilderState) (cut : List (List (List Content))) → due_after (after_request s) cut ≡ s.rule.types_always
+due_sent s [] = refl
+due_sent s (p ∷ cut) = refl
+
 AreRequests-push : (s : BuilderState) (cut : List (List (List Content))) (requests : List BulkRequest) (part waiting : List (List Content)) (request : BulkRequest) → AreRequests s cut requests
     → IsRequest (left_by s cut waiting) part request → AreRequests s (cut ++ part ∷ []) (requests ++ request ∷ [])
 AreRequests-push s [] [] part waiting request a i = (record { id = i.id; flags = i.flags; types = i.types; values = i.values }, tt)
@@ -73,10 +77,32 @@ AreRequests-push s (p ∷ cut) (q ∷ requests) part waiting request a i =
         values = i.values;
       }),
     )
-  where
-    due_sent : (s : BuilderState) (cut : List (List (List Content))) → due_after (after_request s) cut ≡ s.rule.types_always
-    due_sent s [] = refl
-    due_sent s (p ∷ cut) = refl
+
+EachWasDue-push : (s : BuilderState) (cut : List (List (List Content))) (part rest : List (List Content)) → EachWasDue s cut (part ++ rest)
+    → RequestIsDue (holding (record s { types_due = due_after s cut }) part) rest → EachWasDue s (cut ++ part ∷ []) rest
+EachWasDue-push s [] part rest e d = (d, tt)
+EachWasDue-push s (p ∷ cut) part rest e d =
+    let seam : rows_in cut ++ (part ++ rest) ≡ rows_in (cut ++ part ∷ []) ++ rest =
+    sym (append_assoc (rows_in cut) part rest) ∙ ap (λ (l : List (List Content)). l ++ rest) (sym (joined_push (packing s 0) cut part)) in
+    let H : List (List Content) → Type 0 = RequestIsDue (holding s p) in
+    let D : Bool → Type 0 = λ t. RequestIsDue (holding (record s { types_due = t }) part) rest in
+    (subst H seam e.0, EachWasDue-push (after_request s) cut part rest e.1 (subst D (sym (due_sent s cut)) d))
+
+-- rows of one length, in a list that begins with them
+one_length_of : (rows rest all : List (List Content)) → rows ++ rest ≡ all → EqualLengths (first_length all) rows → OneLength rows
+one_length_of [] rest all e h = tt
+one_length_of (row ∷ rows) rest all e h = let E : ℕ → Type 0 = λ n. EqualLengths n (row ∷ rows) in subst E (sym (ap first_length e)) h
+
+-- the length of rows behind others
+length_of_waiting : (n : ℕ) (before waiting : List (List Content)) → EqualLengths n (before ++ waiting) → waiting ≢ [] → first_length waiting ≡ n
+length_of_waiting n [] [] e some = absurd (some refl)
+length_of_waiting n [] (row ∷ waiting) e some = e.0
+length_of_waiting n (row ∷ before) waiting e some = length_of_waiting n before waiting e.1 some
+
+-- the next row, if there is one, has this length
+abbrev pub NextIsLong : ℕ → List (List Content) → Type 0
+NextIsLong n [] = Unit {0}
+NextIsLong n (row ∷ rest) = length row ≡ n
 
 abbrev pub Long : ℕ → List Content → Bool
 Long n row = nat_eq (length row) n
@@ -105,6 +131,8 @@ pub record Running (s : BuilderState) (all : List (List Content)) (requests : Li
   pub left : b ≡ left_by s cut b.waiting
   pub lengths : EqualLengths (first_length all) (rows_in cut ++ b.waiting)
   pub packed : IsPacked (measure s all) s.types_due cut b.waiting (rows_in cut ++ b.waiting) rest
+  pub arity_stays : (n : ℕ) → s.arity ≡ Some n → b.arity ≡ Some n
+  pub due : EachWasDue s cut (b.waiting ++ rest)
 
 -- before the run
 pub running_none : (s : BuilderState) (rows : List (List Content)) → IsConsistent s → Running s (s.waiting ++ rows) [] [] 0 s rows
@@ -117,6 +145,8 @@ running_none s rows c = record {
   left = ap (λ a. record s { arity = a }) c.arity;
   lengths = lengths s.waiting c.one_length;
   packed = open_packed (measure s (s.waiting ++ rows)) s.types_due s.waiting rows (λ n. fits s.waiting n (c.fits n));
+  arity_stays = λ n e. e;
+  due = tt;
 }
   where
     lengths : (waiting : List (List Content)) → EqualLengths (first_length waiting) waiting → EqualLengths (first_length (waiting ++ rows)) waiting
@@ -172,13 +202,24 @@ module _ {s : BuilderState} {all : List (List Content)} {requests : List BulkReq
             ∙ ap (λ a. record s { arity = a; types_due = due_after s r.cut; waiting = b.waiting ++ row ∷ [] }) arity;
         lengths = subst L seam (EqualLengths-push (first_length all) before row r.lengths h);
         packed = subst P seam (packed_more (measure s all) s.types_due r.cut b.waiting before row rest r.packed (fits_to row rest r h f));
+        arity_stays = λ n e. let T : Option ℕ → Type 0 = λ p. TakesArity p (length row) in ap Some (subst T (r.arity_stays n e) t);
+        due = let D : List (List Content) → Type 0 = EachWasDue s r.cut in subst D (sym (append_assoc b.waiting (row ∷ []) rest)) r.due;
       }
 
-  -- the waiting rows are sent, since the next row, if there is one, does not fit with them
-  pub running_sends : (t : BuilderState) (rest : List (List Content)) (request : BulkRequest) (r : Running s all requests ends sent b rest) → BuildsRequest b request t
+  -- the request of the waiting rows is due
+  is_due : (rest : List (List Content)) (r : Running s all requests ends sent b rest) → b.waiting ≢ [] → NextIsLong (first_length all) rest
+      → NextDoesNotFit (measure s all) (types_after (measure s all) s.types_due r.cut) b.waiting rest → RequestIsDue (holding (record s { types_due = due_after s r.cut }) b.waiting) rest
+  is_due [] r some long n = some
+  is_due (row ∷ rest) r some long n =
+      let A : ℕ → Type 0 = λ n. PartFits (packing s n) (due_after s r.cut) (b.waiting ++ row ∷ []) in
+      let T : Bool → Type 0 = λ t. PartFits (measure s all) t (b.waiting ++ row ∷ []) in
+      (some, long ∙ sym (length_of_waiting (first_length all) (rows_in r.cut) b.waiting r.lengths some), λ f. n (subst T (due_is s all r.cut) (subst A long f)))
+
+  -- the waiting rows are sent, since the next row, if there is one, is as long and does not fit with them
+  pub running_sends : (t : BuilderState) (rest : List (List Content)) (request : BulkRequest) (r : Running s all requests ends sent b rest) → BuildsRequest b request t → NextIsLong (first_length all) rest
       → NextDoesNotFit (measure s all) (types_after (measure s all) s.types_due r.cut) b.waiting rest
       → Running s all (requests ++ request ∷ []) (ends ++ length (rows_in r.cut ++ b.waiting) ∷ []) (length (rows_in r.cut ++ b.waiting)) t rest
-  running_sends t rest request r a n =
+  running_sends t rest request r a long n =
       let before = rows_in r.cut ++ b.waiting in
       let cut = r.cut ++ b.waiting ∷ [] in
       let joined : rows_in cut ≡ before = joined_push (measure s all) r.cut b.waiting in
@@ -199,6 +240,8 @@ module _ {s : BuilderState} {all : List (List Content)} {requests : List BulkReq
             ∙ ap (λ t. record s { arity = arity_after s.arity (rows_in cut ++ []); types_due = t; waiting = [] }) (sym (due_after-push s r.cut b.waiting));
         lengths = subst L (sym same) r.lengths;
         packed = subst P (sym same) (packed_close (measure s all) s.types_due r.cut b.waiting before rest r.packed a.some n);
+        arity_stays = r.arity_stays;
+        due = EachWasDue-push s r.cut b.waiting rest r.due (is_due rest r a.some long n);
       })
 
   -- ---- what a run has given, wherever it stands
@@ -236,6 +279,9 @@ module _ {s : BuilderState} {all : List (List Content)} {requests : List BulkReq
     requests_are = r.requests_are;
     ends_are = r.ends_are;
     full_parts = r.packed.full_so_far;
+    one_length = one_length_of (rows_in r.cut ++ b.waiting) rest all r.whole r.lengths;
+    arity_stays = r.arity_stays;
+    each_was_due = r.due;
     left = r.left;
     ended = e;
     full_from_front = full rest r;

@@ -1,5 +1,11 @@
 -- Bulk requests in the bytes.
-use Rattle.std.specs.Prelude.{List, length}
+use Rattle.std.specs.Prelude.{ℕ, List, length, Bool, is_ok, ◌&&◌}
+use Rattle.mysql_wire.specs.Seq.{is_any}
+use Rattle.mysql_wire.specs.Codecs.{const_u8, u32, flags}
+use Rattle.mysql_wire.specs.declared.constant_value.Const.{Const}
+use Rattle.mysql_wire.specs.declared.little_endian.LeU16.{LeU16}
+use Rattle.mysql_wire.specs.Flags.{StmtBulkExecuteFlags}
+use Rattle.mysql_bulk.specs.declared.head.InvalidComStmtBulkExecuteHeader.{InvalidComStmtBulkExecuteHeader}
 use Rattle.mysql_wire.specs.Form.{Form, ◌>>=◌, give}
 use Rattle.mysql_bulk.specs.ParamValue.{ParamValue}
 use Rattle.mysql_bulk.specs.ParamValues.{BulkColumn, values_of_columns}
@@ -16,3 +22,14 @@ bulk_request columns = do
   h ← head.form (length columns)
   values ← values_of_columns (value_columns columns h)
   give (with_head h values)
+
+-- the header, the statement's number and the flags
+abbrev pub head_start : Form (Const StmtBulkExecuteFlags LeU16)
+head_start = do
+  header ← (const_u8 {C = Unit {0}} {T = InvalidComStmtBulkExecuteHeader} 0xfa).form tt
+  stmt_id ← (u32 {C = Unit {0}}).form tt
+  (flags {C = Unit {0}} {U = LeU16} 2).form tt
+
+-- there are columns, and a request begins here: what is read of the columns is kept in lists
+abbrev pub keeps_lists : ℕ → List ℕ → Bool
+keeps_lists columns bytes = is_any columns && is_ok (head_start.reads bytes)

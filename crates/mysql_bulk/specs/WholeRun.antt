@@ -11,7 +11,7 @@ use Rattle.mysql_bulk.specs.declared.error.BulkExecuteRequestBuilderError.TheVar
 use Rattle.mysql_bulk.specs.Builder.{BuilderState, TakesArity, RowFits, IsRequest, Adds, BuildsRequest, after_request, arity_after}
 use Rattle.mysql_bulk.specs.WholeRunRefusal.{RefusalOfRows, equal_front, measure}
 use Rattle.mysql_bulk.specs.Request.{BulkRequest}
-use Rattle.mysql_bulk.specs.Row.{contents_of_row}
+use Rattle.mysql_bulk.specs.Row.{contents_of_row, first_length, OneLength}
 
 -- ---- the builder, before and after
 
@@ -47,6 +47,15 @@ pub record RefusesNextRow (t : BuilderState) (e : BulkExecuteRequestError) (drop
 abbrev pub RequestIsDue : BuilderState → List (List Content) → Type 0
 RequestIsDue t [] = t.waiting ≢ []
 RequestIsDue t (row ∷ behind) = (t.waiting ≢ []) × TakesArity t.arity (length row) × (RowFits t row → ⊥)
+
+-- a builder that holds these rows
+abbrev pub holding : BuilderState → List (List Content) → BuilderState
+holding s part = record s { arity = Some (first_length part); waiting = part }
+
+-- the request of each part was due where it was sent; behind the last part come these rows
+abbrev pub EachWasDue : BuilderState → List (List (List Content)) → List (List Content) → Type 0
+EachWasDue s [] rest = Unit {0}
+EachWasDue s (part ∷ parts) rest = RequestIsDue (holding s part) (rows_in parts ++ rest) × EachWasDue (after_request s) parts rest
 
 -- why a run ended that left this builder, and before these rows
 abbrev pub EndsBy : Option BulkExecuteRequestBuilderError → BuilderState → List (List Content) → Type 0
@@ -99,6 +108,12 @@ pub record RunGives (s : BuilderState) (rows : List (List Content)) (requests : 
   pub ends_are : ends ≡ ends_after 0 cut
   -- each part fits, and would not with the row behind it
   pub full_parts : FullFrom (measure s rows) s.types_due cut (t.waiting ++ dropped)
+  -- the rows that were sent, and those that wait, are of one length
+  pub one_length : OneLength (rows_in cut ++ t.waiting)
+  -- which is the builder's arity, where it had one
+  pub arity_stays : (n : ℕ) → s.arity ≡ Some n → t.arity ≡ Some n
+  -- each part was due where it was sent: no row was left, or the next one was as long and did not fit with it
+  pub each_was_due : EachWasDue s cut (t.waiting ++ dropped)
   -- the settings stay, and the arity and whether types are due are those behind what was sent and waits
   pub left : t ≡ left_by s cut t.waiting
   -- why it ended

@@ -1,11 +1,12 @@
 //! What stands before the values of a bulk request.
 #![tactic(auto, using(mysql_wire::proofs::Packets::packets), unfolding(crate::specs::Head::head))]
 
-ghost use Rattle.std.specs.Prelude.{true, ◌≡◌, [], length, IfOk, OnErr, map};
+ghost use Rattle.std.specs.Prelude.{true, ◌≡◌, [], is_ok, IfOk, IsTrue, OnOk, OnErr, map};
 ghost use Rattle.mysql_wire.specs.Reading.{Answers};
 ghost use Rattle.mysql_wire.specs.Seq.{is_any, items_of};
 ghost use Rattle.mysql_bulk.specs.Head.{head, value_columns, column_of_type, sends_types};
 ghost use Rattle.mysql_bulk.specs.HeadTypes.{types_block};
+ghost use Rattle.mysql_bulk.specs.RequestForm.{head_start, keeps_lists};
 
 use mysql_values::ParamType;
 use mysql_wire::{
@@ -97,7 +98,8 @@ fn read_types_sent<'s>(
 
 /// Reads the head of a request of so many columns. After a refusal the buffer is as it was.
 pub(crate) fn read_head<'s>(count: usize, buf: &mut ParseBuf<'_>) -> Result<Head, FaultOf<'s>>
-    ensures value { Answers (is_any count) result buf.new ((head.form count).reads buf.old) }
+    ensures value { Answers (keeps_lists count buf.old) result buf.new ((head.form count).reads buf.old) }
+    ensures start { OnOk result (IsTrue (is_ok (head_start.reads buf.old))) }
     ensures none { count ≡ 0 → IfOk result (λ head. head.types ≡ []) }
     ensures err { OnErr result (buf.new ≡ buf.old) }
 {

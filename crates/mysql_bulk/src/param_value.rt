@@ -1,6 +1,6 @@
 //! A value in a bulk request, with its indicator.
 
-ghost use Rattle.std.specs.Prelude.{◌≡◌, ◌≤◌, ◌+◌, ◌++◌, length, List, ℕ, Option, Some, None, refl};
+ghost use Rattle.std.specs.Prelude.{◌≡◌, Option, None, refl};
 ghost use Rattle.mysql_bulk.specs.ParamValue.{indicator_of};
 ghost use Rattle.mysql_values.specs.Value.{content_of};
 
@@ -98,7 +98,8 @@ impl PartialEq for StmtBulkExecuteParamValue {
     }
 }
 
-/// The indicator in a byte; after `BULK_INDICATOR_NONE` a value of the column's type, else none.
+/// The indicator in a byte; after `BULK_INDICATOR_NONE` a value of the column's type, else none. A string of at least one
+/// byte alone takes memory.
 impl<'de> MyDeserialize<'de> for StmtBulkExecuteParamValue {
     const SIZE: Option<usize> = None;
 

@@ -1,7 +1,7 @@
 //! The values of a row in a bulk request.
 
-ghost use Rattle.std.specs.Prelude.{◌≡◌, ◌≤◌, ◌+◌, ◌++◌, length, map, List, ℕ, None, IfOk, OnErr};
-ghost use Rattle.mysql_wire.specs.Reading.{Answers, IsTail};
+ghost use Rattle.std.specs.Prelude.{◌≡◌, map, List, None, IfOk, OnErr};
+ghost use Rattle.mysql_wire.specs.Reading.{Answers};
 ghost use Rattle.mysql_wire.specs.Seq.{items_of};
 ghost use Rattle.mysql_values.specs.Value.{contents_of};
 ghost use Rattle.mysql_bulk.specs.ParamValue.{with_indicator};
@@ -17,7 +17,7 @@ use std::alloc::{AllocError, Global};
 use std::convert::AsSlice;
 use std::marker::Model;
 
-/// Reads a value of each column. After a refusal the buffer is as it was.
+/// Reads a value of each column. It takes memory once the first one is read. After a refusal the buffer is as it was.
 pub(crate) fn read_values<'s>(
     columns: &[(ColumnType, ColumnFlags)],
     buf: &mut ParseBuf<'_>,
@@ -94,7 +94,7 @@ impl AsSlice<StmtBulkExecuteParamValue> for StmtBulkExecuteParamValues {
     }
 }
 
-/// A value of each column, whose types and flags are handed in.
+/// A value of each column, whose types and flags are handed in. It takes memory once the first value is read.
 impl<'de> MyDeserialize<'de> for StmtBulkExecuteParamValues {
     const SIZE: Option<usize> = None;
 

@@ -1,8 +1,9 @@
 //! Rows read from a bulk request.
 
-ghost use Rattle.std.specs.Prelude.{true, ◌≡◌, ◌≤◌, length, List, ℕ, IfOk, OnErr};
-ghost use Rattle.mysql_wire.specs.Reading.{Answers, IsTail};
+ghost use Rattle.std.specs.Prelude.{true, false, [], ◌≡◌, length, OnErr};
+ghost use Rattle.mysql_wire.specs.Reading.{Answers};
 ghost use Rattle.mysql_wire.specs.Many.{many};
+ghost use Rattle.mysql_bulk.specs.RequestForm.{keeps_lists};
 ghost use Rattle.mysql_bulk.specs.ReadRows.{row_of_columns, bulk_rows, row_read, rows_read};
 
 use crate::head::read_head;
@@ -50,22 +51,39 @@ fn read_rows<'s>(
     Ok(rows)
 }
 
+/// Rows of no column: there are none, and bytes that are left are none of them.
+fn read_no_rows<'s>(rest: &ParseBuf<'_>) -> Result<Vec<Vec<Value>>, FaultOf<'s>>
+    ensures value { Answers false (rows_read result) rest.now ((many (row_of_columns [])).reads rest.now) }
+{
+    if !rest.is_empty() {
+        return Err(FaultOf::InvalidData("Row without values"));
+    }
+    Ok(Vec::new(rest.alloc()))
+}
+
 /// Reads a bulk request (`COM_STMT_BULK_EXECUTE`) as rows: its header, the statement's number and the flags, the types
 /// where they are sent, and then rows until the bytes end.
 ///
 /// `columns` are the types and flags of the columns, for a request that does not send types; where it does, those types
 /// stand in their place. A value that is the column's default, or is to be left as it is, is `NULL`. Bytes that are
 /// missing are `UnexpectedEof`, another header is `InvalidData`, and so are bytes behind the head where there is no
-/// column. After a refusal the buffer is as it was.
+/// column. Without a column, and for bytes that begin no request, it takes no memory. After a refusal the buffer is as it
+/// was.
 pub fn read_bulk_rows<'s>(
     columns: &[(ColumnType, ColumnFlags)],
     buf: &mut ParseBuf<'_>,
 ) -> Result<Vec<Vec<Value>>, FaultOf<'s>>
-    ensures value { Answers true (rows_read result) buf.new ((bulk_rows columns.now).reads buf.old) }
+    ensures value { Answers (keeps_lists (length columns.now) buf.old) (rows_read result) buf.new ((bulk_rows columns.now).reads buf.old) }
     ensures err { OnErr result (buf.new ≡ buf.old) }
 {
     let mut rest = buf.rest();
-    let head = read_head(columns.len(), &mut rest)?;
+    let count = columns.len();
+    let head = read_head(count, &mut rest)?;
+    if count == 0 {
+        let rows = read_no_rows(&rest)?;
+        *buf = rest;
+        return Ok(rows);
+    }
     let columns = head.value_columns(buf.alloc(), columns)?;
     let rows = read_rows(columns.as_slice(), &mut rest)?;
     *buf = rest;

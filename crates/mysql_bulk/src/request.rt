@@ -1,6 +1,6 @@
 //! A bulk request.
 
-ghost use Rattle.std.specs.Prelude.{◌≡◌, ◌≤◌, ◌+◌, ◌*◌, ◌++◌, length, List, ℕ, None, refl, IfOk, if◌then◌else◌, fold, [], slice_get};
+ghost use Rattle.std.specs.Prelude.{◌≡◌, ◌+◌, ◌*◌, length, None, refl, IfOk, if◌then◌else◌, fold, [], slice_get};
 ghost use Rattle.std.specs.Option.{option_map};
 ghost use Rattle.mysql_wire.specs.Writing.{saturated};
 ghost use Rattle.mysql_cuts.specs.Cut.{rows_in};
@@ -243,18 +243,17 @@ impl PartialEq for ComStmtBulkExecuteRequest {
 /// The header, the statement's number, the flags, the types where they are sent, and one row of values.
 ///
 /// The types and flags of the columns are handed in; where the request sends types, those stand in their place.
-/// Further rows stay unread: see `read_bulk_rows`.
+/// Further rows stay unread: see `read_bulk_rows`. Without a column, and for bytes that begin no request, it takes no memory.
 impl<'de> MyDeserialize<'de> for ComStmtBulkExecuteRequest {
     const SIZE: Option<usize> = None;
 
     type Size = AnyWidth;
 
-    ghost takes_memory = { λ columns bytes. is_any (length columns.items) };
+    ghost takes_memory = { λ columns bytes. keeps_lists (length columns.items) bytes };
 
     type Ctx = Vec<(ColumnType, ColumnFlags)>;
 
-    ghost use Rattle.mysql_wire.specs.Seq.{is_any};
-    ghost use Rattle.mysql_bulk.specs.RequestForm.{bulk_request};
+    ghost use Rattle.mysql_bulk.specs.RequestForm.{bulk_request, keeps_lists};
 
     ghost form = { λ columns. bulk_request columns.items };
 

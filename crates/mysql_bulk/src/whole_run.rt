@@ -86,12 +86,17 @@ impl<'a> ComStmtBulkExecuteRequestBuilder<'a> {
     /// ends among the rows, and why the run ended before the rows did, if so.
     ///
     /// No row is lost: the rows that were sent, those that wait now, and those that were refused or not reached are all the
-    /// rows that waited or were handed in, in this order. Each request fits the limit and would not with the next row. The
-    /// arity, and whether types are due, are those behind the rows that were sent and wait.
+    /// rows that waited or were handed in, in this order. Those that were sent and wait are of one length, the builder's
+    /// arity if it had one. A request is built where it is due, and nowhere else: no row is left, or the next one is as
+    /// long and does not fit with those that wait, by the limit or by the most rows. Each request fits. The arity, and
+    /// whether types are due, are those behind the rows that were sent and wait.
+    ///
+    /// Where a growth was refused it ends with `MemoryRow`, which hands back a row that fits, or with `Memory`, where a
+    /// request is due, whose rows wait; what was given stands.
     ///
     /// On a new builder it refuses exactly where two rows differ in length (`MixedArity`) or no cut of the rows into
     /// requests fits the limit (`RowTooLarge`, with the first row that no fitting cut takes), and else no cut that fits
-    /// has fewer requests. Where a growth was refused it ends with `Memory` or `MemoryRow`; what was given stands.
+    /// has fewer requests.
     pub fn build_all(&mut self, rows: Vec<Vec<Value>>) -> BulkRun
         ensures gives { RunGives self.old (self.old.waiting ++ contents_of_rows rows.items) result.requests.items result.ends.items result.refusal self.new }
         ensures of_rows { OfRows result.refusal }
