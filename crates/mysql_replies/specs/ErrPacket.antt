@@ -1,5 +1,5 @@
 -- Errors and progress reports, in their packet.
-use Rattle.std.specs.Prelude.{◌≡◌, ℕ, ◌<◌, ◌^◌, List, [], length, Bool, true, false, ◌&&◌, ◌==◌, refl}
+use Rattle.std.specs.Prelude.{◌≡◌, ℕ, ◌<◌, ◌^◌, List, [], length, Bool, true, false, IsTrue, IsFalse, ◌&&◌, ◌==◌, refl}
 use Rattle.std.proofs.Common.{◌⊎◌, inl, inr}
 use Rattle.mysql_wire.specs.FlagMasks.{CLIENT_PROGRESS_OBSOLETE, CLIENT_PROTOCOL_41}
 use Rattle.mysql_wire.specs.Flags.{CapabilityFlags, has}
@@ -70,12 +70,12 @@ err_text (err.Progress r) = progress_text r
 pub record ErrorFits (capabilities : CapabilityFlags) (e : ServerError) (rest : List ℕ) : Type 0 where
   pub code : error_code e < 2 ^ 16
   pub state : StateFits (sends_state capabilities) (sql_state_of e)
-  pub no_report : (error_code e == 0xffff && takes_progress capabilities) ≡ false
+  pub no_report : IsFalse (error_code e == 0xffff && takes_progress capabilities)
   pub at_end : rest ≡ []
 
 -- and a report: it is sent to a client that takes it
 pub record ReportFits (capabilities : CapabilityFlags) (r : ProgressReport) : Type 0 where
-  pub taken : takes_progress capabilities ≡ true
+  pub taken : IsTrue (takes_progress capabilities)
   pub stage : stage r < 2 ^ 8
   pub max_stage : max_stage r < 2 ^ 8
   pub progress : progress r < 2 ^ 24

@@ -1,5 +1,5 @@
 -- An error that a server reports.
-use Rattle.std.specs.Prelude.{◌≡◌, ℕ, List, ◌++◌, length, Option, Some, None, Bool, true, false, codes, decimal, refl}
+use Rattle.std.specs.Prelude.{◌≡◌, ℕ, List, ◌++◌, length, Option, Some, None, Bool, IsTrue, IsFalse, codes, decimal, refl}
 use Rattle.mysql_wire.specs.Text.{lossy_text}
 use Rattle.mysql_wire.specs.Codecs.{Codec, Fields, ◌>>=◌, give, field, packet, from_context, when, without_context, string_eof}
 use Rattle.mysql_replies.specs.SqlState.{sql_state, state_bytes}
@@ -42,5 +42,5 @@ error_text e = error_text_of e.code e.state e.message
 
 -- the state is there just where the reader is told so, and has five bytes
 abbrev pub StateFits : Bool → Option SqlState → Type 0
-StateFits has_state None = has_state ≡ false
-StateFits has_state (Some state) = (has_state ≡ true) × (length (state_bytes state) ≡ 5)
+StateFits has_state None = IsFalse has_state
+StateFits has_state (Some state) = IsTrue has_state × (length (state_bytes state) ≡ 5)

@@ -1,7 +1,7 @@
 //! Errors and progress reports, in their packet.
 #![tactic(auto, using(mysql_wire::proofs::Packets::packets), unfolding(crate::specs::ErrPacket::err_packet))]
 
-ghost use Rattle.std.specs.Prelude.{true, ◌≡◌, None, Some, refl};
+ghost use Rattle.std.specs.Prelude.{◌≡◌, None, Some, refl, IsTrue};
 ghost use Rattle.mysql_replies.specs.ErrPacket as spec;
 ghost use Rattle.mysql_replies.specs.declared.err_packet.ErrPacket.TheVariants as err;
 
@@ -62,7 +62,7 @@ impl<'a> ErrPacket<'a> {
 
     /// The progress report. The packet is one, as `is_progress_report` tells.
     pub fn progress_report(&self) -> &ProgressReport<'a>
-        requires { spec.is_progress_report self.now ≡ true }
+        requires { IsTrue (spec.is_progress_report self.now) }
         ensures value { self.now ≡ err.Progress result.now }
     {
         match self {
@@ -73,7 +73,7 @@ impl<'a> ErrPacket<'a> {
 
     /// The error. The packet is one, as `is_error` tells.
     pub fn server_error(&self) -> &ServerError<'a>
-        requires { spec.is_error self.now ≡ true }
+        requires { IsTrue (spec.is_error self.now) }
         ensures value { self.now ≡ err.Error result.now }
     {
         match self {

@@ -3,7 +3,7 @@
 //! Each law is a function with nothing in it, whose contract holds for all values.
 #![tactic(auto, using(mysql_wire::proofs::Packets::packets))]
 
-ghost use Rattle.std.specs.Prelude.{◌≡◌, ◌++◌, ◌<◌, ◌^◌, ◌↔◌, [], List, ℕ, length, Bool, None, Some, true, IsTrue};
+ghost use Rattle.std.specs.Prelude.{◌≡◌, ◌++◌, ◌<◌, ◌^◌, ◌↔◌, [], List, ℕ, length, Bool, None, Some, IsTrue};
 ghost use Rattle.mysql_wire.specs.Flags.{CapabilityFlags};
 ghost use Rattle.mysql_replies.specs.declared.column.Column.{Column};
 ghost use Rattle.mysql_replies.specs.declared.err_packet.ErrPacket.{ErrPacket};
@@ -42,7 +42,7 @@ pub fn sql_state_again()
 
 /// Equal SQL states hash equally.
 pub fn equal_sql_states_hash_equally()
-    ensures hash { (x y : SqlState) → ⟦<crate::sql_state::SqlState as PartialEq>⟧.eq x y ≡ true → ⟦<crate::sql_state::SqlState as Hash>⟧.hash_input x ≡ ⟦<crate::sql_state::SqlState as Hash>⟧.hash_input y }
+    ensures hash { (x y : SqlState) → IsTrue (⟦<crate::sql_state::SqlState as PartialEq>⟧.eq x y) → ⟦<crate::sql_state::SqlState as Hash>⟧.hash_input x ≡ ⟦<crate::sql_state::SqlState as Hash>⟧.hash_input y }
 {}
 
 /// What is written of an error is read again, where nothing follows and the reader is told the

@@ -3,7 +3,7 @@
 //! Each law is a function with nothing in it, whose contract holds for all values.
 #![tactic(auto, using(mysql_wire::proofs::Packets::packets))]
 
-ghost use Rattle.std.specs.Prelude.{◌≡◌, ◌++◌, [], List, ℕ, None, true};
+ghost use Rattle.std.specs.Prelude.{◌≡◌, ◌++◌, [], List, ℕ, None, IsTrue};
 ghost use Rattle.std.specs.List.{All};
 ghost use Rattle.mysql_wire.specs.declared.codes.session_state_type.SessionStateType.{SessionStateType};
 ghost use Rattle.mysql_session.specs.declared.session_state_change.SessionStateChange.{SessionStateChange};
@@ -52,12 +52,12 @@ pub fn no_change_is_unsupported()
 
 /// Equal parts hash equally, whether they borrow their bytes or own them.
 pub fn equal_parts_hash_equally()
-    ensures schema { (x y : Schema) → ⟦<crate::Schema<'static> as PartialEq>⟧.eq x y ≡ true → ⟦<crate::Schema<'static> as Hash>⟧.hash_input x ≡ ⟦<crate::Schema<'static> as Hash>⟧.hash_input y }
-    ensures gtids { (x y : Gtids) → ⟦<crate::Gtids<'static> as PartialEq>⟧.eq x y ≡ true → ⟦<crate::Gtids<'static> as Hash>⟧.hash_input x ≡ ⟦<crate::Gtids<'static> as Hash>⟧.hash_input y }
-    ensures variable { (x y : SystemVariable) → ⟦<crate::SystemVariable<'static> as PartialEq>⟧.eq x y ≡ true → ⟦<crate::SystemVariable<'static> as Hash>⟧.hash_input x ≡ ⟦<crate::SystemVariable<'static> as Hash>⟧.hash_input y }
-    ensures characteristics { (x y : TransactionCharacteristics) → ⟦<crate::TransactionCharacteristics<'static> as PartialEq>⟧.eq x y ≡ true → ⟦<crate::TransactionCharacteristics<'static> as Hash>⟧.hash_input x ≡ ⟦<crate::TransactionCharacteristics<'static> as Hash>⟧.hash_input y }
-    ensures state { (x y : TransactionState) → ⟦<crate::TransactionState<'static> as PartialEq>⟧.eq x y ≡ true → ⟦<crate::TransactionState<'static> as Hash>⟧.hash_input x ≡ ⟦<crate::TransactionState<'static> as Hash>⟧.hash_input y }
-    ensures unsupported { (x y : Unsupported) → ⟦<crate::Unsupported<'static> as PartialEq>⟧.eq x y ≡ true → ⟦<crate::Unsupported<'static> as Hash>⟧.hash_input x ≡ ⟦<crate::Unsupported<'static> as Hash>⟧.hash_input y }
+    ensures schema { (x y : Schema) → IsTrue (⟦<crate::Schema<'static> as PartialEq>⟧.eq x y) → ⟦<crate::Schema<'static> as Hash>⟧.hash_input x ≡ ⟦<crate::Schema<'static> as Hash>⟧.hash_input y }
+    ensures gtids { (x y : Gtids) → IsTrue (⟦<crate::Gtids<'static> as PartialEq>⟧.eq x y) → ⟦<crate::Gtids<'static> as Hash>⟧.hash_input x ≡ ⟦<crate::Gtids<'static> as Hash>⟧.hash_input y }
+    ensures variable { (x y : SystemVariable) → IsTrue (⟦<crate::SystemVariable<'static> as PartialEq>⟧.eq x y) → ⟦<crate::SystemVariable<'static> as Hash>⟧.hash_input x ≡ ⟦<crate::SystemVariable<'static> as Hash>⟧.hash_input y }
+    ensures characteristics { (x y : TransactionCharacteristics) → IsTrue (⟦<crate::TransactionCharacteristics<'static> as PartialEq>⟧.eq x y) → ⟦<crate::TransactionCharacteristics<'static> as Hash>⟧.hash_input x ≡ ⟦<crate::TransactionCharacteristics<'static> as Hash>⟧.hash_input y }
+    ensures state { (x y : TransactionState) → IsTrue (⟦<crate::TransactionState<'static> as PartialEq>⟧.eq x y) → ⟦<crate::TransactionState<'static> as Hash>⟧.hash_input x ≡ ⟦<crate::TransactionState<'static> as Hash>⟧.hash_input y }
+    ensures unsupported { (x y : Unsupported) → IsTrue (⟦<crate::Unsupported<'static> as PartialEq>⟧.eq x y) → ⟦<crate::Unsupported<'static> as Hash>⟧.hash_input x ≡ ⟦<crate::Unsupported<'static> as Hash>⟧.hash_input y }
 {}
 
 /// A change of a session's state has no constant size.

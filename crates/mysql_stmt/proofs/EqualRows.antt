@@ -1,11 +1,10 @@
 -- Rows are equal exactly where their values hold the same and their columns are the same.
-use Rattle.std.proofs.Common.{◌≡◌, ◌↔◌, IsTrue, Decides, ℕ, List, [], ◌∷◌, Option, Some, None, true, refl, sym, ap, ◌∙◌, subst}
+use Rattle.std.proofs.Common.{◌≡◌, ◌↔◌, IsTrue, Decides, List, [], ◌∷◌, Option, Some, None, refl, sym, ap, ◌∙◌}
 use Rattle.std.proofs.lemmas.Bool.Decides.{Decides-and}
 use Rattle.std.proofs.lemmas.Slice.Eq.{slice_eq-Decides}
 use Rattle.std.specs.Cmp.Lexicographic.{pointwise}
 use Rattle.std.specs.Option.{option_eq, option_map}
 use Rattle.mysql_replies.proofs.EqualColumns.{columns-same}
-use Rattle.mysql_replies.proofs.Same.{and-true, numbers-same}
 use Rattle.mysql_values.specs.declared.value.Value.{Value}
 use Rattle.mysql_values.specs.Cells.{held}
 use Rattle.mysql_values.specs.ContentEq.{content_eq}
@@ -13,8 +12,6 @@ use Rattle.mysql_values.specs.Value.{content_of}
 use Rattle.mysql_values.proofs.ContentEq.{equal-same}
 use Rattle.mysql_values.proofs.ValueEq.{same_content}
 use Rattle.mysql_stmt.specs.contracts.row.RowPartialEq.TheImpl as derived_row
-use Rattle.mysql_stmt.specs.contracts.stmt.StmtPacketPartialEq.TheImpl as derived_stmt
-use Rattle.mysql_stmt.specs.declared.stmt.StmtPacket.{StmtPacket}
 use Rattle.mysql_stmt.specs.Row.{Cells}
 
 value-same : (a b : Value) → Decides (content_eq (content_of a) (content_of b)) (content_of a ≡ content_of b)

@@ -1,5 +1,5 @@
 -- Rows: values beside their columns, and the place that a name has.
-use Rattle.std.specs.Prelude.{◌≡◌, ℕ, List, [], ◌∷◌, map, Option, Some, None, Result, Ok, Err, nat_eq, slice_index_or, slice_set, option_map}
+use Rattle.std.specs.Prelude.{◌≡◌, ℕ, List, [], ◌∷◌, Option, Some, None, Result, Ok, Err, nat_eq, slice_index_or, slice_set}
 use Rattle.std.specs.List.{position}
 use Rattle.std.specs.Cmp.Lexicographic.{pointwise}
 use Rattle.mysql_replies.specs.declared.column.Column.{Column}
@@ -7,7 +7,7 @@ use Rattle.mysql_replies.specs.Column as column
 use Rattle.mysql_values.specs.ByContent.{IsConvertible}
 use Rattle.mysql_values.specs.declared.from_value.FromValueError.{FromValueError}
 use Rattle.mysql_values.specs.declared.value.Value.{Value}
-use Rattle.mysql_values.specs.Value.{Content, content_of}
+use Rattle.mysql_values.specs.Value.{content_of}
 
 -- a row: a value for each column, if it is there
 pub record Cells : Type 0 where

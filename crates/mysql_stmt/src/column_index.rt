@@ -12,7 +12,8 @@ pub trait ColumnIndex {
     ghost use Rattle.std.specs.Prelude.{ℕ, List, Option};
     ghost use Rattle.mysql_replies.specs.declared.column.Column.{Column};
 
-    /// Which answers there may be for these columns: any, where an implementation does not say.
+    /// Which answers of [`idx`](Self::idx) there may be for these columns: any, where an implementation does not say. What
+    /// [`Row::get`](crate::Row::get) and the like promise is told of a place that is found so.
     ghost Finds: { Self → List Column → Option ℕ → Type 0 } = { λ _ _ _. Unit {0} };
 
     /// The place of the column among these.

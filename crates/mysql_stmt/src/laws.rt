@@ -3,7 +3,7 @@
 //! Each law is a function with nothing in it, whose contract holds for all values.
 #![tactic(auto, using(mysql_wire::proofs::Packets::packets))]
 
-ghost use Rattle.std.specs.Prelude.{◌≡◌, ◌+◌, ◌<◌, ◌^◌, ◌++◌, ◌↔◌, ℕ, List, Ok, Option, Some, IsTrue, true, length};
+ghost use Rattle.std.specs.Prelude.{◌≡◌, ◌+◌, ◌<◌, ◌^◌, ◌++◌, ◌↔◌, ℕ, List, Ok, Option, Some, IsTrue, length};
 ghost use Rattle.mysql_stmt.specs.Bitmap.{bytes_for};
 ghost use Rattle.mysql_stmt.specs.NullBitmap.{null_bitmap, borrowed};
 ghost use Rattle.mysql_stmt.specs.declared.stmt.StmtPacket.{StmtPacket};
@@ -89,7 +89,7 @@ pub fn null_bitmap_offset() -> usize
 #[tactic(auto, using(crate::proofs::StmtAgain::stmt_again))]
 pub fn equal_stmt_packets_are_the_same()
     ensures same { (x y : StmtPacket) → IsTrue (⟦<crate::stmt::StmtPacket as PartialEq>⟧.eq x y) ↔ (x ≡ y) }
-    ensures hash { (x y : StmtPacket) → ⟦<crate::stmt::StmtPacket as PartialEq>⟧.eq x y ≡ true → ⟦<crate::stmt::StmtPacket as Hash>⟧.hash_input x ≡ ⟦<crate::stmt::StmtPacket as Hash>⟧.hash_input y }
+    ensures hash { (x y : StmtPacket) → IsTrue (⟦<crate::stmt::StmtPacket as PartialEq>⟧.eq x y) → ⟦<crate::stmt::StmtPacket as Hash>⟧.hash_input x ≡ ⟦<crate::stmt::StmtPacket as Hash>⟧.hash_input y }
 {}
 
 /// Rows are equal exactly where their values hold the same, and their columns are the same.

@@ -1,6 +1,6 @@
 //! Bitmaps that tell which values are NULL.
 
-ghost use Rattle.std.specs.Prelude.{false, true, ◌≡◌, ◌≢◌, ◌==◌, ◌+◌, ◌*◌, ◌/◌, ◌<◌, ◌≤◌, ◌^◌, ◌++◌, [], ◌∷◌, ℕ, List, Option, None, length, replicate, take, drop, IfOk, IsTrue, IsOk, ◌↔◌, OnOk, OnErr, if◌then◌else◌};
+ghost use Rattle.std.specs.Prelude.{false, ◌≡◌, ◌≢◌, ◌==◌, ◌+◌, ◌*◌, ◌/◌, ◌<◌, ◌≤◌, ◌^◌, ◌++◌, [], ◌∷◌, ℕ, List, Option, None, length, replicate, take, drop, IfOk, IsTrue, IsOk, ◌↔◌, OnOk, OnErr, if◌then◌else◌};
 ghost use Rattle.std.specs.Cow.{cow_slice_items};
 ghost use Rattle.mysql_wire.specs.Reading.{Answers, IsTail, HasBytes};
 ghost use Rattle.mysql_wire.specs.Form.{Form};
@@ -45,7 +45,7 @@ impl<T: SerializationSide> NullBitmap<'static, T> {
     pub fn new(alloc: Global, num_columns: usize) -> Result<Self, AllocError>
         requires { num_columns + 7 + T.BIT_OFFSET < 2 ^ 64 }
         ensures value { IfOk result (λ bitmap. bitmap.bytes ≡ replicate (bytes_for T.BIT_OFFSET num_columns) 0) }
-        ensures owned { IfOk result (λ bitmap. bitmap.owned ≡ true) }
+        ensures owned { IfOk result (λ bitmap. IsTrue bitmap.owned) }
     {
         let bytes = vec![in alloc; 0; Self::bitmap_len(num_columns)]?;
         Ok(NullBitmap::from_bytes(CowSlice::Owned(bytes)))
@@ -59,7 +59,7 @@ impl<T: SerializationSide> NullBitmap<'static, T> {
         requires fits { num_columns + 7 + T.BIT_OFFSET < 2 ^ 64 }
         requires there { bytes_for T.BIT_OFFSET num_columns ≤ length input.old.now }
         ensures value { IfOk result (λ bitmap. bitmap.bytes ≡ take (bytes_for T.BIT_OFFSET num_columns) input.old.now) }
-        ensures owned { IfOk result (λ bitmap. bitmap.owned ≡ true) }
+        ensures owned { IfOk result (λ bitmap. IsTrue bitmap.owned) }
         ensures rest { OnOk result (input.new.now ≡ drop (bytes_for T.BIT_OFFSET num_columns) input.old.now) }
         ensures err { OnErr result (input.new.now ≡ input.old.now) }
     {
@@ -124,9 +124,9 @@ impl<T: SerializationSide> NullBitmap<'_, T> {
         ensures len { length self.new.bytes ≡ length self.old.bytes }
         ensures this { OnOk result (cell self.new.bytes (i + T.BIT_OFFSET) ≡ (if is_null then 1 else 0)) }
         ensures others { (j : ℕ) → j ≢ i + T.BIT_OFFSET → cell self.new.bytes j ≡ cell self.old.bytes j }
-        ensures owned { OnOk result (self.new.owned ≡ true) }
+        ensures owned { OnOk result (IsTrue self.new.owned) }
         ensures err { OnErr result (self.new ≡ self.old) }
-        ensures no_memory { self.old.owned ≡ true → IsOk result }
+        ensures no_memory { IsTrue self.old.owned → IsOk result }
     {
         let (at, bit) = place_of(i, T::BIT_OFFSET);
         match &mut self.bytes {
