@@ -10,3 +10,5 @@ mod NameRead
 mod ResponseRead
 mod PairsRead
 mod PairsWritten
+mod WholePackets
+mod ValuesFit

@@ -68,6 +68,10 @@ pub record AttributesFit (attributes : List Attribute) : Type 0 where
   pub once : merged attributes ≡ attributes
   pub short : length (pairs_bytes attributes) < 2 ^ 64
 
+-- the latter alone: what is left to show of attributes at hand
+abbrev pub AreShort : List Attribute → Type 0
+AreShort attributes = length (pairs_bytes attributes) < 2 ^ 64
+
 string-within : (content : List ℕ) → length content ≤ length (lenenc_string_bytes content)
 unfolding lenenc_string_bytes
 string-within content = omega (arith, length-append (lenenc_bytes (length content)) content)

@@ -1,5 +1,5 @@
 -- Authentication plugins.
-use Rattle.std.specs.Prelude.{◌≡◌, ℕ, List, [], ◌∷◌, ◌++◌, length, replicate, codes, Bool, Option, None, option_map, nat_eq, if◌then◌else◌, refl}
+use Rattle.std.specs.Prelude.{◌≡◌, ℕ, List, [], ◌∷◌, ◌++◌, length, replicate, codes, Bool, true, false, Option, None, option_map, nat_eq, if◌then◌else◌, refl}
 use Rattle.std.proofs.Common.{ap, ◌∙◌}
 use Rattle.std.proofs.lemmas.List.{append-nil}
 use Rattle.std.specs.Cmp.Lexicographic.{pointwise}
@@ -37,6 +37,25 @@ plugin_named name =
     else if is name (codes "client_ed25519") then plugin.Ed25519
     else if is name (codes "parsec") then new_parsec
     else plugin.Other name
+
+step : (name known : List ℕ) (one other : AuthPlugin) → plugin_named (plugin_name one) ≡ one → (is name known ≡ false → plugin_named (plugin_name other) ≡ other)
+    → plugin_named (plugin_name (if is name known then one else other)) ≡ (if is name known then one else other)
+step name known one other h k = by (is name known) k
+  where
+    by : (t : Bool) → (t ≡ false → plugin_named (plugin_name other) ≡ other) → plugin_named (plugin_name (if t then one else other)) ≡ (if t then one else other)
+    by true k = h
+    by false k = k refl
+
+-- a plugin of a name is that of its own name
+pub named-again : (name : List ℕ) → plugin_named (plugin_name (plugin_named name)) ≡ plugin_named name
+unfolding plugin_named
+named-again name =
+    step name (codes "caching_sha2_password") _ _ refl (λ no1.
+    step name (codes "mysql_native_password") _ _ refl (λ no2.
+    step name (codes "mysql_old_password") _ _ refl (λ no3.
+    step name (codes "mysql_clear_password") _ _ refl (λ no4.
+    step name (codes "client_ed25519") _ _ refl (λ no5.
+    step name (codes "parsec") _ _ refl (λ no6. rw (no1, no2, no3, no4, no5, no6) refl))))))
 
 -- the plugin of a name, one zero at its end aside
 abbrev pub plugin_of : List ℕ → AuthPlugin

@@ -10,7 +10,7 @@ use Rattle.mysql_wire.specs.Int.{raw_int}
 use Rattle.mysql_wire.specs.Null.{HasNoZero}
 use Rattle.std.specs.Option.{unwrap_or}
 use Rattle.std.proofs.Common.{arith}
-use Rattle.mysql_auth.specs.Attributes.{Attribute, AttributesFit, attributes}
+use Rattle.mysql_auth.specs.Attributes.{Attribute, AreShort, AttributesFit, attributes}
 use Rattle.mysql_auth.specs.PluginName.{PluginFits, plugin_null}
 use Rattle.mysql_auth.specs.declared.auth_plugin.AuthPlugin.{AuthPlugin}
 use Rattle.mysql_auth.specs.declared.com_change_user.ComChangeUser.{ComChangeUser}
@@ -32,6 +32,12 @@ auth_plugin p = p.auth_plugin
 
 abbrev pub connect_attributes : ComChangeUserMoreData → Option (List Attribute)
 connect_attributes p = p.connect_attributes
+
+abbrev pub with_auth_plugin : Option AuthPlugin → ComChangeUserMoreData → ComChangeUserMoreData
+with_auth_plugin plugin p = record p { auth_plugin = plugin }
+
+abbrev pub with_connect_attributes : Option (List Attribute) → ComChangeUserMoreData → ComChangeUserMoreData
+with_connect_attributes told p = record p { connect_attributes = told }
 
 -- more data of these
 abbrev pub more_data_of : ℕ → Option AuthPlugin → Option (List Attribute) → ComChangeUserMoreData
@@ -105,6 +111,18 @@ change_of user answer database more = record {
   more_data = more;
 }
 
+abbrev pub with_user : List ℕ → ComChangeUser → ComChangeUser
+with_user user p = record p { user = user }
+
+abbrev pub with_auth_plugin_data : List ℕ → ComChangeUser → ComChangeUser
+with_auth_plugin_data answer p = record p { auth_plugin_data = answer }
+
+abbrev pub with_database : List ℕ → ComChangeUser → ComChangeUser
+with_database database p = record p { database = database }
+
+abbrev pub with_more_data : Option ComChangeUserMoreData → ComChangeUser → ComChangeUser
+with_more_data more p = record p { more_data = more }
+
 -- ---- the layout
 
 pub some-more_data : (p : ComChangeUserMoreData) → 0 < more_data.len p
@@ -139,6 +157,16 @@ abbrev pub NamedFits : Bool → Option AuthPlugin → Type 0
 NamedFits sent None = sent ≡ false
 NamedFits sent (Some p) = (sent ≡ true) × PluginFits p
 
+-- the attributes are there exactly under their flag
+abbrev pub ToldShort : Bool → Option (List Attribute) → Type 0
+ToldShort sent None = ⊥
+ToldShort sent (Some pairs) = (sent ≡ true) × AreShort pairs
+
+-- what is left to show of more data at hand
+pub record MoreDataPartsFit (capabilities : CapabilityFlags) (p : ComChangeUserMoreData) : Type 0 where
+  pub auth_plugin : NamedFits (sends_plugin capabilities) (auth_plugin p)
+  pub connect_attributes : ToldShort (sends_attributes capabilities) (connect_attributes p)
+
 pub record MoreDataFits (capabilities : CapabilityFlags) (p : ComChangeUserMoreData) : Type 0 where
   pub character_set : character_set p < 2 ^ 16
   pub auth_plugin : NamedFits (sends_plugin capabilities) (auth_plugin p)
@@ -154,3 +182,14 @@ pub record ChangeUserFits (capabilities : CapabilityFlags) (p : ComChangeUser) (
   pub auth_plugin_data : length (auth_plugin_data p) < 2 ^ 8
   pub database : HasNoZero (database p)
   pub more_data : MoreFits capabilities (more_data_in p) rest
+
+-- what is left to show of a change of user at hand
+abbrev pub MorePartsFit : CapabilityFlags → Option ComChangeUserMoreData → List ℕ → Type 0
+MorePartsFit capabilities None rest = rest ≡ []
+MorePartsFit capabilities (Some p) rest = MoreDataPartsFit capabilities p
+
+pub record ChangeUserPartsFit (capabilities : CapabilityFlags) (p : ComChangeUser) (rest : List ℕ) : Type 0 where
+  pub user : HasNoZero (user p)
+  pub auth_plugin_data : length (auth_plugin_data p) < 2 ^ 8
+  pub database : HasNoZero (database p)
+  pub more_data : MorePartsFit capabilities (more_data_in p) rest

@@ -3,6 +3,7 @@ use Rattle.std.specs.Prelude.{◌≡◌, ℕ, ◌+◌, ◌-◌, ◌*◌, ◌<◌
 use Rattle.std.specs.Option.{unwrap_or}
 use Rattle.mysql_wire.specs.Codec.{Codec, Fields}
 use Rattle.mysql_wire.specs.Codecs.{◌>>=◌, give, field, block, packet, when, u8, u16, u32, flags, skip, byte_array, string_bare, string_null}
+use Rattle.mysql_wire.specs.FlagMasks.{CLIENT_SECURE_CONNECTION, CLIENT_PLUGIN_AUTH}
 use Rattle.mysql_wire.specs.Flags.{StatusFlags, MariadbCapabilities, has}
 use Rattle.mysql_wire.specs.Int.{raw_int}
 use Rattle.mysql_wire.specs.Null.{HasNoZero}
@@ -25,6 +26,13 @@ capabilities_of head = halves head.capabilities_low.0 head.capabilities_high.0
 
 abbrev pub capabilities : HandshakePacket → ℕ
 capabilities p = capabilities_of p.head
+
+-- each half of the flags has two bytes
+abbrev pub HalvesFitIn : HandshakeHead → Type 0
+HalvesFitIn head = (head.capabilities_low.0 < 2 ^ 16) × (head.capabilities_high.0 < 2 ^ 16)
+
+abbrev pub HalvesFit : HandshakePacket → Type 0
+HalvesFit p = HalvesFitIn p.head
 
 abbrev pub protocol_version : HandshakePacket → ℕ
 protocol_version p = p.head.protocol_version.0
@@ -71,12 +79,12 @@ resized n bytes = take n bytes ++ replicate (n - length bytes) 0
 abbrev pub nonce : HandshakePacket → List ℕ
 nonce p = resized 20 (scramble_1 p ++ unwrap_or (scramble_2 p) [])
 
--- CLIENT_SECURE_CONNECTION, and CLIENT_PLUGIN_AUTH
+-- whether scramble 2 is sent, and whether the plugin's name is
 abbrev pub has_scramble : ℕ → Bool
-has_scramble capabilities = has capabilities 0x8000
+has_scramble capabilities = has capabilities CLIENT_SECURE_CONNECTION
 
 abbrev pub has_name : ℕ → Bool
-has_name capabilities = has capabilities 0x80000
+has_name capabilities = has capabilities CLIENT_PLUGIN_AUTH
 
 -- eight, and the bytes of scramble 2 that are written; 0 without it, and without plugins
 abbrev pub length_of : Option (List ℕ) → ℕ
@@ -156,7 +164,13 @@ abbrev pub NameFits : Bool → Option (List ℕ) → List ℕ → Type 0
 NameFits sent None rest = sent ≡ false
 NameFits sent (Some name) rest = (sent ≡ true) × HasNoZero name × (rest ≡ [])
 
--- numbers and arrays that have their widths, as they always have; no zero in the version; the two above
+-- no zero in the version, and the two above: what is left to show of a handshake at hand
+pub record HandshakePartsFit (p : HandshakePacket) (rest : List ℕ) : Type 0 where
+  pub server_version : HasNoZero (server_version p)
+  pub scramble_2 : ScrambleFits (has_scramble (capabilities p)) (has_name (capabilities p)) (scramble_2 p)
+  pub auth_plugin_name : NameFits (has_name (capabilities p)) (auth_plugin_name p) rest
+
+-- numbers and arrays that have their widths, as they always have; and these parts
 pub record HandshakeFits (p : HandshakePacket) (rest : List ℕ) : Type 0 where
   pub protocol_version : protocol_version p < 2 ^ 8
   pub server_version : HasNoZero (server_version p)

@@ -5,7 +5,7 @@ use Rattle.mysql_wire.specs.Codecs.{◌>>=◌, give, field, packet, when, string
 use Rattle.mysql_wire.specs.FlagMasks.{CLIENT_CONNECT_WITH_DB, CLIENT_SECURE_CONNECTION, CLIENT_PLUGIN_AUTH, CLIENT_CONNECT_ATTRS, CLIENT_PLUGIN_AUTH_LENENC_CLIENT_DATA}
 use Rattle.mysql_wire.specs.Flags.{CapabilityFlags, MariadbCapabilities, has}
 use Rattle.mysql_wire.specs.Null.{HasNoZero}
-use Rattle.mysql_auth.specs.Attributes.{Attribute, AttributesFit, attributes}
+use Rattle.mysql_auth.specs.Attributes.{Attribute, AreShort, AttributesFit, attributes}
 use Rattle.mysql_auth.specs.PluginName.{PluginFits, plugin_null_or_eof}
 use Rattle.mysql_auth.specs.SslRequest as ssl
 use Rattle.mysql_auth.specs.SslRequest.{ssl_request}
@@ -133,7 +133,15 @@ ScrambleFits true by_byte scramble = length scramble < 2 ^ 64
 ScrambleFits false true scramble = length scramble < 2 ^ 8
 ScrambleFits false false scramble = HasNoZero scramble
 
--- numbers that have their widths, as they always have; and the parts, whatever follows
+-- the parts: what is left to show of a response at hand
+pub record ResponsePartsFit (p : HandshakeResponse) : Type 0 where
+  pub user : HasNoZero (user p)
+  pub scramble_buf : ScrambleFits (counts_by_lenenc p.head) (counts_by_byte p.head) (scramble_buf p)
+  pub db_name : PartFits HasNoZero (sends_database p.head) (db_name p)
+  pub auth_plugin : PartFits PluginFits (sends_plugin p.head) (auth_plugin p)
+  pub connect_attributes : PartFits AreShort (sends_attributes p.head) (connect_attributes p)
+
+-- numbers that have their widths, as they always have; and the parts, of which the attributes have each key once
 pub record HandshakeResponseFits (p : HandshakeResponse) : Type 0 where
   pub capabilities : (capabilities p).0 < 2 ^ 32
   pub max_packet_size : max_packet_size p < 2 ^ 32

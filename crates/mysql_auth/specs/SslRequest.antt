@@ -1,5 +1,5 @@
 -- The request for TLS.
-use Rattle.std.specs.Prelude.{◌≡◌, ℕ, Some, refl}
+use Rattle.std.specs.Prelude.{◌≡◌, ℕ, ◌<◌, ◌^◌, Some, refl}
 use Rattle.mysql_wire.specs.Form.{size-block}
 use Rattle.mysql_wire.specs.Codec.{Codec, Fields}
 use Rattle.mysql_wire.specs.Codecs.{◌>>=◌, give, field, block, packet, u8, u32, flags, skip}
@@ -56,3 +56,10 @@ ssl_request = packet (block 32 ssl_request_fields (λ p. refl)) (λ p. refl)
 pub size-ssl_request : (ssl_request.form tt).size ≡ Some 32
 unfolding ssl_request
 size-ssl_request = size-block 32 (ssl_request_fields.form tt)
+
+-- a request is read again where its numbers have their widths, as they always have
+pub record SslRequestFits (p : SslRequest) : Type 0 where
+  pub capabilities : (capabilities p).0 < 2 ^ 32
+  pub max_packet_size : max_packet_size p < 2 ^ 32
+  pub character_set : character_set p < 2 ^ 8
+  pub mariadb_capabilities : (mariadb_capabilities p).0 < 2 ^ 32

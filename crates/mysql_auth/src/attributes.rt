@@ -104,6 +104,14 @@ impl<'a> Attributes<'a> {
         Ok(Attributes(map))
     }
 
+    /// Each key stands once.
+    #[tactic(auto, using(crate::proofs::Merging::merges))]
+    pub(crate) fn keys_stand_once(&self)
+        ensures value { spec.merged self.now ≡ self.now }
+    {
+        let _pairs = self.0.iter();
+    }
+
     /// The attributes as texts, with U+FFFD for what is not UTF-8. Where two keys become one text, it keeps the first
     /// place and takes the later value.
     #[tactic(auto, using(crate::proofs::Merging::merges))]

@@ -1,13 +1,15 @@
 //! The change of a session's user.
 #![tactic(auto, using(mysql_wire::proofs::Packets::packets), unfolding(crate::specs::ComChangeUser::change_user))]
 
-ghost use Rattle.std.specs.Prelude.{true, [], ◌≡◌, IfOk, None};
+ghost use Rattle.std.specs.Prelude.{[], ◌≡◌, ◌<◌, ◌^◌, List, IfOk, None, Some};
 ghost use Rattle.std.specs.Cow.{cow_slice_items};
 ghost use Rattle.std.specs.Option.{option_map_or};
 ghost use Rattle.mysql_wire.specs.Reading.{Answers};
 ghost use Rattle.mysql_wire.specs.Seq.{counts_any};
 ghost use Rattle.mysql_auth.specs.AttributeBytes.{in_change_user, in_last_part};
+ghost use Rattle.mysql_auth.specs.Attributes.{Attribute, merged};
 ghost use Rattle.mysql_auth.specs.ComChangeUser as spec;
+ghost use Rattle.mysql_auth.specs.declared.com_change_user_more_data.ComChangeUserMoreData.{ComChangeUserMoreData};
 
 use crate::com_change_user_more_data::ComChangeUserMoreData;
 use crate::optional_bytes::bytes_or_empty;
@@ -63,7 +65,7 @@ impl<'a> ComChangeUser<'a> {
 
     /// The same with this user; with none it is empty.
     pub fn with_user(self, user: Option<CowSlice<'a, u8>>) -> Self
-        ensures value { result ≡ spec.change_of (option_map_or cow_slice_items user.entry []) (spec.auth_plugin_data self.entry) (spec.database self.entry) (spec.more_data_in self.entry) }
+        ensures value { result ≡ spec.with_user (option_map_or cow_slice_items user.entry []) self.entry }
     {
         ComChangeUser {
             header: self.header,
@@ -76,7 +78,7 @@ impl<'a> ComChangeUser<'a> {
 
     /// The same with this database; with none it is empty.
     pub fn with_database(self, database: Option<CowSlice<'a, u8>>) -> Self
-        ensures value { result ≡ spec.change_of (spec.user self.entry) (spec.auth_plugin_data self.entry) (option_map_or cow_slice_items database.entry []) (spec.more_data_in self.entry) }
+        ensures value { result ≡ spec.with_database (option_map_or cow_slice_items database.entry []) self.entry }
     {
         ComChangeUser {
             header: self.header,
@@ -89,7 +91,7 @@ impl<'a> ComChangeUser<'a> {
 
     /// The same with this answer to the scramble; with none it is empty.
     pub fn with_auth_plugin_data(self, auth_plugin_data: Option<CowSlice<'a, u8>>) -> Self
-        ensures value { result ≡ spec.change_of (spec.user self.entry) (option_map_or cow_slice_items auth_plugin_data.entry []) (spec.database self.entry) (spec.more_data_in self.entry) }
+        ensures value { result ≡ spec.with_auth_plugin_data (option_map_or cow_slice_items auth_plugin_data.entry []) self.entry }
     {
         ComChangeUser {
             header: self.header,
@@ -102,7 +104,7 @@ impl<'a> ComChangeUser<'a> {
 
     /// The same with more data, or without.
     pub fn with_more_data(self, more_data: Option<ComChangeUserMoreData<'a>>) -> Self
-        ensures value { result ≡ spec.change_of (spec.user self.entry) (spec.auth_plugin_data self.entry) (spec.database self.entry) more_data.entry }
+        ensures value { result ≡ spec.with_more_data more_data.entry self.entry }
     {
         ComChangeUser {
             header: self.header,
@@ -110,6 +112,17 @@ impl<'a> ComChangeUser<'a> {
             auth_plugin_data: self.auth_plugin_data,
             database: self.database,
             more_data,
+        }
+    }
+
+    /// The character set of more data has two bytes, and each key stands once among its attributes.
+    pub(crate) fn more_data_is_one(&self)
+        ensures width { (told : ComChangeUserMoreData) → spec.more_data_in self.now ≡ Some told → spec.character_set told < 2 ^ 16 }
+        ensures once { (told : ComChangeUserMoreData) (pairs : List Attribute) → spec.more_data_in self.now ≡ Some told → spec.connect_attributes told ≡ Some pairs → merged pairs ≡ pairs }
+    {
+        if let Some(told) = &self.more_data {
+            told.width();
+            told.keys_stand_once();
         }
     }
 

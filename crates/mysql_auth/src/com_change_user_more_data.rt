@@ -1,11 +1,11 @@
 //! What a change of a session's user tells besides.
 #![tactic(auto, using(mysql_wire::proofs::Packets::packets), unfolding(crate::specs::ComChangeUser::more_data))]
 
-ghost use Rattle.std.specs.Prelude.{true, false, ◌≡◌, IfOk, is_ok, None, map, option_map};
+ghost use Rattle.std.specs.Prelude.{true, false, ◌≡◌, ◌<◌, ◌^◌, List, IfOk, is_ok, None, Some, map, option_map};
 ghost use Rattle.mysql_wire.specs.Reading.{Answers};
 ghost use Rattle.mysql_wire.specs.Seq.{counts_any};
 ghost use Rattle.mysql_auth.specs.AttributeBytes.{in_more_data, sent_len};
-ghost use Rattle.mysql_auth.specs.Attributes.{text_pair};
+ghost use Rattle.mysql_auth.specs.Attributes.{Attribute, merged, text_pair};
 ghost use Rattle.mysql_auth.specs.ComChangeUser as spec;
 
 use crate::attributes::{Attributes, attributes_of};
@@ -46,7 +46,7 @@ impl<'a> ComChangeUserMoreData<'a> {
 
     /// The same with this plugin, or without one.
     pub fn with_auth_plugin(self, auth_plugin: Option<AuthPlugin<'a>>) -> Self
-        ensures value { result ≡ spec.more_data_of (spec.character_set self.entry) auth_plugin.entry (spec.connect_attributes self.entry) }
+        ensures value { result ≡ spec.with_auth_plugin auth_plugin.entry self.entry }
     {
         ComChangeUserMoreData {
             character_set: self.character_set,
@@ -61,8 +61,7 @@ impl<'a> ComChangeUserMoreData<'a> {
         alloc: Global,
         connect_attributes: Option<IndexMap<String, String>>,
     ) -> Result<Self, AllocError>
-        ensures value { IfOk result (λ p. p ≡ spec.more_data_of (spec.character_set self.entry) (spec.auth_plugin self.entry)
-            (option_map (λ texts. map text_pair texts.entries) connect_attributes)) }
+        ensures value { IfOk result (λ p. p ≡ spec.with_connect_attributes (option_map (λ texts. map text_pair texts.entries) connect_attributes) self.entry) }
         // Without attributes it takes no memory.
         ensures none { connect_attributes ≡ None → is_ok result ≡ true }
     {
@@ -98,6 +97,24 @@ impl<'a> ComChangeUserMoreData<'a> {
             auth_plugin,
             connect_attributes,
         })
+    }
+}
+
+impl ComChangeUserMoreData<'_> {
+    /// The character set has two bytes.
+    pub(crate) fn width(&self)
+        ensures value { spec.character_set self.now < 2 ^ 16 }
+    {
+        let _character_set = self.character_set.0;
+    }
+
+    /// Each key stands once among the attributes.
+    pub(crate) fn keys_stand_once(&self)
+        ensures value { (pairs : List Attribute) → spec.connect_attributes self.now ≡ Some pairs → merged pairs ≡ pairs }
+    {
+        if let Some(attributes) = &self.connect_attributes {
+            attributes.keys_stand_once();
+        }
     }
 }
 

@@ -1,7 +1,7 @@
 //! What a server says first.
 #![tactic(auto, using(mysql_wire::proofs::Packets::packets), unfolding(crate::specs::Handshake::handshake, crate::specs::Handshake::handshake_head, crate::specs::Handshake::handshake_block, crate::specs::Handshake::data_length))]
 
-ghost use Rattle.std.specs.Prelude.{false, [], ◌≡◌, ◌++◌, ℕ, List, Option, Some, None, IfOk, IfSome, IfNone, option_map};
+ghost use Rattle.std.specs.Prelude.{false, [], ◌≡◌, ◌++◌, ℕ, List, Option, Some, None, IfOk, IfSome, IfNone, length, option_map};
 ghost use Rattle.std.specs.Option.{unwrap_or};
 ghost use Rattle.std.specs.Cow.{cow_slice_items, cow_str_bytes};
 ghost use Rattle.mysql_wire.specs.Text.{lossy_text, BorrowsUtf8, OptionBorrowsUtf8};
@@ -179,9 +179,10 @@ impl<'a> HandshakePacket<'a> {
         self.head.connection_id.0
     }
 
-    /// The first scramble.
+    /// The first scramble, of eight bytes.
     pub fn scramble_1_ref(&self) -> &[u8]
         ensures value { result.now ≡ spec.scramble_1 self.now }
+        ensures eight { length (spec.scramble_1 self.now) ≡ 8 }
     {
         &self.head.scramble_1
     }
@@ -234,6 +235,7 @@ impl<'a> HandshakePacket<'a> {
     /// What the server can do.
     pub fn capabilities(&self) -> CapabilityFlags
         ensures value { result.0 ≡ spec.capabilities self.now }
+        ensures halves { spec.HalvesFit self.now }
     {
         self.head.capabilities()
     }

@@ -35,6 +35,7 @@ impl<'a> HandshakeHead<'a> {
     /// What the server can do, from both halves.
     pub(crate) fn capabilities(&self) -> CapabilityFlags
         ensures value { result.0 ≡ spec.capabilities_of self.now }
+        ensures halves { spec.HalvesFitIn self.now }
     {
         let low = u32::from(self.capabilities_low.0);
         let high = u32::from(self.capabilities_high.0);

@@ -16,6 +16,7 @@ ghost use Rattle.mysql_wire.specs.Seq.{counts_any};
 ghost use Rattle.mysql_auth.specs.AttributeBytes.{in_response, sent_len};
 ghost use Rattle.mysql_auth.specs.Attributes.{Attribute, merged, text_pair, lossy_pairs};
 ghost use Rattle.mysql_auth.specs.HandshakeResponse as spec;
+ghost use Rattle.mysql_auth.specs.SslRequest.{SslRequestFits};
 
 use crate::attributes::{Attributes, attributes_of};
 use crate::auth_plugin::AuthPlugin;
@@ -231,6 +232,22 @@ impl<'a> HandshakeResponse<'a> {
         match &self.connect_attributes {
             Some(attributes) => Ok(Some(attributes.texts(alloc)?)),
             None => Ok(None),
+        }
+    }
+
+    /// Each number has its width.
+    pub(crate) fn widths(&self)
+        ensures value { SslRequestFits self.now.head }
+    {
+        self.head.widths();
+    }
+
+    /// Each key stands once among the attributes.
+    pub(crate) fn keys_stand_once(&self)
+        ensures value { (pairs : List Attribute) → spec.connect_attributes self.now ≡ Some pairs → merged pairs ≡ pairs }
+    {
+        if let Some(attributes) = &self.connect_attributes {
+            attributes.keys_stand_once();
         }
     }
 

@@ -79,6 +79,16 @@ impl SslRequest {
         self.character_set.0
     }
 
+    /// Each number has its width.
+    pub(crate) fn widths(&self)
+        ensures value { spec.SslRequestFits self.now }
+    {
+        let _capabilities = self.capabilities();
+        let _max_packet_size = self.max_packet_size();
+        let _character_set = self.character_set();
+        let _mariadb_capabilities = self.mariadb_capabilities();
+    }
+
     /// What a MariaDB client can do besides.
     #[inline]
     pub(crate) fn mariadb_capabilities(&self) -> MariadbCapabilities

@@ -1,4 +1,4 @@
--- Refusals of a sid's text that come before its intervals.
+-- Refusals of a sid's text that come before any memory is taken.
 use Rattle.std.proofs.Common.{◌≡◌, ℕ, true, List, Some, refl}
 use Rattle.uuid.specs.Text.{parsed}
 use Rattle.mysql_repl.specs.SidText.{colon, has, before, behind, early_behind, early_refusal}

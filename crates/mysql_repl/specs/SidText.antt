@@ -111,13 +111,22 @@ read_with (Some id) text = read_behind id text
 unfoldable pub read_sid : List ℕ → Result Sid InvalidSid
 read_sid text = if has colon text then read_with (parsed (before colon text)) (behind colon text) else Err fault.NoColon
 
--- ---- refusals that come before the intervals, and so before any memory is taken
+-- ---- refusals that come before any memory is taken
 
--- the tag, where there is one, is refused, or no intervals are there
+abbrev pub refusal_in : Result GnoInterval InvalidSid → Option InvalidSid
+refusal_in (Ok i) = None
+refusal_in (Err e) = Some e
+
+-- of the first part
+abbrev pub first_refusal : List (List ℕ) → Option InvalidSid
+first_refusal [] = None
+first_refusal (part ∷ parts) = refusal_in (read_interval part)
+
+-- the tag is refused, or no intervals are there, or without a tag the first interval is refused
 unfoldable pub early_behind : List ℕ → Option InvalidSid
 early_behind [] = Some fault.Empty
 early_behind (c ∷ cs) =
-    if is_ascii_digit c then None
+    if is_ascii_digit c then first_refusal (parts_of (c ∷ cs))
     else if has colon (c ∷ cs) then option_map fault.Tag (tag_fault (before colon (c ∷ cs)))
     else Some fault.NoIntervals
 

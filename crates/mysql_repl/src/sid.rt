@@ -25,8 +25,8 @@ pub const UUID_LEN: usize = 16;
 ///
 /// Its own reader and writer are the form without tags, which drops the tag: the identifier's 16
 /// bytes, a count of eight bytes, and so many intervals of 16 bytes each. Missing bytes are
-/// `UnexpectedEof`. The packet [`ComBinlogDumpGtid`](crate::ComBinlogDumpGtid) has the form with
-/// tags.
+/// `UnexpectedEof`. Reading takes memory for the intervals alone. The packet
+/// [`ComBinlogDumpGtid`](crate::ComBinlogDumpGtid) has the form with tags.
 #[derive(Debug, PartialEq, Eq, Hash, Drop)]
 pub struct Sid<'a> {
     uuid: [u8; UUID_LEN],

@@ -178,6 +178,7 @@ fn first_part(text: &str) -> FirstPart<'_>
 #[tactic(auto, using(crate::proofs::SidLoops::loops), unfolding(crate::specs::SidText::read_intervals))]
 fn read_intervals(alloc: Global, text: &str) -> Result<Vec<GnoInterval>, InvalidSid>
     ensures value { spec.Answered (items_read result) (spec.read_intervals text.now) }
+    ensures early { IfSome (spec.first_refusal (spec.parts_of text.now)) (λ e. result ≡ Err e) }
 {
     let mut intervals = Vec::new(alloc);
     let mut left = Some(text);
@@ -220,8 +221,8 @@ impl Sid<'static> {
     /// below 2^64 - 1. A number is one or more digits, behind a plus or none. Without a tag the
     /// intervals begin with a digit.
     ///
-    /// Another text is refused by its first fault. No memory is asked for before the uuid, the tag and the colon behind
-    /// it are found.
+    /// Another text is refused by its first fault. No memory is asked for before the uuid and the tag with its colon, or
+    /// else the first interval, are read.
     #[tactic(auto, using(crate::proofs::SidTextRead::answers))]
     pub fn from_str(alloc: Global, text: &str) -> Result<Sid<'static>, InvalidSid>
         ensures spelled { IfOk result (SpellsSid text.now) }

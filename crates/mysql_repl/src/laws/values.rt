@@ -41,7 +41,7 @@ pub fn this_table_dump_again(request: &ComTableDump<'_>)
 
 /// What is written of this dump by position is read again, where nothing follows.
 pub fn this_binlog_dump_again(dump: &ComBinlogDump<'_>)
-    ensures spelled { (binlog_dump.form tt).Spells dump.now (binlog_dump.bytes dump.now ++ []) [] }
+    ensures spelled { (binlog_dump.form tt).Spells dump.now (binlog_dump.bytes dump.now) [] }
 {
     let _pos = dump.pos();
     let _flags = dump.flags();
@@ -50,7 +50,7 @@ pub fn this_binlog_dump_again(dump: &ComBinlogDump<'_>)
 
 /// What is written of this acknowledgement is read again, where nothing follows.
 pub fn this_semi_sync_ack_again(ack: &SemiSyncAckPacket<'_>)
-    ensures spelled { (semi_sync_ack.form tt).Spells ack.now (semi_sync_ack.bytes ack.now ++ []) [] }
+    ensures spelled { (semi_sync_ack.form tt).Spells ack.now (semi_sync_ack.bytes ack.now) [] }
 {
     let _position = ack.position();
 }

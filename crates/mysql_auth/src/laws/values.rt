@@ -1,0 +1,68 @@
+//! Laws on a value at hand: what a caller can use of a packet that was made or read.
+//!
+//! Each function looks at its value's numbers and attributes, which shows that they are as they always are.
+#![tactic(auto, using(crate::proofs::WholePackets::whole_packets, crate::proofs::ValuesFit::values_fit))]
+
+ghost use Rattle.std.specs.Prelude.{◌≡◌, ◌++◌, ℕ, List, Some};
+ghost use Rattle.mysql_auth.specs.Attributes.{Attribute, merged};
+ghost use Rattle.mysql_auth.specs.ComChangeUser.{change_user, connect_attributes, more_data, ChangeUserPartsFit, MoreDataPartsFit};
+ghost use Rattle.mysql_auth.specs.Handshake.{handshake, HandshakePartsFit};
+ghost use Rattle.mysql_auth.specs.HandshakeResponse.{handshake_response, ResponsePartsFit};
+ghost use Rattle.mysql_auth.specs.SslRequest.{ssl_request};
+
+use crate::com_change_user::ComChangeUser;
+use crate::com_change_user_more_data::ComChangeUserMoreData;
+use crate::handshake::HandshakePacket;
+use crate::handshake_response::HandshakeResponse;
+use crate::ssl_request::SslRequest;
+use mysql_wire::CapabilityFlags;
+
+/// What is written of this request for TLS is read again, whatever follows.
+pub fn this_ssl_request_again(request: &SslRequest)
+    ensures spelled { (rest : List ℕ) → (ssl_request.form tt).Spells request.now (ssl_request.bytes request.now ++ rest) rest }
+{
+    request.widths();
+}
+
+/// What is written of this handshake is read again, where its parts fit.
+pub fn this_handshake_again(packet: &HandshakePacket<'_>)
+    ensures spelled { (rest : List ℕ) → HandshakePartsFit packet.now rest → (handshake.form tt).Spells packet.now (handshake.bytes packet.now ++ rest) rest }
+{
+    let _protocol_version = packet.protocol_version();
+    let _connection_id = packet.connection_id();
+    let _scramble_1 = packet.scramble_1_ref();
+    let _capabilities = packet.capabilities();
+    let _default_collation = packet.default_collation();
+    let _status_flags = packet.status_flags();
+    let _mariadb_ext_capabilities = packet.mariadb_ext_capabilities();
+}
+
+/// What is written of this response to a handshake is read again, whatever follows, where its parts fit.
+pub fn this_handshake_response_again(response: &HandshakeResponse<'_>)
+    ensures spelled { (rest : List ℕ) → ResponsePartsFit response.now → (handshake_response.form tt).Spells response.now (handshake_response.bytes response.now ++ rest) rest }
+{
+    response.widths();
+    response.keys_stand_once();
+}
+
+/// Each key stands once among the attributes of more data.
+pub fn more_data_keys_stand_once(told: &ComChangeUserMoreData<'_>)
+    ensures once { (pairs : List Attribute) → connect_attributes told.now ≡ Some pairs → merged pairs ≡ pairs }
+{
+    told.keys_stand_once();
+}
+
+/// What is written of this more data is read again, under the flags that both sides know, where its parts fit.
+pub fn this_more_data_again(capabilities: CapabilityFlags, told: &ComChangeUserMoreData<'_>)
+    ensures spelled { (rest : List ℕ) → MoreDataPartsFit capabilities told.now → (more_data.form capabilities).Spells told.now (more_data.bytes told.now ++ rest) rest }
+{
+    told.width();
+    told.keys_stand_once();
+}
+
+/// What is written of this change of user is read again, under the flags that both sides know, where its parts fit.
+pub fn this_change_user_again(capabilities: CapabilityFlags, change: &ComChangeUser<'_>)
+    ensures spelled { (rest : List ℕ) → ChangeUserPartsFit capabilities change.now rest → (change_user.form capabilities).Spells change.now (change_user.bytes change.now ++ rest) rest }
+{
+    change.more_data_is_one();
+}
