@@ -1,10 +1,10 @@
 #!/usr/bin/env python3
-"""Holds pages to the code that they quote.
+"""Holds pages to the code that they quote and name.
 
 The quoted blocks of a file in docs/ADD_A_PACKET.md are the whole file, in order. Each line of the tour in README.md is a
-line of the tests that run it.
+line of the tests that run it. Each name of docs/PROVED.md stands in the libraries, and each file and type of docs/PROTOCOL.md.
 
-quoted_lines.py: the status is 0 where each file of crates/example_packet is quoted whole, and the tour is that of the tests.
+quoted_lines.py: the status is 0 where all of this is so.
 """
 import os
 import re
@@ -50,6 +50,28 @@ def strange_in_the_tour():
     return [line for line in shown if line not in tested] if shown else ["(there is no tour)"]
 
 
+def strange_names(page):
+    """The names of a page's tables that no source of the libraries has."""
+    text = ""
+    for crate in sorted(os.listdir(f"{TOP}/crates")):
+        for part in ("src", "specs"):
+            for folder, _, names in os.walk(f"{TOP}/crates/{crate}/{part}"):
+                text += "".join(read(os.path.relpath(f"{folder}/{name}", TOP)) for name in names if name.endswith((".rt", ".antt")))
+    known = set(re.findall(r"\w+", text))
+    cells = [cell for line in lines(read(page)) if line.startswith("| ") for cell in line.split(" | ")]
+    if page == "docs/PROTOCOL.md":
+        # (the third column has the titles of the protocol's pages)
+        cells = [cell for line in lines(read(page)) if line.startswith("| ") for cell in (line.split(" | ")[1], line.split(" | ")[-1])]
+    named = [word for cell in cells for name in re.findall(r"`([^`]+)`", cell) for word in re.findall(r"[A-Za-z]\w+", name)]
+    files = {os.path.splitext(name)[0] for _, _, names in os.walk(f"{TOP}/crates") for name in names if name.endswith(".antt")}
+    crates = set(os.listdir(f"{TOP}/crates"))
+    return [it for it in dict.fromkeys(named) if it not in known | files | crates | {"specs", "antt", "int", "this_"} | FORMS]
+
+
+# the protocol's own names of the forms of fields
+FORMS = {"string", "lenenc", "NUL", "EOF", "fix"}
+
+
 def main():
     found = quoted(read(PAGE))
     wrong = sorted(set(found) - set(sources()))
@@ -59,7 +81,10 @@ def main():
     strange = strange_in_the_tour()
     for line in strange:
         print(f"README.md has a line in its tour that {TOUR_TESTS} has not: {line}")
-    return 1 if wrong or strange else 0
+    unknown = [(page, it) for page in ("docs/PROVED.md", "docs/PROTOCOL.md") for it in strange_names(page)]
+    for page, name in unknown:
+        print(f"{page} names {name}, which no library has")
+    return 1 if wrong or strange or unknown else 0
 
 
 if __name__ == "__main__":
