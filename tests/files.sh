@@ -18,7 +18,24 @@ expect() {
 }
 
 expect 'HANDLES holds another line' cmp -s HANDLES <(printf 'Handles allowed: none.\n')
-expect 'a page quotes other lines than the crate has' tools/quoted_lines.py
+expect 'a page quotes other lines than the crate has, or names what no library has' tools/quoted_lines.py
+
+# Words that no page of the field uses, and what stands for them: untrusted, little-endian, the initial handshake, a mutant, an
+# allocation that fails, passed or shown, after, capacity, to check, EofName, the reference decoder, X_round_trips.
+words='stranger|low (one|byte) first|says first|wrong (body|bodies)|refused growths?|told|behind|room|judge[sd]?|lastname|second reading'
+# none_of_them: no file of the repository has one, but for a text that a reader answers
+none_of_them() {
+    ! grep -rniwE -- "$words" README.md check mypackets bench crates docs tests tools --include='*.rt' --include='*.antt' \
+        --include='*.edit' --include='*.md' --include='*.py' --include='*.sh' --include='*.txt' --include='*.c' \
+        --include=check --include=mypackets --include=run --exclude=files.sh --exclude-dir=out |
+        grep -v 'Bytes behind the last sid'
+}
+expect 'a word stands there that another one stands for' none_of_them
+# laws_are_named_alike: a law of a round trip is named so
+laws_are_named_alike() {
+    ! grep -rnE 'pub fn \w+_again\b' crates/*/src/laws crates/*/src/laws.rt
+}
+expect 'a law of a round trip has another name' laws_are_named_alike
 
 printf '%d passed, %d failed\n' "$passed" "$failed"
 ((failed == 0))

@@ -65,7 +65,7 @@ def strange_names(page):
     named = [word for cell in cells for name in re.findall(r"`([^`]+)`", cell) for word in re.findall(r"[A-Za-z]\w+", name)]
     files = {os.path.splitext(name)[0] for _, _, names in os.walk(f"{TOP}/crates") for name in names if name.endswith(".antt")}
     crates = set(os.listdir(f"{TOP}/crates"))
-    return [it for it in dict.fromkeys(named) if it not in known | files | crates | {"specs", "antt", "int", "this_"} | FORMS]
+    return [it for it in dict.fromkeys(named) if it not in known | files | crates | {"specs", "antt", "int", "this_", "with_"} | FORMS]
 
 
 # the protocol's own names of the forms of fields
