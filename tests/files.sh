@@ -25,9 +25,9 @@ expect 'a page quotes other lines than the crate has, or names what no library h
 words='stranger|low (one|byte) first|says first|wrong (body|bodies)|refused growths?|told|behind|room|judge[sd]?|lastname|second reading'
 # none_of_them: no file of the repository has one, but for a text that a reader answers
 none_of_them() {
-    ! grep -rniwE -- "$words" README.md check mypackets bench crates docs tests tools --include='*.rt' --include='*.antt' \
-        --include='*.edit' --include='*.md' --include='*.py' --include='*.sh' --include='*.txt' --include='*.c' \
-        --include=check --include=mypackets --include=run --exclude=files.sh --exclude-dir=out |
+    ! grep -rnIiwE --include='*.rt' --include='*.antt' --include='*.edit' --include='*.md' --include='*.py' --include='*.sh' \
+        --include='*.txt' --include='*.c' --include=check --include=mypackets --include=run --exclude=files.sh \
+        --exclude-dir=out -e "$words" README.md check mypackets bench crates docs tests tools |
         grep -v 'Bytes behind the last sid'
 }
 expect 'a word stands there that another one stands for' none_of_them
