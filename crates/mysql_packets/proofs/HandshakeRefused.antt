@@ -5,7 +5,7 @@ use Rattle.mysql_wire.specs.declared.fault.FaultOf.TheVariants as fault
 use Rattle.mysql_wire.specs.Reading.{Reading, Faults}
 use Rattle.mysql_auth.specs.declared.handshake.HandshakePacket.{HandshakePacket}
 use Rattle.mysql_packets.specs.Answer.{Answer, IsFaultRefusal}
-use Rattle.mysql_packets.specs.Handshake.{AnswersReading}
+use Rattle.mysql_packets.specs.HandshakeLines.{AnswersReading}
 
 pub refused_handshake : (takes_memory : Bool) (e : FaultOf) (read : Reading HandshakePacket) (answer : Answer) → Faults takes_memory e read → IsFaultRefusal [] e answer → AnswersReading read answer
 refused_handshake takes_memory fault.UnexpectedEof read answer e is = rw e is

@@ -6,12 +6,12 @@ use Rattle.mysql_packets.specs.Answer.{Answer, usage, out_of_memory}
 use Rattle.mysql_packets.specs.Command.{reads_input}
 use Rattle.mysql_packets.specs.Input.{GaveAll}
 use Rattle.mysql_packets.specs.Output.{IsWritten, IsUnread}
-use Rattle.mysql_packets.specs.Stmt.{stmt_answer}
+use Rattle.mysql_packets.specs.StmtLines.{stmt_answer}
 use Rattle.mysql_packets.specs.Infile.{infile_answer}
-use Rattle.mysql_packets.specs.Column.{column_answer}
-use Rattle.mysql_packets.specs.Handshake.{IsHandshakeAnswer}
+use Rattle.mysql_packets.specs.ColumnLines.{column_answer}
+use Rattle.mysql_packets.specs.HandshakeLines.{IsHandshakeAnswer}
 use Rattle.mysql_packets.specs.Gtid.{gtid_answer}
-use Rattle.mysql_packets.specs.Sid.{sid_answer}
+use Rattle.mysql_packets.specs.SidLines.{sid_answer}
 use Rattle.mysql_packets.specs.Ok.{ok_answer}
 use Rattle.mysql_packets.specs.Err.{err_answer}
 use Rattle.mysql_packets.specs.Bulk.{IsBulkAnswer}

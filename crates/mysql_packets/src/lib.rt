@@ -13,6 +13,7 @@ mod decimal;
 mod digits;
 mod input;
 pub mod io;
+pub mod laws;
 mod lines;
 pub mod misc;
 mod output;

@@ -10,6 +10,8 @@ mod ok_kinds;
 #[cfg(test)]
 mod own_types;
 #[cfg(test)]
+mod premises;
+#[cfg(test)]
 mod sizes;
 pub mod switch;
 #[cfg(test)]

@@ -1,12 +1,14 @@
 //! A user's own index of columns, own conversion of values, and own constant.
 
 use crate::switch::Switch;
-use mysql_replies::Column;
-use mysql_stmt::{ColumnIndex, Row, new_row_raw};
-use mysql_values::{FromValueError, Value};
-use mysql_wire::{
-    ColumnType, ConstBytes, ConstBytesValue, ConstFault, Fault, MySerialize, ParseBuf,
-};
+use mysql_packets::constants::ColumnType;
+use mysql_packets::io::{Fault, ParseBuf};
+use mysql_packets::misc::raw::{ConstBytes, ConstBytesValue, ConstFault};
+use mysql_packets::packets::Column;
+use mysql_packets::proto::MySerialize;
+use mysql_packets::row::{ColumnIndex, Row, new_row_raw};
+use mysql_packets::value::Value;
+use mysql_packets::value::convert::FromValueError;
 use std::alloc::{AllocError, Global};
 use std::process::Abort;
 use std::rc::RcSlice;

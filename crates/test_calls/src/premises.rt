@@ -1,14 +1,141 @@
-//! Laws on a value at hand, used from outside on what was read: none asks for what its caller can't know.
+//! Laws on a value at hand, used from outside on packets that were read: none asks for what its caller can't know.
 
-use mysql_auth::laws::values as auth;
-use mysql_auth::{ComChangeUser, ComChangeUserMoreData, HandshakePacket, HandshakeResponse, SslRequest};
 use mysql_packets::constants::CapabilityFlags;
 use mysql_packets::io::{FaultOf, ParseBuf};
+use mysql_packets::laws::auth::values as auth;
+use mysql_packets::laws::repl::values as repl;
+use mysql_packets::laws::replies::values as replies;
+use mysql_packets::laws::stmt::values as stmt;
+use mysql_packets::packets::{
+    Column, ComBinlogDump, ComBinlogDumpGtid, ComChangeUser, ComChangeUserMoreData,
+    ComRegisterSlave, ComTableDump, ErrPacket, HandshakePacket, HandshakeResponse,
+    LocalInfilePacket, SemiSyncAckPacket, SessionStateInfo, Sid, SslRequest, StmtPacket,
+};
 use mysql_packets::proto::MyDeserialize;
-use mysql_repl::laws::values as repl;
-use mysql_repl::{ComBinlogDump, ComBinlogDumpGtid, ComRegisterSlave, ComTableDump, SemiSyncAckPacket, Sid};
-use mysql_replies::laws::values as replies;
-use mysql_replies::{Column, ErrPacket, SessionStateInfo};
-use mysql_stmt::StmtPacket;
-use mysql_stmt::laws::values as stmt;
+use std::alloc::Global;
 use std::test::Fail;
+
+/// The packet of some bytes.
+fn read<'a, T: MyDeserialize<'a> + Drop>(
+    alloc: Global,
+    bytes: &'a [u8],
+    ctx: T::Ctx,
+) -> Result<T, Fail> {
+    let mut buf = ParseBuf::new(alloc, bytes);
+    let answer: Result<T, FaultOf<'_>> = buf.parse(ctx);
+    Ok(answer.ok().ok_or("the bytes are a packet")?)
+}
+
+#[test]
+fn replies_that_were_read_round_trip(rt: HostRuntime) -> Result<(), Fail> {
+    let column: Column = read(
+        rt.alloc(),
+        b"\x03def\x00\x00\x00\x00\x00\x0c?\x00\x0b\x00\x00\x00\x03\x01\x00\x02\x00\x00",
+        (),
+    )?;
+    replies::this_column_again(&column);
+    let infile: LocalInfilePacket<'_> = read(rt.alloc(), b"\xfb", ())?;
+    replies::this_local_infile_again(&infile);
+    let info: SessionStateInfo<'_> = read(rt.alloc(), b"\x02\x02\x011", ())?;
+    replies::this_session_state_info_again(&info);
+    let statement: StmtPacket = read(
+        rt.alloc(),
+        b"\x00\x01\x00\x00\x00\x01\x00\x02\x00\x00\x00\x00",
+        (),
+    )?;
+    stmt::this_stmt_packet_again(&statement);
+    Ok(())
+}
+
+#[test]
+fn errors_that_were_read_round_trip(rt: HostRuntime) -> Result<(), Fail> {
+    let flags = CapabilityFlags::CLIENT_PROTOCOL_41;
+    let packet: ErrPacket<'_> = read(rt.alloc(), b"\xffH\x04#HY000", flags)?;
+    if let ErrPacket::Error(error) = &packet {
+        replies::this_server_error_again(error);
+        if let Some(state) = error.sql_state_ref() {
+            replies::this_sql_state_again(state);
+        }
+    }
+    let flags = CapabilityFlags::CLIENT_PROGRESS_OBSOLETE;
+    let packet: ErrPacket<'_> = read(
+        rt.alloc(),
+        b"\xff\xff\xff\x01\x01\x0a\xcc[\x00\x0astage name",
+        flags,
+    )?;
+    if let ErrPacket::Progress(report) = &packet {
+        replies::this_progress_report_again(report);
+    }
+    Ok(())
+}
+
+#[test]
+fn what_connects_and_was_read_round_trips(rt: HostRuntime) -> Result<(), Fail> {
+    let handshake: HandshakePacket<'_> = read(
+        rt.alloc(),
+        b"\x0a8\x00\x01\x00\x00\x00abcdefgh\x00\x00\x80\x08\x02\x00\x00\x00\x00\x00\x00\x00\x00\x00\x00\x00\x00\x00\x00\x07\x07\x07\x07\x07\x07\x07\x07\x07\x07\x07\x07\x07\x07\x07",
+        (),
+    )?;
+    auth::this_handshake_again(&handshake);
+    let request: SslRequest = read(
+        rt.alloc(),
+        b"\x05\xa2\xae\x81\x00\x00\x00\x01-\x00\x00\x00\x00\x00\x00\x00\x00\x00\x00\x00\x00\x00\x00\x00\x00\x00\x00\x00\x14\x00\x00\x00",
+        (),
+    )?;
+    auth::this_ssl_request_again(&request);
+    let response: HandshakeResponse<'_> = read(
+        rt.alloc(),
+        b"\x00\x00\x00\x00\x00\x00\x00\x01-\x00\x00\x00\x00\x00\x00\x00\x00\x00\x00\x00\x00\x00\x00\x00\x00\x00\x00\x00\x00\x00\x00\x00u\x00\x00",
+        (),
+    )?;
+    auth::this_handshake_response_again(&response);
+    let flags = CapabilityFlags::CLIENT_PROTOCOL_41;
+    let change: ComChangeUser<'_> = read(rt.alloc(), b"\x11root\x00\x00\x00-\x00\x00", flags)?;
+    auth::this_change_user_again(flags, &change);
+    let more: ComChangeUserMoreData<'_> = read(rt.alloc(), b"-\x00", flags)?;
+    auth::this_more_data_again(flags, &more);
+    Ok(())
+}
+
+#[test]
+fn commands_that_were_read_round_trip(rt: HostRuntime) -> Result<(), Fail> {
+    let registration: ComRegisterSlave<'_> = read(
+        rt.alloc(),
+        b"\x15\x07\x00\x00\x00\x01h\x00\x00\xea\x0c\x00\x00\x00\x00\x00\x00\x00\x00",
+        (),
+    )?;
+    repl::this_register_slave_again(&registration);
+    let table: ComTableDump<'_> = read(rt.alloc(), b"\x13\x02db\x01t", ())?;
+    repl::this_table_dump_again(&table);
+    let dump: ComBinlogDump<'_> = read(
+        rt.alloc(),
+        b"\x12\x05\x00\x00\x00\x01\x00\x07\x00\x00\x00b.1",
+        (),
+    )?;
+    repl::this_binlog_dump_again(&dump);
+    let ack: SemiSyncAckPacket<'_> = read(
+        rt.alloc(),
+        b"\xef\x04\x00\x00\x00\x00\x00\x00\x00b.1",
+        (),
+    )?;
+    repl::this_semi_sync_ack_again(&ack);
+    Ok(())
+}
+
+#[test]
+fn sids_that_were_read_round_trip(rt: HostRuntime) -> Result<(), Fail> {
+    let dump: ComBinlogDumpGtid<'_> = read(
+        rt.alloc(),
+        b"\x1e\x00\x00\x01\x00\x00\x00\x00\x00\x00\x00\x00\x00\x00\x00\x00\x00\x00\x00\x08\x00\x00\x00\x01\x00\x00\x00\x00\x00\x00\x01",
+        (),
+    )?;
+    repl::this_binlog_dump_gtid_again(&dump);
+    let sid: Sid<'_> = read(
+        rt.alloc(),
+        b"\xa0\xb1\xc2\xd3\xe4\xf5g\x89\xab\xcd\xef\x01#Eg\x89\x00\x00\x00\x00\x00\x00\x00\x00",
+        (),
+    )?;
+    repl::this_sid_again(&sid);
+    repl::this_sid_text_again(&sid);
+    Ok(())
+}

@@ -1,16 +1,21 @@
 //! The sizes of types with type parameters: no law can name them.
 
 use crate::own_types::Marker;
-use mysql_replies::{CommonOkPacket, OkPacketDeserializer};
-use mysql_session::{Gtids, Schema, TransactionCharacteristics, TransactionState, Unsupported};
-use mysql_stmt::{NullBitmap, RowDeserializer};
-use mysql_values::{BinValue, Binary, ClientSide, ServerSide, Text, TextValue, ValueDeserializer};
-use mysql_wire::{
-    BareBytes, CapabilityFlags, ColumnType, Const, ConstBytes, ConstU8, ConstU32, EofBytes,
-    IntRepr, LeU16, LeU24, LeU32, LeU64, LenEnc, MariadbBulkIndicator, MyDeserialize, NullBytes,
-    ParseBuf, RawBytes, RawInt, Seq, SessionStateType, Skip, StatusFlags, U8Bytes, U32Bytes,
-    Unknown, VarLen,
+use mysql_packets::constants::{
+    CapabilityFlags, ColumnType, MariadbBulkIndicator, SessionStateType, StatusFlags,
 };
+use mysql_packets::io::ParseBuf;
+use mysql_packets::misc::raw::{
+    BareBytes, Const, ConstBytes, ConstU8, ConstU32, EofBytes, IntRepr, LeU16, LeU24, LeU32, LeU64,
+    LenEnc, NullBytes, RawBytes, RawInt, Seq, Skip, U8Bytes, U32Bytes, Unknown, VarLen,
+};
+use mysql_packets::packets::session_state_change::{
+    Gtids, Schema, TransactionCharacteristics, TransactionState, Unsupported,
+};
+use mysql_packets::packets::{CommonOkPacket, NullBitmap, OkPacketDeserializer};
+use mysql_packets::proto::{Binary, MyDeserialize, Text};
+use mysql_packets::row::RowDeserializer;
+use mysql_packets::value::{BinValue, ClientSide, ServerSide, TextValue, ValueDeserializer};
 
 #[test]
 fn a_fixed_width_is_the_size(rt: HostRuntime) {

@@ -1,6 +1,7 @@
 //! A user's own conversion of values.
 
-use mysql_values::{FromValue, FromValueError, Value};
+use mysql_packets::value::Value;
+use mysql_packets::value::convert::{FromValue, FromValueError};
 
 /// A number that is 0 or 1, as a truth value.
 #[derive(Clone, Copy, Debug, PartialEq)]

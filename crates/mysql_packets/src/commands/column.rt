@@ -2,7 +2,7 @@
 
 ghost use Rattle.std.specs.Prelude.{◌≡◌, IfOk};
 ghost use Rattle.mysql_packets.specs.Answer.{done};
-ghost use Rattle.mysql_packets.specs.Column.{column_answer, column_lines};
+ghost use Rattle.mysql_packets.specs.ColumnLines.{column_answer, column_lines};
 
 use crate::answer::Answer;
 use crate::lines::{Line, text_of};

@@ -3,7 +3,7 @@
 ghost use Rattle.std.specs.Prelude.{◌≡◌, ◌++◌, IfOk, OnOk, string_bytes};
 ghost use Rattle.mysql_auth.specs.Handshake.{server_version};
 ghost use Rattle.mysql_auth.specs.Version.{HasVersion, IsMariadbVersion};
-ghost use Rattle.mysql_packets.specs.Handshake as spec;
+ghost use Rattle.mysql_packets.specs.HandshakeLines as spec;
 ghost use Rattle.mysql_packets.specs.Lines.{or_none};
 
 use crate::answer::Answer;

@@ -3,7 +3,7 @@
 ghost use Rattle.std.specs.Prelude.{◌≡◌, IfOk};
 ghost use Rattle.mysql_packets.specs.Answer.{done};
 ghost use Rattle.mysql_packets.specs.Gtid.{sid_line};
-ghost use Rattle.mysql_packets.specs.Sid as spec;
+ghost use Rattle.mysql_packets.specs.SidLines as spec;
 
 use crate::answer::Answer;
 use crate::lines::{Line, text_of};

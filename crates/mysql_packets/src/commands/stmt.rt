@@ -1,7 +1,7 @@
 //! `stmt HEX`: the answer to a prepared statement.
 
 ghost use Rattle.std.specs.Prelude.{◌≡◌, IfOk};
-ghost use Rattle.mysql_packets.specs.Stmt.{stmt_answer, stmt_lines};
+ghost use Rattle.mysql_packets.specs.StmtLines.{stmt_answer, stmt_lines};
 ghost use Rattle.mysql_packets.specs.Answer.{done};
 
 use crate::answer::Answer;

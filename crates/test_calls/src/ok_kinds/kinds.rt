@@ -1,10 +1,12 @@
 //! Kinds that a user makes.
 
-ghost use Rattle.mysql_replies.specs.OkBody.{common_ok_body};
+ghost use Rattle.mysql_packets.specs.OkBody.{common_ok_body};
 ghost use Rattle.test_calls.specs.Bodies.{behind_a_byte, never, nothing};
 
-use mysql_replies::{CommonOkPacket, OkPacketBody, OkPacketKind, OldEofPacket};
-use mysql_wire::{CapabilityFlags, FaultOf, ParseBuf, RawInt};
+use mysql_packets::constants::CapabilityFlags;
+use mysql_packets::io::{FaultOf, ParseBuf};
+use mysql_packets::misc::raw::RawInt;
+use mysql_packets::packets::{CommonOkPacket, OkPacketBody, OkPacketKind, OldEofPacket};
 
 /// A header of its own, and a body of its own: a byte that is skipped, and the body of an old end.
 pub struct Versioned;

@@ -1,8 +1,9 @@
 //! Packets of a user's kinds.
 
 use crate::ok_kinds::kinds::{Empty, Refusing, Seventh, Versioned};
-use mysql_replies::OkPacketDeserializer;
-use mysql_wire::{CapabilityFlags, Fault, FaultKind, Flags, ParseBuf};
+use mysql_packets::constants::{CapabilityFlags, Flags};
+use mysql_packets::io::{Fault, FaultKind, ParseBuf};
+use mysql_packets::packets::OkPacketDeserializer;
 use std::alloc::Global;
 
 /// What was answered: the status flags and the warnings, or the kind of fault; and how many bytes are left.

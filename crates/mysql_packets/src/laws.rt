@@ -1,0 +1,21 @@
+//! The laws of all libraries, each library's in a module of its name; and those of the program.
+
+ghost use Rattle.std.specs.Prelude.{◌≡◌};
+
+use crate::input::MOST_READS;
+pub use mysql_auth::laws as auth;
+pub use mysql_bulk::laws as bulk;
+pub use mysql_cuts::laws as cuts;
+pub use mysql_repl::laws as repl;
+pub use mysql_replies::laws as replies;
+pub use mysql_session::laws as session;
+pub use mysql_stmt::laws as stmt;
+pub use mysql_values::laws as values;
+pub use mysql_wire::laws as wire;
+
+/// The program asks for its input 1,048,576 times at most.
+pub fn most_reads() -> u32
+    ensures value { result ≡ 1048576 }
+{
+    MOST_READS
+}
