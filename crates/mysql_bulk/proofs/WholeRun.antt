@@ -21,7 +21,7 @@ use Rattle.mysql_bulk.specs.WholeRunRefusal.{equal_front, measure, RefusalOfRows
 use Rattle.mysql_bulk.specs.Request.{BulkRequest, request_flags}
 use Rattle.mysql_bulk.specs.Row.{contents_of_row, first_length, EqualLengths, OneLength}
 use Rattle.mysql_bulk.specs.Run.{Accepts}
-use Rattle.mysql_bulk.specs.WholeRun.{IsNew, HadMemory, AreRequests, due_after, left_by, RequestIsDue, holding, EachWasDue, EndsBy, RefusalOfList, RunGives}
+use Rattle.mysql_bulk.specs.WholeRun.{IsNew, HadMemory, AreRequests, due_after, left_by, RequestIsDue, OfArity, holding, EachWasDue, EndsBy, RefusalOfList, RunGives}
 
 EqualLengths-push : (a : ℕ) (rows : List (List Content)) (row : List Content) → EqualLengths a rows → length row ≡ a → EqualLengths a (rows ++ row ∷ [])
 EqualLengths-push a [] row e h = (h, tt)
@@ -92,6 +92,11 @@ EachWasDue-push s (p ∷ cut) part rest e d =
 one_length_of : (rows rest all : List (List Content)) → rows ++ rest ≡ all → EqualLengths (first_length all) rows → OneLength rows
 one_length_of [] rest all e h = tt
 one_length_of (row ∷ rows) rest all e h = let E : ℕ → Type 0 = λ n. EqualLengths n (row ∷ rows) in subst E (sym (ap first_length e)) h
+
+of_arity : (known : Option ℕ) (rows : List (List Content)) → OneLength rows → OfArity (arity_after known rows) rows
+of_arity None [] h = refl
+of_arity (Some n) [] h = tt
+of_arity known (row ∷ rows) h = h
 
 -- the length of rows behind others
 length_of_waiting : (n : ℕ) (before waiting : List (List Content)) → EqualLengths n (before ++ waiting) → waiting ≢ [] → first_length waiting ≡ n
@@ -279,7 +284,10 @@ module _ {s : BuilderState} {all : List (List Content)} {requests : List BulkReq
     requests_are = r.requests_are;
     ends_are = r.ends_are;
     full_parts = r.packed.full_so_far;
-    one_length = one_length_of (rows_in r.cut ++ b.waiting) rest all r.whole r.lengths;
+    one_length =
+        let sent = rows_in r.cut ++ b.waiting in
+        let A : Option ℕ → Type 0 = λ known. OfArity known sent in
+        subst A (sym (arity_is r)) (of_arity s.arity sent (one_length_of sent rest all r.whole r.lengths));
     arity_stays = r.arity_stays;
     each_was_due = r.due;
     left = r.left;

@@ -11,7 +11,7 @@ use Rattle.mysql_bulk.specs.declared.error.BulkExecuteRequestBuilderError.TheVar
 use Rattle.mysql_bulk.specs.Builder.{BuilderState, TakesArity, RowFits, IsRequest, Adds, BuildsRequest, after_request, arity_after}
 use Rattle.mysql_bulk.specs.WholeRunRefusal.{RefusalOfRows, equal_front, measure}
 use Rattle.mysql_bulk.specs.Request.{BulkRequest}
-use Rattle.mysql_bulk.specs.Row.{contents_of_row, first_length, OneLength}
+use Rattle.mysql_bulk.specs.Row.{contents_of_row, first_length, EqualLengths}
 
 -- ---- the builder, before and after
 
@@ -47,6 +47,11 @@ pub record RefusesNextRow (t : BuilderState) (e : BulkExecuteRequestError) (drop
 abbrev pub RequestIsDue : BuilderState → List (List Content) → Type 0
 RequestIsDue t [] = t.waiting ≢ []
 RequestIsDue t (row ∷ behind) = (t.waiting ≢ []) × TakesArity t.arity (length row) × (RowFits t row → ⊥)
+
+-- the rows are of one length, which is this arity: there are none where none is known
+abbrev pub OfArity : Option ℕ → List (List Content) → Type 0
+OfArity None rows = rows ≡ []
+OfArity (Some n) rows = EqualLengths n rows
 
 -- a builder that holds these rows
 abbrev pub holding : BuilderState → List (List Content) → BuilderState
@@ -108,9 +113,9 @@ pub record RunGives (s : BuilderState) (rows : List (List Content)) (requests : 
   pub ends_are : ends ≡ ends_after 0 cut
   -- each part fits, and would not with the row behind it
   pub full_parts : FullFrom (measure s rows) s.types_due cut (t.waiting ++ dropped)
-  -- the rows that were sent, and those that wait, are of one length
-  pub one_length : OneLength (rows_in cut ++ t.waiting)
-  -- which is the builder's arity, where it had one
+  -- the rows that were sent, and those that wait, are of one length, which is the builder's arity now
+  pub one_length : OfArity t.arity (rows_in cut ++ t.waiting)
+  -- an arity that it had stays
   pub arity_stays : (n : ℕ) → s.arity ≡ Some n → t.arity ≡ Some n
   -- each part was due where it was sent: no row was left, or the next one was as long and did not fit with it
   pub each_was_due : EachWasDue s cut (t.waiting ++ dropped)

@@ -45,3 +45,7 @@ pub all-named : (values : NamedValues) (names : List (Vec ℕ)) (i : ℕ) (row :
     → length names ≤ i → behind (contents_of row) (values_of_names values (drop i names)) ≡ total → total ≡ Ok (contents_of row)
 unfolding values_of_names
 all-named values names i row total le so_far = sym (rw (drop_of_length-le names le, append-nil (contents_of row)) at so_far)
+
+pub no-names : (values : NamedValues) (names : List (Vec ℕ)) (row : List Value) → names ≡ [] → row ≡ [] → values_of_names values names ≡ Ok (contents_of row)
+unfolding values_of_names
+no-names values names row none empty = rw (none, empty) refl

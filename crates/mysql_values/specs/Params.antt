@@ -1,5 +1,5 @@
 -- The values that parameters give.
-use Rattle.std.specs.Prelude.{◌≡◌, ℕ, Bool, true, false, List, [], ◌∷◌, Option, Some, None, Result, Ok, Err, nat_eq, ◌&&◌, ⊤}
+use Rattle.std.specs.Prelude.{◌≡◌, ◌≢◌, ℕ, Bool, true, false, List, [], ◌∷◌, Option, Some, None, Result, Ok, Err, nat_eq, ◌&&◌}
 use Rattle.std.specs.Cmp.Lexicographic.{pointwise}
 use Rattle.std.specs.Global.{Vec}
 use Rattle.std.specs.declared.hash.FoldHasher.{FoldHasher}
@@ -49,11 +49,11 @@ abbrev pub RefusesNames : NamedValues → List (Vec ℕ) → ParamsError → Typ
 RefusesNames values names (error.Missing name) = values_of_names values names ≡ Err (Missing name.items)
 RefusesNames values names error.NamedForPositional = ⊥
 RefusesNames values names error.PositionalForNamed = ⊥
-RefusesNames values names error.Memory = ⊤
+RefusesNames values names error.Memory = names ≢ []
 
--- values are looked up by names: this alone takes memory
+-- values are looked up by names, of which there is one at least: this alone takes memory
 abbrev pub TakesMemory : Params → Option (List (Vec ℕ)) → Type 0
-TakesMemory (params.Named values) (Some names) = ⊤
+TakesMemory (params.Named values) (Some names) = names ≢ []
 TakesMemory _ _ = ⊥
 
 -- the refusal is that of the parameters, or memory ran out

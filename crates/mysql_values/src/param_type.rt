@@ -1,7 +1,7 @@
 //! The type of a parameter.
 #![tactic(auto, using(mysql_wire::proofs::Packets::packets), unfolding(crate::specs::ParamType::param_type))]
 
-ghost use Rattle.std.specs.Prelude.{false, ◌≡◌};
+ghost use Rattle.std.specs.Prelude.{◌≡◌};
 
 use crate::value::Value;
 use mysql_wire::{

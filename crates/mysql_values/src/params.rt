@@ -82,7 +82,8 @@ impl Params {
     /// The values of the parameters, in the order of the statement, whose names of parameters
     /// are handed in where it has any. Values whose names it does not have are dropped.
     ///
-    /// A name that stands twice gets its value twice. No parameters give an empty row.
+    /// A name that stands twice gets its value twice. No parameters give an empty row. Where there is a name to look up, it
+    /// takes memory, and nowhere else.
     pub fn into_values(
         self,
         alloc: Global,
@@ -113,6 +114,9 @@ fn values_of_names(
     ensures ok { IfOk result (λ row. values_of_names values.now names.now ≡ Ok (contents_of row.items)) }
     ensures err { IfErr result (RefusesNames values.now names.now) }
 {
+    if names.is_empty() {
+        return Ok(Vec::new(alloc));
+    }
     let mut row = Vec::with_capacity(alloc, names.len())?;
     for name in names {
         let Some(value) = values.get(name) else {

@@ -1,7 +1,8 @@
-use Rattle.std.proofs.Common.{◌≡◌, None, Some, ap, sym, ◌∙◌}
+use Rattle.std.proofs.Common.{◌≡◌, length, rules, None, Some, ap, sym, ◌∙◌}
+use Rattle.std.proofs.lemmas.List.{nil_from_length}
 use Rattle.std.specs.Option.{option_copied}
 use Rattle.mysql_values.specs.Params.{value_of}
-use Rattle.mysql_values.proofs.NamedValues.{next-name, no-value, all-named}
+use Rattle.mysql_values.proofs.NamedValues.{next-name, no-value, all-named, no-names}
 use Rattle.mysql_values.proofs.params.values_of_names.Goals as goal
 
 pub returns-in_default-clause-err : goal.returns-in_default-clause-err
@@ -16,3 +17,8 @@ loop-name-preserved c =
 
 pub returns-clause-ok : goal.returns-clause-ok
 returns-clause-ok c = all-named c.args.values.now c.args.names.now c.loop-name.name-index c.loop-name.row.items _ c.loop-name-test.false c.loop-name.invariant
+
+pub returns-then-is_empty-clause-ok : goal.returns-then-is_empty-clause-ok
+returns-then-is_empty-clause-ok c =
+    let zero : length c.args.names.now ≡ 0 = search rules in
+    no-names c.args.values.now c.args.names.now c.new.result.items (nil_from_length c.args.names.now zero) c.new.ensures.items
