@@ -12,3 +12,5 @@ mod PairsRead
 mod PairsWritten
 mod WholePackets
 mod ValuesFit
+mod ReadParts
+mod ReadPackets

@@ -1,5 +1,5 @@
 -- Attributes of a connection: keys with their values, each key once, in the order of their first places.
-use Rattle.std.specs.Prelude.{◌≡◌, ℕ, ◌<◌, ◌≤◌, ◌^◌, Bool, ◌&&◌, nat_eq, List, [], ◌∷◌, ◌++◌, length, map, string_bytes, None, refl}
+use Rattle.std.specs.Prelude.{◌≡◌, ℕ, ◌<◌, ◌≤◌, ◌^◌, Bool, ◌&&◌, nat_eq, List, [], ◌∷◌, ◌++◌, length, map, string_bytes, Option, Some, None, refl}
 use Rattle.std.specs.Cmp.Lexicographic.{pointwise}
 use Rattle.std.specs.List.{flat_map}
 use Rattle.std.specs.Global.{Global}
@@ -71,6 +71,10 @@ pub record AttributesFit (attributes : List Attribute) : Type 0 where
 -- the latter alone: what is left to show of attributes at hand
 abbrev pub AreShort : List Attribute → Type 0
 AreShort attributes = length (pairs_bytes attributes) < 2 ^ 64
+
+abbrev pub AreShortIn : Option (List Attribute) → Type 0
+AreShortIn None = Unit {0}
+AreShortIn (Some attributes) = AreShort attributes
 
 string-within : (content : List ℕ) → length content ≤ length (lenenc_string_bytes content)
 unfolding lenenc_string_bytes

@@ -193,3 +193,12 @@ pub record ChangeUserPartsFit (capabilities : CapabilityFlags) (p : ComChangeUse
   pub auth_plugin_data : length (auth_plugin_data p) < 2 ^ 8
   pub database : HasNoZero (database p)
   pub more_data : MorePartsFit capabilities (more_data_in p) rest
+
+-- what is left to show of a change of user that was read
+abbrev pub MoreIsShort : CapabilityFlags → Option ComChangeUserMoreData → List ℕ → Type 0
+MoreIsShort capabilities None rest = rest ≡ []
+MoreIsShort capabilities (Some p) rest = ToldShort (sends_attributes capabilities) (connect_attributes p)
+
+pub record ChangeUserIsShort (capabilities : CapabilityFlags) (p : ComChangeUser) (rest : List ℕ) : Type 0 where
+  pub auth_plugin_data : length (auth_plugin_data p) < 2 ^ 8
+  pub more_data : MoreIsShort capabilities (more_data_in p) rest

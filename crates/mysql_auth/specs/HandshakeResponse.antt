@@ -5,7 +5,7 @@ use Rattle.mysql_wire.specs.Codecs.{◌>>=◌, give, field, packet, when, string
 use Rattle.mysql_wire.specs.FlagMasks.{CLIENT_CONNECT_WITH_DB, CLIENT_SECURE_CONNECTION, CLIENT_PLUGIN_AUTH, CLIENT_CONNECT_ATTRS, CLIENT_PLUGIN_AUTH_LENENC_CLIENT_DATA}
 use Rattle.mysql_wire.specs.Flags.{CapabilityFlags, MariadbCapabilities, has}
 use Rattle.mysql_wire.specs.Null.{HasNoZero}
-use Rattle.mysql_auth.specs.Attributes.{Attribute, AreShort, AttributesFit, attributes}
+use Rattle.mysql_auth.specs.Attributes.{Attribute, AreShort, AreShortIn, AttributesFit, attributes}
 use Rattle.mysql_auth.specs.PluginName.{PluginFits, plugin_null_or_eof}
 use Rattle.mysql_auth.specs.SslRequest as ssl
 use Rattle.mysql_auth.specs.SslRequest.{ssl_request}
@@ -140,6 +140,17 @@ pub record ResponsePartsFit (p : HandshakeResponse) : Type 0 where
   pub db_name : PartFits HasNoZero (sends_database p.head) (db_name p)
   pub auth_plugin : PartFits PluginFits (sends_plugin p.head) (auth_plugin p)
   pub connect_attributes : PartFits AreShort (sends_attributes p.head) (connect_attributes p)
+
+-- a length that its form can tell
+abbrev pub ScrambleIsShort : (by_lenenc by_byte : Bool) → List ℕ → Type 0
+ScrambleIsShort true by_byte scramble = length scramble < 2 ^ 64
+ScrambleIsShort false true scramble = length scramble < 2 ^ 8
+ScrambleIsShort false false scramble = Unit {0}
+
+-- the lengths: what is left to show of a response that was read
+pub record ResponseIsShort (p : HandshakeResponse) : Type 0 where
+  pub scramble_buf : ScrambleIsShort (counts_by_lenenc p.head) (counts_by_byte p.head) (scramble_buf p)
+  pub connect_attributes : AreShortIn (connect_attributes p)
 
 -- numbers that have their widths, as they always have; and the parts, of which the attributes have each key once
 pub record HandshakeResponseFits (p : HandshakeResponse) : Type 0 where

@@ -38,7 +38,8 @@ pub type ComChangeUserHeader = ConstU8<InvalidComChangeUserHeader, 0x11>;
 /// The byte `11`; the user's name, which ends in a zero; the answer to the scramble, behind a length of one byte; the
 /// database's name, which ends in a zero; and, where bytes are left, [`ComChangeUserMoreData`].
 ///
-/// A packet that begins with another byte is `InvalidData`; missing bytes are `UnexpectedEof`. Of an answer the first 255
+/// A packet that begins with another byte is `InvalidData`; missing bytes are `UnexpectedEof`. Reading takes memory for
+/// the attributes alone. Of an answer the first 255
 /// bytes are written, of a name those up to its first zero.
 #[derive(Clone, Debug, PartialEq, Eq, Drop)]
 pub struct ComChangeUser<'a> {

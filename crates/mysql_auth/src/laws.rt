@@ -16,10 +16,10 @@ ghost use Rattle.mysql_auth.specs.declared.com_change_user.ComChangeUser.{ComCha
 ghost use Rattle.mysql_auth.specs.declared.com_change_user_more_data.ComChangeUserMoreData.{ComChangeUserMoreData};
 ghost use Rattle.mysql_auth.specs.declared.handshake_response.HandshakeResponse.{HandshakeResponse};
 ghost use Rattle.mysql_wire.specs.Flags.{CapabilityFlags};
-ghost use Rattle.mysql_auth.specs.ComChangeUser.{change_user, ChangeUserFits, more_data, MoreDataFits};
-ghost use Rattle.mysql_auth.specs.HandshakeResponse.{handshake_response, HandshakeResponseFits};
+ghost use Rattle.mysql_auth.specs.ComChangeUser.{change_user, connect_attributes, more_data, sends_attributes, ChangeUserFits, ChangeUserIsShort, ChangeUserPartsFit, MoreDataFits, MoreDataPartsFit, ToldShort};
+ghost use Rattle.mysql_auth.specs.HandshakeResponse.{handshake_response, HandshakeResponseFits, ResponseIsShort, ResponsePartsFit};
 ghost use Rattle.mysql_auth.specs.Version.{HasVersion, HasMariadbVersion};
-ghost use Rattle.mysql_auth.specs.Handshake.{handshake, HandshakeFits};
+ghost use Rattle.mysql_auth.specs.Handshake.{handshake, server_version, HandshakeFits};
 ghost use Rattle.mysql_auth.specs.AuthMoreData.{auth_more_data};
 ghost use Rattle.mysql_auth.specs.AuthPlugin.{auth_plugin, plugin_name, plugin_named};
 ghost use Rattle.mysql_auth.specs.declared.auth_plugin.AuthPlugin.{AuthPlugin};
@@ -95,6 +95,29 @@ pub fn change_user_again()
 /// What is written of a change of user's more data is read again, under the flags that both sides know.
 pub fn more_data_again()
     ensures spelled { (c : CapabilityFlags) (p : ComChangeUserMoreData) (rest : List ℕ) → MoreDataFits c p → (more_data.form c).Spells p (more_data.bytes p ++ rest) rest }
+{}
+
+/// No zero is in the version of a handshake that was read.
+#[tactic(auto, using(crate::proofs::ReadPackets::read_packets))]
+pub fn read_handshake_has_no_zero()
+    ensures version { (p : HandshakePacket) (bytes rest : List ℕ) → (handshake.form tt).Spells p bytes rest → HasNoZero (server_version p) }
+{}
+
+/// The parts of a response that was read fit, where its lengths do.
+#[tactic(auto, using(crate::proofs::ReadPackets::read_packets))]
+pub fn read_handshake_response_fits()
+    ensures fits { (p : HandshakeResponse) (bytes rest : List ℕ) → (handshake_response.form tt).Spells p bytes rest → ResponseIsShort p → ResponsePartsFit p }
+{}
+
+/// The parts of more data that was read fit, where attributes were sent and their length fits.
+#[tactic(auto, using(crate::proofs::ReadPackets::read_packets))]
+pub fn read_more_data_fits()
+    ensures fits { (c : CapabilityFlags) (p : ComChangeUserMoreData) (bytes rest : List ℕ) → (more_data.form c).Spells p bytes rest → ToldShort (sends_attributes c) (connect_attributes p) → MoreDataPartsFit c p }
+{}
+
+/// The parts of a change of user that was read fit, where its lengths do. Without more data nothing may follow it.
+pub fn read_change_user_fits()
+    ensures fits { (c : CapabilityFlags) (p : ComChangeUser) (bytes rest more : List ℕ) → (change_user.form c).Spells p bytes rest → ChangeUserIsShort c p more → ChangeUserPartsFit c p more }
 {}
 
 /// A text begins with at most one version.

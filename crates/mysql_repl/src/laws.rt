@@ -1,7 +1,7 @@
 //! Laws over the grammars and the defined bytes of this crate's packets, and over texts.
 //!
-//! Each law but those on sizes and the last is a function with nothing in it, whose contract holds for all values. The
-//! laws that begin with `this` speak of the value at hand.
+//! Each law is a function with nothing in it, whose contract holds for all values: but those on sizes answer them, those
+//! that begin with `this` speak of the value at hand, and `request_written` makes two calls.
 #![tactic(auto, using(mysql_wire::proofs::Packets::packets, crate::proofs::Fits::plain_fits, crate::proofs::SidFits::sid_fits))]
 
 ghost use Rattle.std.specs.Prelude.{◌≡◌, ◌++◌, ℕ, List, None, Some, Ok, OnErr, OnOk, IsUtf8, true, false};

@@ -1,0 +1,103 @@
+-- The parts of packets that were read fit, but for what their lengths have to tell.
+use Rattle.std.proofs.Common.{◌≡◌, ℕ, List, Option, Bool, true, false, refl, sym, subst, ap, ◌∙◌}
+use Rattle.mysql_wire.specs.Codecs.{string_null, string_u8, string_lenenc}
+use Rattle.mysql_wire.specs.Flags.{CapabilityFlags}
+use Rattle.mysql_wire.specs.Form.{when}
+use Rattle.mysql_wire.specs.Null.{HasNoZero, null_string}
+use Rattle.mysql_auth.specs.Attributes.{Attribute, AreShort, AreShortIn, attributes}
+use Rattle.mysql_auth.specs.ComChangeUser as change
+use Rattle.mysql_auth.specs.ComChangeUser.{change_user, last_part, more_data, named_plugin, NamedFits, ToldShort, MoreDataPartsFit, MoreIsShort, MorePartsFit, ChangeUserIsShort, ChangeUserPartsFit}
+use Rattle.mysql_auth.specs.Handshake.{handshake, handshake_head, handshake_block, server_version}
+use Rattle.mysql_auth.specs.HandshakeResponse.{handshake_response, one_of, scramble, database, plugin, told_attributes, counts_by_lenenc, counts_by_byte, sends_database, sends_plugin, sends_attributes, PartFits, ScrambleFits, ScrambleIsShort, ResponseIsShort, ResponsePartsFit}
+use Rattle.mysql_auth.specs.PluginName.{PluginFits, plugin_null, plugin_null_or_eof}
+use Rattle.mysql_auth.specs.declared.auth_plugin.AuthPlugin.{AuthPlugin}
+use Rattle.mysql_auth.specs.declared.com_change_user.ComChangeUser.{ComChangeUser}
+use Rattle.mysql_auth.specs.declared.com_change_user_more_data.ComChangeUserMoreData.{ComChangeUserMoreData}
+use Rattle.mysql_auth.specs.declared.handshake.HandshakePacket.{HandshakePacket}
+use Rattle.mysql_auth.specs.declared.handshake_response.HandshakeResponse.{HandshakeResponse}
+use Rattle.mysql_auth.proofs.ReadParts.{null-no_zero, to-zero-fits, to-zero-or-end-fits, read-part}
+
+-- ---- the handshake
+
+pub version-no_zero : (p : HandshakePacket) (bytes rest : List ℕ) → (handshake.form tt).Spells p bytes rest → HasNoZero (server_version p)
+unfolding handshake handshake_head handshake_block
+version-no_zero p bytes rest s =
+    let version = s.2.3 in
+    let fixed = version.3 in
+    let fields = fixed.2.2 in
+    let made = fields.3.3.3.3.3.3.3.3.3.3.0 in
+    let whole = s.3.3.3.0 in
+    let same : server_version p ≡ version.0 = ap server_version whole ∙ ap (λ x. x.0.server_version) (fixed.3.0 ∙ made) in
+    subst HasNoZero (sym same) (null-no_zero version.0 s.2.1 version.1 version.2)
+
+-- ---- the response
+
+scramble-fits : (by_lenenc by_byte : Bool) (content bytes rest : List ℕ) → ((one_of {C = Unit {0}} by_lenenc string_lenenc (one_of by_byte string_u8 string_null)).form tt).Spells content bytes rest
+    → ScrambleIsShort by_lenenc by_byte content → ScrambleFits by_lenenc by_byte content
+scramble-fits true by_byte content bytes rest s h = h
+scramble-fits false true content bytes rest s h = h
+scramble-fits false false content bytes rest s h = null-no_zero content bytes rest s
+
+attributes-fit : (sent : Bool) (told : Option (List Attribute)) (bytes rest : List ℕ) → (when sent (attributes.form tt)).Spells told bytes rest → AreShortIn told → PartFits AreShort sent told
+attributes-fit true told bytes rest s = subst (λ (o : Option (List Attribute)). AreShortIn o → PartFits AreShort true o) s.1 (λ short. (refl, short))
+attributes-fit false told bytes rest s = subst (λ (o : Option (List Attribute)). AreShortIn o → PartFits AreShort false o) (sym s.0) (λ short. refl)
+
+pub response-parts : (p : HandshakeResponse) (bytes rest : List ℕ) → (handshake_response.form tt).Spells p bytes rest → ResponseIsShort p → ResponsePartsFit p
+unfolding handshake_response scramble database plugin told_attributes
+response-parts p bytes rest s =
+    let user = s.3 in
+    let answer = user.3 in
+    let name = answer.3 in
+    let named = name.3 in
+    let told = named.3 in
+    let head = s.0 in
+    let made : HandshakeResponse = record { head = head; user = user.0; scramble_buf = answer.0; db_name = name.0; auth_plugin = named.0; connect_attributes = told.0 } in
+    let parts : ResponseIsShort made → ResponsePartsFit made = λ short. record {
+      user = null-no_zero user.0 s.1 user.1 user.2;
+      scramble_buf = scramble-fits (counts_by_lenenc head) (counts_by_byte head) answer.0 user.1 answer.1 answer.2 short.scramble_buf;
+      db_name = read-part null_string HasNoZero null-no_zero (sends_database head) name.0 answer.1 name.1 name.2;
+      auth_plugin = read-part (plugin_null_or_eof.form tt) PluginFits to-zero-or-end-fits (sends_plugin head) named.0 name.1 named.1 named.2;
+      connect_attributes = attributes-fit (sends_attributes head) told.0 named.1 told.1 told.2 short.connect_attributes;
+    } in
+    let whole : p ≡ made = told.3.0 in
+    subst (λ (q : HandshakeResponse). ResponseIsShort q → ResponsePartsFit q) (sym whole) parts
+
+-- ---- the change of user
+
+named-fits : (sent : Bool) (o : Option AuthPlugin) (bytes rest : List ℕ) → (when sent (plugin_null.form tt)).Spells o bytes rest → NamedFits sent o
+named-fits true o bytes rest s = subst (λ (q : Option AuthPlugin). NamedFits true q) s.1 (refl, to-zero-fits s.0 bytes rest s.2)
+named-fits false o bytes rest s = subst (λ (q : Option AuthPlugin). NamedFits false q) (sym s.0) refl
+
+pub more_data-parts : (c : CapabilityFlags) (p : ComChangeUserMoreData) (bytes rest : List ℕ) → (more_data.form c).Spells p bytes rest
+    → ToldShort (change.sends_attributes c) (change.connect_attributes p) → MoreDataPartsFit c p
+unfolding more_data named_plugin
+more_data-parts c p bytes rest s h =
+    let named = s.3 in
+    let fits : NamedFits (change.sends_plugin c) named.0 = named-fits (change.sends_plugin c) named.0 s.1 named.1 named.2 in
+    let same : change.auth_plugin p ≡ named.0 = ap change.auth_plugin named.3.3.0 in
+    record { auth_plugin = subst (NamedFits (change.sends_plugin c)) (sym same) fits; connect_attributes = h }
+
+more-parts : (c : CapabilityFlags) (there : Bool) (o : Option ComChangeUserMoreData) (bytes rest more : List ℕ) → (when there (more_data.form c)).Spells o bytes rest
+    → MoreIsShort c o more → MorePartsFit c o more
+more-parts c true o bytes rest more s =
+    subst (λ (q : Option ComChangeUserMoreData). MoreIsShort c q more → MorePartsFit c q more) s.1 (λ short. more_data-parts c s.0 bytes rest s.2 short)
+more-parts c false o bytes rest more s = subst (λ (q : Option ComChangeUserMoreData). MoreIsShort c q more → MorePartsFit c q more) (sym s.0) (λ none. none)
+
+pub change-parts : (c : CapabilityFlags) (p : ComChangeUser) (bytes rest more : List ℕ) → (change_user.form c).Spells p bytes rest → ChangeUserIsShort c p more → ChangeUserPartsFit c p more
+unfolding change_user last_part
+change-parts c p bytes rest more s =
+    let user = s.3 in
+    let answer = user.3 in
+    let base = answer.3 in
+    let told = base.3 in
+    let made : ComChangeUser = record { header = s.0; user = user.0; auth_plugin_data = answer.0; database = base.0; more_data = told.0 } in
+    let parts : ChangeUserIsShort c made more → ChangeUserPartsFit c made more = λ short. record {
+      user = null-no_zero user.0 s.1 user.1 user.2;
+      auth_plugin_data = short.auth_plugin_data;
+      database = null-no_zero base.0 answer.1 base.1 base.2;
+      more_data = more-parts c _ told.0 base.1 told.1 more told.2 short.more_data;
+    } in
+    let whole : p ≡ made = told.3.0 in
+    subst (λ (q : ComChangeUser). ChangeUserIsShort c q more → ChangeUserPartsFit c q more) (sym whole) parts
+
+pub ruleset read_packets = (version-no_zero, response-parts, more_data-parts, change-parts)
