@@ -1,7 +1,7 @@
 //! Further data of an authentication.
 #![tactic(auto, using(mysql_wire::proofs::Packets::packets), unfolding(crate::specs::AuthMoreData::auth_more_data))]
 
-ghost use Rattle.std.specs.Prelude.{false, ◌≡◌, IfOk};
+ghost use Rattle.std.specs.Prelude.{◌≡◌, IfOk};
 ghost use Rattle.std.specs.Cow.{cow_slice_items};
 ghost use Rattle.mysql_auth.specs.AuthMoreData as spec;
 

@@ -1,7 +1,7 @@
 //! Authentication plugins.
 #![tactic(auto, using(mysql_wire::proofs::Packets::packets), unfolding(crate::specs::AuthPlugin::auth_plugin))]
 
-ghost use Rattle.std.specs.Prelude.{false, true, ◌≡◌, None, Some, IfOk, IfSome, IfNone, is_ok};
+ghost use Rattle.std.specs.Prelude.{true, ◌≡◌, None, Some, IfOk, IfSome, IfNone, is_ok};
 ghost use Rattle.mysql_auth.specs.AuthPlugin as spec;
 
 use crate::parsec::parse_parsec_salt;

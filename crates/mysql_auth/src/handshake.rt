@@ -1,7 +1,7 @@
 //! What a server says first.
 #![tactic(auto, using(mysql_wire::proofs::Packets::packets), unfolding(crate::specs::Handshake::handshake, crate::specs::Handshake::handshake_head, crate::specs::Handshake::handshake_block, crate::specs::Handshake::data_length))]
 
-ghost use Rattle.std.specs.Prelude.{false, [], ◌≡◌, ◌++◌, ℕ, List, Option, Some, None, IfOk, IfSome, IfNone, length, option_map};
+ghost use Rattle.std.specs.Prelude.{[], ◌≡◌, ◌++◌, ℕ, List, Option, Some, None, IfOk, IfSome, IfNone, length, option_map};
 ghost use Rattle.std.specs.Option.{unwrap_or};
 ghost use Rattle.std.specs.Cow.{cow_slice_items, cow_str_bytes};
 ghost use Rattle.mysql_wire.specs.Text.{lossy_text, BorrowsUtf8, OptionBorrowsUtf8};

@@ -1,7 +1,7 @@
 //! The switch to the oldest plugin.
 #![tactic(auto, using(mysql_wire::proofs::Packets::packets), unfolding(crate::specs::OldAuthSwitchRequest::old_auth_switch_request))]
 
-ghost use Rattle.std.specs.Prelude.{false, ◌≡◌, Some};
+ghost use Rattle.std.specs.Prelude.{◌≡◌, Some};
 ghost use Rattle.mysql_auth.specs.OldAuthSwitchRequest as spec;
 ghost use Rattle.mysql_auth.specs.declared.auth_plugin.AuthPlugin.TheVariants as plugin;
 

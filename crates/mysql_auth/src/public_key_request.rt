@@ -1,7 +1,7 @@
 //! The request for a server's public key.
 #![tactic(auto, using(mysql_wire::proofs::Packets::packets), unfolding(crate::specs::PublicKeyRequest::public_key_request))]
 
-ghost use Rattle.std.specs.Prelude.{false, ◌≡◌};
+ghost use Rattle.std.specs.Prelude.{◌≡◌};
 ghost use Rattle.mysql_auth.specs.PublicKeyRequest as spec;
 
 use mysql_wire::{

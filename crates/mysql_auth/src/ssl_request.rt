@@ -1,7 +1,7 @@
 //! The request for TLS.
 #![tactic(auto, using(mysql_wire::proofs::Packets::packets), unfolding(crate::specs::SslRequest::ssl_request))]
 
-ghost use Rattle.std.specs.Prelude.{false, ◌≡◌};
+ghost use Rattle.std.specs.Prelude.{◌≡◌};
 ghost use Rattle.mysql_auth.specs.SslRequest as spec;
 
 use bitflags::Flags;

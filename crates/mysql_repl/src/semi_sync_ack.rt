@@ -1,7 +1,7 @@
 //! The acknowledgement of a position.
 #![tactic(auto, using(mysql_wire::proofs::Packets::packets), unfolding(crate::specs::SemiSyncAck::semi_sync_ack))]
 
-ghost use Rattle.std.specs.Prelude.{false, ◌≡◌, IfOk};
+ghost use Rattle.std.specs.Prelude.{◌≡◌, IfOk};
 ghost use Rattle.std.specs.Cow.{cow_slice_items, cow_str_bytes};
 ghost use Rattle.mysql_wire.specs.Text.{lossy_text, BorrowsUtf8};
 ghost use Rattle.mysql_repl.specs.SemiSyncAck as spec;
