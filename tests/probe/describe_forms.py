@@ -30,7 +30,7 @@ def counted(record):
 
 NUMBERS = {"u8": "U8", "le_u16": "LeU16", "le_u24": "LeU24", "le_u32": "LeU32", "le_u64": "LeU64", "lenenc": "LenEnc", "varlen": "VarLen"}
 STRINGS = {"lenenc_bytes": "LenEncBytes", "null_bytes": "NullBytes", "eof_bytes": "EofBytes", "u8_bytes": "U8Bytes",
-           "u32_bytes": "U32Bytes", "last_name": "LastName"}
+           "u32_bytes": "U32Bytes", "eof_name": "EofName"}
 CONSTANTS = {"const_u8": "ConstU8", "const_u32": "ConstU32", "const_bytes": "ConstBytes", "skip": "Skip"}
 CODES = {"column_type": "ColumnType", "bulk_indicator": "BulkIndicator", "session_state_type": "SessionStateType",
          "status_flags": "StatusFlags"}

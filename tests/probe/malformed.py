@@ -13,7 +13,7 @@ from described import Buf, Eof, Invalid, describer
 
 EDGES = [0x00, 0x7F, 0xFB, 0xFC, 0xFD, 0xFE, 0xFF]
 # What may be written longer than it was: a state of tracking always has one digit, and texts with a bare length get their own.
-MAY_GROW = ("bulk", "handshake", "response", "change 2", "change_user", "more_data", "plugin", "form last_name")
+MAY_GROW = ("bulk", "handshake", "response", "change 2", "change_user", "more_data", "plugin", "form eof_name")
 # how many inputs at random a part has
 PART = 50_000
 LIMITS = [b"\xff", b"\xff\xff", b"\xff\xff\xff", b"\xff" * 4, b"\xff" * 8]

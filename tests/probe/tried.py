@@ -9,14 +9,14 @@ from pathlib import Path
 from lines import TOP
 
 # (an answer is some four times as long as its request, and 300 bytes)
-ROOM = 700_000
+MOST = 700_000
 
 
 def parts(requests):
     """The requests, in lists whose answers fit."""
     part, size = [], 0
     for it in requests:
-        if part and size + 4 * len(it) + 300 > ROOM:
+        if part and size + 4 * len(it) + 300 > MOST:
             yield part
             part, size = [], 0
         part.append(it)

@@ -4,7 +4,7 @@ from .codes import CONNECT_ATTRS, CONNECT_WITH_DB, LENENC_CLIENT_DATA, PLUGIN_AU
 from .replies import system_variable
 
 
-def last_name(buf):
+def eof_name(buf):
     name = buf.all()
     return name[:-1] if name.endswith(b"\0") else name
 
@@ -30,7 +30,7 @@ def handshake(buf):
     block.take(6)
     capabilities = low | high << 16
     scramble_2 = buf.take(max(13, length - 8)) if capabilities & SECURE_CONNECTION else None
-    name = last_name(buf) if capabilities & PLUGIN_AUTH else None
+    name = eof_name(buf) if capabilities & PLUGIN_AUTH else None
     return (protocol, version, connection, scramble_1, scramble_2, capabilities, collation, status, block.number(4), name)
 
 

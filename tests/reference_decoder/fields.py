@@ -59,7 +59,7 @@ FIELDS = {
     "ErrPacket": error_fields,
     "CommonOkPacket": ok_fields,
     "BulkRows": lambda record: [("rows", len(record))],
-    "LastName": lambda record: [("name", record)],
+    "EofName": lambda record: [("name", record)],
     "AuthPlugin": plugin_fields,
     "AuthMoreData": lambda record: [("data", record[1])],
     "PublicKeyResponse": lambda record: [("rsa_key", record[1])],

@@ -8,7 +8,7 @@ use std::alloc::{AllocError, Global};
 /// The bytes of the numbers of an execution.
 const SIZE: usize = 40;
 
-/// Five numbers, and five strings of 20 bytes behind them.
+/// Five numbers, and five strings of 20 bytes after them.
 fn ten_values(alloc: Global) -> Result<Vec<Value>, AllocError> {
     let mut values = Vec::with_capacity(alloc, 10)?;
     for _ in 0..5 {

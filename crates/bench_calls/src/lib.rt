@@ -1,7 +1,7 @@
 //! Operations on batches of packets, for the benchmark in `bench/`, which calls them from C.
 //!
-//! Each takes the bytes of many packets, one behind the other, and answers a sum over what it read or wrote, so that no
-//! work is dropped. Where packets differ in length, each stands behind its own length in two bytes.
+//! Each takes the bytes of many packets, one after the other, and answers a sum over what it read or wrote, so that no
+//! work is dropped. Where packets differ in length, each stands after its own length in two bytes.
 #![tactic(auto)]
 
 mod bulk;

@@ -8,7 +8,7 @@ use mysql_wire::{ColumnType, Fault, ParseBuf};
 use std::alloc::{AllocError, Global};
 use std::rc::RcSlice;
 
-/// Columns of five numbers, and of five strings behind them.
+/// Columns of five numbers, and of five strings after them.
 fn ten_columns(alloc: Global) -> Result<RcSlice<Column>, AllocError> {
     let mut columns = Vec::with_capacity(alloc, 10)?;
     for _ in 0..5 {

@@ -6,7 +6,7 @@ ghost use Rattle.example_packet.specs.declared.stmt_reset.ComStmtReset.{ComStmtR
 ghost use Rattle.example_packet.specs.StmtReset.{stmt_reset};
 
 /// What is written of a reset is read again, whatever follows.
-pub fn stmt_reset_again()
+pub fn stmt_reset_round_trips()
     ensures spelled { (p : ComStmtReset) (rest : List ℕ) → stmt_reset.fits tt p rest → (stmt_reset.form tt).Spells p (stmt_reset.bytes p ++ rest) rest }
     ensures read { (p : ComStmtReset) (rest : List ℕ) → stmt_reset.fits tt p rest → (stmt_reset.form tt).reads (stmt_reset.bytes p ++ rest) ≡ Ok (p, rest) }
 {}

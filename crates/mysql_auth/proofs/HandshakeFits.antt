@@ -2,7 +2,7 @@
 use Rattle.std.proofs.Common.{ℕ, ◌<◌, List, Option, Some, None, Bool, true, false, if◌then◌else◌, arith}
 use Rattle.mysql_wire.specs.CodecFits.{option_fits}
 use Rattle.mysql_wire.specs.Codecs.{string_bare}
-use Rattle.mysql_auth.specs.LastName.{last_name}
+use Rattle.mysql_auth.specs.EofName.{eof_name}
 use Rattle.mysql_auth.specs.declared.handshake.HandshakePacket.{HandshakePacket}
 use Rattle.mysql_auth.specs.Scramble.{scramble_length}
 use Rattle.mysql_auth.specs.Handshake.{handshake, handshake_head, handshake_block, data_length, length_of, scramble_2, auth_plugin_name, capabilities, has_scramble, has_name, ScrambleFits, NameFits, HandshakeFits}
@@ -19,7 +19,7 @@ scramble-fits sent false None rest h = h
 scramble-fits sent true (Some scramble) rest h = (h.0, (omega (arith, h.1, h.2), omega (arith, h.1, h.2)))
 scramble-fits sent false (Some scramble) rest h = (h.0, (omega (arith, h.1), omega arith))
 
-name-fits : (sent : Bool) (name : Option (List ℕ)) (rest : List ℕ) → NameFits sent name rest → option_fits (last_name {C = Unit {0}}) sent tt name rest
+name-fits : (sent : Bool) (name : Option (List ℕ)) (rest : List ℕ) → NameFits sent name rest → option_fits (eof_name {C = Unit {0}}) sent tt name rest
 name-fits sent None rest h = h
 name-fits sent (Some name) rest h = (h.0, (h.1, h.2))
 

@@ -8,7 +8,7 @@ use Rattle.mysql_auth.specs.Attributes.{attributes, AttributesFit}
 use Rattle.mysql_auth.specs.PluginName.{plugin_null_or_eof, PluginFits}
 use Rattle.mysql_auth.specs.SslRequest.{ssl_request}
 use Rattle.mysql_auth.specs.declared.handshake_response.HandshakeResponse.{HandshakeResponse}
-use Rattle.mysql_auth.specs.HandshakeResponse.{handshake_response, one_of, scramble, database, plugin, told_attributes, counts_by_lenenc, counts_by_byte, sends_database, sends_plugin, sends_attributes, scramble_buf, db_name, auth_plugin, connect_attributes, ScrambleFits, PartFits, HandshakeResponseFits}
+use Rattle.mysql_auth.specs.HandshakeResponse.{handshake_response, one_of, scramble, database, plugin, sent_attributes, counts_by_lenenc, counts_by_byte, sends_database, sends_plugin, sends_attributes, scramble_buf, db_name, auth_plugin, connect_attributes, ScrambleFits, PartFits, HandshakeResponseFits}
 
 scramble-fits : (by_lenenc by_byte : Bool) (content rest : List ℕ) → ScrambleFits by_lenenc by_byte content
     → (one_of {C = Unit {0}} by_lenenc string_lenenc (one_of by_byte string_u8 string_null)).fits tt content rest
@@ -30,7 +30,7 @@ unfolding attributes
 attributes-fit pairs rest h = h
 
 pub response-fits : (p : HandshakeResponse) (rest : List ℕ) → HandshakeResponseFits p → handshake_response.fits tt p rest
-unfolding handshake_response ssl_request scramble database plugin told_attributes
+unfolding handshake_response ssl_request scramble database plugin sent_attributes
 response-fits p rest h = (
   (h.capabilities, (h.max_packet_size, (h.collation, (tt, (h.mariadb_ext_capabilities, tt))))),
   (

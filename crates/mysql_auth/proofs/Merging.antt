@@ -27,16 +27,16 @@ goes-last (f ∷ front) more e once =
     let other : same e.0 f.0 ≡ false = nat_list_eq_equiv.symm e.0 f.0 ∙ middle (λ k. same f.0 k ≡ false) front more e others in
     rw other (ap (λ (es : List Attribute). f ∷ es) (goes-last front more e (IsDistinct-tail same f.0 (keys_of (front ++ e ∷ more)) once)))
 
-merged-behind : (front es : List Attribute) → IsDistinct same (keys_of (front ++ es)) → insert_all same front es ≡ front ++ es
-merged-behind front [] once = sym (append-nil front)
-merged-behind front (e ∷ es) once =
+merged-after : (front es : List Attribute) → IsDistinct same (keys_of (front ++ es)) → insert_all same front es ≡ front ++ es
+merged-after front [] once = sym (append-nil front)
+merged-after front (e ∷ es) once =
     let regrouped : (front ++ e ∷ []) ++ es ≡ front ++ e ∷ es = append_assoc front (e ∷ []) es in
     rw (goes-last front es e once)
-    (merged-behind (front ++ e ∷ []) es (subst (λ (all : List Attribute). IsDistinct same (keys_of all)) (sym regrouped) once) ∙ regrouped)
+    (merged-after (front ++ e ∷ []) es (subst (λ (all : List Attribute). IsDistinct same (keys_of all)) (sym regrouped) once) ∙ regrouped)
 
 -- pairs of which each key stands once stay as they are
 pub merged-once : (es : List Attribute) → IsDistinct same (keys_of es) → merged es ≡ es
-merged-once es once = merged-behind [] es once
+merged-once es once = merged-after [] es once
 
 -- ---- texts
 

@@ -20,9 +20,9 @@ use Rattle.mysql_auth.specs.Attributes.{Attribute, attribute}
 abbrev same : List ℕ → List ℕ → Bool
 same = pointwise nat_eq
 
--- the pairs that are read put into a map behind these entries
-abbrev pub put_behind : List Attribute → Reading (List Attribute) → Reading (List Attribute)
-put_behind entries read = then_read read (λ pairs rest. Ok (insert_all same entries pairs, rest))
+-- the pairs that are read put into a map after these entries
+abbrev pub put_after : List Attribute → Reading (List Attribute) → Reading (List Attribute)
+put_after entries read = then_read read (λ pairs rest. Ok (insert_all same entries pairs, rest))
 
 tail-not-longer : (tail bytes : List ℕ) → IsTail tail bytes → length tail ≤ length bytes
 tail-not-longer tail bytes t = let e : length bytes ≡ length t.front + length tail = ap length t.parts ∙ length-append t.front tail in omega (arith, e)
@@ -32,14 +32,14 @@ number-shorter : (n : ℕ) (bytes rest : List ℕ) → lenenc.Spells n bytes res
 unfolding lenenc raw number bytes
 number-shorter n bytes rest s =
     let first = byte.sized.exact s.0 bytes s.1 (byte.only s.0 bytes s.1 s.2) in
-    let behind = (lenenc_from s.0.0).front n s.1 rest ((lenenc_from s.0.0).only n s.1 rest s.3) in
-    omega (arith, first, tail-not-longer rest s.1 behind)
+    let later = (lenenc_from s.0.0).front n s.1 rest ((lenenc_from s.0.0).only n s.1 rest s.3) in
+    omega (arith, first, tail-not-longer rest s.1 later)
 
 string-shorter : (content bytes rest : List ℕ) → lenenc_string.Spells content bytes rest → length rest < length bytes
 unfolding lenenc_string raw bytes
 string-shorter content bytes rest s =
-    let content_behind : length s.1 ≡ length content + length rest = ap length s.3.1 ∙ length-append content rest in
-    omega (arith, number-shorter _ bytes s.1 s.2.2.2, content_behind)
+    let content_after : length s.1 ≡ length content + length rest = ap length s.3.1 ∙ length-append content rest in
+    omega (arith, number-shorter _ bytes s.1 s.2.2.2, content_after)
 
 -- and so does a pair
 pub pair-shorter : (p : Attribute) (bytes rest : List ℕ) → (attribute.form tt).reads bytes ≡ Ok (p, rest) → length rest < length bytes
@@ -57,25 +57,25 @@ opened [] some = absurd (some refl)
 opened (b ∷ bs) some = many-next f b bs
 
 regroup : (entries : List Attribute) (p : Attribute) (read : Reading (List Attribute))
-    → put_behind entries (then_read read (λ pairs rest. Ok (p ∷ pairs, rest))) ≡ put_behind (insert_entry same entries p.0 p.1) read
+    → put_after entries (then_read read (λ pairs rest. Ok (p ∷ pairs, rest))) ≡ put_after (insert_entry same entries p.0 p.1) read
 regroup entries p (Ok x) = refl
 regroup entries p (Err e) = refl
 
--- one pair, and those behind it
+-- one pair, and those after it
 pub one-pair : (entries : List Attribute) (p : Attribute) (bytes after : List ℕ) → bytes ≢ [] → f.reads bytes ≡ Ok (p, after)
-    → put_behind (insert_entry same entries p.0 p.1) ((many f).reads after) ≡ put_behind entries ((many f).reads bytes)
+    → put_after (insert_entry same entries p.0 p.1) ((many f).reads after) ≡ put_after entries ((many f).reads bytes)
 one-pair entries p bytes after some e = sym (rw (opened bytes some, e, lt-ltb _ _ (pair-shorter p bytes after e)) (regroup entries p ((many f).reads after)))
 
 -- no byte is left
-pub no-pair : (entries : List Attribute) → put_behind entries ((many f).reads []) ≡ Ok (entries, [])
+pub no-pair : (entries : List Attribute) → put_after entries ((many f).reads []) ≡ Ok (entries, [])
 unfolding many
 no-pair entries = refl
 
-pair-fails : (entries : List Attribute) (bytes : List ℕ) (e : FaultKind) → bytes ≢ [] → f.reads bytes ≡ Err e → put_behind entries ((many f).reads bytes) ≡ Err e
+pair-fails : (entries : List Attribute) (bytes : List ℕ) (e : FaultKind) → bytes ≢ [] → f.reads bytes ≡ Err e → put_after entries ((many f).reads bytes) ≡ Err e
 pair-fails entries bytes e some h = rw (opened bytes some, h) refl
 
 -- the first pair that has a fault
-pub pair-faults : (entries : List Attribute) (bytes : List ℕ) (takes_memory : Bool) (e : FaultOf) → bytes ≢ [] → Faults false e (f.reads bytes) → Faults takes_memory e (put_behind entries ((many f).reads bytes))
+pub pair-faults : (entries : List Attribute) (bytes : List ℕ) (takes_memory : Bool) (e : FaultOf) → bytes ≢ [] → Faults false e (f.reads bytes) → Faults takes_memory e (put_after entries ((many f).reads bytes))
 pair-faults entries bytes takes_memory fault.Memory some h = absurd cc
 pair-faults entries bytes takes_memory fault.UnexpectedEof some h = pair-fails entries bytes _ some h
 pair-faults entries bytes takes_memory (fault.InvalidData text) some h = pair-fails entries bytes _ some h

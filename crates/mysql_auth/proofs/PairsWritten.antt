@@ -21,15 +21,15 @@ total-whole total left all sum none small =
     let ended : min (total + 0) (2 ^ 64 - 1) ≡ saturated (length (pairs_bytes all)) = rw none at sum in
     omega (arith, ended, small)
 
-pub pairs-behind : (out : List ℕ) (p : Attribute) (rest : List Attribute) → (out ++ attribute.bytes p) ++ pairs_bytes rest ≡ out ++ pairs_bytes (p ∷ rest)
-pairs-behind out p rest = append_assoc out (attribute.bytes p) (pairs_bytes rest)
+pub pairs-after : (out : List ℕ) (p : Attribute) (rest : List Attribute) → (out ++ attribute.bytes p) ++ pairs_bytes rest ≡ out ++ pairs_bytes (p ∷ rest)
+pairs-after out p rest = append_assoc out (attribute.bytes p) (pairs_bytes rest)
 
-pub ruleset pair_writes = (length-pairs, pairs-behind, append-nil, length-append)
+pub ruleset pair_writes = (length-pairs, pairs-after, append-nil, length-append)
 
--- what has room for all has room for the next
-pub room-for-pair : (out before : List ℕ) (left all more : List Attribute) (p : Attribute) → out ++ pairs_bytes left ≡ before ++ pairs_bytes all → left ≡ p ∷ more
+-- what has limit for all has limit for the next
+pub capacity-for-pair : (out before : List ℕ) (left all more : List Attribute) (p : Attribute) → out ++ pairs_bytes left ≡ before ++ pairs_bytes all → left ≡ p ∷ more
     → length out + length (attribute.bytes p) ≤ length before + length (pairs_bytes all)
-room-for-pair out before left all more p same next =
+capacity-for-pair out before left all more p same next =
     let lengths : length out + length (pairs_bytes left) ≡ length before + length (pairs_bytes all) =
     sym (length-append out (pairs_bytes left)) ∙ ap length same ∙ length-append before (pairs_bytes all) in
     let longer : length (pairs_bytes left) ≡ length (attribute.bytes p) + length (pairs_bytes more) = rw next (length-pairs p more) in
@@ -39,12 +39,12 @@ pub string-length : (content : List ℕ) → length (lenenc_string_bytes content
 unfolding lenenc_string_bytes
 string-length content = length-append (lenenc_bytes (length content)) content
 
--- what has room has a length that is not cut
-pub whole-count : (content : List ℕ) (len capacity : ℕ) → len + length (lenenc_string_bytes content) ≤ capacity → capacity < 2 ^ 64 → saturated (length content) ≡ length content
+-- what has limit has a length that is not cut
+pub whole-count : (content : List ℕ) (len limit : ℕ) → len + length (lenenc_string_bytes content) ≤ limit → limit < 2 ^ 64 → saturated (length content) ≡ length content
 unfolding saturated lenenc_string_bytes
-whole-count content len capacity room small =
+whole-count content len limit capacity small =
     let long : length (lenenc_bytes (length content) ++ content) ≡ length (lenenc_bytes (length content)) + length content = length-append (lenenc_bytes (length content)) content in
-    omega (arith, long, room, small, some-lenenc content)
+    omega (arith, long, capacity, small, some-lenenc content)
 
 -- a length that is cut is past what a machine can hold, whatever stands in front
 pub counted-length : (content : List ℕ) → min (length (lenenc_bytes (saturated (length content))) + saturated (length content)) (2 ^ 64 - 1) ≡ saturated (length (lenenc_string_bytes content))

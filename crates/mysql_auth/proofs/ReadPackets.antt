@@ -6,9 +6,9 @@ use Rattle.mysql_wire.specs.Form.{when}
 use Rattle.mysql_wire.specs.Null.{HasNoZero, null_string}
 use Rattle.mysql_auth.specs.Attributes.{Attribute, AreShort, AreShortIn, attributes}
 use Rattle.mysql_auth.specs.ComChangeUser as change
-use Rattle.mysql_auth.specs.ComChangeUser.{change_user, last_part, more_data, named_plugin, NamedFits, ToldShort, MoreDataPartsFit, MoreIsShort, MorePartsFit, ChangeUserIsShort, ChangeUserPartsFit}
+use Rattle.mysql_auth.specs.ComChangeUser.{change_user, last_part, more_data, named_plugin, NamedFits, GivenShort, MoreDataPartsFit, MoreIsShort, MorePartsFit, ChangeUserIsShort, ChangeUserPartsFit}
 use Rattle.mysql_auth.specs.Handshake.{handshake, handshake_head, handshake_block, server_version}
-use Rattle.mysql_auth.specs.HandshakeResponse.{handshake_response, one_of, scramble, database, plugin, told_attributes, counts_by_lenenc, counts_by_byte, sends_database, sends_plugin, sends_attributes, PartFits, ScrambleFits, ScrambleIsShort, ResponseIsShort, ResponsePartsFit}
+use Rattle.mysql_auth.specs.HandshakeResponse.{handshake_response, one_of, scramble, database, plugin, sent_attributes, counts_by_lenenc, counts_by_byte, sends_database, sends_plugin, sends_attributes, PartFits, ScrambleFits, ScrambleIsShort, ResponseIsShort, ResponsePartsFit}
 use Rattle.mysql_auth.specs.PluginName.{PluginFits, plugin_null, plugin_null_or_eof}
 use Rattle.mysql_auth.specs.declared.auth_plugin.AuthPlugin.{AuthPlugin}
 use Rattle.mysql_auth.specs.declared.com_change_user.ComChangeUser.{ComChangeUser}
@@ -38,28 +38,28 @@ scramble-fits true by_byte content bytes rest s h = h
 scramble-fits false true content bytes rest s h = h
 scramble-fits false false content bytes rest s h = null-no_zero content bytes rest s
 
-attributes-fit : (sent : Bool) (told : Option (List Attribute)) (bytes rest : List ℕ) → (when sent (attributes.form tt)).Spells told bytes rest → AreShortIn told → PartFits AreShort sent told
-attributes-fit true told bytes rest s = subst (λ (o : Option (List Attribute)). AreShortIn o → PartFits AreShort true o) s.1 (λ short. (refl, short))
-attributes-fit false told bytes rest s = subst (λ (o : Option (List Attribute)). AreShortIn o → PartFits AreShort false o) (sym s.0) (λ short. refl)
+attributes-fit : (sent : Bool) (given : Option (List Attribute)) (bytes rest : List ℕ) → (when sent (attributes.form tt)).Spells given bytes rest → AreShortIn given → PartFits AreShort sent given
+attributes-fit true given bytes rest s = subst (λ (o : Option (List Attribute)). AreShortIn o → PartFits AreShort true o) s.1 (λ short. (refl, short))
+attributes-fit false given bytes rest s = subst (λ (o : Option (List Attribute)). AreShortIn o → PartFits AreShort false o) (sym s.0) (λ short. refl)
 
 pub response-parts : (p : HandshakeResponse) (bytes rest : List ℕ) → (handshake_response.form tt).Spells p bytes rest → ResponseIsShort p → ResponsePartsFit p
-unfolding handshake_response scramble database plugin told_attributes
+unfolding handshake_response scramble database plugin sent_attributes
 response-parts p bytes rest s =
     let user = s.3 in
     let answer = user.3 in
     let name = answer.3 in
     let named = name.3 in
-    let told = named.3 in
+    let given = named.3 in
     let head = s.0 in
-    let made : HandshakeResponse = record { head = head; user = user.0; scramble_buf = answer.0; db_name = name.0; auth_plugin = named.0; connect_attributes = told.0 } in
+    let made : HandshakeResponse = record { head = head; user = user.0; scramble_buf = answer.0; db_name = name.0; auth_plugin = named.0; connect_attributes = given.0 } in
     let parts : ResponseIsShort made → ResponsePartsFit made = λ short. record {
       user = null-no_zero user.0 s.1 user.1 user.2;
       scramble_buf = scramble-fits (counts_by_lenenc head) (counts_by_byte head) answer.0 user.1 answer.1 answer.2 short.scramble_buf;
       db_name = read-part null_string HasNoZero null-no_zero (sends_database head) name.0 answer.1 name.1 name.2;
       auth_plugin = read-part (plugin_null_or_eof.form tt) PluginFits to-zero-or-end-fits (sends_plugin head) named.0 name.1 named.1 named.2;
-      connect_attributes = attributes-fit (sends_attributes head) told.0 named.1 told.1 told.2 short.connect_attributes;
+      connect_attributes = attributes-fit (sends_attributes head) given.0 named.1 given.1 given.2 short.connect_attributes;
     } in
-    let whole : p ≡ made = told.3.0 in
+    let whole : p ≡ made = given.3.0 in
     subst (λ (q : HandshakeResponse). ResponseIsShort q → ResponsePartsFit q) (sym whole) parts
 
 -- ---- the change of user
@@ -69,7 +69,7 @@ named-fits true o bytes rest s = subst (λ (q : Option AuthPlugin). NamedFits tr
 named-fits false o bytes rest s = subst (λ (q : Option AuthPlugin). NamedFits false q) (sym s.0) refl
 
 pub more_data-parts : (c : CapabilityFlags) (p : ComChangeUserMoreData) (bytes rest : List ℕ) → (more_data.form c).Spells p bytes rest
-    → ToldShort (change.sends_attributes c) (change.connect_attributes p) → MoreDataPartsFit c p
+    → GivenShort (change.sends_attributes c) (change.connect_attributes p) → MoreDataPartsFit c p
 unfolding more_data named_plugin
 more_data-parts c p bytes rest s h =
     let named = s.3 in
@@ -89,15 +89,15 @@ change-parts c p bytes rest more s =
     let user = s.3 in
     let answer = user.3 in
     let base = answer.3 in
-    let told = base.3 in
-    let made : ComChangeUser = record { header = s.0; user = user.0; auth_plugin_data = answer.0; database = base.0; more_data = told.0 } in
+    let given = base.3 in
+    let made : ComChangeUser = record { header = s.0; user = user.0; auth_plugin_data = answer.0; database = base.0; more_data = given.0 } in
     let parts : ChangeUserIsShort c made more → ChangeUserPartsFit c made more = λ short. record {
       user = null-no_zero user.0 s.1 user.1 user.2;
       auth_plugin_data = short.auth_plugin_data;
       database = null-no_zero base.0 answer.1 base.1 base.2;
-      more_data = more-parts c _ told.0 base.1 told.1 more told.2 short.more_data;
+      more_data = more-parts c _ given.0 base.1 given.1 more given.2 short.more_data;
     } in
-    let whole : p ≡ made = told.3.0 in
+    let whole : p ≡ made = given.3.0 in
     subst (λ (q : ComChangeUser). ChangeUserIsShort c q more → ChangeUserPartsFit c q more) (sym whole) parts
 
 pub ruleset read_packets = (version-no_zero, response-parts, more_data-parts, change-parts)

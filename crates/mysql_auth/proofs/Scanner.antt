@@ -9,7 +9,7 @@ use Rattle.std.specs.Str.Parse.{digits_value}
 use Rattle.mysql_wire.specs.declared.fault.FaultKind.TheVariants as kind
 use Rattle.mysql_wire.specs.Form.{Form}
 use Rattle.std.specs.Char.{is_ascii_digit}
-use Rattle.mysql_auth.specs.Version.{digit_count, digits_reads, literal, text-only, HasMariadbVersion, HasMariadbVersionBehind, IsMariadbVersion}
+use Rattle.mysql_auth.specs.Version.{digit_count, digits_reads, literal, text-only, HasMariadbVersion, HasMariadbVersionAfter, IsMariadbVersion}
 use Rattle.mysql_wire.specs.Reading.{done-rest}
 use Rattle.std.specs.Prelude.{IfNone}
 
@@ -70,18 +70,18 @@ module _ {A : Type 0} (f : Form A) (text : List ℕ) where
       let read : f.reads text ≡ Ok (v, s.0) = f.only v text s.0 s.1 in
       absurd cc
 
--- a version of MariaDB behind 5.5.5- is one of what stands there
-pub behind-none : (text rest : List ℕ) (r : Option (ℕ × ℕ × ℕ)) → (literal (codes "5.5.5-")).reads text ≡ Ok (tt, rest)
-    → IfNone r ((v : ℕ × ℕ × ℕ) → HasMariadbVersion rest v → ⊥) → IfNone r ((v : ℕ × ℕ × ℕ) → HasMariadbVersionBehind text v → ⊥)
-behind-none text rest None e h = λ v s.
+-- a version of MariaDB after 5.5.5- is one of what stands there
+pub after-none : (text rest : List ℕ) (r : Option (ℕ × ℕ × ℕ)) → (literal (codes "5.5.5-")).reads text ≡ Ok (tt, rest)
+    → IfNone r ((v : ℕ × ℕ × ℕ) → HasMariadbVersion rest v → ⊥) → IfNone r ((v : ℕ × ℕ × ℕ) → HasMariadbVersionAfter text v → ⊥)
+after-none text rest None e h = λ v s.
     let same : s.0 ≡ rest = done-rest tt tt s.0 rest (sym (text-only (codes "5.5.5-") tt text s.0 s.1) ∙ e) in
     h v (subst (λ (t : List ℕ). HasMariadbVersion t v) same s.2)
-behind-none text rest (Some x) e h = h
+after-none text rest (Some x) e h = h
 
--- neither behind 5.5.5- nor at the start
-pub neither : (text : List ℕ) (r : Option (ℕ × ℕ × ℕ)) → ((v : ℕ × ℕ × ℕ) → HasMariadbVersionBehind text v → ⊥)
+-- neither after 5.5.5- nor at the start
+pub neither : (text : List ℕ) (r : Option (ℕ × ℕ × ℕ)) → ((v : ℕ × ℕ × ℕ) → HasMariadbVersionAfter text v → ⊥)
     → IfNone r ((v : ℕ × ℕ × ℕ) → HasMariadbVersion text v → ⊥) → IfNone r ((v : ℕ × ℕ × ℕ) → IsMariadbVersion text v → ⊥)
-neither text None no_behind no_start = λ v s. elim s [ inl h ↦ no_behind v h | inr h ↦ no_start v h.1 ]
-neither text (Some x) no_behind no_start = no_start
+neither text None no_after no_start = λ v s. elim s [ inl h ↦ no_after v h | inr h ↦ no_start v h.1 ]
+neither text (Some x) no_after no_start = no_start
 
 pub ruleset digit_counts = (count-more, count-enough, count-end, count-none, power-small, power-more, digits_value_more)

@@ -3,7 +3,7 @@ use Rattle.std.proofs.Common.{◌≡◌, ℕ, ◌<◌, ◌^◌, List, ◌++◌, 
 use Rattle.mysql_wire.specs.Flags.{CapabilityFlags}
 use Rattle.mysql_auth.specs.Attributes.{Attribute, AreShort, AttributesFit, merged}
 use Rattle.mysql_auth.specs.ComChangeUser as change
-use Rattle.mysql_auth.specs.ComChangeUser.{change_user, more_data, ToldShort, WrittenFits, MoreDataPartsFit, MoreDataFits, MorePartsFit, MoreFits, ChangeUserPartsFit, ChangeUserFits}
+use Rattle.mysql_auth.specs.ComChangeUser.{change_user, more_data, GivenShort, WrittenFits, MoreDataPartsFit, MoreDataFits, MorePartsFit, MoreFits, ChangeUserPartsFit, ChangeUserFits}
 use Rattle.mysql_auth.specs.Handshake as greeting
 use Rattle.mysql_auth.specs.Handshake.{handshake, HalvesFit, HandshakePartsFit}
 use Rattle.mysql_auth.specs.HandshakeResponse as response
@@ -19,7 +19,7 @@ use Rattle.mysql_auth.proofs.HandshakeResponseFits.{response-fits}
 
 -- each key stands once, where there are attributes
 abbrev Once : Option (List Attribute) → Type 0
-Once told = (pairs : List Attribute) → told ≡ Some pairs → merged pairs ≡ pairs
+Once given = (pairs : List Attribute) → given ≡ Some pairs → merged pairs ≡ pairs
 
 -- ---- the handshake
 
@@ -43,9 +43,9 @@ handshake-spelled p rest version connection scramble halves collation status mar
 
 -- ---- the response
 
-told-fit : (sent : Bool) (told : Option (List Attribute)) → Once told → PartFits AreShort sent told → PartFits AttributesFit sent told
-told-fit sent None once h = h
-told-fit sent (Some pairs) once h = (h.0, record { once = once pairs refl; short = h.1 })
+given-fit : (sent : Bool) (given : Option (List Attribute)) → Once given → PartFits AreShort sent given → PartFits AttributesFit sent given
+given-fit sent None once h = h
+given-fit sent (Some pairs) once h = (h.0, record { once = once pairs refl; short = h.1 })
 
 pub response-spelled : (p : HandshakeResponse) (rest : List ℕ) → SslRequestFits p.head → Once (response.connect_attributes p) → ResponsePartsFit p
     → (handshake_response.form tt).Spells p (handshake_response.bytes p ++ rest) rest
@@ -59,12 +59,12 @@ response-spelled p rest widths once h =
       scramble_buf = h.scramble_buf;
       db_name = h.db_name;
       auth_plugin = h.auth_plugin;
-      connect_attributes = told-fit (response.sends_attributes p.head) (response.connect_attributes p) once h.connect_attributes;
+      connect_attributes = given-fit (response.sends_attributes p.head) (response.connect_attributes p) once h.connect_attributes;
     }))
 
 -- ---- the change of user
 
-written-fit : (sent : Bool) (told : Option (List Attribute)) → Once told → ToldShort sent told → WrittenFits sent told
+written-fit : (sent : Bool) (given : Option (List Attribute)) → Once given → GivenShort sent given → WrittenFits sent given
 written-fit sent None once h = h
 written-fit sent (Some pairs) once h = (h.0, record { once = once pairs refl; short = h.1 })
 
@@ -79,14 +79,14 @@ pub more_data-spelled : (c : CapabilityFlags) (p : ComChangeUserMoreData) (rest 
     → (more_data.form c).Spells p (more_data.bytes p ++ rest) rest
 more_data-spelled c p rest width once h = more_data.again c p rest (more_data-fits c p rest (more_data-fit c p width once h))
 
-more-fit : (c : CapabilityFlags) (more : Option ComChangeUserMoreData) (rest : List ℕ) → ((told : ComChangeUserMoreData) → more ≡ Some told → change.character_set told < 2 ^ 16)
-    → ((told : ComChangeUserMoreData) (pairs : List Attribute) → more ≡ Some told → change.connect_attributes told ≡ Some pairs → merged pairs ≡ pairs)
+more-fit : (c : CapabilityFlags) (more : Option ComChangeUserMoreData) (rest : List ℕ) → ((given : ComChangeUserMoreData) → more ≡ Some given → change.character_set given < 2 ^ 16)
+    → ((given : ComChangeUserMoreData) (pairs : List Attribute) → more ≡ Some given → change.connect_attributes given ≡ Some pairs → merged pairs ≡ pairs)
     → MorePartsFit c more rest → MoreFits c more rest
 more-fit c None rest width once h = h
-more-fit c (Some told) rest width once h = more_data-fit c told (width told refl) (λ pairs e. once told pairs refl e) h
+more-fit c (Some given) rest width once h = more_data-fit c given (width given refl) (λ pairs e. once given pairs refl e) h
 
-pub change-spelled : (c : CapabilityFlags) (p : ComChangeUser) (rest : List ℕ) → ((told : ComChangeUserMoreData) → change.more_data_in p ≡ Some told → change.character_set told < 2 ^ 16)
-    → ((told : ComChangeUserMoreData) (pairs : List Attribute) → change.more_data_in p ≡ Some told → change.connect_attributes told ≡ Some pairs → merged pairs ≡ pairs)
+pub change-spelled : (c : CapabilityFlags) (p : ComChangeUser) (rest : List ℕ) → ((given : ComChangeUserMoreData) → change.more_data_in p ≡ Some given → change.character_set given < 2 ^ 16)
+    → ((given : ComChangeUserMoreData) (pairs : List Attribute) → change.more_data_in p ≡ Some given → change.connect_attributes given ≡ Some pairs → merged pairs ≡ pairs)
     → ChangeUserPartsFit c p rest → (change_user.form c).Spells p (change_user.bytes p ++ rest) rest
 change-spelled c p rest width once h =
     change_user.again c p rest (change-fits c p rest (record {

@@ -22,7 +22,7 @@ attributes_len = map (λ content. length content) lenenc_string
 abbrev pub sent_len : (sent : Bool) → Form ℕ
 sent_len sent = either sent attributes_len (give 0)
 
--- behind the plugin of a response
+-- after the plugin of a response
 abbrev pub in_response : Form ℕ
 in_response = do
   head ← ssl_request.form tt
@@ -32,7 +32,7 @@ in_response = do
   plugin ← (response.plugin head).form tt
   sent_len (response.sends_attributes head)
 
--- behind the plugin of a change of user
+-- after the plugin of a change of user
 abbrev pub in_more_data : CapabilityFlags → Form ℕ
 in_more_data capabilities = do
   character_set ← le_u16
@@ -46,7 +46,7 @@ header = const_byte 0x11
 abbrev pub in_last_part : CapabilityFlags → Form ℕ
 in_last_part capabilities = looking (λ bytes. either (is_there bytes) (in_more_data capabilities) (give 0))
 
--- behind the database of a change of user
+-- after the database of a change of user
 abbrev pub in_change_user : CapabilityFlags → Form ℕ
 in_change_user capabilities = do
   first ← header

@@ -88,8 +88,8 @@ each-short (p ∷ attributes) short =
     let value = lenenc_string_bytes p.1 ++ [] in
     let pair = length-append (lenenc_string_bytes p.0) value in
     let all = length-append (lenenc_string_bytes p.0 ++ value) (pairs_bytes attributes) in
-    let behind = length-append (lenenc_string_bytes p.1) [] in (
-      (omega (arith, short, pair, all, string-within p.0), (omega (arith, short, pair, all, behind, string-within p.1), tt)),
+    let later = length-append (lenenc_string_bytes p.1) [] in (
+      (omega (arith, short, pair, all, string-within p.0), (omega (arith, short, pair, all, later, string-within p.1), tt)),
       each-short attributes (omega (arith, short, pair, all)),
     )
 

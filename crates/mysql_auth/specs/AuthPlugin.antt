@@ -20,7 +20,7 @@ plugin_name plugin.Ed25519 = codes "client_ed25519"
 plugin_name (plugin.MariadbParsec iterations ext_salt) = codes "parsec"
 plugin_name (plugin.Other name) = name
 
--- parsec before its server has told anything
+-- parsec before its server has sent anything
 abbrev pub new_parsec : AuthPlugin
 new_parsec = plugin.MariadbParsec 0 (replicate 18 0)
 
@@ -68,10 +68,10 @@ IsKnown _ = Unit {0}
 
 -- parsec takes in its rounds and its salt
 abbrev pub with_salt : AuthPlugin → List ℕ → Option AuthPlugin
-with_salt (plugin.MariadbParsec iterations ext_salt) payload = option_map (λ told. plugin.MariadbParsec told.0 told.1) (parsec_salt payload)
+with_salt (plugin.MariadbParsec iterations ext_salt) payload = option_map (λ given. plugin.MariadbParsec given.0 given.1) (parsec_salt payload)
 with_salt _ payload = None
 
--- ---- the plugin as its name: all that is left, written with a zero behind it
+-- ---- the plugin as its name: all that is left, written with a zero after it
 
 abbrev pub name_bytes : AuthPlugin → List ℕ
 name_bytes p = plugin_name p ++ 0 ∷ []

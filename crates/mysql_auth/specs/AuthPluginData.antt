@@ -11,7 +11,7 @@ data_bytes (answer.Clear password) = password
 data_bytes (answer.Ed25519 bytes) = bytes
 data_bytes (answer.Parsec bytes) = bytes
 
--- the bytes, and a zero behind those of the oldest plugin and behind a password
+-- the bytes, and a zero after those of the oldest plugin and after a password
 abbrev pub auth_plugin_data_bytes : AuthPluginData → List ℕ
 auth_plugin_data_bytes (answer.Old bytes) = bytes ++ 0 ∷ []
 auth_plugin_data_bytes (answer.Clear password) = password ++ 0 ∷ []

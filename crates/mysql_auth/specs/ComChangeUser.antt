@@ -37,11 +37,11 @@ abbrev pub with_auth_plugin : Option AuthPlugin → ComChangeUserMoreData → Co
 with_auth_plugin plugin p = record p { auth_plugin = plugin }
 
 abbrev pub with_connect_attributes : Option (List Attribute) → ComChangeUserMoreData → ComChangeUserMoreData
-with_connect_attributes told p = record p { connect_attributes = told }
+with_connect_attributes given p = record p { connect_attributes = given }
 
 -- more data of these
 abbrev pub more_data_of : ℕ → Option AuthPlugin → Option (List Attribute) → ComChangeUserMoreData
-more_data_of number plugin told = record { character_set = raw_int number; auth_plugin = plugin; connect_attributes = told }
+more_data_of number plugin given = record { character_set = raw_int number; auth_plugin = plugin; connect_attributes = given }
 
 -- ---- more data: the layout
 
@@ -50,22 +50,22 @@ abbrev pub WrittenFits : Bool → Option (List Attribute) → Type 0
 WrittenFits sent None = ⊥
 WrittenFits sent (Some pairs) = (sent ≡ true) × AttributesFit pairs
 
-pub written-again : (sent : Bool) (told : Option (List Attribute)) (rest : List ℕ) → WrittenFits sent told
-    → (form.when sent (attributes.form tt)).Spells told (attributes.bytes (unwrap_or told []) ++ rest) rest
+pub written-again : (sent : Bool) (given : Option (List Attribute)) (rest : List ℕ) → WrittenFits sent given
+    → (form.when sent (attributes.form tt)).Spells given (attributes.bytes (unwrap_or given []) ++ rest) rest
 unfolding attributes
 written-again sent None rest h = absurd h
 written-again sent (Some pairs) rest h = rw h.0 (pairs, refl, attributes.again tt pairs rest h.1)
 
 -- Attributes where CLIENT_CONNECT_ATTRS is set. They are written whether or not it is, empty where none are given, since a
--- writer isn't told the flags.
+-- writer isn't passed the flags.
 unfoldable pub written_attributes : Codec CapabilityFlags (Option (List Attribute))
 written_attributes = record {
   form = λ capabilities. form.when (sends_attributes capabilities) (attributes.form tt);
-  bytes = λ told. attributes.bytes (unwrap_or told []);
-  len = λ told. length (attributes.bytes (unwrap_or told []));
-  fits = λ capabilities told rest. WrittenFits (sends_attributes capabilities) told;
-  exact = λ capabilities told rest h. refl;
-  again = λ capabilities told rest h. written-again (sends_attributes capabilities) told rest h;
+  bytes = λ given. attributes.bytes (unwrap_or given []);
+  len = λ given. length (attributes.bytes (unwrap_or given []));
+  fits = λ capabilities given rest. WrittenFits (sends_attributes capabilities) given;
+  exact = λ capabilities given rest h. refl;
+  again = λ capabilities given rest h. written-again (sends_attributes capabilities) given rest h;
 }
 
 -- the plugin's name, which ends in a zero, where CLIENT_PLUGIN_AUTH is set
@@ -133,7 +133,7 @@ some-more_data p = some-then _ (omega arith)
 unfoldable pub last_part : Codec CapabilityFlags (Option ComChangeUserMoreData)
 last_part = if_bytes_left more_data some-more_data
 
--- 11; the user; the answer to the scramble, behind a length of one byte; the database; more data where bytes are left
+-- 11; the user; the answer to the scramble, after a length of one byte; the database; more data where bytes are left
 abbrev pub change_user_fields : Fields CapabilityFlags ComChangeUser ComChangeUser
 change_user_fields = do
   header ← field (λ p. p.header) (const_u8 0x11)
@@ -158,14 +158,14 @@ NamedFits sent None = sent ≡ false
 NamedFits sent (Some p) = (sent ≡ true) × PluginFits p
 
 -- the attributes are there exactly under their flag
-abbrev pub ToldShort : Bool → Option (List Attribute) → Type 0
-ToldShort sent None = ⊥
-ToldShort sent (Some pairs) = (sent ≡ true) × AreShort pairs
+abbrev pub GivenShort : Bool → Option (List Attribute) → Type 0
+GivenShort sent None = ⊥
+GivenShort sent (Some pairs) = (sent ≡ true) × AreShort pairs
 
 -- what is left to show of more data at hand
 pub record MoreDataPartsFit (capabilities : CapabilityFlags) (p : ComChangeUserMoreData) : Type 0 where
   pub auth_plugin : NamedFits (sends_plugin capabilities) (auth_plugin p)
-  pub connect_attributes : ToldShort (sends_attributes capabilities) (connect_attributes p)
+  pub connect_attributes : GivenShort (sends_attributes capabilities) (connect_attributes p)
 
 pub record MoreDataFits (capabilities : CapabilityFlags) (p : ComChangeUserMoreData) : Type 0 where
   pub character_set : character_set p < 2 ^ 16
@@ -197,7 +197,7 @@ pub record ChangeUserPartsFit (capabilities : CapabilityFlags) (p : ComChangeUse
 -- what is left to show of a change of user that was read
 abbrev pub MoreIsShort : CapabilityFlags → Option ComChangeUserMoreData → List ℕ → Type 0
 MoreIsShort capabilities None rest = rest ≡ []
-MoreIsShort capabilities (Some p) rest = ToldShort (sends_attributes capabilities) (connect_attributes p)
+MoreIsShort capabilities (Some p) rest = GivenShort (sends_attributes capabilities) (connect_attributes p)
 
 pub record ChangeUserIsShort (capabilities : CapabilityFlags) (p : ComChangeUser) (rest : List ℕ) : Type 0 where
   pub auth_plugin_data : length (auth_plugin_data p) < 2 ^ 8

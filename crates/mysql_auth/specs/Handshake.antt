@@ -1,4 +1,4 @@
--- What a server says first.
+-- The initial handshake.
 use Rattle.std.specs.Prelude.{◌≡◌, ℕ, ◌+◌, ◌-◌, ◌*◌, ◌<◌, ◌≤◌, ◌^◌, List, [], ◌++◌, length, take, replicate, Option, option_map, Some, None, Bool, true, false, if◌then◌else◌, min, refl}
 use Rattle.std.specs.Option.{unwrap_or}
 use Rattle.mysql_wire.specs.Codec.{Codec, Fields}
@@ -12,7 +12,7 @@ use Rattle.mysql_auth.specs.AuthPlugin.{plugin_of}
 use Rattle.mysql_auth.specs.Scramble.{scramble_length}
 use Rattle.mysql_auth.specs.TrailingZero.{without_last_zero}
 use Rattle.mysql_auth.specs.declared.auth_plugin.AuthPlugin.{AuthPlugin}
-use Rattle.mysql_auth.specs.LastName.{last_name}
+use Rattle.mysql_auth.specs.EofName.{eof_name}
 use Rattle.mysql_auth.specs.declared.handshake_head.HandshakeHead.{HandshakeHead}
 use Rattle.mysql_auth.specs.declared.handshake.HandshakePacket.{HandshakePacket}
 
@@ -96,7 +96,7 @@ data_length p = if has_name (capabilities p) then length_of (scramble_2 p) else 
 
 -- ---- the layout
 
--- the 31 bytes, with what the fields before and behind them need: the head, and the length of both scrambles
+-- the 31 bytes, with what the fields before and after them need: the head, and the length of both scrambles
 unfoldable pub handshake_block : RawInt ℕ ℕ → List ℕ → Fields (Unit {0}) HandshakePacket (HandshakeHead × ℕ)
 handshake_block protocol_version server_version = do
   connection_id ← field (λ p. p.head.connection_id) u32
@@ -140,7 +140,7 @@ abbrev pub handshake_fields : Fields (Unit {0}) HandshakePacket HandshakePacket
 handshake_fields = do
   head ← handshake_head
   scramble_2 ← field scramble_2 (when (λ c. has_scramble (capabilities_of head.0)) (string_bare 247 (scramble_length head.1)))
-  auth_plugin_name ← field auth_plugin_name (when (λ c. has_name (capabilities_of head.0)) last_name)
+  auth_plugin_name ← field auth_plugin_name (when (λ c. has_name (capabilities_of head.0)) eof_name)
   give (record { head = head.0; scramble_2 = scramble_2; auth_plugin_name = auth_plugin_name })
 
 unfoldable pub handshake : Codec (Unit {0}) HandshakePacket

@@ -77,7 +77,7 @@ abbrev pub one_of : {C A : Type 0} → Bool → Codec C A → Codec C A → Code
 one_of true left right = left
 one_of false left right = right
 
--- Length-encoded under CLIENT_PLUGIN_AUTH_LENENC_CLIENT_DATA; else behind a length of one byte under
+-- Length-encoded under CLIENT_PLUGIN_AUTH_LENENC_CLIENT_DATA; else after a length of one byte under
 -- CLIENT_SECURE_CONNECTION; else up to a zero.
 unfoldable pub scramble : SslRequest → Codec (Unit {0}) (List ℕ)
 scramble head = one_of (counts_by_lenenc head) string_lenenc (one_of (counts_by_byte head) string_u8 string_null)
@@ -89,8 +89,8 @@ database head = when (λ c. sends_database head) string_null
 unfoldable pub plugin : SslRequest → Codec (Unit {0}) (Option AuthPlugin)
 plugin head = when (λ c. sends_plugin head) plugin_null_or_eof
 
-unfoldable pub told_attributes : SslRequest → Codec (Unit {0}) (Option (List Attribute))
-told_attributes head = when (λ c. sends_attributes head) attributes
+unfoldable pub sent_attributes : SslRequest → Codec (Unit {0}) (Option (List Attribute))
+sent_attributes head = when (λ c. sends_attributes head) attributes
 
 -- 32 bytes as of a request for TLS; the user; the scramble; the database, the plugin's name and the attributes, each
 -- under its flag
@@ -101,7 +101,7 @@ handshake_response_fields = do
   scramble_buf ← field scramble_buf (scramble head)
   db_name ← field db_name (database head)
   auth_plugin ← field auth_plugin (plugin head)
-  connect_attributes ← field connect_attributes (told_attributes head)
+  connect_attributes ← field connect_attributes (sent_attributes head)
   give (
       record {
         head = head;

@@ -9,7 +9,7 @@ pub mod PublicKeyResponse
 pub mod OldAuthSwitchRequest
 pub mod AuthSwitchRequest
 pub mod SslRequest
-pub mod LastName
+pub mod EofName
 pub mod Handshake
 pub mod Version
 pub mod Scan

@@ -15,7 +15,7 @@ at-end : (content : List ℕ) → slice_index (content ++ 0 ∷ []) (length cont
 at-end [] = refl
 at-end (b ∷ content) = at-end content
 
--- a zero behind a content is taken off
+-- a zero after a content is taken off
 pub zero-off : (content : List ℕ) → without_last_zero (content ++ 0 ∷ []) ≡ content
 zero-off content =
     let longer : length (content ++ 0 ∷ []) ≡ length content + 1 = length-append content (0 ∷ []) in

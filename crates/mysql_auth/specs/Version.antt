@@ -85,17 +85,17 @@ pub digits-found : (most n : ℕ) (bytes rest : List ℕ) → digits_reads most 
 digits-found most n bytes rest e =
     let count = digit_count most bytes in
     let g = guard_ok (count == 0) kind.InvalidData (digits_value 10 (take count bytes), drop count bytes) (n, rest) e in
-    let behind : drop count bytes ≡ rest = ap (λ (p : ℕ × List ℕ). p.1) g.1 in
+    let later : drop count bytes ≡ rest = ap (λ (p : ℕ × List ℕ). p.1) g.1 in
     let is : Counts most bytes count = counted most bytes in
     let len : length (take count bytes) ≡ count = length-take-le count bytes is.within in
     let more : 0 < count = omega (arith, eqb-false count 0 g.0) in
     record {
       digits = take count bytes;
-      parts = rw (← behind) (sym (take-append-drop count bytes));
+      parts = rw (← later) (sym (take-append-drop count bytes));
       are_digits = is.are_digits;
       some = omega (arith, len, more);
       few = omega (arith, len, is.few);
-      longest = λ lt. rw (← behind) (is.longest (omega (arith, len, lt)));
+      longest = λ lt. rw (← later) (is.longest (omega (arith, len, lt)));
       value = ap (λ (p : ℕ × List ℕ). p.0) g.1;
     }
 
@@ -132,8 +132,8 @@ pub text-found : (text : List ℕ) (v : Unit {0}) (bytes rest : List ℕ) → te
 text-found text v bytes rest e =
     let c = chosen (bytes_eq (take (length text) bytes) text) kind.InvalidData (tt, drop (length text) bytes) (v, rest) e in
     let front : take (length text) bytes ≡ text = (bytes_eq-Decides (take (length text) bytes) text).0 c.0 in
-    let behind : drop (length text) bytes ≡ rest = ap (λ (p : Unit {0} × List ℕ). p.1) c.1 in
-    sym (take-append-drop (length text) bytes) ∙ ap (λ (f : List ℕ). f ++ drop (length text) bytes) front ∙ ap (λ (b : List ℕ). text ++ b) behind
+    let later : drop (length text) bytes ≡ rest = ap (λ (p : Unit {0} × List ℕ). p.1) c.1 in
+    sym (take-append-drop (length text) bytes) ∙ ap (λ (f : List ℕ). f ++ drop (length text) bytes) front ∙ ap (λ (b : List ℕ). text ++ b) later
 
 pub text-only : (text : List ℕ) (v : Unit {0}) (bytes rest : List ℕ) → bytes ≡ text ++ rest → text_reads text bytes ≡ Ok (v, rest)
 text-only text v bytes rest e =
@@ -163,7 +163,7 @@ version = do
   patch ← number 3
   give (major, minor, patch)
 
--- such a version with MariaDB's name right behind it
+-- such a version with MariaDB's name right after it
 unfoldable pub mariadb_version : Form (ℕ × ℕ × ℕ)
 mariadb_version = do
   numbers ← version
@@ -178,9 +178,9 @@ abbrev pub HasMariadbVersion : List ℕ → ℕ × ℕ × ℕ → Type 0
 HasMariadbVersion text v = (tail : List ℕ) × mariadb_version.Spells v text tail
 
 -- what MariaDB's servers put in front, for clients that ask for a version of MySQL
-abbrev pub HasMariadbVersionBehind : List ℕ → ℕ × ℕ × ℕ → Type 0
-HasMariadbVersionBehind text v = (rest : List ℕ) × (text ≡ codes "5.5.5-" ++ rest) × HasMariadbVersion rest v
+abbrev pub HasMariadbVersionAfter : List ℕ → ℕ × ℕ × ℕ → Type 0
+HasMariadbVersionAfter text v = (rest : List ℕ) × (text ≡ codes "5.5.5-" ++ rest) × HasMariadbVersion rest v
 
--- a version of MariaDB: behind 5.5.5- where one stands there, else at the start
+-- a version of MariaDB: after 5.5.5- where one stands there, else at the start
 abbrev pub IsMariadbVersion : List ℕ → ℕ × ℕ × ℕ → Type 0
-IsMariadbVersion text v = HasMariadbVersionBehind text v ⊎ (((w : ℕ × ℕ × ℕ) → HasMariadbVersionBehind text w → ⊥) × HasMariadbVersion text v)
+IsMariadbVersion text v = HasMariadbVersionAfter text v ⊎ (((w : ℕ × ℕ × ℕ) → HasMariadbVersionAfter text w → ⊥) × HasMariadbVersion text v)

@@ -152,12 +152,12 @@ impl<'a> Attributes<'a> {
         total
     }
 
-    /// Writes the pairs to the end of a buffer that has room for them.
+    /// Writes the pairs to the end of a buffer that has capacity for them.
     #[tactic(auto, using(crate::proofs::PairsWritten::pair_writes), unfolding(crate::specs::Attributes::attribute))]
     fn append_pairs(&self, out: &mut Vec<u8>)
         requires { vec_len out.old + length (spec.pairs_bytes self.now) ≤ vec_capacity out.old }
         ensures items { out.new.items ≡ out.old.items ++ spec.pairs_bytes self.now }
-        ensures room { vec_capacity out.old ≤ vec_capacity out.new }
+        ensures capacity { vec_capacity out.old ≤ vec_capacity out.new }
     {
         for (key, value) in self.0.iter() {
             parts!(*key, *value).append(out);

@@ -27,7 +27,7 @@ const PARSEC: &[u8] = b"parsec";
 /// How a client proves who it is: the plugin that both sides run.
 ///
 /// On the wire it is its name. A reader takes all that is left as the name, one zero at its end aside; a writer puts a
-/// zero behind the name.
+/// zero after the name.
 #[derive(Clone, Debug, PartialEq, Eq, Hash, Drop)]
 pub enum AuthPlugin<'a> {
     /// `mysql_old_password`: the hash of MySQL before 4.1.
@@ -42,9 +42,9 @@ pub enum AuthPlugin<'a> {
     Ed25519,
     /// `parsec`, of MariaDB.
     MariadbParsec {
-        /// How many rounds the password is hashed with, 0 until the server has told.
+        /// How many rounds the password is hashed with, 0 until the server has sent it.
         iterations: u32,
-        /// The server's salt, zeros until the server has told.
+        /// The server's salt, zeros until the server has sent it.
         ext_salt: [u8; 18],
     },
     /// A plugin of another name, which stands here.
@@ -78,7 +78,7 @@ impl<'a> AuthPlugin<'a> {
         }
     }
 
-    /// The plugin's name, without a zero behind it.
+    /// The plugin's name, without a zero after it.
     pub fn as_bytes(&self) -> &[u8]
         ensures value { result.now ≡ spec.plugin_name self.now }
     {

@@ -10,7 +10,7 @@ use std::borrow::CowSlice;
 
 /// What a client proves a password with, by the plugin that makes it.
 ///
-/// It is only written: the bytes, and a zero behind those of `Old` and `Clear`.
+/// It is only written: the bytes, and a zero after those of `Old` and `Clear`.
 #[derive(Clone, Debug, PartialEq, Eq, Drop)]
 pub enum AuthPluginData<'a> {
     /// Of `mysql_old_password`.
@@ -28,7 +28,7 @@ pub enum AuthPluginData<'a> {
 }
 
 impl AuthPluginData<'_> {
-    /// The bytes, without a zero behind them.
+    /// The bytes, without a zero after them.
     pub fn as_bytes(&self) -> &[u8]
         ensures value { result.now ≡ spec.data_bytes self.now }
     {

@@ -35,7 +35,7 @@ pub type ComChangeUserHeader = ConstU8<InvalidComChangeUserHeader, 0x11>;
 
 /// `COM_CHANGE_USER`: another user takes over the session, which is made new.
 ///
-/// The byte `11`; the user's name, which ends in a zero; the answer to the scramble, behind a length of one byte; the
+/// The byte `11`; the user's name, which ends in a zero; the answer to the scramble, after a length of one byte; the
 /// database's name, which ends in a zero; and, where bytes are left, [`ComChangeUserMoreData`].
 ///
 /// A packet that begins with another byte is `InvalidData`; missing bytes are `UnexpectedEof`. Reading takes memory for
@@ -118,12 +118,12 @@ impl<'a> ComChangeUser<'a> {
 
     /// The character set of more data has two bytes, and each key stands once among its attributes.
     pub(crate) fn more_data_is_one(&self)
-        ensures width { (told : ComChangeUserMoreData) → spec.more_data_in self.now ≡ Some told → spec.character_set told < 2 ^ 16 }
-        ensures once { (told : ComChangeUserMoreData) (pairs : List Attribute) → spec.more_data_in self.now ≡ Some told → spec.connect_attributes told ≡ Some pairs → merged pairs ≡ pairs }
+        ensures width { (given : ComChangeUserMoreData) → spec.more_data_in self.now ≡ Some given → spec.character_set given < 2 ^ 16 }
+        ensures once { (given : ComChangeUserMoreData) (pairs : List Attribute) → spec.more_data_in self.now ≡ Some given → spec.connect_attributes given ≡ Some pairs → merged pairs ≡ pairs }
     {
-        if let Some(told) = &self.more_data {
-            told.width();
-            told.keys_stand_once();
+        if let Some(given) = &self.more_data {
+            given.width();
+            given.keys_stand_once();
         }
     }
 

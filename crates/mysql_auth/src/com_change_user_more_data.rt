@@ -19,11 +19,11 @@ use mysql_wire::{
 };
 use std::alloc::{AllocError, Global};
 
-/// What a change of a session's user tells besides: the character set in two bytes, the low one first; under
+/// What a change of a session's user tells besides: the character set in two bytes, little-endian; under
 /// `CLIENT_PLUGIN_AUTH` the plugin's name, which ends in a zero; under `CLIENT_CONNECT_ATTRS` the attributes, as in a
 /// [`HandshakeResponse`](crate::HandshakeResponse).
 ///
-/// A writer isn't told the flags: it writes a plugin where one is given, and attributes always, empty where none are
+/// A writer isn't passed the flags: it writes a plugin where one is given, and attributes always, empty where none are
 /// given. Reading takes memory for the attributes alone.
 #[derive(Clone, Debug, PartialEq, Eq, Drop)]
 pub struct ComChangeUserMoreData<'a> {

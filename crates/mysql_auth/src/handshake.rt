@@ -1,4 +1,4 @@
-//! What a server says first.
+//! The initial handshake.
 #![tactic(auto, using(mysql_wire::proofs::Packets::packets), unfolding(crate::specs::Handshake::handshake, crate::specs::Handshake::handshake_head, crate::specs::Handshake::handshake_block, crate::specs::Handshake::data_length))]
 
 ghost use Rattle.std.specs.Prelude.{[], ◌≡◌, ◌++◌, ℕ, List, Option, Some, None, IfOk, IfSome, IfNone, length, option_map};
@@ -9,8 +9,8 @@ ghost use Rattle.mysql_auth.specs.Handshake as spec;
 ghost use Rattle.mysql_auth.specs.Version.{HasVersion, IsMariadbVersion};
 
 use crate::auth_plugin::AuthPlugin;
+use crate::eof_name::EofName;
 use crate::handshake_head::HandshakeHead;
-use crate::last_name::LastName;
 use crate::scramble::scramble_length;
 use crate::trailing_zero::without_last_zero;
 use crate::version::{mariadb_server_version, server_version};
@@ -26,7 +26,7 @@ use std::cmp::{max, min};
 /// How many bytes a plugin is given as its scramble.
 const NONCE_LEN: usize = 20;
 
-/// What a server says first (`Protocol::HandshakeV10`).
+/// The initial handshake (`Protocol::HandshakeV10`).
 ///
 /// The protocol's version and the server's, which ends in a zero; 31 bytes; under
 /// `CLIENT_SECURE_CONNECTION` the second scramble; under `CLIENT_PLUGIN_AUTH` the name of a plugin,
@@ -48,7 +48,7 @@ const NONCE_LEN: usize = 20;
 pub struct HandshakePacket<'a> {
     head: HandshakeHead<'a>,
     scramble_2: Option<RawBytes<'a, BareBytes<247>>>,
-    auth_plugin_name: Option<RawBytes<'a, LastName>>,
+    auth_plugin_name: Option<RawBytes<'a, EofName>>,
 }
 
 /// The 20 bytes of both scrambles.
@@ -163,7 +163,7 @@ impl<'a> HandshakePacket<'a> {
         server_version(self.server_version_ref())
     }
 
-    /// The version of MariaDB: three such numbers with `-MariaDB` right behind them, behind a `5.5.5-` at the front of
+    /// The version of MariaDB: three such numbers with `-MariaDB` right after them, after a `5.5.5-` at the front of
     /// the text or else at the front itself.
     pub fn maria_db_server_version_parsed(&self) -> Option<(u16, u16, u16)>
         ensures some { IfSome result (IsMariadbVersion (spec.server_version self.now)) }

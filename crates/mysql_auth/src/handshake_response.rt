@@ -34,12 +34,12 @@ use std::borrow::CowSlice;
 
 /// A client's answer to a handshake (`Protocol::HandshakeResponse41`).
 ///
-/// The first 32 bytes are those of an [`SslRequest`]. Behind them stand
+/// The first 32 bytes are those of an [`SslRequest`]. After them stand
 ///
 /// | Field | In the bytes |
 /// |---|---|
 /// | `user` | up to a zero |
-/// | `scramble_buf` | under `CLIENT_PLUGIN_AUTH_LENENC_CLIENT_DATA` behind a length-encoded length; else under `CLIENT_SECURE_CONNECTION` behind a length of one byte; else up to a zero |
+/// | `scramble_buf` | under `CLIENT_PLUGIN_AUTH_LENENC_CLIENT_DATA` after a length-encoded length; else under `CLIENT_SECURE_CONNECTION` after a length of one byte; else up to a zero |
 /// | `db_name` | under `CLIENT_CONNECT_WITH_DB`: up to a zero |
 /// | `auth_plugin` | under `CLIENT_PLUGIN_AUTH`: its name, up to a zero or the end; it is written with the zero |
 /// | `connect_attributes` | under `CLIENT_CONNECT_ATTRS`: a length-encoded string, whose content is length-encoded keys and values, one after another |
@@ -321,12 +321,12 @@ fn read_plugin<'a>(head: &SslRequest, buf: &mut ParseBuf<'a>) -> Option<AuthPlug
 }
 
 /// The attributes, where they were sent.
-#[tactic(auto, unfolding(crate::specs::HandshakeResponse::told_attributes))]
+#[tactic(auto, unfolding(crate::specs::HandshakeResponse::sent_attributes))]
 fn read_attributes<'s, 'a>(
     head: &SslRequest,
     buf: &mut ParseBuf<'a>,
 ) -> Result<Option<Attributes<'a>>, FaultOf<'s>>
-    ensures value { Answers (counts_any ((sent_len (spec.sends_attributes head.now)).reads buf.old)) result buf.new (((spec.told_attributes head.now).form tt).reads buf.old) }
+    ensures value { Answers (counts_any ((sent_len (spec.sends_attributes head.now)).reads buf.old)) result buf.new (((spec.sent_attributes head.now).form tt).reads buf.old) }
 {
     if !head
         .capabilities()
@@ -370,7 +370,7 @@ impl<'de> MyDeserialize<'de> for HandshakeResponse<'de> {
     ghost size_is = { λ _. spec.size-handshake_response };
 }
 
-#[tactic(auto, using(mysql_wire::proofs::Packets::packets), unfolding(crate::specs::HandshakeResponse::handshake_response, crate::specs::HandshakeResponse::database, crate::specs::HandshakeResponse::plugin, crate::specs::HandshakeResponse::told_attributes, crate::specs::PluginName::plugin_null_or_eof))]
+#[tactic(auto, using(mysql_wire::proofs::Packets::packets), unfolding(crate::specs::HandshakeResponse::handshake_response, crate::specs::HandshakeResponse::database, crate::specs::HandshakeResponse::plugin, crate::specs::HandshakeResponse::sent_attributes, crate::specs::PluginName::plugin_null_or_eof))]
 impl Parts for HandshakeResponse<'_> {
     ghost bytes = { spec.handshake_response.bytes };
 

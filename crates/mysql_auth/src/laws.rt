@@ -16,7 +16,7 @@ ghost use Rattle.mysql_auth.specs.declared.com_change_user.ComChangeUser.{ComCha
 ghost use Rattle.mysql_auth.specs.declared.com_change_user_more_data.ComChangeUserMoreData.{ComChangeUserMoreData};
 ghost use Rattle.mysql_auth.specs.declared.handshake_response.HandshakeResponse.{HandshakeResponse};
 ghost use Rattle.mysql_wire.specs.Flags.{CapabilityFlags};
-ghost use Rattle.mysql_auth.specs.ComChangeUser.{change_user, connect_attributes, more_data, sends_attributes, ChangeUserFits, ChangeUserIsShort, ChangeUserPartsFit, MoreDataFits, MoreDataPartsFit, ToldShort};
+ghost use Rattle.mysql_auth.specs.ComChangeUser.{change_user, connect_attributes, more_data, sends_attributes, ChangeUserFits, ChangeUserIsShort, ChangeUserPartsFit, MoreDataFits, MoreDataPartsFit, GivenShort};
 ghost use Rattle.mysql_auth.specs.HandshakeResponse.{handshake_response, HandshakeResponseFits, ResponseIsShort, ResponsePartsFit};
 ghost use Rattle.mysql_auth.specs.Version.{HasVersion, HasMariadbVersion};
 ghost use Rattle.mysql_auth.specs.Handshake.{handshake, server_version, HandshakeFits};
@@ -36,64 +36,64 @@ use mysql_wire::MyDeserialize;
 mod values;
 
 pub use values::{
-    more_data_keys_stand_once, this_change_user_again, this_handshake_again,
-    this_handshake_response_again, this_more_data_again, this_ssl_request_again,
+    more_data_keys_stand_once, this_change_user_round_trips, this_handshake_response_round_trips,
+    this_handshake_round_trips, this_more_data_round_trips, this_ssl_request_round_trips,
 };
 
 /// What is written of a plugin is read again, where the plugin is that of its name and nothing follows. So is what is
 /// written of a plugin that was read.
-pub fn auth_plugin_again()
+pub fn auth_plugin_round_trips()
     ensures spelled { (p : AuthPlugin) → plugin_named (plugin_name p) ≡ p → (auth_plugin.form tt).Spells p (auth_plugin.bytes p) [] }
     ensures read { (p : AuthPlugin) (bytes rest : List ℕ) → (auth_plugin.form tt).Spells p bytes rest → (auth_plugin.form tt).Spells p (auth_plugin.bytes p) [] }
 {}
 
 /// What is written of further data is read again, where nothing follows.
-pub fn auth_more_data_again()
+pub fn auth_more_data_round_trips()
     ensures spelled { (p : AuthMoreData) → (auth_more_data.form tt).Spells p (auth_more_data.bytes p) [] }
 {}
 
 /// What is written of a request for a public key is read again, whatever follows.
-pub fn public_key_request_again()
+pub fn public_key_request_round_trips()
     ensures spelled { (p : PublicKeyRequest) (rest : List ℕ) → (public_key_request.form tt).Spells p (public_key_request.bytes p ++ rest) rest }
 {}
 
 /// What is written of a public key is read again, where nothing follows.
-pub fn public_key_response_again()
+pub fn public_key_response_round_trips()
     ensures spelled { (p : PublicKeyResponse) → (public_key_response.form tt).Spells p (public_key_response.bytes p) [] }
 {}
 
 /// What is written of a switch to the oldest plugin is read again, whatever follows.
-pub fn old_auth_switch_request_again()
+pub fn old_auth_switch_request_round_trips()
     ensures spelled { (p : OldAuthSwitchRequest) (rest : List ℕ) → (old_auth_switch_request.form tt).Spells p (old_auth_switch_request.bytes p ++ rest) rest }
 {}
 
 /// What is written of a switch is read again, where nothing follows and no zero is in the plugin's name.
-pub fn auth_switch_request_again()
+pub fn auth_switch_request_round_trips()
     ensures spelled { (p : AuthSwitchRequest) → HasNoZero (switch_name p) → (auth_switch_request.form tt).Spells p (auth_switch_request.bytes p) [] }
 {}
 
 /// What is written of a request for TLS is read again, whatever follows.
-pub fn ssl_request_again()
+pub fn ssl_request_round_trips()
     ensures spelled { (p : SslRequest) (rest : List ℕ) → SslRequestFits p → (ssl_request.form tt).Spells p (ssl_request.bytes p ++ rest) rest }
 {}
 
 /// What is written of a handshake is read again.
-pub fn handshake_again()
+pub fn handshake_round_trips()
     ensures spelled { (p : HandshakePacket) (rest : List ℕ) → HandshakeFits p rest → (handshake.form tt).Spells p (handshake.bytes p ++ rest) rest }
 {}
 
 /// What is written of a response to a handshake is read again.
-pub fn handshake_response_again()
+pub fn handshake_response_round_trips()
     ensures spelled { (p : HandshakeResponse) (rest : List ℕ) → HandshakeResponseFits p → (handshake_response.form tt).Spells p (handshake_response.bytes p ++ rest) rest }
 {}
 
 /// What is written of a change of user is read again, under the flags that both sides know.
-pub fn change_user_again()
+pub fn change_user_round_trips()
     ensures spelled { (c : CapabilityFlags) (p : ComChangeUser) (rest : List ℕ) → ChangeUserFits c p rest → (change_user.form c).Spells p (change_user.bytes p ++ rest) rest }
 {}
 
 /// What is written of a change of user's more data is read again, under the flags that both sides know.
-pub fn more_data_again()
+pub fn more_data_round_trips()
     ensures spelled { (c : CapabilityFlags) (p : ComChangeUserMoreData) (rest : List ℕ) → MoreDataFits c p → (more_data.form c).Spells p (more_data.bytes p ++ rest) rest }
 {}
 
@@ -112,7 +112,7 @@ pub fn read_handshake_response_fits()
 /// The parts of more data that was read fit, where attributes were sent and their length fits.
 #[tactic(auto, using(crate::proofs::ReadPackets::read_packets))]
 pub fn read_more_data_fits()
-    ensures fits { (c : CapabilityFlags) (p : ComChangeUserMoreData) (bytes rest : List ℕ) → (more_data.form c).Spells p bytes rest → ToldShort (sends_attributes c) (connect_attributes p) → MoreDataPartsFit c p }
+    ensures fits { (c : CapabilityFlags) (p : ComChangeUserMoreData) (bytes rest : List ℕ) → (more_data.form c).Spells p bytes rest → GivenShort (sends_attributes c) (connect_attributes p) → MoreDataPartsFit c p }
 {}
 
 /// The parts of a change of user that was read fit, where its lengths do. Without more data nothing may follow it.
@@ -140,7 +140,7 @@ pub fn auth_more_data_has_no_constant_size() -> Option<usize>
     <crate::auth_more_data::AuthMoreData<'static> as MyDeserialize>::SIZE
 }
 
-/// A request for a public key has no constant size that is told, though it is one byte.
+/// A request for a public key has no constant size that is passed, though it is one byte.
 pub fn public_key_request_has_no_constant_size() -> Option<usize>
     ensures value { result ≡ None }
 {

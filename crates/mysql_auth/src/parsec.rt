@@ -1,4 +1,4 @@
-//! What the plugin `parsec` is told beside the scramble.
+//! What the plugin `parsec` is sent beside the scramble.
 
 ghost use Rattle.std.specs.Prelude.{◌≡◌, ◌≤◌, ◌*◌, ◌^◌, option_map};
 ghost use Rattle.mysql_auth.specs.Parsec as spec;

@@ -11,7 +11,7 @@ use mysql_wire::{
 };
 
 /// A client's request to go on in TLS (`Protocol::SSLRequest`): the first 32 bytes of a
-/// handshake response, numbers with their low byte first.
+/// handshake response, numbers with their little-endian.
 ///
 /// | Bytes | Field |
 /// |---|---|

@@ -4,7 +4,7 @@ ghost use Rattle.std.specs.Prelude.{◌≡◌, ◌≤◌, ◌^◌, ◌<◌, ◌+
 ghost use Rattle.mysql_auth.specs.Version as spec;
 ghost use Rattle.mysql_auth.specs.Scan.{Scans};
 
-/// The number that the digits at the front write, and what stands behind them: as many digits as stand there, but at
+/// The number that the digits at the front write, and what stands after them: as many digits as stand there, but at
 /// most so many. `None` where no digit stands there.
 #[tactic(auto, using(crate::proofs::Scanner::digit_counts))]
 fn number(text: &[u8], most: usize) -> Option<(u16, &[u8])>
@@ -23,31 +23,31 @@ fn number(text: &[u8], most: usize) -> Option<(u16, &[u8])>
     Some((number, &text[count..]))
 }
 
-/// What stands behind a text that stands at the front.
-fn behind<'a>(text: &'a [u8], front: &[u8]) -> Option<&'a [u8]>
+/// What stands after a text that stands at the front.
+fn later<'a>(text: &'a [u8], front: &[u8]) -> Option<&'a [u8]>
     ensures value { Scans (option_map (λ rest. (tt, rest.now)) result) ((spec.literal front.now).reads text.now) }
 {
     text.strip_prefix(front)
 }
 
-/// The version at the front, and what stands behind it.
+/// The version at the front, and what stands after it.
 #[tactic(auto, unfolding(crate::specs::Version::version))]
 fn version(text: &[u8]) -> Option<((u16, u16, u16), &[u8])>
     ensures value { Scans (option_map (λ found. (found.0, found.1.now)) result) (spec.version.reads text.now) }
 {
     let (major, rest) = number(text, 2)?;
-    let (minor, rest) = number(behind(rest, b".")?, 2)?;
-    let (patch, rest) = number(behind(rest, b".")?, 3)?;
+    let (minor, rest) = number(later(rest, b".")?, 2)?;
+    let (patch, rest) = number(later(rest, b".")?, 3)?;
     Some(((major, minor, patch), rest))
 }
 
-/// The version of MariaDB at the front, and what stands behind it.
+/// The version of MariaDB at the front, and what stands after it.
 #[tactic(auto, unfolding(crate::specs::Version::mariadb_version))]
 fn mariadb_version(text: &[u8]) -> Option<((u16, u16, u16), &[u8])>
     ensures value { Scans (option_map (λ found. (found.0, found.1.now)) result) (spec.mariadb_version.reads text.now) }
 {
     let (numbers, rest) = version(text)?;
-    let rest = behind(rest, b"-MariaDB")?;
+    let rest = later(rest, b"-MariaDB")?;
     Some((numbers, rest))
 }
 
@@ -73,23 +73,23 @@ fn mariadb_version_at(text: &[u8]) -> Option<(u16, u16, u16)>
     }
 }
 
-/// The version of MariaDB behind `5.5.5-`.
-fn mariadb_version_behind(text: &[u8]) -> Option<(u16, u16, u16)>
-    ensures some { IfSome result (spec.HasMariadbVersionBehind text.now) }
-    ensures none { IfNone result ((v : ℕ × ℕ × ℕ) → spec.HasMariadbVersionBehind text.now v → ⊥) }
+/// The version of MariaDB after `5.5.5-`.
+fn mariadb_version_after(text: &[u8]) -> Option<(u16, u16, u16)>
+    ensures some { IfSome result (spec.HasMariadbVersionAfter text.now) }
+    ensures none { IfNone result ((v : ℕ × ℕ × ℕ) → spec.HasMariadbVersionAfter text.now v → ⊥) }
 {
-    match behind(text, b"5.5.5-") {
+    match later(text, b"5.5.5-") {
         Some(rest) => mariadb_version_at(rest),
         None => None,
     }
 }
 
-/// The version of MariaDB in a server's version text: behind `5.5.5-`, or else at its start.
+/// The version of MariaDB in a server's version text: after `5.5.5-`, or else at its start.
 pub(crate) fn mariadb_server_version(text: &[u8]) -> Option<(u16, u16, u16)>
     ensures some { IfSome result (spec.IsMariadbVersion text.now) }
     ensures none { IfNone result ((v : ℕ × ℕ × ℕ) → spec.IsMariadbVersion text.now v → ⊥) }
 {
-    match mariadb_version_behind(text) {
+    match mariadb_version_after(text) {
         Some(numbers) => Some(numbers),
         None => mariadb_version_at(text),
     }

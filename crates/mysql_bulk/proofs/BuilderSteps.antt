@@ -54,7 +54,7 @@ if_true : {X : Type 0} (b : Bool) (x y : X) → b ≡ true → (if b then x else
 if_true true x y e = refl
 if_true false x y e = cc
 
--- what a list of values holds after those of a row were put behind it
+-- what a list of values holds after those of a row were put after it
 pub held_after : (more values row : List Value) → more ≡ values ++ row → contents_of more ≡ contents_of values ++ contents_of row
 held_after more values row e = ap contents_of e ∙ map-append content_of values row
 

@@ -64,8 +64,8 @@ values-again place (column ∷ columns) (v ∷ values) a rest =
 
 -- ---- a row
 
-value_again : (place : ℕ) (column : BulkColumn) (v : Content) → Agrees column.0 (has column.1.0 UNSIGNED_FLAG) v → IsSpelling (content_of_column place column) v (param_value_bytes (with_indicator v))
-value_again place column v a rest = (with_indicator v, refl, param_value-again column (with_indicator v) (indicated column v a) rest)
+value_round_trips : (place : ℕ) (column : BulkColumn) (v : Content) → Agrees column.0 (has column.1.0 UNSIGNED_FLAG) v → IsSpelling (content_of_column place column) v (param_value_bytes (with_indicator v))
+value_round_trips place column v a rest = (with_indicator v, refl, param_value-again column (with_indicator v) (indicated column v a) rest)
 
 -- the bytes of a row
 abbrev row_bytes : List Content → List ℕ
@@ -79,7 +79,7 @@ row_again place (column ∷ columns) [] a rest = absurd a
 row_again place (column ∷ columns) (v ∷ row) a rest =
     let P : List ℕ → Type 0 = λ bytes. (each content_of_column place (column ∷ columns)).Spells (v ∷ row) bytes rest in
     subst P (sym (append_assoc (param_value_bytes (with_indicator v)) (row_bytes row) rest))
-    (v, row_bytes row ++ rest, value_again place column v a.0 (row_bytes row ++ rest), (row, rest, row_again (place + 1) columns row a.1 rest, (refl, refl)))
+    (v, row_bytes row ++ rest, value_round_trips place column v a.0 (row_bytes row ++ rest), (row, rest, row_again (place + 1) columns row a.1 rest, (refl, refl)))
 
 row_some : (columns : List BulkColumn) (row : List Content) → columns ≢ [] → AgreesWith columns row → 0 < length (row_bytes row)
 unfolding le_bytes
@@ -122,7 +122,7 @@ one_row-again columns request f rest =
 
 pub request_again : (columns : List BulkColumn) (request : BulkRequest) (rows : List (List Content)) → RowsFit columns request rows → (bulk_rows columns).Spells rows (request_bytes request) []
 request_again columns request rows f =
-    let columns_some = told_some (sends_types request.bulk_flags) request.types columns f.some f.types in
+    let columns_some = sent_some (sends_types request.bulk_flags) request.types columns f.some f.types in
     let P : List ℕ → Type 0 = λ bytes. (bulk_rows columns).Spells rows bytes [] in
     let V : List ParamValue → Type 0 = λ values. (many (row_of_columns (value_columns columns (head_of request)))).Spells rows (values_bytes values) [] in
     subst P (ap (λ (l : List ℕ). head.bytes (head_of request) ++ l) (sym (append-nil (values_bytes request.values)))) (
@@ -137,9 +137,9 @@ request_again columns request rows f =
     mapped_some [] (column ∷ columns) e n = absurd (omega (arith, e))
     mapped_some (t ∷ types) columns e n = λ h. cc
 
-    told_some : (sent : Bool) (types : List ParamType) (columns : List BulkColumn) → columns ≢ [] → TypesFor sent (length columns) types → (if sent then map column_of_type types else columns) ≢ []
-    told_some true types columns n e = mapped_some types columns e.0 n
-    told_some false types columns n e = n
+    sent_some : (sent : Bool) (types : List ParamType) (columns : List BulkColumn) → columns ≢ [] → TypesFor sent (length columns) types → (if sent then map column_of_type types else columns) ≢ []
+    sent_some true types columns n e = mapped_some types columns e.0 n
+    sent_some false types columns n e = n
 
 -- ---- the request of a builder
 
@@ -177,9 +177,9 @@ sent_types : (b : Bool) (rows : List (List Content)) (count : ℕ) → count ≡
 sent_types true rows count e = (length-map-range_with_len (λ i. declared_type (column_values rows i)) 0 (first_length rows) ∙ sym e, types_small rows)
 sent_types false rows count e = refl
 
-sent_told : (b : Bool) (rows : List (List Content)) (columns : List BulkColumn) → (if b then map column_of_type (if b then declared_types rows else []) else columns) ≡ (if b then map column_of_type (declared_types rows) else columns)
-sent_told true rows columns = refl
-sent_told false rows columns = refl
+sent_or_passed : (b : Bool) (rows : List (List Content)) (columns : List BulkColumn) → (if b then map column_of_type (if b then declared_types rows else []) else columns) ≡ (if b then map column_of_type (declared_types rows) else columns)
+sent_or_passed true rows columns = refl
+sent_or_passed false rows columns = refl
 
 pub part_fits : (s : BuilderState) (columns : List BulkColumn) (rows : List (List Content)) (request : BulkRequest) → IsRequest s rows request → PartAgrees s columns rows → RowsFit columns request rows
 part_fits s columns rows request r p =
@@ -188,7 +188,7 @@ part_fits s columns rows request r p =
     let T : Bool → List ParamType → Type 0 = λ c types. TypesFor c (length columns) types in
     let C : List BulkColumn → Type 0 = λ c. All (AgreesWith c) rows in
     let same : value_columns columns (head_of request) ≡ columns_read_by s columns rows =
-    ap (λ c. if c then map column_of_type request.types else columns) sends ∙ ap (λ types. if b then map column_of_type types else columns) r.types ∙ sent_told b rows columns in
+    ap (λ c. if c then map column_of_type request.types else columns) sends ∙ ap (λ types. if b then map column_of_type types else columns) r.types ∙ sent_or_passed b rows columns in
     record {
       stmt_id = rw r.id p.stmt_id;
       bulk_flags = rw r.flags (flags_small b s.results);

@@ -34,7 +34,7 @@ module _ {S : Type 0} (steps : S → Option (Vec Value) → S → Type 0) where
   -- that is carried at that place is the first of the rest.
   pub record IsLast (Last : Option (Vec Value) × S → Type 0) (Rest : List (List Content) → Type 0) : Type 0 where
     pub carried_later : (row : Vec Value) (rows : S) (mid : Option (Vec Value) × S) → Last (Some row, rows) → NextRow steps mid (Some row) (None, rows) → Last mid
-    pub carried_first : (row : Vec Value) (rows : S) → Last (Some row, rows) → (rest : List (List Content)) → Rest rest → (behind : List (List Content)) × (rest ≡ contents_of_row row ∷ behind)
+    pub carried_first : (row : Vec Value) (rows : S) → Last (Some row, rows) → (rest : List (List Content)) → Rest rest → (later : List (List Content)) × (rest ≡ contents_of_row row ∷ later)
 
   module _ {Last : Option (Vec Value) × S → Type 0} {Rest : List (List Content) → Type 0} (l : IsLast Last Rest) where
     -- what is known of calls from s to the end of the loop, where the builder is m: the rows that came, and how a run over a list that has come to s calls_to_end on
@@ -79,7 +79,7 @@ module _ {S : Type 0} (steps : S → Option (Vec Value) → S → Type 0) where
 
     -- the rows from a state that carries a row begin with it, or it is the one where they end
     begins : (row : Vec Value) (rows : S) (xs : List (Vec Value)) (place : Option (Vec Value) × S) → Yields (NextRow steps) (Some row, rows) xs place → Last place
-        → (rest : List (List Content)) → Rest rest → (behind : List (List Content)) × (contents_of_rows xs ++ rest ≡ contents_of_row row ∷ behind)
+        → (rest : List (List Content)) → Rest rest → (later : List (List Content)) × (contents_of_rows xs ++ rest ≡ contents_of_row row ∷ later)
     begins row rows [] place y last rest is_rest = let P : Option (Vec Value) × S → Type 0 = Last in l.carried_first row rows (subst P (sym y) last) rest is_rest
     begins row rows (x ∷ xs) place y last rest is_rest =
         (contents_of_rows xs ++ rest, ap (λ (r : Vec Value). contents_of_row r ∷ (contents_of_rows xs ++ rest)) y.1.0)
@@ -98,7 +98,7 @@ module _ {S : Type 0} (steps : S → Option (Vec Value) → S → Type 0) where
         let first : NextRow steps upto.0 (Some x) y.0 = subst X (sym y.1.0) (subst N (sym same) upto.2) in
         (place, Yields-append s upto.0 place taken (x ∷ xs) upto.1 (y.0, first, y.2), last)
 
-    -- a request, behind which a row is carried
+    -- a request, after which a row is carried
     request_before_others : (s₀ : BuilderState) (s t : RunState S) (request : BulkRequest) (requests : List BulkRequest) (m : BuilderState) (row : Vec Value) (f : SendsRequest steps s request t) → t.carried ≡ Some row
         → CallsToEnd s₀ t requests m → CallsToEnd s₀ s (request ∷ requests) m
     request_before_others s₀ s t request requests m row f c later =
@@ -169,7 +169,7 @@ module _ {S : Type 0} (steps : S → Option (Vec Value) → S → Type 0) where
   AtRow row left mid = NextRow steps mid (Some row) (None, left)
 
   abbrev FromRow : Vec Value → List (List Content) → Type 0
-  FromRow row rest = (behind : List (List Content)) × (rest ≡ contents_of_row row ∷ behind)
+  FromRow row rest = (later : List (List Content)) × (rest ≡ contents_of_row row ∷ later)
 
   at_row : (row : Vec Value) (left : S) → IsLast (AtRow row left) (FromRow row)
   at_row row left = record {
@@ -180,7 +180,7 @@ module _ {S : Type 0} (steps : S → Option (Vec Value) → S → Type 0) where
     carried_first = λ carried rows e rest is. (is.0, is.1 ∙ ap (λ (r : Vec Value). contents_of_row r ∷ is.0) e.0);
   }
 
-  -- behind a request no row waits
+  -- after a request no row waits
   waits_none : (next : RunState S → Option (Result BulkRequest BulkExecuteRequestBuilderError) → RunState S → Type 0)
       → ((s t : RunState S) (request : BulkRequest) → next s (Some (Ok request)) t → SendsRequest steps s request t)
       → (requests : List BulkRequest) (s last : RunState S) → s.builder.waiting ≡ [] → GivesRequests next s requests last → last.builder.waiting ≡ []
@@ -242,9 +242,9 @@ module _ {S : Type 0} (steps : S → Option (Vec Value) → S → Type 0) where
           rows = g.rows;
           row = r.row;
           came = (g.place, from_start l s requests u.builder w.carried g, g.last);
-          gives = λ behind.
-              let end = started l s requests u.builder g w.consistent (contents_of_row r.row ∷ behind) (behind, refl) in
-              (end.0, gives_refused r.row behind e end.1.1 r.refused);
+          gives = λ later.
+              let end = started l s requests u.builder g w.consistent (contents_of_row r.row ∷ later) (later, refl) in
+              (end.0, gives_refused r.row later e end.1.1 r.refused);
         }
 
 -- ---- over parameters

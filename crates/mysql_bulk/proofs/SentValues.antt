@@ -1,4 +1,4 @@
--- Values behind their indicators, which were read or are their own.
+-- Values after their indicators, which were read or are their own.
 use Rattle.std.proofs.Common.{◌≡◌, ℕ, zero, suc, ◌+◌, ◌<◌, ◌≤◌, Bool, true, ◌&&◌, List, [], ◌∷◌, ◌++◌, length, map, take, drop, Option, Some, unwrap_or, get_or, refl, sym, ◌∙◌, ap, subst, arith, add-one, append_assoc}
 use Rattle.std.proofs.lemmas.Grind.{flat_map-append}
 use Rattle.std.proofs.lemmas.List.{append-nil, length-drop, length-map, map-append, nil_from_length, take_more}
@@ -38,7 +38,7 @@ sent_more [] (x ∷ values) i v e = absurd (omega (arith, e))
 sent_more (j ∷ indicators) [] i v e = absurd (omega (arith, e))
 sent_more (j ∷ indicators) (x ∷ values) i v e = ap (λ (l : List ParamValue). record { indicator = j; content = x } ∷ l) (sent_more indicators values i v (omega (arith, e)))
 
--- the value at a place: behind the indicator that was read there, or else behind its own
+-- the value at a place: after the indicator that was read there, or else after its own
 pub sent_read : (indicators : List MariadbBulkIndicator) (values : List Value) (place : ℕ) (i : MariadbBulkIndicator) (v : Value) → place < length indicators → place < length values
     → slice_get (sent_values indicators (contents_of values)) place ≡ Some (record { indicator = get_or indicators place i; content = content_of (get_or values place v) })
 sent_read indicators [] place i v p q = absurd (omega (arith, q))

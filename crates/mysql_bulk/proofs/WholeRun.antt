@@ -98,7 +98,7 @@ of_arity None [] h = refl
 of_arity (Some n) [] h = tt
 of_arity known (row ∷ rows) h = h
 
--- the length of rows behind others
+-- the length of rows after others
 length_of_waiting : (n : ℕ) (before waiting : List (List Content)) → EqualLengths n (before ++ waiting) → waiting ≢ [] → first_length waiting ≡ n
 length_of_waiting n [] [] e some = absurd (some refl)
 length_of_waiting n [] (row ∷ waiting) e some = e.0
@@ -363,14 +363,14 @@ module _ {s : BuilderState} {all : List (List Content)} {requests : List BulkReq
   -- the next row is refused
   pub gives_refused : (row : Vec Value) (rest : List (List Content)) (e : BulkExecuteRequestError) → Running s all requests ends sent b (contents_of_row row ∷ rest) → Adds b row (Err e) b → RunGives s all requests ends (Some (Request e)) b
   gives_refused row rest MixedArity r a =
-      gives (contents_of_row row ∷ rest) (Some (Request MixedArity)) r (record { row = row; behind = rest; is_next = refl; refused = a })
+      gives (contents_of_row row ∷ rest) (Some (Request MixedArity)) r (record { row = row; later = rest; is_next = refl; refused = a })
       (λ n h. mixed (contents_of_row row) rest r a.0 n) (λ n h. cc)
   gives_refused row rest (RowTooLarge back) r a =
       let P : Vec Value → Type 0 = λ x. RefusalOfRows s all (Some (RowTooLarge x)) in
-      gives (contents_of_row row ∷ rest) (Some (Request (RowTooLarge back))) r (record { row = row; behind = rest; is_next = refl; refused = a })
+      gives (contents_of_row row ∷ rest) (Some (Request (RowTooLarge back))) r (record { row = row; later = rest; is_next = refl; refused = a })
       (λ n h. subst P (sym a.3) (too_large row rest r a.0 a.1 a.2 n)) (λ n h. cc)
   gives_refused row rest (MemoryRow back) r a =
-      gives (contents_of_row row ∷ rest) (Some (Request (MemoryRow back))) r (record { row = row; behind = rest; is_next = refl; refused = a }) (λ n h. absurd h) (λ n h. cc)
+      gives (contents_of_row row ∷ rest) (Some (Request (MemoryRow back))) r (record { row = row; later = rest; is_next = refl; refused = a }) (λ n h. absurd h) (λ n h. cc)
   gives_refused row rest NoParams r a = absurd a
   gives_refused row rest Memory r a = absurd a
 

@@ -39,7 +39,7 @@ head_fields = do
   types ← field (λ h. h.types) (column_types (sends_types bulk_flags.0))
   give (record { stmt_id = stmt_id.0; bulk_flags = bulk_flags.0; types = types })
 
--- fa, the statement's number, the flags, and with SEND_TYPES_TO_SERVER the type of each column; the reader is told how many there are
+-- fa, the statement's number, the flags, and with SEND_TYPES_TO_SERVER the type of each column; the reader is passed how many there are
 unfoldable pub head : Codec ℕ BulkHead
 head = packet head_fields (λ h. refl)
 

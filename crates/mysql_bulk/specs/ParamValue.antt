@@ -16,7 +16,7 @@ pub record ParamValue : Type 0 where
   pub indicator : MariadbBulkIndicator
   pub content : Content
 
--- how a value is given: NULL needs no value behind its indicator
+-- how a value is given: NULL needs no value after its indicator
 abbrev pub indicator_of : Content → MariadbBulkIndicator
 indicator_of NULL = BULK_INDICATOR_NULL
 indicator_of _ = BULK_INDICATOR_NONE
@@ -30,19 +30,19 @@ contents values = map (λ v. v.content) values
 
 -- ---- in the bytes
 
--- a value stands behind the indicator
+-- a value stands after the indicator
 abbrev pub value_follows : MariadbBulkIndicator → Bool
 value_follows BULK_INDICATOR_NONE = true
 value_follows _ = false
 
--- the indicator, and where a value stands behind it, that of the column's type
+-- the indicator, and where a value stands after it, that of the column's type
 abbrev pub param_value : ColumnType → Bool → Form ParamValue
 param_value column is_unsigned = do
   indicator ← mariadb_bulk_indicator
   content ← either (value_follows indicator.0) (bin_value column is_unsigned) (give NULL)
   give (record { indicator = indicator.0; content = content })
 
--- a string of at least one byte stands behind the indicator: this alone takes memory
+-- a string of at least one byte stands after the indicator: this alone takes memory
 abbrev pub param_has_bytes : Reading ParamValue → Bool
 param_has_bytes (Ok x) = has_bytes x.0.content
 param_has_bytes (Err e) = false

@@ -22,7 +22,7 @@ use Rattle.mysql_bulk.specs.Builder.{BuilderState}
 abbrev pub AgreesWith : List BulkColumn → List Content → Type 0
 AgreesWith columns row = AllZip (λ column value. Agrees column.0 (has column.1.0 UNSIGNED_FLAG) value) columns row
 
--- what stands behind the value's indicator, if anything, is read as the value, whatever follows
+-- what stands after the value's indicator, if anything, is read as the value, whatever follows
 abbrev pub ParamValueAgrees : BulkColumn → ParamValue → Type 0
 ParamValueAgrees column v = IsSpelling (either (value_follows v.indicator) (bin_value column.0 (has column.1.0 UNSIGNED_FLAG)) (give NULL)) v.content (bin v.content)
 

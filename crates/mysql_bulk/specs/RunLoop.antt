@@ -50,8 +50,8 @@ module _ {S : Type 0} (steps : S → Option (Vec Value) → S → Type 0) where
     pub rows : List (Vec Value)
     pub row : Vec Value
     pub came : YieldsThen (NextRow steps) (None, s.rows) rows (Some row) (None, u.rows)
-    pub gives : (behind : List (List Content))
-        → (ends : List ℕ) × RunGives s.builder (s.builder.waiting ++ (contents_of_rows rows ++ contents_of_row row ∷ behind)) requests ends (Some (variant.Request e)) u.builder
+    pub gives : (later : List (List Content))
+        → (ends : List ℕ) × RunGives s.builder (s.builder.waiting ++ (contents_of_rows rows ++ contents_of_row row ∷ later)) requests ends (Some (variant.Request e)) u.builder
 
 module _ {S : Type 0} (steps : S → Option Params → S → Type 0) (names : Names) where
   -- the parameters that the input gave had these rows, and the next ones none

@@ -21,7 +21,7 @@ pub record IsNew (s : BuilderState) : Type 0 where
   pub types_due : s.types_due ≡ true
   pub waiting : s.waiting ≡ []
 
--- whether types are due behind the requests of these parts
+-- whether types are due after the requests of these parts
 abbrev pub due_after : BuilderState → List (List (List Content)) → Bool
 due_after s [] = s.types_due
 due_after s (part ∷ parts) = s.rule.types_always
@@ -39,14 +39,14 @@ left_by s cut waiting = record s {
 -- the builder refuses the next row, and for this reason
 pub record RefusesNextRow (t : BuilderState) (e : BulkExecuteRequestError) (dropped : List (List Content)) : Type 0 where
   pub row : Vec Value
-  pub behind : List (List Content)
-  pub is_next : dropped ≡ contents_of_row row ∷ behind
+  pub later : List (List Content)
+  pub is_next : dropped ≡ contents_of_row row ∷ later
   pub refused : Adds t row (Err e) t
 
 -- the request of the rows that wait is due: no row is left, or the next one is as long and does not fit with them
 abbrev pub RequestIsDue : BuilderState → List (List Content) → Type 0
 RequestIsDue t [] = t.waiting ≢ []
-RequestIsDue t (row ∷ behind) = (t.waiting ≢ []) × TakesArity t.arity (length row) × (RowFits t row → ⊥)
+RequestIsDue t (row ∷ later) = (t.waiting ≢ []) × TakesArity t.arity (length row) × (RowFits t row → ⊥)
 
 -- the rows are of one length, which is this arity: there are none where none is known
 abbrev pub OfArity : Option ℕ → List (List Content) → Type 0
@@ -57,7 +57,7 @@ OfArity (Some n) rows = EqualLengths n rows
 abbrev pub holding : BuilderState → List (List Content) → BuilderState
 holding s part = record s { arity = Some (first_length part); waiting = part }
 
--- the request of each part was due where it was sent; behind the last part come these rows
+-- the request of each part was due where it was sent; after the last part come these rows
 abbrev pub EachWasDue : BuilderState → List (List (List Content)) → List (List Content) → Type 0
 EachWasDue s [] rest = Unit {0}
 EachWasDue s (part ∷ parts) rest = RequestIsDue (holding s part) (rows_in parts ++ rest) × EachWasDue (after_request s) parts rest
@@ -72,7 +72,7 @@ EndsBy (Some (Request e)) t dropped = RefusesNextRow t e dropped
 -- parameters gave no row
 EndsBy (Some (Params e)) t dropped = dropped ≡ []
 
--- no growth was refused
+-- no allocation failed
 abbrev pub HadMemory : Option BulkExecuteRequestBuilderError → Type 0
 HadMemory (Some (Request (MemoryRow row))) = ⊥
 HadMemory (Some (Request Memory)) = ⊥
@@ -83,7 +83,7 @@ abbrev pub OfRows : Option BulkExecuteRequestBuilderError → Type 0
 OfRows (Some (Params e)) = ⊥
 OfRows _ = Unit {0}
 
--- this is why these rows are refused, if they are; where parameters behind them gave no row, they are not
+-- this is why these rows are refused, if they are; where parameters after them gave no row, they are not
 abbrev pub RefusalOfList : BuilderState → List (List Content) → Option BulkExecuteRequestBuilderError → Type 0
 RefusalOfList s rows None = RefusalOfRows s rows None
 RefusalOfList s rows (Some (Request e)) = RefusalOfRows s rows (Some e)
@@ -103,7 +103,7 @@ pub record RunGives (s : BuilderState) (rows : List (List Content)) (requests : 
   -- the rows that were sent, in a part for each request, none of them empty
   pub cut : List (List (List Content))
   pub none_empty : NoneEmpty cut
-  -- the rows that were not accepted: the refused one, and those behind it
+  -- the rows that were not accepted: the refused one, and those after it
   pub dropped : List (List Content)
   -- no row is lost: each was sent, waits, or was dropped, in this order
   pub all_rows : (rows_in cut ++ t.waiting) ++ dropped ≡ rows
@@ -111,7 +111,7 @@ pub record RunGives (s : BuilderState) (rows : List (List Content)) (requests : 
   pub requests_are : AreRequests s cut requests
   -- how many rows were sent up to and with each request
   pub ends_are : ends ≡ ends_after 0 cut
-  -- each part fits, and would not with the row behind it
+  -- each part fits, and would not with the row after it
   pub full_parts : FullFrom (measure s rows) s.types_due cut (t.waiting ++ dropped)
   -- the rows that were sent, and those that wait, are of one length, which is the builder's arity now
   pub one_length : OfArity t.arity (rows_in cut ++ t.waiting)
@@ -119,7 +119,7 @@ pub record RunGives (s : BuilderState) (rows : List (List Content)) (requests : 
   pub arity_stays : (n : ℕ) → s.arity ≡ Some n → t.arity ≡ Some n
   -- each part was due where it was sent: no row was left, or the next one was as long and did not fit with it
   pub each_was_due : EachWasDue s cut (t.waiting ++ dropped)
-  -- the settings stay, and the arity and whether types are due are those behind what was sent and waits
+  -- the settings stay, and the arity and whether types are due are those after what was sent and waits
   pub left : t ≡ left_by s cut t.waiting
   -- why it ended
   pub ended : EndsBy refusal t dropped
@@ -137,6 +137,6 @@ abbrev pub refusal_of : Result (Unit {0}) BulkExecuteRequestError → Option Bul
 refusal_of (Ok done) = None
 refusal_of (Err e) = Some (Request e)
 
--- the request of the waiting rows is put behind these requests
+-- the request of the waiting rows is put after these requests
 abbrev pub PutsRequest : BuilderState → List BulkRequest → List BulkRequest → BuilderState → Type 0
 PutsRequest s requests more t = (request : BulkRequest) × (more ≡ requests ++ request ∷ []) × BuildsRequest s request t

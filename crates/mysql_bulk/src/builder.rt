@@ -12,7 +12,7 @@ ghost use Rattle.mysql_bulk.specs.Row.{row_size, rows_packing};
 use crate::declared_types::join_row;
 use crate::error::{BulkExecuteRequestBuilderError, BulkExecuteRequestError};
 use crate::request::ComStmtBulkExecuteRequest;
-use crate::row::{append_row, bulk_row_size, find_room};
+use crate::row::{append_row, bulk_row_size, find_capacity};
 use crate::size::request_len;
 use mysql_cuts::BulkRule;
 use mysql_values::{ParamType, Params, Value};
@@ -310,7 +310,7 @@ impl<'a> ComStmtBulkExecuteRequestBuilder<'a> {
         let Some(count) = self.count.checked_add(1) else {
             return Err(BulkExecuteRequestError::MemoryRow(row));
         };
-        let Ok(()) = find_room(&mut self.values, &mut self.types, self.types_due, arity) else {
+        let Ok(()) = find_capacity(&mut self.values, &mut self.types, self.types_due, arity) else {
             return Err(BulkExecuteRequestError::MemoryRow(row));
         };
         join_row(&mut self.types, self.types_due, row.as_slice());

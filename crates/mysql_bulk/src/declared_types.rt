@@ -24,11 +24,11 @@ fn join_value(kind: &mut ParamType, value: &Value)
     }
 }
 
-/// Writes down the types of the first row. There is room for them.
+/// Writes down the types of the first row. There is capacity for them.
 #[tactic(auto, using(crate::proofs::DeclaredTypes::first_more))]
 fn first_types(types: &mut Vec<ParamType>, row: &[Value])
     requires empty { types.old.items ≡ [] }
-    requires room { length row.now ≤ vec_capacity types.old }
+    requires capacity { length row.now ≤ vec_capacity types.old }
     ensures { types.new.items ≡ types_with_row [] (contents_of row.now) }
 {
     for value in row {
@@ -50,7 +50,7 @@ fn further_types(types: &mut [ParamType], row: &[Value])
 /// row.
 pub(crate) fn join_row(types: &mut Vec<ParamType>, types_due: bool, row: &[Value])
     requires lengths { types_due ≡ true → (length types.old.items ≡ length row.now) ⊎ (types.old.items ≡ []) }
-    requires room { types_due ≡ true → length row.now ≤ vec_capacity types.old }
+    requires capacity { types_due ≡ true → length row.now ≤ vec_capacity types.old }
     ensures { types.new.items ≡ (if types_due then types_with_row types.old.items (contents_of row.now) else types.old.items) }
 {
     if !types_due {

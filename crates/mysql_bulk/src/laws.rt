@@ -45,7 +45,7 @@ pub fn request_has_the_size_of_its_rows()
         length (request_bytes request) ≡ request_size (packing s (first_length rows)) s.types_due rows }
 {}
 
-/// A fewest cut of rows is judged a fewest one by the sizes of the rows, so that `cut_is_fewest` is true of the ends
+/// A fewest cut of rows is checked a fewest one by the sizes of the rows, so that `cut_is_fewest` is true of the ends
 /// that `build_all` gives without a refusal on a new builder.
 pub fn fewest_cut_is_named_by_its_ends()
     ensures { (rule : BulkRule) (limit : ℕ) (rows : List (List Content)) (cut : List (List (List Content))) →
@@ -64,7 +64,7 @@ pub fn loop_that_ends_sent_all_rows<I: Iterator<Item = Vec<Value>>>()
     ensures { (s u : RunState I) (requests : List BulkRequest) → WholeLoop (NextRequest I.next_gives) s requests None u → SentAllRows I.next_gives s requests u }
 {}
 
-/// One that ends by an `Err` gives what `build_all` gives of the rows of the input and any others behind them.
+/// One that ends by an `Err` gives what `build_all` gives of the rows of the input and any others after them.
 pub fn loop_that_refuses_a_row<I: Iterator<Item = Vec<Value>>>()
     ensures { (s u : RunState I) (requests : List BulkRequest) (e : BulkExecuteRequestError) →
         WholeLoop (NextRequest I.next_gives) s requests (Some (refused.Request e)) u → RefusedRow I.next_gives s requests e u }
@@ -92,7 +92,7 @@ pub fn params_loop_that_refuses_params<I: Iterator<Item = Params>>()
 // ---- what is written is read again
 
 /// What is written of a value is read again, whatever follows, where it agrees with its column's type.
-pub fn param_value_again()
+pub fn param_value_round_trips()
     ensures agrees { (column : BulkColumn) (value : Content) → Agrees column.0 (has column.1.0 UNSIGNED_FLAG) value → ParamValueAgrees column (with_indicator value) }
     ensures spelled { (column : BulkColumn) (value : ParamValue) (rest : List ℕ) → ParamValueAgrees column value →
         (param_value column.0 (has column.1.0 UNSIGNED_FLAG)).Spells value (param_value_bytes value ++ rest) rest }
@@ -102,7 +102,7 @@ pub fn param_value_again()
 
 /// What is written of the values of a row is read again, whatever follows, where there is one for each column and each
 /// agrees with its column's type.
-pub fn param_values_again()
+pub fn param_values_round_trips()
     ensures spelled { (columns : List BulkColumn) (values : List ParamValue) (rest : List ℕ) → AllZip ParamValueAgrees columns values →
         (values_of_columns columns).Spells values (values_bytes values ++ rest) rest }
     ensures read { (columns : List BulkColumn) (values : List ParamValue) (rest : List ℕ) → AllZip ParamValueAgrees columns values →
@@ -110,7 +110,7 @@ pub fn param_values_again()
 {}
 
 /// What is written of a request of one row is read again, whatever follows.
-pub fn request_of_one_row_again()
+pub fn request_of_one_row_round_trips()
     ensures spelled { (columns : List BulkColumn) (request : BulkRequest) (rest : List ℕ) → RequestFits columns request →
         (bulk_request columns).Spells request (request_bytes request ++ rest) rest }
     ensures read { (columns : List BulkColumn) (request : BulkRequest) (rest : List ℕ) → RequestFits columns request →
@@ -119,13 +119,13 @@ pub fn request_of_one_row_again()
 
 /// What is written of a request of rows is read again as these rows, where each has as many values as there are
 /// columns, at least one, which agree with the types that the request tells of, or else with those handed in.
-pub fn request_rows_again()
+pub fn request_rows_round_trips()
     ensures spelled { (columns : List BulkColumn) (request : BulkRequest) (rows : List (List Content)) → RowsFit columns request rows → (bulk_rows columns).Spells rows (request_bytes request) [] }
     ensures read { (columns : List BulkColumn) (request : BulkRequest) (rows : List (List Content)) → RowsFit columns request rows → (bulk_rows columns).reads (request_bytes request) ≡ Ok (rows, []) }
 {}
 
 /// The request that a builder builds of its rows is read again as these rows.
-pub fn built_rows_again()
+pub fn built_rows_round_trips()
     ensures { (s : BuilderState) (columns : List BulkColumn) (rows : List (List Content)) (request : BulkRequest) →
         IsRequest s rows request → PartAgrees s columns rows → (bulk_rows columns).reads (request_bytes request) ≡ Ok (rows, []) }
 {}

@@ -139,7 +139,7 @@ impl<'de> MyDeserialize<'de> for StmtBulkExecuteParamValue {
     ghost size_is = { λ _. refl };
 }
 
-/// A value behind its indicator has no constant size.
+/// A value after its indicator has no constant size.
 pub fn param_value_has_no_constant_size() -> Option<usize>
     ensures value { result ≡ None }
 {

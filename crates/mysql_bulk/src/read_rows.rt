@@ -66,7 +66,7 @@ fn read_no_rows<'s>(rest: &ParseBuf<'_>) -> Result<Vec<Vec<Value>>, FaultOf<'s>>
 ///
 /// `columns` are the types and flags of the columns, for a request that does not send types; where it does, those types
 /// stand in their place. A value that is the column's default, or is to be left as it is, is `NULL`. Bytes that are
-/// missing are `UnexpectedEof`, another header is `InvalidData`, and so are bytes behind the head where there is no
+/// missing are `UnexpectedEof`, another header is `InvalidData`, and so are bytes after the head where there is no
 /// column. Without a column, and for bytes that begin no request, it takes no memory. After a refusal the buffer is as it
 /// was.
 pub fn read_bulk_rows<'s>(

@@ -16,7 +16,7 @@ use crate::declared_types::join_row;
 use crate::error::BulkExecuteRequestError;
 use crate::head::{ComStmtBulkExecuteHeader, Head, read_head, sends_types};
 use crate::param_values::read_values;
-use crate::row::{append_row, equally_long, find_room};
+use crate::row::{append_row, equally_long, find_capacity};
 use crate::sent_values::{SentValues, part_from_indicators, same_values, sent_len};
 use mysql_values::{ParamType, Value};
 use mysql_wire::{
@@ -78,7 +78,7 @@ fn gather(
     let mut types = Vec::new(alloc);
     let mut values = Vec::new(alloc);
     for row in rows {
-        find_room(&mut values, &mut types, sent, arity)?;
+        find_capacity(&mut values, &mut types, sent, arity)?;
         join_row(&mut types, sent, row.as_slice());
         append_row(&mut values, row);
     }
@@ -184,7 +184,7 @@ impl ComStmtBulkExecuteRequest {
         self.values.as_slice()
     }
 
-    /// The indicator that the value at this place stands behind: the one that was read, or else the value's own,
+    /// The indicator that the value at this place stands after: the one that was read, or else the value's own,
     /// `BULK_INDICATOR_NULL` for `NULL` and `BULK_INDICATOR_NONE` for others. `None` past the last value.
     pub fn indicator(&self, place: usize) -> Option<MariadbBulkIndicator>
         ensures value { result ≡ option_map (λ (v : ParamValue). v.indicator) (slice_get self.now.values place) }
@@ -196,7 +196,7 @@ impl ComStmtBulkExecuteRequest {
         }
     }
 
-    /// The values, each behind its indicator.
+    /// The values, each after its indicator.
     #[inline(always)]
     fn sent(&self) -> SentValues<'_>
         ensures { sent_values result.indicators.now (contents_of result.values.now) ≡ self.now.values }

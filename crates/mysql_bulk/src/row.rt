@@ -10,7 +10,7 @@ use std::alloc::{AllocError, Global};
 /// How many bytes a row has in a request: of each value its indicator, and its own. `None` where that is past
 /// `u64::MAX`, and so past the limit of every request. It takes no memory.
 ///
-/// Such sizes are what `cut_is_fewest` judges a cut by.
+/// Such sizes are what `cut_is_fewest` checks a cut by.
 pub fn bulk_row_size(row: &[Value]) -> Option<u64>
     ensures value { MatchOption result (2 ^ 64 ≤ row_size (contents_of row.now)) (λ n. n ≡ row_size (contents_of row.now)) }
 {
@@ -39,8 +39,8 @@ pub(crate) fn equally_long(rows: &[Vec<Value>], arity: usize) -> bool
     true
 }
 
-/// Finds room for a row, and for the types of its columns where they are due.
-pub(crate) fn find_room(
+/// Finds capacity for a row, and for the types of its columns where they are due.
+pub(crate) fn find_capacity(
     values: &mut Vec<Value>,
     types: &mut Vec<ParamType>,
     types_due: bool,
@@ -48,8 +48,8 @@ pub(crate) fn find_room(
 ) -> Result<(), AllocError>
     ensures values { values.new.items ≡ values.old.items }
     ensures types { types.new.items ≡ types.old.items }
-    ensures values_room { OnOk result (vec_len values.new + arity ≤ vec_capacity values.new) }
-    ensures types_room { OnOk result (types_due ≡ true → arity ≤ vec_capacity types.new) }
+    ensures values_capacity { OnOk result (vec_len values.new + arity ≤ vec_capacity values.new) }
+    ensures types_capacity { OnOk result (types_due ≡ true → arity ≤ vec_capacity types.new) }
 {
     values.reserve(arity)?;
     if types_due && types.capacity() < arity {
@@ -58,7 +58,7 @@ pub(crate) fn find_room(
     Ok(())
 }
 
-/// Moves the values of a row to the end, where there is room.
+/// Moves the values of a row to the end, where there is capacity.
 pub(crate) fn append_row(values: &mut Vec<Value>, row: Vec<Value>)
     requires { vec_len values.old + length row.items ≤ vec_capacity values.old }
     ensures { values.new.items ≡ values.old.items ++ row.items }
@@ -67,7 +67,7 @@ pub(crate) fn append_row(values: &mut Vec<Value>, row: Vec<Value>)
     values.append(&mut row).unwrap();
 }
 
-/// Puts a copy of a value at the end, where there is room, and answers its bytes in a request: no more than `most`.
+/// Puts a copy of a value at the end, where there is capacity, and answers its bytes in a request: no more than `most`.
 ///
 /// `None` where it has more, or where memory for it was refused: then nothing is put there. Of bytes the copy is made in
 /// one piece.
@@ -80,7 +80,7 @@ fn push_copy(alloc: Global, values: &mut Vec<Value>, value: &Value, most: u64) -
     ensures kept { OnSome result (take (vec_len values.old) values.new.items ≡ values.old.items) }
     ensures count { OnSome result (vec_len values.new ≡ vec_len values.old + 1) }
     ensures none { IfNone result (values.new.items ≡ values.old.items) }
-    ensures room { vec_capacity values.old ≤ vec_capacity values.new }
+    ensures capacity { vec_capacity values.old ≤ vec_capacity values.new }
 {
     match value {
         Value::NULL if 1 <= most => {
@@ -109,7 +109,7 @@ fn push_any(values: &mut Vec<Value>, value: &Value, most: u64) -> Option<u64>
     ensures kept { OnSome result (take (vec_len values.old) values.new.items ≡ values.old.items) }
     ensures count { OnSome result (vec_len values.new ≡ vec_len values.old + 1) }
     ensures none { IfNone result (values.new.items ≡ values.old.items) }
-    ensures room { vec_capacity values.old ≤ vec_capacity values.new }
+    ensures capacity { vec_capacity values.old ≤ vec_capacity values.new }
 {
     let size = value.bin_len().checked_add(1)?;
     if most < size {
@@ -119,7 +119,7 @@ fn push_any(values: &mut Vec<Value>, value: &Value, most: u64) -> Option<u64>
     Some(size)
 }
 
-/// Puts copies of the values of a row at the end, where there is room, and answers its bytes in a request: no more than
+/// Puts copies of the values of a row at the end, where there is capacity, and answers its bytes in a request: no more than
 /// `most`.
 ///
 /// `None` where it has more, or where memory for one was refused: then nothing is put there.

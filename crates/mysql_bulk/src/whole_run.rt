@@ -22,7 +22,7 @@ pub struct BulkRun {
     pub refusal: Option<BulkExecuteRequestBuilderError>,
 }
 
-/// Builds the next request of a run, and says how many rows are sent with it. Room is found before anything changes.
+/// Builds the next request of a run, and says how many rows are sent with it. Capacity is found before anything changes.
 fn send(
     builder: &mut ComStmtBulkExecuteRequestBuilder<'_>,
     requests: &mut Vec<ComStmtBulkExecuteRequest>,
@@ -89,9 +89,9 @@ impl<'a> ComStmtBulkExecuteRequestBuilder<'a> {
     /// rows that waited or were handed in, in this order. Those that were sent and wait are of one length, the builder's
     /// arity if it had one. A request is built where it is due, and nowhere else: no row is left, or the next one is as
     /// long and does not fit with those that wait, by the limit or by the most rows. Each request fits. The arity, and
-    /// whether types are due, are those behind the rows that were sent and wait.
+    /// whether types are due, are those after the rows that were sent and wait.
     ///
-    /// Where a growth was refused it ends with `MemoryRow`, which hands back a row that fits, or with `Memory`, where a
+    /// Where an allocation failed it ends with `MemoryRow`, which hands back a row that fits, or with `Memory`, where a
     /// request is due, whose rows wait; what was given stands.
     ///
     /// On a new builder it refuses exactly where two rows differ in length (`MixedArity`) or no cut of the rows into

@@ -4,7 +4,7 @@ use Rattle.std.proofs.lemmas.List.{take_at, drop_at, take-append-drop, length-ta
 use Rattle.std.proofs.lemmas.List.Sums.{sum_by_push}
 use Rattle.std.specs.Prelude.{IfSome}
 use Rattle.mysql_cuts.specs.Cut.{Packing, request_size, WithinRows, PartFits, FitsFrom, rows_in, NoneEmpty, HasFittingCut, IsFewest, ends_after, types_after}
-use Rattle.mysql_cuts.specs.Fewest.{NamesFitting, NamesFewest, RoomIs}
+use Rattle.mysql_cuts.specs.Fewest.{NamesFitting, NamesFewest, CapacityIs}
 use Rattle.mysql_cuts.proofs.Packed.{types_after_push, IsPacked, packed_none, packed_more, packed_close, packed_stuck, packed_fewest, fits_front, length-parts}
 
 -- these ends name a fitting cut of the rows that come after `start` others
@@ -15,14 +15,14 @@ pub record Names (k : Packing ℕ) (types : Bool) (start : ℕ) (rows : List ℕ
   pub whole : rows_in parts ≡ rows
   pub fits : FitsFrom k types parts
 
--- a packer has come to place i of the rows: so many parts are closed, and so many rows are in the open one, which has this room
-pub record Counts (k : Packing ℕ) (rows : List ℕ) (i closed inside : ℕ) (room : Option ℕ) : Type 0 where
+-- a packer has come to place i of the rows: so many parts are closed, and so many rows are in the open one, which has this capacity
+pub record Counts (k : Packing ℕ) (rows : List ℕ) (i closed inside : ℕ) (capacity : Option ℕ) : Type 0 where
   pub full : List (List ℕ)
   pub part : List ℕ
   pub packed : IsPacked k true full part (take i rows) (drop i rows)
   pub closed_is : length full ≡ closed
   pub inside_is : length part ≡ inside
-  pub room_is : RoomIs k (types_after k true full) part room
+  pub capacity_is : CapacityIs k (types_after k true full) part capacity
 
 nonempty : {X : Type 0} (p : List X) → p ≢ [] → 0 < length p
 nonempty [] m = absurd (m refl)
@@ -135,29 +135,29 @@ module _ (k : Packing ℕ) where
 
   -- ---- the packer that counts
 
-  pub counts_none : (rows : List ℕ) (room : Option ℕ) → RoomIs k true [] room → Counts k rows 0 0 0 room
-  counts_none rows room r = record { full = []; part = []; packed = packed_none k true rows; closed_is = refl; inside_is = refl; room_is = r }
+  pub counts_none : (rows : List ℕ) (capacity : Option ℕ) → CapacityIs k true [] capacity → Counts k rows 0 0 0 capacity
+  counts_none rows capacity r = record { full = []; part = []; packed = packed_none k true rows; closed_is = refl; inside_is = refl; capacity_is = r }
 
   -- the numbers are within the rows passed
-  pub counts_bound : (rows : List ℕ) (i closed inside : ℕ) (room : Option ℕ) → i ≤ length rows → Counts k rows i closed inside room → closed + inside ≤ i
-  counts_bound rows i closed inside room h c =
+  pub counts_bound : (rows : List ℕ) (i closed inside : ℕ) (capacity : Option ℕ) → i ≤ length rows → Counts k rows i closed inside capacity → closed + inside ≤ i
+  counts_bound rows i closed inside capacity h c =
       let whole : length (rows_in c.full ++ c.part) ≡ length (take i rows) = ap length c.packed.same in
       let few = length-parts k c.full c.packed.none_empty in
       let a = c.closed_is in
       let b = c.inside_is in
       omega (arith, whole, length-append (rows_in c.full) c.part, length-take-le i rows h)
 
-  -- the next row has room in the open part
-  pub counts_more : (rows : List ℕ) (i closed inside left : ℕ) (room : Option ℕ) → i < length rows → Counts k rows i closed inside room
-      → WithinRows k.max_rows (inside + 1) → room ≡ Some (left + get_or rows i 0) → ((n : ℕ) → k.weight n ≡ n) → Counts k rows (i + 1) closed (inside + 1) (Some left)
-  counts_more rows i closed inside left room h c w r plain =
+  -- the next row has capacity in the open part
+  pub counts_more : (rows : List ℕ) (i closed inside left : ℕ) (capacity : Option ℕ) → i < length rows → Counts k rows i closed inside capacity
+      → WithinRows k.max_rows (inside + 1) → capacity ≡ Some (left + get_or rows i 0) → ((n : ℕ) → k.weight n ≡ n) → Counts k rows (i + 1) closed (inside + 1) (Some left)
+  counts_more rows i closed inside left capacity h c w r plain =
       let x = get_or rows i 0 in
       let types = types_after k true c.full in
       let P : List ℕ → Type 0 = IsPacked k true c.full c.part (take i rows) in
       let Q : List ℕ → Type 0 = λ before. IsPacked k true c.full (c.part ++ x ∷ []) before (drop (i + 1) rows) in
-      let R : Option ℕ → Type 0 = RoomIs k types c.part in
+      let R : Option ℕ → Type 0 = CapacityIs k types c.part in
       let W : ℕ → Type 0 = WithinRows k.max_rows in
-      let room_is : (left + x) + request_size k types c.part ≡ k.limit = subst R r c.room_is in
+      let capacity_is : (left + x) + request_size k types c.part ≡ k.limit = subst R r c.capacity_is in
       let more = sum_by_push k.weight c.part x in
       let size = plain x in
       let count : inside + 1 ≡ length (c.part ++ x ∷ []) = (let e = c.inside_is in omega (arith, length-append c.part (x ∷ []))) in
@@ -167,13 +167,13 @@ module _ (k : Packing ℕ) where
         packed = subst Q (sym (take_more rows i 0 h)) (packed_more k true c.full c.part (take i rows) x (drop (i + 1) rows) (subst P (drop_more rows i 0 h) c.packed) (omega arith, subst W count w));
         closed_is = c.closed_is;
         inside_is = sym count;
-        room_is = omega arith;
+        capacity_is = omega arith;
       }
 
-  no_room : (types : Bool) (part : List ℕ) (x inside : ℕ) (room : Option ℕ) → RoomIs k types part room → length part ≡ inside
-      → (WithinRows k.max_rows (inside + 1) → IfSome room (λ had. had < x)) → ((n : ℕ) → k.weight n ≡ n) → PartFits k types (part ++ x ∷ []) → ⊥
-  no_room types part x inside None r l n plain f = let more = sum_by_push k.weight part x in let less = f.0 in omega arith
-  no_room types part x inside (Some had) r l n plain f =
+  no_capacity : (types : Bool) (part : List ℕ) (x inside : ℕ) (capacity : Option ℕ) → CapacityIs k types part capacity → length part ≡ inside
+      → (WithinRows k.max_rows (inside + 1) → IfSome capacity (λ had. had < x)) → ((n : ℕ) → k.weight n ≡ n) → PartFits k types (part ++ x ∷ []) → ⊥
+  no_capacity types part x inside None r l n plain f = let more = sum_by_push k.weight part x in let less = f.0 in omega arith
+  no_capacity types part x inside (Some had) r l n plain f =
       let W : ℕ → Type 0 = WithinRows k.max_rows in
       let count : length (part ++ x ∷ []) ≡ inside + 1 = omega (arith, length-append part (x ∷ [])) in
       let more = sum_by_push k.weight part x in
@@ -182,42 +182,42 @@ module _ (k : Packing ℕ) where
       let tight : had < x = n (subst W count f.1) in
       omega arith
 
-  -- the next row has no room in the open part, which has rows: it is closed
-  pub counts_close : (rows : List ℕ) (i closed inside : ℕ) (room later : Option ℕ) → i < length rows → Counts k rows i closed inside room → 0 < inside
-      → (WithinRows k.max_rows (inside + 1) → IfSome room (λ had. had < get_or rows i 0)) → ((n : ℕ) → k.weight n ≡ n) → RoomIs k k.types_always [] later → Counts k rows i (closed + 1) 0 later
-  counts_close rows i closed inside room later h c some n plain r =
+  -- the next row has no capacity in the open part, which has rows: it is closed
+  pub counts_close : (rows : List ℕ) (i closed inside : ℕ) (capacity later : Option ℕ) → i < length rows → Counts k rows i closed inside capacity → 0 < inside
+      → (WithinRows k.max_rows (inside + 1) → IfSome capacity (λ had. had < get_or rows i 0)) → ((n : ℕ) → k.weight n ≡ n) → CapacityIs k k.types_always [] later → Counts k rows i (closed + 1) 0 later
+  counts_close rows i closed inside capacity later h c some n plain r =
       let x = get_or rows i 0 in
       let P : List ℕ → Type 0 = IsPacked k true c.full c.part (take i rows) in
       let Q : List ℕ → Type 0 = IsPacked k true (c.full ++ c.part ∷ []) [] (take i rows) in
-      let T : Bool → Type 0 = λ t. RoomIs k t [] later in
+      let T : Bool → Type 0 = λ t. CapacityIs k t [] later in
       let e = c.inside_is in
       let here = drop_more rows i 0 h in
       record {
         full = c.full ++ c.part ∷ [];
         part = [];
         packed = subst Q (sym here) (packed_close k true c.full c.part (take i rows) (x ∷ drop (i + 1) rows) (subst P here c.packed) (nonempty-from_length c.part (omega arith))
-            (no_room (types_after k true c.full) c.part x inside room c.room_is c.inside_is n plain));
+            (no_capacity (types_after k true c.full) c.part x inside capacity c.capacity_is c.inside_is n plain));
         closed_is = (let e = c.closed_is in omega (arith, length-append c.full (c.part ∷ [])));
         inside_is = refl;
-        room_is = subst T (sym (types_after_push k true c.full c.part)) r;
+        capacity_is = subst T (sym (types_after_push k true c.full c.part)) r;
       }
 
-  -- the next row has no room in an open part without rows
-  pub counts_stuck : (rows : List ℕ) (i closed : ℕ) (room : Option ℕ) → i < length rows → Counts k rows i closed 0 room
-      → (WithinRows k.max_rows (0 + 1) → IfSome room (λ had. had < get_or rows i 0)) → ((n : ℕ) → k.weight n ≡ n) → HasFittingCut k rows → ⊥
-  counts_stuck rows i closed room h c n plain f =
+  -- the next row has no capacity in an open part without rows
+  pub counts_stuck : (rows : List ℕ) (i closed : ℕ) (capacity : Option ℕ) → i < length rows → Counts k rows i closed 0 capacity
+      → (WithinRows k.max_rows (0 + 1) → IfSome capacity (λ had. had < get_or rows i 0)) → ((n : ℕ) → k.weight n ≡ n) → HasFittingCut k rows → ⊥
+  counts_stuck rows i closed capacity h c n plain f =
       let x = get_or rows i 0 in
       let none = nil_from_length c.part c.inside_is in
       let P : List ℕ → List ℕ → Type 0 = λ part rest. IsPacked k true c.full part (take i rows) rest in
       let F : List ℕ → Type 0 = HasFittingCut k in
-      let R : List ℕ → Type 0 = λ part. RoomIs k (types_after k true c.full) part room in
+      let R : List ℕ → Type 0 = λ part. CapacityIs k (types_after k true c.full) part capacity in
       let packed : P [] (x ∷ drop (i + 1) rows) = subst (P []) (drop_more rows i 0 h) (subst (λ part. P part (drop i rows)) none c.packed) in
-      packed_stuck k c.full (take i rows) x (drop (i + 1) rows) packed (no_room (types_after k true c.full) [] x 0 room (subst R none c.room_is) refl n plain)
+      packed_stuck k c.full (take i rows) x (drop (i + 1) rows) packed (no_capacity (types_after k true c.full) [] x 0 capacity (subst R none c.capacity_is) refl n plain)
       (subst F (take_more rows i 0 h) (fits_front k rows (i + 1) f))
 
   -- all rows are passed, and the open part has none
-  pub counts_done : (rows : List ℕ) (i closed : ℕ) (room : Option ℕ) → length rows ≤ i → Counts k rows i closed 0 room → (parts : List (List ℕ)) × IsFewest k rows parts × (length parts ≡ closed)
-  counts_done rows i closed room h c =
+  pub counts_done : (rows : List ℕ) (i closed : ℕ) (capacity : Option ℕ) → length rows ≤ i → Counts k rows i closed 0 capacity → (parts : List (List ℕ)) × IsFewest k rows parts × (length parts ≡ closed)
+  counts_done rows i closed capacity h c =
       let P : List ℕ → List ℕ → List ℕ → Type 0 = IsPacked k true c.full in
       let none = nil_from_length c.part c.inside_is in
       let a : P [] (take i rows) (drop i rows) = subst (λ part. P part (take i rows) (drop i rows)) none c.packed in
@@ -225,9 +225,9 @@ module _ (k : Packing ℕ) where
       (c.full, packed_fewest k c.full rows (subst (P [] rows) (drop_all i rows h) b), c.closed_is)
 
   -- all rows are passed, and the open part is the last
-  pub counts_last : (rows : List ℕ) (i closed inside : ℕ) (room : Option ℕ) → length rows ≤ i → Counts k rows i closed inside room → 0 < inside
+  pub counts_last : (rows : List ℕ) (i closed inside : ℕ) (capacity : Option ℕ) → length rows ≤ i → Counts k rows i closed inside capacity → 0 < inside
       → (parts : List (List ℕ)) × IsFewest k rows parts × (length parts ≡ closed + 1)
-  counts_last rows i closed inside room h c some =
+  counts_last rows i closed inside capacity h c some =
       let P : List ℕ → List ℕ → Type 0 = IsPacked k true c.full c.part in
       let a : P rows (drop i rows) = subst (λ before. P before (drop i rows)) (take_all i rows h) c.packed in
       let e = c.inside_is in

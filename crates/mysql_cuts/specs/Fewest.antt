@@ -32,5 +32,5 @@ abbrev pub NamesFewest : Packing ℕ → List ℕ → List ℕ → Type 0
 NamesFewest k sizes ends = (parts : List (List ℕ)) × (ends ≡ ends_after 0 parts) × IsFewest k sizes parts
 
 -- what is left of the limit after a request of these rows, if they fit
-abbrev pub RoomIs : Packing ℕ → Bool → List ℕ → Option ℕ → Type 0
-RoomIs k types part room = MatchOption room (k.limit < request_size k types part) (λ left. left + request_size k types part ≡ k.limit)
+abbrev pub CapacityIs : Packing ℕ → Bool → List ℕ → Option ℕ → Type 0
+CapacityIs k types part capacity = MatchOption capacity (k.limit < request_size k types part) (λ left. left + request_size k types part ≡ k.limit)

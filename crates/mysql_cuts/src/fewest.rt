@@ -1,14 +1,14 @@
-//! Whether a cut of rows into requests is a fewest one, judged by the rows' weights alone.
+//! Whether a cut of rows into requests is a fewest one, checked by the rows' weights alone.
 
 ghost use Rattle.std.specs.Prelude.{◌≡◌, ℕ, ◌+◌, ◌<◌, ◌≤◌, ◌↔◌, [], length, IsTrue, IfSome, MatchOption, List};
 ghost use Rattle.mysql_cuts.specs.Cut.{PartFits, WithinRows, HasFittingCut, IsFewest};
-ghost use Rattle.mysql_cuts.specs.Fewest.{weights, NamesFitting, NamesFewest, RoomIs};
+ghost use Rattle.mysql_cuts.specs.Fewest.{weights, NamesFitting, NamesFewest, CapacityIs};
 
 use crate::rule::BulkRule;
 
 /// The bytes that a request has for its rows.
-fn room_for_rows(rule: BulkRule, limit: u64, arity: usize, types: bool) -> Option<u64>
-    ensures { RoomIs (weights rule limit arity) types [] result }
+fn capacity_for_rows(rule: BulkRule, limit: u64, arity: usize, types: bool) -> Option<u64>
+    ensures { CapacityIs (weights rule limit arity) types [] result }
 {
     let head = limit.checked_sub(7)?;
     if types {
@@ -27,12 +27,12 @@ fn part_fits(rule: BulkRule, limit: u64, arity: usize, types: bool, part: &[u64]
             return false;
         }
     }
-    let Some(mut room) = room_for_rows(rule, limit, arity, types) else {
+    let Some(mut capacity) = capacity_for_rows(rule, limit, arity, types) else {
         return false;
     };
     for size in part {
-        match room.checked_sub(*size) {
-            Some(left) => room = left,
+        match capacity.checked_sub(*size) {
+            Some(left) => capacity = left,
             None => return false,
         }
     }
@@ -58,26 +58,26 @@ fn names_fitting(rule: BulkRule, limit: u64, arity: usize, sizes: &[u64], ends: 
     start == sizes.len()
 }
 
-/// What is left of the room of a request of this many rows after one more row, if that one fits.
-fn room_after(rule: BulkRule, room: Option<u64>, rows: usize, size: u64) -> Option<u64>
-    ensures { MatchOption result (WithinRows rule.max_rows (rows + 1) → IfSome room (λ had. had < size)) (λ left. WithinRows rule.max_rows (rows + 1) × (room ≡ Some (left + size))) }
+/// What is left of the capacity of a request of this many rows after one more row, if that one fits.
+fn capacity_after(rule: BulkRule, capacity: Option<u64>, rows: usize, size: u64) -> Option<u64>
+    ensures { MatchOption result (WithinRows rule.max_rows (rows + 1) → IfSome capacity (λ had. had < size)) (λ left. WithinRows rule.max_rows (rows + 1) × (capacity ≡ Some (left + size))) }
 {
     if rule.max_rows.is_some_and(|most| most <= rows) {
         return None;
     }
-    room?.checked_sub(size)
+    capacity?.checked_sub(size)
 }
 
 /// The least number of requests for the rows, if any cut of them fits.
 fn fewest_parts(rule: BulkRule, limit: u64, arity: usize, sizes: &[u64]) -> Option<usize>
     ensures { MatchOption result (HasFittingCut (weights rule limit arity) sizes.now → ⊥) (λ n. (parts : List (List ℕ)) × IsFewest (weights rule limit arity) sizes.now parts × (length parts ≡ n)) }
 {
-    let later = room_for_rows(rule, limit, arity, rule.types_always);
-    let mut room = room_for_rows(rule, limit, arity, true);
+    let later = capacity_for_rows(rule, limit, arity, rule.types_always);
+    let mut capacity = capacity_for_rows(rule, limit, arity, true);
     let mut rows = 0;
     let mut closed = 0;
     for size in sizes {
-        room = match room_after(rule, room, rows, *size) {
+        capacity = match capacity_after(rule, capacity, rows, *size) {
             Some(left) => Some(left),
             None => {
                 if rows == 0 {
@@ -85,7 +85,7 @@ fn fewest_parts(rule: BulkRule, limit: u64, arity: usize, sizes: &[u64]) -> Opti
                 }
                 rows = 0;
                 closed += 1;
-                Some(room_after(rule, later, 0, *size)?)
+                Some(capacity_after(rule, later, 0, *size)?)
             }
         };
         rows += 1;

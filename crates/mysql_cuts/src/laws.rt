@@ -17,7 +17,7 @@ pub fn beginning_has_fitting_cut<Row>()
     ensures { (k : Packing Row) (rows : List Row) (n : ℕ) → HasFittingCut k rows → HasFittingCut k (take n rows) }
 {}
 
-/// The ends of a fewest cut of rows name a fewest cut of their weights, so that a judge needs the weights alone.
+/// The ends of a fewest cut of rows name a fewest cut of their weights, so that a check needs the weights alone.
 pub fn fewest_cut_is_fewest_by_weights<Row>()
     ensures { (k : Packing Row) (rows : List Row) (cut : List (List Row)) → IsFewest k rows cut → NamesFewest (weighed k) (map k.weight rows) (ends_after 0 cut) }
 {}

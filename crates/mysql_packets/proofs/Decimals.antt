@@ -17,22 +17,22 @@ decimal_digits c e = grind (arith, common_steps)
 -- such a word is a numeral
 pub is_numeral : (w : List ℕ) → is_decimal w ≡ true → IsNumeral 10 w × (without_leading_plus w ≡ w)
 unfolding is_decimal
-is_numeral w judged =
-    let b = both (nat_le 1 (length w)) (list_all is_ascii_digit w) judged in
+is_numeral w checked =
+    let b = both (nat_le 1 (length w)) (list_all is_ascii_digit w) checked in
     numeral_of 10 is_ascii_digit decimal_digits w b.0 b.1
 
 -- and a text
 pub is_text : (w : List ℕ) → is_decimal w ≡ true → IsUtf8 w
-is_text w judged = IsUtf8-from_ascii w (IsAscii-from_digits w (is_numeral w judged).0.1)
+is_text w checked = IsUtf8-from_ascii w (IsAscii-from_digits w (is_numeral w checked).0.1)
 
 -- what is no numeral is no number
 pub not_number : (bound : ℕ) (w : List ℕ) → is_decimal w ≡ false → number_below bound w ≡ None
 unfolding decimal_of
-not_number bound w judged = rw judged refl
+not_number bound w checked = rw checked refl
 
 number_at : (w : List ℕ) → is_decimal w ≡ true → decimal_of w ≡ Some (digits_value 10 w)
 unfolding decimal_of
-number_at w judged = rw judged refl
+number_at w checked = rw checked refl
 
 in_range : {E : Type 0} (w : List ℕ) (n : ℕ) (r : Result ℕ E) → IsNumeral 10 w → OkIff r (IsNumeral 10 w × (n < 2 ^ 64)) n → result_ok r ≡ below (2 ^ 64) (Some n)
 in_range w n (Ok x) numeral parsed = grind (arith, common_steps)
@@ -42,10 +42,10 @@ in_range w n (Err e) numeral parsed =
 
 -- a numeral is read as its number
 pub number_parse : {E : Type 0} (w : List ℕ) (r : Result ℕ E) → is_decimal w ≡ true → ParsesUnsigned 64 10 w r → result_ok r ≡ number_below (2 ^ 64) w
-number_parse w r judged parsed =
-    let numeral = is_numeral w judged in
+number_parse w r checked parsed =
+    let numeral = is_numeral w checked in
     let plain = rw numeral.1 at parsed in
-    in_range w (digits_value 10 w) r numeral.0 plain ∙ ap (below (2 ^ 64)) (sym (number_at w judged))
+    in_range w (digits_value 10 w) r numeral.0 plain ∙ ap (below (2 ^ 64)) (sym (number_at w checked))
 
 pub ruleset numbers = (not_number, number_parse, is_text)
 

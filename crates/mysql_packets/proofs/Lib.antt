@@ -1,5 +1,5 @@
 pub mod Numerals
-pub mod Judged
+pub mod Checked
 pub mod Words
 pub mod Refused
 pub mod OkRefused

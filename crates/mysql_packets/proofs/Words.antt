@@ -27,8 +27,8 @@ given_ok (Err e) P v p parsed = absurd (parsed p)
 -- such a word is read as its number
 pub flags_parse : {E : Type 0} (w : List ℕ) (r : Result ℕ E) → is_flag_word w ≡ true → ParsesUnsigned 32 16 w r → r ≡ Ok (digits_value 16 w)
 unfolding is_flag_word
-flags_parse w r judged parsed =
-    let b = both (nat_le 1 (length w)) (nat_le (length w) 8 && list_all is_ascii_hexdigit w) judged in
+flags_parse w r checked parsed =
+    let b = both (nat_le 1 (length w)) (nat_le (length w) 8 && list_all is_ascii_hexdigit w) checked in
     let d = both (nat_le (length w) 8) (list_all is_ascii_hexdigit w) b.1 in
     let numeral = numeral_of 16 is_ascii_hexdigit hexadecimal_digits w b.0 d.1 in
     let short : length w ≤ 8 = grind (arith, common_steps, d.0) in

@@ -29,7 +29,7 @@ refused_by lines name = record { text = lines ++ line (codes "refused") name; st
 abbrev pub refused : List ℕ → FaultKind → Answer
 refused lines k = refused_by lines (fault_name k)
 
--- the refusal for a fault; a growth that was refused is none
+-- the refusal for a fault; an allocation that failed is none
 abbrev pub IsFaultRefusal : List ℕ → FaultOf → Answer → Type 0
 IsFaultRefusal lines fault.UnexpectedEof answer = answer ≡ refused lines kind.UnexpectedEof
 IsFaultRefusal lines (fault.InvalidData text) answer = answer ≡ refused lines kind.InvalidData
@@ -40,11 +40,11 @@ IsFaultRefusal lines fault.Memory answer = ⊥
 abbrev pub usage : Answer
 usage = record { text = codes "usage: mypackets COMMAND ARGS\n"; status = 2 }
 
--- a growth was refused, which tells nothing else
+-- an allocation failed, which tells nothing else
 abbrev pub out_of_memory : Answer
 out_of_memory = record { text = codes "refused: Memory\n"; status = 1 }
 
--- the lines for what was read and the count of bytes behind it, or the refusal
+-- the lines for what was read and the count of bytes after it, or the refusal
 abbrev pub of_reading : {A : Type 0} → (A → ℕ → List ℕ) → Reading A → Answer
 of_reading lines (Ok x) = done (lines x.0 (length x.1))
 of_reading lines (Err k) = refused [] k

@@ -13,6 +13,6 @@ are_pairs digits = length digits % 2 == 0 && list_all is_ascii_hexdigit digits
 abbrev pub bytes_of : List ℕ → Option (List ℕ)
 bytes_of digits = result_ok (decode_of digits)
 
--- the bytes of digits that were judged
+-- the bytes of digits that were checked
 abbrev pub digits_bytes : List ℕ → List ℕ
 digits_bytes digits = unwrap_or (bytes_of digits) []

@@ -8,7 +8,7 @@ use Rattle.mysql_packets.specs.declared.lines.Shown.TheVariants as shows
 unfoldable pub line : List ℕ → List ℕ → List ℕ
 line name value = name ++ (codes ": " ++ (value ++ codes "\n"))
 
--- bytes as a value: digits behind an x, so that no bytes are an x
+-- bytes as a value: digits after an x, so that no bytes are an x
 abbrev pub prefixed : List ℕ → List ℕ
 prefixed bytes = codes "x" ++ encode_lower bytes
 

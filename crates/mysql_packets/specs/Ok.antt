@@ -45,7 +45,7 @@ field_lines p =
     ∷ []
     )
 
--- a line for a change, and what comes behind it; or that the change was refused
+-- a line for a change, and what comes after it; or that the change was refused
 abbrev pub with_change : List ℕ → Reading SessionStateChange → (List ℕ → Answer) → Answer
 with_change lines (Ok x) next = next (lines ++ change_line x.0)
 with_change lines (Err k) next = refused lines k

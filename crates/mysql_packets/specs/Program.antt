@@ -1,4 +1,4 @@
--- What the program answers to the words behind its name.
+-- What the program answers to the words after its name.
 use Rattle.std.specs.Prelude.{◌≡◌, ◌⊎◌, ℕ, List, true, false, Option, Some, None}
 use Rattle.mysql_packets.specs.declared.command.Command.{Command}
 use Rattle.mysql_packets.specs.declared.command.Command.TheVariants as command
@@ -37,7 +37,7 @@ pub record IsCommandAnswered (c : Command) (before after old new : Option (List 
   pub answers : AnswersCommand c input answer
   pub written : IsWritten answer old new status
 
--- a bad call was told; or a command was answered, or a growth was refused, which is told, or its input was not read
+-- a bad call was answered; or a command was answered, or an allocation failed, which is answered, or its input was not read
 abbrev pub IsAnswered : Option Command → Option (List ℕ) → Option (List ℕ) → Option (List ℕ) → Option (List ℕ) → ℕ → Type 0
 IsAnswered None before after old new status = IsWritten usage old new status
 IsAnswered (Some c) before after old new status =

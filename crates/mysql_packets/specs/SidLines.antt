@@ -19,7 +19,7 @@ sid_refusal_name invalid.TooLarge = codes "TooLarge"
 sid_refusal_name (invalid.Gno e) = codes "Gno"
 sid_refusal_name invalid.Memory = codes "Memory"
 
--- the refusal by its name; a growth that was refused is none
+-- the refusal by its name; an allocation that failed is none
 abbrev pub IsSidRefusal : InvalidSid → Answer → Type 0
 IsSidRefusal invalid.Memory answer = ⊥
 IsSidRefusal e answer = answer ≡ refused_by [] (sid_refusal_name e)

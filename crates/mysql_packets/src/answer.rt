@@ -53,7 +53,7 @@ impl Answer {
 
     /// The same for a fault.
     ///
-    /// A growth that was refused gives no answer of its own, but the error.
+    /// An allocation that failed gives no answer of its own, but the error.
     pub fn refused(alloc: Global, text: String, fault: Fault) -> Result<Answer, AllocError>
         ensures value { IfOk result (λ answer. IsFaultRefusal (string_bytes text) fault.entry answer) }
     {

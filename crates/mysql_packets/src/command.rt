@@ -14,7 +14,7 @@ use crate::word::Word;
 use mysql_wire::CapabilityFlags;
 use std::alloc::{AllocError, Global};
 
-/// A command, with its words judged.
+/// A command, with its words checked.
 #[derive(Drop)]
 pub enum Command<'a> {
     /// `stmt HEX`: a statement packet.
@@ -23,7 +23,7 @@ pub enum Command<'a> {
     Infile(HexDigits<'a>),
     /// `column HEX`: a column's definition.
     Column(HexDigits<'a>),
-    /// `handshake HEX`: what a server says first.
+    /// `handshake HEX`: the initial handshake.
     Handshake(HexDigits<'a>),
     /// `gtid HEX`: a replica's request for a binary log without the transactions of a GTID set.
     Gtid(HexDigits<'a>),
@@ -40,7 +40,7 @@ pub enum Command<'a> {
 }
 
 impl<'a> Command<'a> {
-    /// The command that the words behind the program's name give, unless it is a bad call.
+    /// The command that the words after the program's name give, unless it is a bad call.
     ///
     /// It takes no memory.
     pub fn of(words: &'a [String]) -> Option<Command<'a>>
@@ -151,7 +151,7 @@ impl<'a> Command<'a> {
         matches!(self, Command::Bulk(_))
     }
 
-    /// What the program answers, on this input. A growth that was refused is the only error.
+    /// What the program answers, on this input. An allocation that failed is the only error.
     pub fn answer(self, alloc: Global, input: &[u8]) -> Result<Answer, AllocError>
         ensures value { IfOk result (λ answer. AnswersCommand self.entry input.now answer) }
     {

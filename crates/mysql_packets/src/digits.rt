@@ -27,7 +27,7 @@ impl<'a> Model for HexDigits<'a> {
 
 impl<'a> HexDigits<'a> {
     /// The digits, unless a character is none or one is left over. It takes no memory.
-    #[tactic(auto, using(crate::proofs::Judged::judged_digits))]
+    #[tactic(auto, using(crate::proofs::Checked::judged_digits))]
     pub fn new(digits: &'a [u8]) -> Option<HexDigits<'a>>
         ensures value { result ≡ bytes_of digits.now }
     {

@@ -14,7 +14,7 @@ pub const MOST_READS: u32 = 1_048_576;
 pub enum InputError {
     /// A read failed, or the input did not end.
     Read,
-    /// A growth was refused.
+    /// An allocation failed.
     Memory,
 }
 

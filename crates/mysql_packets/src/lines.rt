@@ -8,7 +8,7 @@ ghost use Rattle.mysql_packets.specs.Lines.{line, or_none, prefixed};
 use std::alloc::{AllocError, Global};
 use std::marker::Model;
 
-/// What stands behind a line's name.
+/// What stands after a line's name.
 #[derive(Drop)]
 pub enum Shown<'a> {
     /// In decimal.

@@ -1,4 +1,4 @@
-//! The program: what it writes for the words behind its name, and its status.
+//! The program: what it writes for the words after its name, and its status.
 
 ghost use Rattle.std.specs.Prelude.{◌≡◌, IfOk, OnErr, Some, true, false, map, string_bytes};
 ghost use Rattle.mysql_packets.specs.Answer.{out_of_memory};
@@ -14,7 +14,7 @@ use crate::output::write_front;
 use std::alloc::Global;
 use std::io::{Read, Write};
 
-/// Runs the program on the words behind its name, and answers its status.
+/// Runs the program on the words after its name, and answers its status.
 ///
 /// | Status | Meaning |
 /// |---|---|
@@ -23,9 +23,9 @@ use std::io::{Read, Write};
 /// | 2 | a bad call; the one line is `usage: mypackets COMMAND ARGS` |
 /// | 3 | a read failed, and nothing is written; or a write failed, and a front of the lines is written |
 ///
-/// The words are judged first, which takes no memory. `bulk` alone then reads: all of the input, before the first line
+/// The words are checked first, which takes no memory. `bulk` alone then reads: all of the input, before the first line
 /// is written, by at most 1,048,576 calls of `read`. An input that has not ended by then is a failed read. Where a
-/// growth is refused, the one line is `refused: Memory` and the status 1. Only a failed read or write gives 3.
+/// allocation fails, the one line is `refused: Memory` and the status 1. Only a failed read or write gives 3.
 #[tactic(auto, using(crate::proofs::Outputs::keeps_same))]
 pub fn run<R: Read, W: Write>(alloc: Global, args: &[String], reader: &mut R, writer: &mut W) -> u8
     ensures answer { IsAnswered (command_of (map string_bytes args.now)) (R.remaining reader.old) (R.remaining reader.new) (W.contents writer.old) (W.contents writer.new) result }
@@ -62,7 +62,7 @@ fn input_of<R: Read>(
     }
 }
 
-/// Writes that a growth was refused, `refused: Memory`, and answers 1, or 3 where the write failed.
+/// Writes that an allocation failed, `refused: Memory`, and answers 1, or 3 where the write failed.
 pub fn refuse_memory<W: Write>(writer: &mut W) -> u8
     ensures value { IsWritten out_of_memory (W.contents writer.old) (W.contents writer.new) result }
 {

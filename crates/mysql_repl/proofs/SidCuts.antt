@@ -6,7 +6,7 @@ use Rattle.std.proofs.lemmas.List.{length-append, length-take, get_or-take, take
 use Rattle.std.proofs.lemmas.List.Sums.{split_at_first, passes_at_first, fails_before_first}
 use Rattle.std.proofs.lemmas.Str.{IsUtf8-take, IsUtf8-drop, IsCharBoundary-before_ascii, IsCharBoundary-after_ascii}
 use Rattle.std.specs.Str.{IsUtf8}
-use Rattle.mysql_repl.specs.SidText.{is, has, before, behind}
+use Rattle.mysql_repl.specs.SidText.{is, has, before, after}
 use Rattle.mysql_repl.specs.SidGrammar.{NoColon}
 
 -- ---- texts without a separator
@@ -40,8 +40,8 @@ has-cut c xs ys h = lt-ltb _ _ (omega (arith, place c xs ys h, length-append xs 
 pub before-cut : (c : ℕ) (xs ys : List ℕ) → Lacks c xs → before c (xs ++ c ∷ ys) ≡ xs
 before-cut c xs ys h = ap (λ (n : ℕ). take n (xs ++ c ∷ ys)) (place c xs ys h) ∙ take_at xs (c ∷ ys) (length xs) refl
 
-pub behind-cut : (c : ℕ) (xs ys : List ℕ) → Lacks c xs → behind c (xs ++ c ∷ ys) ≡ ys
-behind-cut c xs ys h =
+pub after-cut : (c : ℕ) (xs ys : List ℕ) → Lacks c xs → after c (xs ++ c ∷ ys) ≡ ys
+after-cut c xs ys h =
     let long : length (xs ++ c ∷ []) ≡ length xs + 1 = omega (arith, length-append xs (c ∷ [])) in
     let split : (xs ++ c ∷ []) ++ ys ≡ xs ++ c ∷ ys = append_assoc xs (c ∷ []) ys in
     ap (λ (n : ℕ). drop (n + 1) (xs ++ c ∷ ys)) (place c xs ys h)
@@ -54,17 +54,17 @@ behind-cut c xs ys h =
 found : (c : ℕ) (text : List ℕ) → has c text ≡ true → get_or text (position_or_len (is c) text) 0 ≡ c
 found c text h = eqb-true _ _ (passes_at_first (is c) text 0 (ltb-true _ _ h))
 
-pub cut-parts : (c : ℕ) (text : List ℕ) → has c text ≡ true → text ≡ before c text ++ c ∷ behind c text
+pub cut-parts : (c : ℕ) (text : List ℕ) → has c text ≡ true → text ≡ before c text ++ c ∷ after c text
 cut-parts c text h =
-    split_at_first (is c) text 0 (ltb-true _ _ h) ∙ ap (λ (x : ℕ). before c text ++ x ∷ behind c text) (found c text h)
+    split_at_first (is c) text 0 (ltb-true _ _ h) ∙ ap (λ (x : ℕ). before c text ++ x ∷ after c text) (found c text h)
 
 pub utf8-before : (c : ℕ) (text : List ℕ) → c < 128 → has c text ≡ true → IsUtf8 text → IsUtf8 (before c text)
 utf8-before c text low h utf8 =
     let place = position_or_len (is c) text in
     IsUtf8-take text place utf8 (IsCharBoundary-before_ascii text place (ltb-true _ _ h) (omega (arith, low, found c text h)))
 
-pub utf8-behind : (c : ℕ) (text : List ℕ) → c < 128 → has c text ≡ true → IsUtf8 text → IsUtf8 (behind c text)
-utf8-behind c text low h utf8 =
+pub utf8-after : (c : ℕ) (text : List ℕ) → c < 128 → has c text ≡ true → IsUtf8 text → IsUtf8 (after c text)
+utf8-after c text low h utf8 =
     let place = position_or_len (is c) text in
     IsUtf8-drop text (place + 1) utf8 (IsCharBoundary-after_ascii text place utf8 (ltb-true _ _ h) (omega (arith, low, found c text h)))
 

@@ -5,7 +5,7 @@ use Rattle.mysql_repl.specs.declared.gno_interval.GnoInterval.{GnoInterval}
 use Rattle.mysql_repl.specs.declared.sid_text.InvalidSid.{InvalidSid}
 use Rattle.mysql_repl.specs.SidText.{read_interval, read_each, onto, first_refusal}
 
--- what is read, behind what was read before
+-- what is read, after what was read before
 abbrev pub with_front : List GnoInterval → Result (List GnoInterval) InvalidSid → Result (List GnoInterval) InvalidSid
 with_front front (Ok is) = Ok (front ++ is)
 with_front front (Err e) = Err e
@@ -52,8 +52,8 @@ not-refused left all parts part i early is h =
 
 pub refused-first : {A : Type 0} (left all parts : List (List ℕ)) (part : List ℕ) (e : InvalidSid) (r : Result A InvalidSid) → IsEarly left all → left ≡ part ∷ parts → read_interval part ≡ Err e
     → r ≡ Err e → IfSome (first_refusal all) (λ x. r ≡ Err x)
-refused-first left all parts part e r early is h told =
-    let first : IfSome (first_refusal (part ∷ parts)) (λ x. r ≡ Err x) = rw h told in
+refused-first left all parts part e r early is h known =
+    let first : IfSome (first_refusal (part ∷ parts)) (λ x. r ≡ Err x) = rw h known in
     elim early [
       | inl same ↦ subst (λ (t : List (List ℕ)). IfSome (first_refusal t) (λ x. r ≡ Err x)) (sym is ∙ same) first
       | inr none ↦ rw none tt

@@ -13,12 +13,12 @@ use Rattle.mysql_repl.specs.declared.sid.Sid.{Sid}
 use Rattle.mysql_repl.specs.declared.sid_text.InvalidSid.{InvalidSid}
 use Rattle.mysql_repl.specs.declared.sid_text.InvalidSid.TheVariants as fault
 use Rattle.mysql_repl.specs.GnoInterval.{start, interval_of}
-use Rattle.mysql_repl.specs.SidText.{colon, hyphen, has, before, behind, number_of, checked, from_numbers, read_interval, read_intervals, sid_with, read_tagged, read_behind, read_with, read_sid, tag_text}
+use Rattle.mysql_repl.specs.SidText.{colon, hyphen, has, before, after, number_of, checked, from_numbers, read_interval, read_intervals, sid_with, read_tagged, read_after, read_with, read_sid, tag_text}
 use Rattle.mysql_repl.specs.ProperSid.{ProperInterval}
-use Rattle.mysql_repl.specs.SidGrammar.{SpellsNumber, SpellsOne, SpellsTwo, SpellsInterval, SpellsEach, DigitBehindColon, SpellsSid}
+use Rattle.mysql_repl.specs.SidGrammar.{SpellsNumber, SpellsOne, SpellsTwo, SpellsInterval, SpellsEach, DigitAfterColon, SpellsSid}
 use Rattle.mysql_repl.specs.TagString.{OptionalTag}
 use Rattle.mysql_repl.specs.Tag.{is_first, is_later, IsTag, tag_fault}
-use Rattle.mysql_repl.proofs.SidCuts.{Lacks, lacks-append, no-cut, has-cut, before-cut, behind-cut, no_colon-lacks}
+use Rattle.mysql_repl.proofs.SidCuts.{Lacks, lacks-append, no-cut, has-cut, before-cut, after-cut, no_colon-lacks}
 use Rattle.mysql_repl.proofs.SidTexts.{number-ok, last-part, next-part}
 use Rattle.mysql_repl.proofs.Tags.{tag-parts, tag-no_fault, nothing, first-later}
 
@@ -70,7 +70,7 @@ two-numbers false g x y n e f = absurd cc
 one-read : (text : List ℕ) (n : ℕ) → Lacks 45 text → number_of text ≡ Some n → read_interval text ≡ checked n n
 unfolding read_interval
 one-read text n lacks is =
-    one-number (has hyphen text) (has hyphen (behind hyphen text)) (number_of (before hyphen text)) (number_of (behind hyphen text)) (number_of text) (no-cut 45 text lacks)
+    one-number (has hyphen text) (has hyphen (after hyphen text)) (number_of (before hyphen text)) (number_of (after hyphen text)) (number_of text) (no-cut 45 text lacks)
     ∙ rw is refl
 
 two-read : (front back : List ℕ) (m n : ℕ) → Lacks 45 front → Lacks 45 back → number_of front ≡ Some m → number_of back ≡ Some n → read_interval (front ++ 45 ∷ back) ≡ checked m n
@@ -78,12 +78,12 @@ unfolding read_interval
 two-read front back m n lacks more first_is last_is =
     let text = front ++ 45 ∷ back in
     let in_front : before hyphen text ≡ front = before-cut 45 front back lacks in
-    let at_back : behind hyphen text ≡ back = behind-cut 45 front back lacks in
-    let whole : has hyphen (behind hyphen text) ≡ false = ap (λ (t : List ℕ). has hyphen t) at_back ∙ no-cut 45 back more in
+    let at_back : after hyphen text ≡ back = after-cut 45 front back lacks in
+    let whole : has hyphen (after hyphen text) ≡ false = ap (λ (t : List ℕ). has hyphen t) at_back ∙ no-cut 45 back more in
     let first : number_of (before hyphen text) ≡ Some m = ap number_of in_front ∙ first_is in
-    let last : number_of (behind hyphen text) ≡ Some n = ap number_of at_back ∙ last_is in
-    two-numbers (has hyphen text) (has hyphen (behind hyphen text)) (number_of (before hyphen text)) (number_of (behind hyphen text)) (number_of text) (has-cut 45 front back lacks) whole
-    ∙ ap (λ (x : Option ℕ). from_numbers x (number_of (behind hyphen text))) first
+    let last : number_of (after hyphen text) ≡ Some n = ap number_of at_back ∙ last_is in
+    two-numbers (has hyphen text) (has hyphen (after hyphen text)) (number_of (before hyphen text)) (number_of (after hyphen text)) (number_of text) (has-cut 45 front back lacks) whole
+    ∙ ap (λ (x : Option ℕ). from_numbers x (number_of (after hyphen text))) first
     ∙ ap (λ (y : Option ℕ). from_numbers (Some m) y) last
 
 numbers-spelled : (text : List ℕ) (i : GnoInterval) → SpellsOne text i ⊎ SpellsTwo text i → ProperInterval i → read_interval text ≡ Ok i
@@ -95,9 +95,9 @@ numbers-spelled text i (inr two) h =
     ap read_interval two.parts
     ∙ two-read two.first two.last (start i) two.last_gno (lacks_hyphen two.first (start i) two.first_number) (lacks_hyphen two.last two.last_gno two.last_number)
     (number-spelled two.first (start i) two.first_number (omega (arith, h.order, h.fits)))
-    (number-spelled two.last two.last_gno two.last_number (omega (arith, two.end_behind, h.fits)))
-    ∙ checked-ok (start i) two.last_gno h.some (omega (arith, two.end_behind, h.order)) (omega (arith, two.end_behind, h.fits))
-    ∙ ap (λ (n : ℕ). Ok (interval_of (start i) n)) (sym two.end_behind)
+    (number-spelled two.last two.last_gno two.last_number (omega (arith, two.end_after, h.fits)))
+    ∙ checked-ok (start i) two.last_gno h.some (omega (arith, two.end_after, h.order)) (omega (arith, two.end_after, h.fits))
+    ∙ ap (λ (n : ℕ). Ok (interval_of (start i) n)) (sym two.end_after)
 
 interval-spelled : (text : List ℕ) (i : GnoInterval) → SpellsInterval text i → read_interval text ≡ Ok i
 interval-spelled text i h = numbers-spelled text i h.numbers h.proper
@@ -117,15 +117,15 @@ each-spelled i [] part rest h all =
 each-spelled i (j ∷ js) part rest h all =
     let lacks = interval-lacks part i h in
     let left = all.0 ++ all.1 in
-    let cut = next-part (part ++ 58 ∷ left) part left (has-cut 58 part left lacks) (sym (before-cut 58 part left lacks)) (sym (behind-cut 58 part left lacks)) in
+    let cut = next-part (part ++ 58 ∷ left) part left (has-cut 58 part left lacks) (sym (before-cut 58 part left lacks)) (sym (after-cut 58 part left lacks)) in
     rw (all.2, cut, interval-spelled part i h, each-spelled j js all.0 all.1 all.3 all.4) refl
 
--- ---- behind the uuid
+-- ---- after the uuid
 
-behind-digit : (id text : List ℕ) → is_ascii_digit (get_or text 0 0) ≡ true → read_behind id text ≡ sid_with id None (read_intervals text)
-unfolding read_behind
-behind-digit id [] h = absurd cc
-behind-digit id (c ∷ cs) h = rw h refl
+after-digit : (id text : List ℕ) → is_ascii_digit (get_or text 0 0) ≡ true → read_after id text ≡ sid_with id None (read_intervals text)
+unfolding read_after
+after-digit id [] h = absurd cc
+after-digit id (c ∷ cs) h = rw h refl
 
 both : (a b : Bool) → (a && b) ≡ true → (a ≡ true) × (b ≡ true)
 both true true h = (refl, refl)
@@ -138,7 +138,7 @@ other c h = ne_eqb c 58 (λ e. let wrong : is_later 58 ≡ true = rw e at h in a
 no-digit : (c : ℕ) → is_first c ≡ true → is_ascii_digit c ≡ false
 no-digit c h = grind (arith, nat_tests)
 
--- behind a uuid: what does not begin with a digit and has a colon begins with a tag
+-- after a uuid: what does not begin with a digit and has a colon begins with a tag
 chosen : (id : List ℕ) (digit cut : Bool) (x y : Result Sid InvalidSid) → digit ≡ false → cut ≡ true → (if digit then x else if cut then y else Err fault.NoIntervals) ≡ y
 chosen id true cut x y d e = absurd cc
 chosen id false true x y d e = refl
@@ -148,36 +148,36 @@ tag-lacks : (cs : List ℕ) → list_all is_later cs ≡ true → Lacks 58 cs
 tag-lacks [] h = tt
 tag-lacks (c ∷ cs) h = let p = both (is_later c) (list_all is_later cs) h in (other c p.0, tag-lacks cs p.1)
 
-behind-tag : (id tag text : List ℕ) → IsTag tag → read_behind id (tag ++ 58 ∷ text) ≡ sid_with id (Some tag) (read_intervals text)
-unfolding read_behind
-behind-tag id [] text h = absurd (nothing h)
-behind-tag id (c ∷ cs) text h =
+after-tag : (id tag text : List ℕ) → IsTag tag → read_after id (tag ++ 58 ∷ text) ≡ sid_with id (Some tag) (read_intervals text)
+unfolding read_after
+after-tag id [] text h = absurd (nothing h)
+after-tag id (c ∷ cs) text h =
     let p = tag-parts c cs h in
     let lacks : Lacks 58 (c ∷ cs) = (other c (first-later c p.first), tag-lacks cs p.later) in
     let front : before colon ((c ∷ cs) ++ 58 ∷ text) ≡ c ∷ cs = before-cut 58 (c ∷ cs) text lacks in
-    let back : behind colon ((c ∷ cs) ++ 58 ∷ text) ≡ text = behind-cut 58 (c ∷ cs) text lacks in
+    let back : after colon ((c ∷ cs) ++ 58 ∷ text) ≡ text = after-cut 58 (c ∷ cs) text lacks in
     chosen id (is_ascii_digit c) (has colon ((c ∷ cs) ++ 58 ∷ text)) _ _ (no-digit c p.first) (has-cut 58 (c ∷ cs) text lacks)
-    ∙ ap (λ (t : List ℕ). read_tagged id t (behind colon ((c ∷ cs) ++ 58 ∷ text)) (tag_fault t)) front
+    ∙ ap (λ (t : List ℕ). read_tagged id t (after colon ((c ∷ cs) ++ 58 ∷ text)) (tag_fault t)) front
     ∙ ap (λ (t : List ℕ). read_tagged id (c ∷ cs) t (tag_fault (c ∷ cs))) back
     ∙ ap (λ (f : _). read_tagged id (c ∷ cs) text f) (tag-no_fault (c ∷ cs) h)
 
-digit-first : (text : List ℕ) → DigitBehindColon (58 ∷ text) → is_ascii_digit (get_or text 0 0) ≡ true
+digit-first : (text : List ℕ) → DigitAfterColon (58 ∷ text) → is_ascii_digit (get_or text 0 0) ≡ true
 digit-first [] h = absurd h
 digit-first (c ∷ text) h = h
 
-behind-spelled : (id : List ℕ) (tag : Option (List ℕ)) (is : List GnoInterval) (more : List ℕ) → OptionalTag tag → SpellsEach is more → 0 < length is → (tag ≡ None → DigitBehindColon more)
-    → (rest : List ℕ) × (tag_text tag ++ more ≡ 58 ∷ rest) × (read_behind id rest ≡ Ok (record { uuid = id; tag = tag; intervals = is }))
-behind-spelled id tag [] more t h some digit = absurd (omega (arith, some))
-behind-spelled id None (i ∷ is) more t h some digit = (
+after-spelled : (id : List ℕ) (tag : Option (List ℕ)) (is : List GnoInterval) (more : List ℕ) → OptionalTag tag → SpellsEach is more → 0 < length is → (tag ≡ None → DigitAfterColon more)
+    → (rest : List ℕ) × (tag_text tag ++ more ≡ 58 ∷ rest) × (read_after id rest ≡ Ok (record { uuid = id; tag = tag; intervals = is }))
+after-spelled id tag [] more t h some digit = absurd (omega (arith, some))
+after-spelled id None (i ∷ is) more t h some digit = (
   h.0 ++ h.1,
   h.2,
-  behind-digit id (h.0 ++ h.1) (digit-first (h.0 ++ h.1) (subst DigitBehindColon h.2 (digit refl)))
+  after-digit id (h.0 ++ h.1) (digit-first (h.0 ++ h.1) (subst DigitAfterColon h.2 (digit refl)))
       ∙ ap (λ (r : _). sid_with id None r) (each-spelled i is h.0 h.1 h.3 h.4),
 )
-behind-spelled id (Some tag) (i ∷ is) more t h some digit = (
+after-spelled id (Some tag) (i ∷ is) more t h some digit = (
   tag ++ 58 ∷ (h.0 ++ h.1),
   ap (λ (x : List ℕ). 58 ∷ (tag ++ x)) h.2,
-  behind-tag id tag (h.0 ++ h.1) t ∙ ap (λ (r : _). sid_with id (Some tag) r) (each-spelled i is h.0 h.1 h.3 h.4),
+  after-tag id tag (h.0 ++ h.1) t ∙ ap (λ (r : _). sid_with id (Some tag) r) (each-spelled i is h.0 h.1 h.3 h.4),
 )
 
 -- ---- the whole text
@@ -186,21 +186,21 @@ cut-there : (cut : Bool) (x : Result Sid InvalidSid) → cut ≡ true → (if cu
 cut-there true x e = refl
 cut-there false x e = absurd cc
 
-with-uuid : (text front id rest : List ℕ) (sid : Sid) → Lacks 58 front → parsed front ≡ Some id → text ≡ front ++ 58 ∷ rest → read_behind id rest ≡ Ok sid → read_sid text ≡ Ok sid
+with-uuid : (text front id rest : List ℕ) (sid : Sid) → Lacks 58 front → parsed front ≡ Some id → text ≡ front ++ 58 ∷ rest → read_after id rest ≡ Ok sid → read_sid text ≡ Ok sid
 unfolding read_sid
 with-uuid text front id rest sid lacks uuid e r =
     let in_front : before colon (front ++ 58 ∷ rest) ≡ front = before-cut 58 front rest lacks in
-    let at_back : behind colon (front ++ 58 ∷ rest) ≡ rest = behind-cut 58 front rest lacks in
+    let at_back : after colon (front ++ 58 ∷ rest) ≡ rest = after-cut 58 front rest lacks in
     ap read_sid e
     ∙ cut-there (has colon (front ++ 58 ∷ rest)) _ (has-cut 58 front rest lacks)
-    ∙ ap (λ (t : List ℕ). read_with (parsed t) (behind colon (front ++ 58 ∷ rest))) in_front
+    ∙ ap (λ (t : List ℕ). read_with (parsed t) (after colon (front ++ 58 ∷ rest))) in_front
     ∙ ap (λ (t : List ℕ). read_with (parsed front) t) at_back
     ∙ ap (λ (o : Option (List ℕ)). read_with o rest) uuid
     ∙ r
 
 pub sid-spelled : (text : List ℕ) (s : Sid) → SpellsSid text s → read_sid text ≡ Ok s
 sid-spelled text s h =
-    let b = behind-spelled s.uuid s.tag s.intervals h.more h.tag h.intervals h.some h.digit in
+    let b = after-spelled s.uuid s.tag s.intervals h.more h.tag h.intervals h.some h.digit in
     with-uuid text h.id s.uuid b.0 s (no_colon-lacks h.id h.no_colon) h.uuid (h.parts ∙ ap (λ (t : List ℕ). h.id ++ t) b.1) b.2
 
 -- a text spells one sid at the most

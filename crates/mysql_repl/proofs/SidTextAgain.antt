@@ -15,7 +15,7 @@ use Rattle.mysql_repl.specs.declared.sid.Sid.{Sid}
 use Rattle.mysql_repl.specs.GnoInterval.{start, end}
 use Rattle.mysql_repl.specs.SidText.{read_sid, interval_text, sid_text}
 use Rattle.mysql_repl.specs.ProperSid.{ProperInterval, AllProper, ProperIntervals, ProperSid}
-use Rattle.mysql_repl.specs.SidGrammar.{SpellsNumber, SpellsTwo, SpellsInterval, SpellsEach, DigitBehindColon, NoColon, SpellsSid}
+use Rattle.mysql_repl.specs.SidGrammar.{SpellsNumber, SpellsTwo, SpellsInterval, SpellsEach, DigitAfterColon, NoColon, SpellsSid}
 use Rattle.mysql_repl.proofs.SidCuts.{no_colon-from}
 use Rattle.mysql_repl.proofs.SidSpelled.{sid-spelled}
 
@@ -49,7 +49,7 @@ written-by false i e h =
       first_number = written-number (start i) (omega (arith, h.order, h.fits));
       last_gno = end i - 1;
       last_number = written-number (end i - 1) (omega (arith, h.fits));
-      end_behind = omega (arith, h.order);
+      end_after = omega (arith, h.order);
     } in
     record { numbers = inr two; proper = h }
 
@@ -65,7 +65,7 @@ each-written (i ∷ is) h = (body i, texts is, texts-next i is, written-by (end 
 
 -- ---- the first digit
 
-first-digit : (ds rest : List ℕ) → IsNumeral 10 ds → DigitBehindColon (58 ∷ (ds ++ rest))
+first-digit : (ds rest : List ℕ) → IsNumeral 10 ds → DigitAfterColon (58 ∷ (ds ++ rest))
 first-digit [] rest h = absurd (omega (arith, h.0))
 first-digit (d ∷ ds) rest h =
     let r = digit_from_value d h.1.0 in
@@ -73,7 +73,7 @@ first-digit (d ∷ ds) rest h =
     let high : d ≤ 57 = r.1 in
     grind (arith, nat_tests)
 
-body-digit : (b : Bool) (i : GnoInterval) (more : List ℕ) → ProperInterval i → DigitBehindColon (58 ∷ (body_by b i ++ more))
+body-digit : (b : Bool) (i : GnoInterval) (more : List ℕ) → ProperInterval i → DigitAfterColon (58 ∷ (body_by b i ++ more))
 body-digit true i more h = first-digit (decimal (start i)) more (decimal_is_IsNumeral (start i) (omega (arith, h.order, h.fits))).0
 body-digit false i more h =
     rw (append_assoc (decimal (start i)) (45 ∷ decimal (end i - 1)) more)
@@ -93,12 +93,12 @@ hyphenated-no_colon id = no_colon-from (hyphenated_text lower id) (λ k lt.
 -- ---- the whole text
 
 abbrev pub Some_spelled : List GnoInterval → Type 0
-Some_spelled is = SpellsEach is (texts is) × (0 < length is) × DigitBehindColon (texts is)
+Some_spelled is = SpellsEach is (texts is) × (0 < length is) × DigitAfterColon (texts is)
 
 some-written : (is : List GnoInterval) → ProperIntervals is → Some_spelled is
 some-written [] h = absurd h
 some-written (i ∷ is) h =
-    (each-written (i ∷ is) h, omega arith, subst DigitBehindColon (sym (texts-next i is)) (body-digit (end i == start i + 1) i (texts is) h.0))
+    (each-written (i ∷ is) h, omega arith, subst DigitAfterColon (sym (texts-next i is)) (body-digit (end i == start i + 1) i (texts is) h.0))
 
 pub sid-written : (s : Sid) → ProperSid s → SpellsSid (sid_text s) s
 sid-written s h =

@@ -17,11 +17,11 @@ use Rattle.mysql_repl.specs.declared.sid_text.InvalidSid.TheVariants as fault
 use Rattle.mysql_repl.specs.declared.tag.InvalidTag.{InvalidTag}
 use Rattle.mysql_repl.specs.GnoInterval.{interval_of, start, end}
 use Rattle.mysql_repl.specs.ProperSid.{ProperInterval, AllProper, ProperIntervals}
-use Rattle.mysql_repl.specs.SidGrammar.{AreDigitsOf, SpellsNumber, SpellsTwo, SpellsInterval, SpellsEach, DigitBehindColon, SpellsSid}
-use Rattle.mysql_repl.specs.SidText.{Answered, colon, hyphen, is, has, before, behind, number_of, checked, from_numbers, read_interval, onto, read_each, parts_of, read_intervals, sid_with, read_tagged, read_behind, read_with, read_sid, tag_text, sid_text}
+use Rattle.mysql_repl.specs.SidGrammar.{AreDigitsOf, SpellsNumber, SpellsTwo, SpellsInterval, SpellsEach, DigitAfterColon, SpellsSid}
+use Rattle.mysql_repl.specs.SidText.{Answered, colon, hyphen, is, has, before, after, number_of, checked, from_numbers, read_interval, onto, read_each, parts_of, read_intervals, sid_with, read_tagged, read_after, read_with, read_sid, tag_text, sid_text}
 use Rattle.mysql_repl.specs.Tag.{tag_fault}
 use Rattle.mysql_repl.specs.TagString.{OptionalTag}
-use Rattle.mysql_repl.proofs.SidCuts.{cut-parts, utf8-before, utf8-behind, no_colon-before}
+use Rattle.mysql_repl.proofs.SidCuts.{cut-parts, utf8-before, utf8-after, no_colon-before}
 use Rattle.mysql_repl.proofs.SidSpelled.{sid-spelled}
 use Rattle.mysql_repl.proofs.SidTextAgain.{sid-text-again}
 use Rattle.mysql_repl.proofs.SidTexts.{which, numeral-from}
@@ -115,7 +115,7 @@ two-from text front back i parts e =
       first_number = subst (λ (m : ℕ). SpellsNumber front m) (sym f.0) (number-from front n.0 n.2).0;
       last_gno = n.1;
       last_number = last.0;
-      end_behind = f.1;
+      end_after = f.1;
     } in
     record { numbers = inr two; proper = f.2 }
 
@@ -128,8 +128,8 @@ interval-by false more x y i e = inr e
 interval-from : (text : List ℕ) (i : GnoInterval) → read_interval text ≡ Ok i → SpellsInterval text i
 unfolding read_interval
 interval-from text i e =
-    elim (interval-by (has hyphen text) (has hyphen (behind hyphen text)) (from_numbers (number_of (before hyphen text)) (number_of (behind hyphen text))) (from_numbers (number_of text) (number_of text)) i e) [
-      | inl two ↦ two-from text (before hyphen text) (behind hyphen text) i (cut-parts hyphen text two.0) two.1
+    elim (interval-by (has hyphen text) (has hyphen (after hyphen text)) (from_numbers (number_of (before hyphen text)) (number_of (after hyphen text))) (from_numbers (number_of text) (number_of text)) i e) [
+      | inl two ↦ two-from text (before hyphen text) (after hyphen text) i (cut-parts hyphen text two.0) two.1
       | inr one ↦ one-from text i one
     ]
 
@@ -167,14 +167,14 @@ intervals-from text list h =
 
 -- ---- the whole text
 
--- what stands behind a uuid and its colon spells the rest of the sid
+-- what stands after a uuid and its colon spells the rest of the sid
 record Rest (id text : List ℕ) (s : Sid) : Type 0 where
   pub more : List ℕ
   pub uuid : s.uuid ≡ id
   pub parts : 58 ∷ text ≡ tag_text s.tag ++ more
   pub tag : IsUtf8 text → OptionalTag s.tag
   pub intervals : SomeSpelled s.intervals more
-  pub digit : s.tag ≡ None → DigitBehindColon more
+  pub digit : s.tag ≡ None → DigitAfterColon more
 
 with-from : (id : List ℕ) (tag : Option (List ℕ)) (r : Result (List GnoInterval) InvalidSid) (s : Sid) → sid_with id tag r ≡ Ok s → (r ≡ Ok s.intervals) × (s.tag ≡ tag) × (s.uuid ≡ id)
 with-from id tag (Err e) s h = absurd cc
@@ -208,10 +208,10 @@ untagged id c cs s digit h =
       digit = λ e. digit;
     }
 
-tagged : (id text : List ℕ) (s : Sid) → has colon text ≡ true → read_tagged id (before colon text) (behind colon text) (tag_fault (before colon text)) ≡ Ok s → Rest id text s
+tagged : (id text : List ℕ) (s : Sid) → has colon text ≡ true → read_tagged id (before colon text) (after colon text) (tag_fault (before colon text)) ≡ Ok s → Rest id text s
 tagged id text s cut h =
     let front = before colon text in
-    let back = behind colon text in
+    let back = after colon text in
     let t = tagged-from id front back (tag_fault front) s h in
     let w = with-from id (Some front) (read_intervals back) s t.1 in
     let whole : 58 ∷ text ≡ tag_text (Some front) ++ 58 ∷ back = ap (λ (x : List ℕ). 58 ∷ x) (cut-parts colon text cut) in
@@ -224,19 +224,19 @@ tagged id text s cut h =
       digit = λ none. let wrong : ◌≡◌ {A = Option (List ℕ)} (Some front) None = sym w.1 ∙ none in absurd cc;
     }
 
-behind-from : (id text : List ℕ) (s : Sid) → read_behind id text ≡ Ok s → Rest id text s
-unfolding read_behind
-behind-from id [] s h = absurd cc
-behind-from id (c ∷ cs) s h =
+after-from : (id text : List ℕ) (s : Sid) → read_after id text ≡ Ok s → Rest id text s
+unfolding read_after
+after-from id [] s h = absurd cc
+after-from id (c ∷ cs) s h =
     elim (either-of (is_ascii_digit c) (has colon (c ∷ cs)) (sid_with id None (read_intervals (c ∷ cs)))
-    (read_tagged id (before colon (c ∷ cs)) (behind colon (c ∷ cs)) (tag_fault (before colon (c ∷ cs)))) s h) [
+    (read_tagged id (before colon (c ∷ cs)) (after colon (c ∷ cs)) (tag_fault (before colon (c ∷ cs)))) s h) [
       | inl x ↦ untagged id c cs s x.0 x.1
       | inr y ↦ tagged id (c ∷ cs) s y.0 y.1
     ]
 
 uuid-from : (o : Option (List ℕ)) (text : List ℕ) (s : Sid) → read_with o text ≡ Ok s → (id : List ℕ) × (o ≡ Some id) × Rest id text s
 uuid-from None text s h = absurd cc
-uuid-from (Some id) text s h = (id, refl, behind-from id text s h)
+uuid-from (Some id) text s h = (id, refl, after-from id text s h)
 
 cut-from : (cut : Bool) (x : Result Sid InvalidSid) (s : Sid) → (if cut then x else Err fault.NoColon) ≡ Ok s → (cut ≡ true) × (x ≡ Ok s)
 cut-from true x s h = (refl, h)
@@ -250,7 +250,7 @@ sid-from : (text : List ℕ) (s : Sid) → read_sid text ≡ Ok s → Read text 
 unfolding read_sid
 sid-from text s h =
     let front = before colon text in
-    let back = behind colon text in
+    let back = after colon text in
     let cut = cut-from (has colon text) (read_with (parsed front) back) s h in
     let u = uuid-from (parsed front) back s cut.1 in
     let rest : Rest u.0 back s = u.2 in (
@@ -265,7 +265,7 @@ sid-from text s h =
         some = rest.intervals.1;
         digit = rest.digit;
       },
-      λ utf8. rest.tag (utf8-behind colon text (omega arith) cut.0 utf8),
+      λ utf8. rest.tag (utf8-after colon text (omega arith) cut.0 utf8),
     )
 
 -- a text is read as what it spells alone

@@ -9,7 +9,7 @@ use Rattle.std.proofs.lemmas.List.{length-drop}
 use Rattle.std.proofs.lemmas.List.Splits.{slice_split_first, slice_split-cons_no}
 use Rattle.std.proofs.lemmas.Str.Parse.{IsNumeralModel, numerals_by_value, tells_all_ascii_digits}
 use Rattle.std.proofs.lemmas.Str.Pattern.{IsSplitOnceResult, split_once_first}
-use Rattle.mysql_repl.specs.SidText.{colon, hyphen, is, has, before, behind, number_in, number_of, parts_of}
+use Rattle.mysql_repl.specs.SidText.{colon, hyphen, is, has, before, after, number_in, number_of, parts_of}
 
 pub which : (b : Bool) → (b ≡ true) ⊎ (b ≡ false)
 which true = inl refl
@@ -18,16 +18,16 @@ which false = inr refl
 -- ---- cuts
 
 cut : (c : ℕ) (bs : List ℕ) (r : _) → IsSplitOnceResult c bs r → c < 128
-    → MatchOption r (has c bs ≡ false) (λ x. (has c bs ≡ true) × (x.0.now ≡ before c bs) × (x.1.now ≡ behind c bs))
+    → MatchOption r (has c bs ≡ false) (λ x. (has c bs ≡ true) × (x.0.now ≡ before c bs) × (x.1.now ≡ after c bs))
 cut c bs None h low = let e = split_once_first c bs None h low in le-ltb _ _ (omega (arith, e))
 cut c bs (Some x) h low = let p = split_once_first c bs (Some x) h low in (lt-ltb _ _ p.0, p.1, p.2)
 
 pub cut-colon : (bs : List ℕ) (r : _) → IsSplitOnceResult 58 bs r
-    → MatchOption r (has colon bs ≡ false) (λ x. (has colon bs ≡ true) × (x.0.now ≡ before colon bs) × (x.1.now ≡ behind colon bs))
+    → MatchOption r (has colon bs ≡ false) (λ x. (has colon bs ≡ true) × (x.0.now ≡ before colon bs) × (x.1.now ≡ after colon bs))
 cut-colon bs r h = cut 58 bs r h (omega arith)
 
 pub cut-hyphen : (bs : List ℕ) (r : _) → IsSplitOnceResult 45 bs r
-    → MatchOption r (has hyphen bs ≡ false) (λ x. (has hyphen bs ≡ true) × (x.0.now ≡ before hyphen bs) × (x.1.now ≡ behind hyphen bs))
+    → MatchOption r (has hyphen bs ≡ false) (λ x. (has hyphen bs ≡ true) × (x.0.now ≡ before hyphen bs) × (x.1.now ≡ after hyphen bs))
 cut-hyphen bs r h = cut 45 bs r h (omega arith)
 
 pub ruleset cuts = (cut-colon, cut-hyphen)
@@ -83,11 +83,11 @@ pub last-part : (text : List ℕ) → has colon text ≡ false → parts_of text
 unfolding parts_of
 last-part text h = one-part (is colon) text h
 
-pub next-part : (text part left : List ℕ) → has colon text ≡ true → part ≡ before colon text → left ≡ behind colon text → parts_of text ≡ part ∷ parts_of left
+pub next-part : (text part left : List ℕ) → has colon text ≡ true → part ≡ before colon text → left ≡ after colon text → parts_of text ≡ part ∷ parts_of left
 unfolding parts_of
 next-part text part left h p l = rw (p, l) (slice_split_first (is colon) text 0 (ltb-true _ _ h))
 
-pub left-shorter : (text left : List ℕ) → has colon text ≡ true → left ≡ behind colon text → length left + 1 < length text + 1
+pub left-shorter : (text left : List ℕ) → has colon text ≡ true → left ≡ after colon text → length left + 1 < length text + 1
 left-shorter text left h e =
     let lt : position_or_len (is colon) text < length text = ltb-true _ _ h in
     rw e (omega (arith, lt, length-drop (position_or_len (is colon) text + 1) text))

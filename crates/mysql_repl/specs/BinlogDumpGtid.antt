@@ -101,7 +101,7 @@ gtid_dump_fields = do
   list ← field sids sid_block
   give (record { header = head.0; flags = head.1; server_id = head.2; filename = name; pos = position; sid_block = list })
 
--- a reader is told whether it is strict
+-- a reader is passed whether it is strict
 unfoldable pub gtid_dump : Codec Bool ComBinlogDumpGtid
 unfolding gtid_dump_head
 gtid_dump = packet gtid_dump_fields (λ p. refl)

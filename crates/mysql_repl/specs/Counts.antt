@@ -8,7 +8,7 @@ use Rattle.mysql_repl.specs.BinlogDumpGtid.{gtid_dump_head}
 use Rattle.mysql_repl.specs.SidBlock.{head_of, count_of}
 use Rattle.mysql_repl.specs.TagString.{tag_form}
 
--- of a sid's intervals: behind sixteen bytes, and behind the tag, where the form is that with tags
+-- of a sid's intervals: after sixteen bytes, and after the tag, where the form is that with tags
 abbrev pub interval_count : (tagged : Bool) → Form ℕ
 interval_count false = do
   id ← bytes 16
@@ -24,11 +24,11 @@ head_count strict = do
   head ← decode (head_of strict) (number_of le_u64)
   give (count_of head)
 
--- of the sids of a block behind its length
+-- of the sids of a block after its length
 abbrev pub block_count : (strict : Bool) → Form ℕ
 block_count strict = beginning u32_string (head_count strict)
 
--- of a dump's sids: behind seven bytes, the file's name and the position
+-- of a dump's sids: after seven bytes, the file's name and the position
 abbrev pub sid_count : (strict : Bool) → Form ℕ
 sid_count strict = do
   head ← gtid_dump_head.form strict

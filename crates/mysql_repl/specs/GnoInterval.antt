@@ -18,8 +18,8 @@ end i = i.end
 abbrev pub interval_fields : Fields (Unit {0}) GnoInterval GnoInterval
 interval_fields = do
   first ← field (λ i. raw_int i.start) u64
-  behind ← field (λ i. raw_int i.end) u64
-  give (interval_of first.0 behind.0)
+  after ← field (λ i. raw_int i.end) u64
+  give (interval_of first.0 after.0)
 
 -- two numbers, in sixteen bytes
 unfoldable pub interval : Codec (Unit {0}) GnoInterval

@@ -6,7 +6,7 @@ use Rattle.mysql_repl.specs.declared.sid.Sid.{Sid}
 use Rattle.mysql_repl.specs.GnoInterval.{start, end}
 use Rattle.mysql_repl.specs.TagString.{OptionalTag}
 
--- the first number is not 0, and is below the one behind the last, which fits 64 bits
+-- the first number is not 0, and is below the one after the last, which fits 64 bits
 pub record ProperInterval (i : GnoInterval) : Type 0 where
   pub some : 0 < start i
   pub order : start i < end i

@@ -13,7 +13,7 @@ abbrev pub position_bytes : BinlogRequest → List ℕ
 position_bytes r = 0x12 ∷ (le_bytes 4 (pos r % 2 ^ 32) ++ (le_bytes 2 (bit_and (flags r).0 BINLOG_DUMP_NON_BLOCK) ++ (le_bytes 4 (server_id r) ++ filename r)))
 
 -- by GTID set: 1e; the flags, with BINLOG_THROUGH_GTID exactly if there is a sid; the replica's number; the file's name
--- behind its length; the position; the block of the sids
+-- after its length; the position; the block of the sids
 abbrev pub gtid_bytes : BinlogRequest → List ℕ
 gtid_bytes r =
     0x1e ∷ (le_bytes 2 (through_gtid (sids r) (flags r).0) ++ (le_bytes 4 (server_id r) ++ (u32_string_bytes (filename r) ++ (le_bytes 8 (pos r) ++ block_bytes (sids r)))))

@@ -32,7 +32,7 @@ with_tag text s = record s { tag = Some text }
 
 -- ---- the two layouts
 
--- sixteen bytes, and the intervals behind their count; no byte says a tag
+-- sixteen bytes, and the intervals after their count; no byte says a tag
 abbrev pub sid_fields : Fields (Unit {0}) Sid Sid
 sid_fields = do
   id ← field uuid (byte_array 16)
@@ -47,7 +47,7 @@ pub size-sid : (sid.form tt).size ≡ None
 unfolding sid
 size-sid = refl
 
--- sixteen bytes, the tag behind its length, and the intervals behind their count
+-- sixteen bytes, the tag after its length, and the intervals after their count
 abbrev pub tagged_sid_fields : Fields (Unit {0}) Sid Sid
 tagged_sid_fields = do
   id ← field uuid (byte_array 16)

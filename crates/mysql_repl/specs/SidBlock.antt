@@ -36,7 +36,7 @@ sids_form strict = do
   head ← decode (head_of strict) (number_of le_u64)
   counted (count_of head) ((sid_as (is_tagged head)).form tt)
 
--- A block behind its length. Bytes behind the last sid are ignored, but by a strict reader.
+-- A block after its length. Bytes after the last sid are ignored, but by a strict reader.
 unfoldable pub block_form : (strict : Bool) → Form (List Sid)
 block_form true = within u32_string (sids_form true)
 block_form false = beginning u32_string (sids_form false)
@@ -57,7 +57,7 @@ head_for tagged count = if tagged then 2 ^ 56 + 2 ^ 8 * (count % 2 ^ 48) else co
 unfoldable pub content : List Sid → List ℕ
 content sids = le_bytes 8 (head_for (any_tag sids) (length sids)) ++ flat_map (sid_as (any_tag sids)).bytes sids
 
--- the block, whole behind its length or 2^32 - 1, where that is less
+-- the block, whole after its length or 2^32 - 1, where that is less
 unfoldable pub block_bytes : List Sid → List ℕ
 block_bytes sids = le_bytes 4 (min (length (content sids)) 4294967295) ++ content sids
 

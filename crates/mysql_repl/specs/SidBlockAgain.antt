@@ -88,7 +88,7 @@ unfolding block_form block_bytes
 block-again true sids rest h = (content sids, string-again (content sids) h.0 rest, sids-again true sids h)
 block-again false sids rest h = (content sids, [], string-again (content sids) h.0 rest, sids-again false sids h)
 
--- a block behind its length; a reader is told whether it is strict
+-- a block after its length; a reader is passed whether it is strict
 abbrev pub sid_block : Codec Bool (List Sid)
 sid_block = record {
   form = block_form;

@@ -30,29 +30,29 @@ pub record SpellsTwo (text : List ℕ) (i : GnoInterval) : Type 0 where
   pub first_number : SpellsNumber first (start i)
   pub last_gno : ℕ
   pub last_number : SpellsNumber last last_gno
-  pub end_behind : end i ≡ last_gno + 1
+  pub end_after : end i ≡ last_gno + 1
 
--- either, where the first number is at least 1 and at most the last, behind which a number of 64 bits comes
+-- either, where the first number is at least 1 and at most the last, after which a number of 64 bits comes
 pub record SpellsInterval (text : List ℕ) (i : GnoInterval) : Type 0 where
   pub numbers : SpellsOne text i ⊎ SpellsTwo text i
   pub proper : ProperInterval i
 
--- intervals, each behind a colon
+-- intervals, each after a colon
 abbrev pub SpellsEach : List GnoInterval → List ℕ → Type 0
 SpellsEach [] text = text ≡ []
 SpellsEach (i ∷ is) text = (part : List ℕ) × (rest : List ℕ) × (text ≡ codes ":" ++ (part ++ rest)) × SpellsInterval part i × SpellsEach is rest
 
--- behind the colon stands a digit
-abbrev pub DigitBehindColon : List ℕ → Type 0
-DigitBehindColon [] = ⊥
-DigitBehindColon (colon ∷ []) = ⊥
-DigitBehindColon (colon ∷ c ∷ text) = is_ascii_digit c ≡ true
+-- after the colon stands a digit
+abbrev pub DigitAfterColon : List ℕ → Type 0
+DigitAfterColon [] = ⊥
+DigitAfterColon (colon ∷ []) = ⊥
+DigitAfterColon (colon ∷ c ∷ text) = is_ascii_digit c ≡ true
 
 abbrev pub NoColon : List ℕ → Type 0
 NoColon [] = Unit {0}
 NoColon (c ∷ text) = (c ≢ 58) × NoColon text
 
--- A text of the uuid without a colon; the tag behind a colon, if there is one; and one interval or more, each behind a colon.
+-- A text of the uuid without a colon; the tag after a colon, if there is one; and one interval or more, each after a colon.
 -- Without a tag the first interval begins with a digit, and not with a plus.
 pub record SpellsSid (text : List ℕ) (s : Sid) : Type 0 where
   pub id : List ℕ
@@ -63,4 +63,4 @@ pub record SpellsSid (text : List ℕ) (s : Sid) : Type 0 where
   pub tag : OptionalTag s.tag
   pub intervals : SpellsEach s.intervals more
   pub some : 0 < length s.intervals
-  pub digit : s.tag ≡ None → DigitBehindColon more
+  pub digit : s.tag ≡ None → DigitAfterColon more

@@ -30,12 +30,12 @@ is separator c = c == separator
 abbrev pub has : ℕ → List ℕ → Bool
 has separator text = nat_lt (position_or_len (is separator) text) (length text)
 
--- what stands before the first separator, and what behind it
+-- what stands before the first separator, and what after it
 abbrev pub before : ℕ → List ℕ → List ℕ
 before separator text = before_first (is separator) text
 
-abbrev pub behind : ℕ → List ℕ → List ℕ
-behind separator text = after_first (is separator) text
+abbrev pub after : ℕ → List ℕ → List ℕ
+after separator text = after_first (is separator) text
 
 -- ---- intervals
 
@@ -44,7 +44,7 @@ number_in digits =
     if nat_lt 0 (length digits) && all_ascii_digits digits
     then (if nat_lt (digits_value 10 digits) (2 ^ 64) then Some (digits_value 10 digits) else None) else None
 
--- one or more digits behind a plus or none, of at most 64 bits
+-- one or more digits after a plus or none, of at most 64 bits
 unfoldable pub number_of : List ℕ → Option ℕ
 number_of text = number_in (without_leading_plus text)
 
@@ -65,8 +65,8 @@ from_numbers (Some first) (Some last) = checked first last
 unfoldable pub read_interval : List ℕ → Result GnoInterval InvalidSid
 read_interval text =
     if has hyphen text then
-    (if has hyphen (behind hyphen text) then Err fault.Parts
-    else from_numbers (number_of (before hyphen text)) (number_of (behind hyphen text)))
+    (if has hyphen (after hyphen text) then Err fault.Parts
+    else from_numbers (number_of (before hyphen text)) (number_of (after hyphen text)))
     else from_numbers (number_of text) (number_of text)
 
 abbrev pub onto : Result GnoInterval InvalidSid → Result (List GnoInterval) InvalidSid → Result (List GnoInterval) InvalidSid
@@ -95,21 +95,21 @@ abbrev pub read_tagged : (id tag text : List ℕ) → Option InvalidTag → Resu
 read_tagged id tag text (Some e) = Err (fault.Tag e)
 read_tagged id tag text None = sid_with id (Some tag) (read_intervals text)
 
--- behind the uuid: intervals that begin with a digit; or a tag, and intervals
-unfoldable pub read_behind : (id text : List ℕ) → Result Sid InvalidSid
-read_behind id [] = Err fault.Empty
-read_behind id (c ∷ cs) =
+-- after the uuid: intervals that begin with a digit; or a tag, and intervals
+unfoldable pub read_after : (id text : List ℕ) → Result Sid InvalidSid
+read_after id [] = Err fault.Empty
+read_after id (c ∷ cs) =
     if is_ascii_digit c then sid_with id None (read_intervals (c ∷ cs))
-    else if has colon (c ∷ cs) then read_tagged id (before colon (c ∷ cs)) (behind colon (c ∷ cs)) (tag_fault (before colon (c ∷ cs)))
+    else if has colon (c ∷ cs) then read_tagged id (before colon (c ∷ cs)) (after colon (c ∷ cs)) (tag_fault (before colon (c ∷ cs)))
     else Err fault.NoIntervals
 
 abbrev pub read_with : Option (List ℕ) → List ℕ → Result Sid InvalidSid
 read_with None text = Err fault.Uuid
-read_with (Some id) text = read_behind id text
+read_with (Some id) text = read_after id text
 
 -- the sid, or the first refusal
 unfoldable pub read_sid : List ℕ → Result Sid InvalidSid
-read_sid text = if has colon text then read_with (parsed (before colon text)) (behind colon text) else Err fault.NoColon
+read_sid text = if has colon text then read_with (parsed (before colon text)) (after colon text) else Err fault.NoColon
 
 -- ---- refusals that come before any memory is taken
 
@@ -123,19 +123,19 @@ first_refusal [] = None
 first_refusal (part ∷ parts) = refusal_in (read_interval part)
 
 -- the tag is refused, or no intervals are there, or without a tag the first interval is refused
-unfoldable pub early_behind : List ℕ → Option InvalidSid
-early_behind [] = Some fault.Empty
-early_behind (c ∷ cs) =
+unfoldable pub early_after : List ℕ → Option InvalidSid
+early_after [] = Some fault.Empty
+early_after (c ∷ cs) =
     if is_ascii_digit c then first_refusal (parts_of (c ∷ cs))
     else if has colon (c ∷ cs) then option_map fault.Tag (tag_fault (before colon (c ∷ cs)))
     else Some fault.NoIntervals
 
 abbrev pub early_with : Option (List ℕ) → List ℕ → Option InvalidSid
 early_with None text = Some fault.Uuid
-early_with (Some id) text = early_behind text
+early_with (Some id) text = early_after text
 
 unfoldable pub early_refusal : List ℕ → Option InvalidSid
-early_refusal text = if has colon text then early_with (parsed (before colon text)) (behind colon text) else Some fault.NoColon
+early_refusal text = if has colon text then early_with (parsed (before colon text)) (after colon text) else Some fault.NoColon
 
 -- an answer is what reading gives, unless memory ran out
 abbrev pub Answered : {A : Type 0} → Result A InvalidSid → Result A InvalidSid → Type 0

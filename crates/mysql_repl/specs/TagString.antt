@@ -50,6 +50,6 @@ unfolding tag_form tag_of
 tag-again None h rest = ([], refl, varlen_string-again [] (omega arith) rest)
 tag-again (Some tag) h rest = (tag, tag_of-tag tag h, varlen_string-again tag (omega (arith, tag-short tag h)) rest)
 
--- a tag behind its length, which is 0 where there is none
+-- a tag after its length, which is 0 where there is none
 abbrev pub optional_tag : {C : Type 0} → Codec C (Option (List ℕ))
 optional_tag = leaf tag_form (λ tag. varlen_string_bytes (tag_bytes tag)) (λ tag. length (varlen_string_bytes (tag_bytes tag))) OptionalTag (λ tag h. refl) tag-again

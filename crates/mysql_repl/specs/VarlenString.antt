@@ -1,10 +1,10 @@
--- Byte strings behind a length of varying width.
+-- Byte strings after a length of varying width.
 use Rattle.std.specs.Prelude.{◌≡◌, ℕ, ◌<◌, ◌^◌, List, ◌++◌, length, None, refl}
 use Rattle.std.proofs.Common.{append_assoc}
 use Rattle.mysql_wire.specs.Form.{Form, ◌>>=◌, bytes}
 use Rattle.mysql_wire.specs.Spelling.{IsSpelling}
 use Rattle.mysql_wire.specs.Varlen.{varlen, varlen_bytes}
-use Rattle.mysql_wire.specs.VarlenAgain.{varlen_again}
+use Rattle.mysql_wire.specs.VarlenAgain.{varlen_round_trips}
 
 -- the length, and that many bytes
 unfoldable pub varlen_string : Form (List ℕ)
@@ -23,4 +23,4 @@ pub varlen_string-again : (content : List ℕ) → length content < 2 ^ 64 → I
 unfolding varlen_string bytes
 varlen_string-again content short rest =
     let n = length content in
-    rw append_assoc (n, content ++ rest, varlen_again n short (content ++ rest), (refl, refl))
+    rw append_assoc (n, content ++ rest, varlen_round_trips n short (content ++ rest), (refl, refl))

@@ -36,7 +36,7 @@ pub type ComBinlogDumpHeader = ConstU8<InvalidComBinlogDumpHeader, 0x12>;
 /// | 4 | `server_id` |
 /// | the others | `filename` |
 ///
-/// Numbers have the low byte first. Fewer than 11 bytes are `UnexpectedEof`, another first byte is
+/// Numbers have little-endian. Fewer than 11 bytes are `UnexpectedEof`, another first byte is
 /// `InvalidData`. Reading takes no memory.
 #[derive(Clone, Debug, PartialEq, Eq, Hash, Drop)]
 pub struct ComBinlogDump<'a> {

@@ -40,19 +40,19 @@ pub type ComBinlogDumpGtidHeader = ConstU8<InvalidComBinlogDumpGtidHeader, 0x1e>
 /// | 1 | `1e` |
 /// | 2 | `flags` |
 /// | 4 | `server_id` |
-/// | 4 + n | `filename`, behind its length |
+/// | 4 + n | `filename`, after its length |
 /// | 8 | `pos` |
-/// | 4 + n | the block of `sids`, behind its length |
+/// | 4 + n | the block of `sids`, after its length |
 ///
-/// Numbers have the low byte first. The block is a head of eight bytes, and so many sids. The head's
+/// Numbers have little-endian. The block is a head of eight bytes, and so many sids. The head's
 /// top byte is 1 where the sids are in the form with tags: the count then stands in the bits 8 to
 /// 55. With any other top byte the sids are in the form without tags, and the count stands in the
 /// bits 0 to 55. A sid is 16 bytes; with tags, a length of varying width and so many bytes of a tag;
-/// a count of eight bytes, and so many pairs of numbers of eight bytes. Bytes of the block behind the
+/// a count of eight bytes, and so many pairs of numbers of eight bytes. Bytes of the block after the
 /// last sid are ignored, unless the reader is [`parse_strict`](Self::parse_strict).
 ///
 /// Missing bytes are `UnexpectedEof`. Another first byte, or the bytes of a tag that are no tag, are
-/// `InvalidData`. Reading takes room for the sids as it comes to them, and answers `Memory` where
+/// `InvalidData`. Reading takes capacity for the sids as it comes to them, and answers `Memory` where
 /// that is refused; where the head counts no sid, it takes none.
 ///
 /// The block is written with tags where some sid has one, and whole; its length is written as
@@ -165,7 +165,7 @@ impl<'a> ComBinlogDumpGtid<'a> {
     }
 
     /// The request with a sid more, at the end, and with the flag BINLOG_THROUGH_GTID. Borrowed sids
-    /// are copied first. Where a growth is refused, the request is given up.
+    /// are copied first. Where an allocation fails, the request is given up.
     pub fn with_sid(mut self, alloc: Global, sid: Sid<'a>) -> Result<Self, AllocError>
         ensures value { IfOk result (λ p. p ≡ spec.with_sid sid.entry self.entry) }
     {
@@ -186,7 +186,7 @@ impl<'a> ComBinlogDumpGtid<'a> {
 
     /// Reads a request as [`ParseBuf::parse`] does, and refuses as `InvalidData` two things more: a
     /// block whose head's top byte is neither 0 nor 1, before any sid is read; and bytes of the
-    /// block behind the last sid.
+    /// block after the last sid.
     ///
     /// What it reads is what `parse` reads. After a refusal the buffer is as it was.
     pub fn parse_strict(buf: &mut ParseBuf<'a>) -> Result<Self, Fault>

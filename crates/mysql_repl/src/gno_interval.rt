@@ -16,7 +16,7 @@ pub enum InvalidGno {
     Order {
         /// The number that was to be the first.
         start: u64,
-        /// The number that was to stand behind the last.
+        /// The number that was to stand after the last.
         end: u64,
     },
     /// The start is 0, which numbers no transaction.
@@ -24,7 +24,7 @@ pub enum InvalidGno {
     Zero,
 }
 
-/// The transactions from `start` on, before `end`: two numbers of eight bytes, the low one first.
+/// The transactions from `start` on, before `end`: two numbers of eight bytes, little-endian.
 ///
 /// Fewer than 16 bytes are `UnexpectedEof`. Any two numbers are read and written.
 #[derive(Clone, Copy, Debug, PartialEq, Eq, Hash)]
@@ -51,7 +51,7 @@ impl GnoInterval {
         self.start
     }
 
-    /// The number behind the last transaction.
+    /// The number after the last transaction.
     #[inline]
     pub fn end(&self) -> u64
         ensures value { result ≡ spec.end self.now }

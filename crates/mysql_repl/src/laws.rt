@@ -34,39 +34,40 @@ use std::hash::Hash;
 mod values;
 
 pub use values::{
-    this_binlog_dump_again, this_binlog_dump_gtid_again, this_register_slave_again,
-    this_semi_sync_ack_again, this_sid_again, this_sid_text_again, this_table_dump_again,
+    this_binlog_dump_gtid_round_trips, this_binlog_dump_round_trips,
+    this_register_slave_round_trips, this_semi_sync_ack_round_trips, this_sid_round_trips,
+    this_sid_text_round_trips, this_table_dump_round_trips,
 };
 
 /// What is written of a registration is read again, whatever follows.
-pub fn register_slave_again()
+pub fn register_slave_round_trips()
     ensures spelled { (p : ComRegisterSlave) (rest : List ℕ) → RegisterSlaveFits p → (register_slave.form tt).Spells p (register_slave.bytes p ++ rest) rest }
 {}
 
 /// What is written of a request for a table is read again, whatever follows.
-pub fn table_dump_again()
+pub fn table_dump_round_trips()
     ensures spelled { (p : ComTableDump) (rest : List ℕ) → TableDumpFits p → (table_dump.form tt).Spells p (table_dump.bytes p ++ rest) rest }
 {}
 
 /// What is written of a dump by position is read again, where nothing follows.
-pub fn binlog_dump_again()
+pub fn binlog_dump_round_trips()
     ensures spelled { (p : ComBinlogDump) (rest : List ℕ) → BinlogDumpFits p rest → (binlog_dump.form tt).Spells p (binlog_dump.bytes p ++ rest) rest }
 {}
 
 /// What is written of an acknowledgement is read again, where nothing follows.
-pub fn semi_sync_ack_again()
+pub fn semi_sync_ack_round_trips()
     ensures spelled { (p : SemiSyncAckPacket) (rest : List ℕ) → SemiSyncAckFits p rest → (semi_sync_ack.form tt).Spells p (semi_sync_ack.bytes p ++ rest) rest }
 {}
 
 /// What is written of a sid without a tag is read again, whatever follows; and what is written of any sid in the form
 /// with tags.
-pub fn sid_again()
+pub fn sid_round_trips()
     ensures untagged { (s : Sid) (rest : List ℕ) → IsSid s → s.tag ≡ None → (sid.form tt).Spells s (sid.bytes s ++ rest) rest }
     ensures tagged { (s : Sid) (rest : List ℕ) → IsSid s → (tagged_sid.form tt).Spells s (tagged_sid.bytes s ++ rest) rest }
 {}
 
 /// What is written of a dump by GTID set is read again, whatever follows, by either reader.
-pub fn binlog_dump_gtid_again()
+pub fn binlog_dump_gtid_round_trips()
     ensures lenient { (p : ComBinlogDumpGtid) (rest : List ℕ) → GtidDumpFits p → (gtid_dump.form false).Spells p (gtid_dump.bytes p ++ rest) rest }
     ensures strict { (p : ComBinlogDumpGtid) (rest : List ℕ) → GtidDumpFits p → (gtid_dump.form true).Spells p (gtid_dump.bytes p ++ rest) rest }
 {}
@@ -96,14 +97,14 @@ pub fn sid_text_is_spelled()
 /// The text that is written of a sid spells that sid, and is read as it, where it has at least one interval, and each is
 /// proper.
 #[tactic(auto, using(crate::proofs::SidTextAgain::sid_texts_again))]
-pub fn sid_text_again()
+pub fn sid_text_round_trips()
     ensures spelled { (s : Sid) → ProperSid s → SpellsSid (sid_text s) s }
     ensures read { (s : Sid) → ProperSid s → read_sid (sid_text s) ≡ Ok s }
 {}
 
 /// A text in UTF-8 that was read, printed and read again gives the first reading.
 #[tactic(auto, using(crate::proofs::SidTextRead::sid_reads_again))]
-pub fn sid_text_read_again()
+pub fn read_sid_text_round_trips()
     ensures read { (text : List ℕ) (s : Sid) → IsUtf8 text → read_sid text ≡ Ok s → read_sid (sid_text s) ≡ Ok s }
 {}
 
@@ -114,7 +115,7 @@ pub fn tag_has_no_fault()
     ensures tag { (text : List ℕ) → IsUtf8 text → tag_fault text ≡ None → IsTag text }
 {}
 
-/// What is written of the command that a request makes: the bytes of either command, behind what stood there. A refused
+/// What is written of the command that a request makes: the bytes of either command, after what stood there. A refused
 /// growth leaves the buffer as it was.
 ///
 /// This law makes the two calls.

@@ -34,14 +34,14 @@ pub type ComRegisterSlaveHeader = ConstU8<InvalidComRegisterSlaveHeader, 0x15>;
 /// |---|---|
 /// | 1 | `15` |
 /// | 4 | `server_id` |
-/// | 1 + n | `hostname`, behind its length |
-/// | 1 + n | `user`, behind its length |
-/// | 1 + n | `password`, behind its length |
+/// | 1 + n | `hostname`, after its length |
+/// | 1 + n | `user`, after its length |
+/// | 1 + n | `password`, after its length |
 /// | 2 | `port` |
 /// | 4 | `replication_rank` |
 /// | 4 | `master_id` |
 ///
-/// Numbers have the low byte first. The first 255 bytes of a string are written. Missing bytes are
+/// Numbers have little-endian. The first 255 bytes of a string are written. Missing bytes are
 /// `UnexpectedEof`, another first byte is `InvalidData`. Reading takes no memory.
 #[derive(Clone, Debug, PartialEq, Eq, Hash, Drop)]
 pub struct ComRegisterSlave<'a> {

@@ -27,7 +27,7 @@ impl ConstFault for InvalidSemiSyncAckPacketPacketHeader {
 pub type SemiSyncAckPacketPacketHeader = ConstU8<InvalidSemiSyncAckPacketPacketHeader, 0xef>;
 
 /// A replica's acknowledgement of an event that asked for one (semi-synchronous replication): the
-/// byte `ef`, the position behind the event in eight bytes, the low one first, and the name of the
+/// byte `ef`, the position after the event in eight bytes, little-endian, and the name of the
 /// binary log to the end of the packet.
 ///
 /// Fewer than 9 bytes are `UnexpectedEof`, another first byte is `InvalidData`. Reading takes no
@@ -67,7 +67,7 @@ impl<'a> SemiSyncAckPacket<'a> {
         self
     }
 
-    /// The position behind the event.
+    /// The position after the event.
     #[inline]
     pub fn position(&self) -> u64
         ensures value { result ≡ spec.position self.now }

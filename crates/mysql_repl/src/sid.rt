@@ -79,7 +79,7 @@ impl<'a> Sid<'a> {
     }
 
     /// The same with an interval more, at the end. Borrowed intervals are copied first. Where a
-    /// growth is refused, the transactions are given up.
+    /// allocation fails, the transactions are given up.
     pub fn with_interval(mut self, alloc: Global, interval: GnoInterval) -> Result<Self, AllocError>
         ensures value { IfOk result (λ s. s ≡ spec.with_interval interval self.entry) }
     {

@@ -32,7 +32,7 @@ fn count_of(head: u64) -> u64
     }
 }
 
-/// Reads so many sids, in the form with tags or in the other. Room is taken as they are read, and
+/// Reads so many sids, in the form with tags or in the other. Capacity is taken as they are read, and
 /// none for the count.
 fn read_counted<'s, 'de>(
     tagged: bool,
@@ -62,7 +62,7 @@ fn read_sids<'s, 'de>(strict: bool, block: &mut ParseBuf<'de>) -> Result<Vec<Sid
     read_counted(layout(head) == 1, count_of(head), block)
 }
 
-/// Reads a block behind its length, as a strict reader: no bytes stand behind the last sid.
+/// Reads a block after its length, as a strict reader: no bytes stand after the last sid.
 #[tactic(auto, using(mysql_wire::proofs::Packets::packets), unfolding(crate::specs::SidBlock::block_form))]
 fn read_whole_block<'s, 'de>(
     buf: &mut ParseBuf<'de>,
@@ -77,7 +77,7 @@ fn read_whole_block<'s, 'de>(
     Ok(Seq::owned(sids))
 }
 
-/// Reads a block behind its length. Bytes behind the last sid are ignored.
+/// Reads a block after its length. Bytes behind the last sid are ignored.
 #[tactic(auto, using(mysql_wire::proofs::Packets::packets), unfolding(crate::specs::SidBlock::block_form))]
 fn read_lenient_block<'s, 'de>(
     buf: &mut ParseBuf<'de>,
@@ -89,7 +89,7 @@ fn read_lenient_block<'s, 'de>(
     Ok(Seq::owned(sids))
 }
 
-/// Reads a block behind its length, as a strict reader or as the other.
+/// Reads a block after its length, as a strict reader or as the other.
 pub(crate) fn read_block<'s, 'de>(
     strict: bool,
     buf: &mut ParseBuf<'de>,
@@ -151,11 +151,11 @@ impl<'a> SidBlock<'_, 'a> {
         self.sids_len(tagged).saturating_add(8)
     }
 
-    /// Writes the sids to a buffer that has room for them.
+    /// Writes the sids to a buffer that has capacity for them.
     fn append_sids(&self, tagged: bool, out: &mut Vec<u8>)
         requires { vec_len out.old + length (flat_map (sid_as tagged).bytes self.now.0.now) ≤ vec_capacity out.old }
         ensures items { out.new.items ≡ out.old.items ++ flat_map (sid_as tagged).bytes self.now.0.now }
-        ensures room { vec_capacity out.old ≤ vec_capacity out.new }
+        ensures capacity { vec_capacity out.old ≤ vec_capacity out.new }
     {
         for sid in self.0 {
             SidAs { tagged, sid }.append(out);

@@ -38,16 +38,16 @@ pub enum InvalidSid {
     /// An interval has more than one hyphen.
     #[error("Parts")]
     Parts,
-    /// An interval has something else than digits behind a plus or none, or a number past 64 bits.
+    /// An interval has something else than digits after a plus or none, or a number past 64 bits.
     #[error("Number")]
     Number,
-    /// The last number of an interval is 2^64 - 1, behind which there is none.
+    /// The last number of an interval is 2^64 - 1, after which there is none.
     #[error("TooLarge")]
     TooLarge,
     /// The numbers of an interval are no interval of transactions.
     #[error("{0}")]
     Gno(InvalidGno),
-    /// A growth was refused. The same text may be read once memory is there.
+    /// An allocation failed. The same text may be read once memory is there.
     #[error("Memory")]
     Memory,
 }
@@ -92,23 +92,23 @@ impl<T: Drop> From<AllocFailed<T>> for InvalidSid {
     }
 }
 
-/// What stands before the first colon, and what behind it.
+/// What stands before the first colon, and what after it.
 #[tactic(auto, using(crate::proofs::SidTexts::cuts))]
 fn cut_at_colon(text: &str) -> Option<(&str, &str)>
-    ensures value { MatchOption result (spec.has spec.colon text.now ≡ false) (λ cut. (spec.has spec.colon text.now ≡ true) × (cut.0.now ≡ spec.before spec.colon text.now) × (cut.1.now ≡ spec.behind spec.colon text.now)) }
+    ensures value { MatchOption result (spec.has spec.colon text.now ≡ false) (λ cut. (spec.has spec.colon text.now ≡ true) × (cut.0.now ≡ spec.before spec.colon text.now) × (cut.1.now ≡ spec.after spec.colon text.now)) }
 {
     text.split_once(':')
 }
 
-/// What stands before the first hyphen, and what behind it.
+/// What stands before the first hyphen, and what after it.
 #[tactic(auto, using(crate::proofs::SidTexts::cuts))]
 fn cut_at_hyphen(text: &str) -> Option<(&str, &str)>
-    ensures value { MatchOption result (spec.has spec.hyphen text.now ≡ false) (λ cut. (spec.has spec.hyphen text.now ≡ true) × (cut.0.now ≡ spec.before spec.hyphen text.now) × (cut.1.now ≡ spec.behind spec.hyphen text.now)) }
+    ensures value { MatchOption result (spec.has spec.hyphen text.now ≡ false) (λ cut. (spec.has spec.hyphen text.now ≡ true) × (cut.0.now ≡ spec.before spec.hyphen text.now) × (cut.1.now ≡ spec.after spec.hyphen text.now)) }
 {
     text.split_once('-')
 }
 
-/// The number of 64 bits that digits write, behind a plus or none.
+/// The number of 64 bits that digits write, after a plus or none.
 fn number_of(text: &str) -> Option<u64>
     ensures { result ≡ spec.number_of text.now }
 {
@@ -150,7 +150,7 @@ fn read_interval(text: &str) -> Result<GnoInterval, InvalidSid>
     from_numbers(number_of(first), number_of(last))
 }
 
-/// A text up to its first colon, and what stands behind that colon, if there is one.
+/// A text up to its first colon, and what stands after that colon, if there is one.
 #[derive(Drop)]
 struct FirstPart<'a> {
     part: &'a str,
@@ -192,10 +192,10 @@ fn read_intervals(alloc: Global, text: &str) -> Result<Vec<GnoInterval>, Invalid
 }
 
 /// The sid with that uuid whose tag and intervals a text spells.
-#[tactic(auto, unfolding(crate::specs::SidText::read_behind, crate::specs::SidText::early_behind))]
-fn read_behind(alloc: Global, uuid: [u8; 16], text: &str) -> Result<Sid<'static>, InvalidSid>
-    ensures value { spec.Answered result (spec.read_behind uuid text.now) }
-    ensures early { IfSome (spec.early_behind text.now) (λ e. result ≡ Err e) }
+#[tactic(auto, unfolding(crate::specs::SidText::read_after, crate::specs::SidText::early_after))]
+fn read_after(alloc: Global, uuid: [u8; 16], text: &str) -> Result<Sid<'static>, InvalidSid>
+    ensures value { spec.Answered result (spec.read_after uuid text.now) }
+    ensures early { IfSome (spec.early_after text.now) (λ e. result ≡ Err e) }
 {
     let Some(first) = text.as_bytes().first() else {
         return Err(InvalidSid::Empty);
@@ -218,7 +218,7 @@ impl Sid<'static> {
     /// The text is a uuid in any form without a colon; a colon; a tag and a colon, or none; and
     /// intervals with colons between them. An interval is a number, or the first and the last number
     /// with a hyphen between them: the first is at least 1 and at most the last, and the last is
-    /// below 2^64 - 1. A number is one or more digits, behind a plus or none. Without a tag the
+    /// below 2^64 - 1. A number is one or more digits, after a plus or none. Without a tag the
     /// intervals begin with a digit.
     ///
     /// Another text is refused by its first fault. No memory is asked for before the uuid and the tag with its colon, or
@@ -228,7 +228,7 @@ impl Sid<'static> {
         ensures spelled { IfOk result (SpellsSid text.now) }
         ensures read { (s : Sid) → SpellsSid text.now s → spec.Answered result (Ok s) }
         ensures value { spec.Answered result (spec.read_sid text.now) }
-        // Memory is asked for behind these alone.
+        // Memory is asked for after these alone.
         ensures early { IfSome (spec.early_refusal text.now) (λ e. result ≡ Err e) }
     {
         read_sid(alloc, text)
@@ -247,7 +247,7 @@ fn read_sid(alloc: Global, text: &str) -> Result<Sid<'static>, InvalidSid>
     let Some(uuid) = uuid_of(uuid) else {
         return Err(InvalidSid::Uuid);
     };
-    read_behind(alloc, uuid, text)
+    read_after(alloc, uuid, text)
 }
 
 /// The bytes of the uuid that a text writes, in any of its forms.
@@ -260,7 +260,7 @@ fn uuid_of(text: &str) -> Option<[u8; 16]>
     }
 }
 
-/// An interval behind its colon.
+/// An interval after its colon.
 #[derive(Drop)]
 struct ShownInterval<'b>(&'b GnoInterval);
 
@@ -279,7 +279,7 @@ impl fmt::Display for ShownInterval<'_> {
     }
 }
 
-/// Intervals, each behind its colon.
+/// Intervals, each after its colon.
 #[derive(Drop)]
 struct ShownIntervals<'b>(&'b [GnoInterval]);
 
@@ -295,7 +295,7 @@ impl fmt::Display for ShownIntervals<'_> {
     }
 }
 
-/// A tag behind its colon, or nothing.
+/// A tag after its colon, or nothing.
 #[derive(Drop)]
 struct ShownTag<'b, 'a>(Option<&'b Tag<'a>>);
 

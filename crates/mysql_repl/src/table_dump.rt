@@ -27,7 +27,7 @@ impl ConstFault for InvalidComTableDumpHeader {
 pub type ComTableDumpHeader = ConstU8<InvalidComTableDumpHeader, 0x13>;
 
 /// The request for the rows of a table (`COM_TABLE_DUMP`): the byte `13`, and the names of the
-/// database and of the table, each behind its length in one byte.
+/// database and of the table, each after its length in one byte.
 ///
 /// The first 255 bytes of a name are written. Missing bytes are `UnexpectedEof`, another first byte
 /// is `InvalidData`. Reading takes no memory.

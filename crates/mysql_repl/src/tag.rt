@@ -16,7 +16,7 @@ use std::hash::{Hash, Hasher};
 use std::marker::Model;
 use thiserror::Error;
 
-/// Why a text is no tag. The first fault is told: the text is empty, it is too long, its first
+/// Why a text is no tag. The first fault is answered: the text is empty, it is too long, its first
 /// character, and then its other characters from the left.
 #[derive(Clone, Debug, PartialEq, Eq, Hash, Drop, Error)]
 pub enum InvalidTag {

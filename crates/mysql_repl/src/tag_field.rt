@@ -30,7 +30,7 @@ fn tag_of<'s, 'a>(bytes: &'a [u8]) -> Result<Option<Tag<'a>>, FaultOf<'s>>
     }
 }
 
-/// Reads a tag behind its length, which is 0 where there is none. It takes no memory.
+/// Reads a tag after its length, which is 0 where there is none. It takes no memory.
 ///
 /// Bytes that are no tag are `InvalidData`.
 #[tactic(auto, unfolding(crate::specs::TagString::tag_form))]

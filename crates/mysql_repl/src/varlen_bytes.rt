@@ -1,4 +1,4 @@
-//! Byte strings behind a length of varying width.
+//! Byte strings after a length of varying width.
 
 ghost use Rattle.std.specs.Prelude.{false, ◌≡◌, ◌+◌, ◌++◌, ◌≤◌, vec_len, vec_capacity, length, List, ℕ, Option, None, OnErr};
 ghost use Rattle.mysql_wire.specs.Writing.{saturated};
@@ -10,9 +10,9 @@ use mysql_wire::{
     BytesRepr, FaultOf, IntRepr, ParseBuf, VarLen, read_varlen_uint, varlen_uint_size,
 };
 
-/// The bytes behind a length of varying width. Fewer bytes than the length: `UnexpectedEof`.
+/// The bytes after a length of varying width. Fewer bytes than the length: `UnexpectedEof`.
 ///
-/// A content is written whole, behind the shortest spelling of its length.
+/// A content is written whole, after the shortest spelling of its length.
 #[derive(Clone, Copy, Debug)]
 pub struct VarLenBytes;
 

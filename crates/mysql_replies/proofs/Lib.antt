@@ -1,7 +1,7 @@
 pub mod EqualColumns
 pub mod EqualReplies
 pub mod ErrPacketFits
-pub mod NamesBehind
+pub mod NamesAfter
 pub mod PlainFits
 pub mod Same
 pub mod StateString

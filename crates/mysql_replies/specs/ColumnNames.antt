@@ -1,4 +1,4 @@
--- The names of a column, and how they stand behind one another in one buffer.
+-- The names of a column, and how they stand after one another in one buffer.
 use Rattle.std.specs.Prelude.{ℕ, ◌≤◌, Bool, is_ok, List, length, take, slice_range, refl}
 use Rattle.mysql_wire.specs.Codec.{Codec, Fields}
 use Rattle.mysql_wire.specs.Codecs.{◌>>=◌, give, field, packet, string_lenenc}
@@ -32,7 +32,7 @@ names_at bytes s t o n = meta_of (take s bytes) (slice_range bytes s t) (slice_r
 abbrev pub names_in : Inside → ColumnMeta
 names_in i = names_at i.bytes i.schema_end i.table_end i.org_table_end i.name_end
 
--- no name ends ahead of where it begins, nor behind the bytes
+-- no name ends ahead of where it begins, nor after the bytes
 pub record AreInOrder (i : Inside) : Type 0 where
   pub table : i.schema_end ≤ i.table_end
   pub org_table : i.table_end ≤ i.org_table_end

@@ -42,7 +42,7 @@ err_head = do
   code ← field (λ p. raw_int (packet_code p)) u16
   give code.0
 
--- Three bytes with the code. Behind the code ffff, where the client takes them, a progress report;
+-- Three bytes with the code. After the code ffff, where the client takes them, a progress report;
 -- else an error, with a state under protocol 4.1.
 abbrev pub err_packet_fields : Fields CapabilityFlags ErrPacket ErrPacket
 err_packet_fields = do

@@ -6,7 +6,7 @@ use Rattle.mysql_wire.specs.Form.{Form, ◌>>=◌, give, either, looking}
 use Rattle.mysql_wire.specs.LenEnc.{lenenc_string}
 use Rattle.mysql_replies.specs.declared.ok_tail.OkTail.{OkTail}
 
--- changes of the session are told of
+-- changes of the session are tracked
 abbrev pub tracks : CapabilityFlags → Bool
 tracks capabilities = has capabilities.0 CLIENT_SESSION_TRACK
 

@@ -20,7 +20,7 @@ message e = e.message
 abbrev pub error_of : ℕ → Option SqlState → List ℕ → ServerError
 error_of code state message = record { code = code; state = state; message = message }
 
--- the code that the reader is told, the state where one is sent, and the message to the end
+-- the code that the reader is passed, the state where one is sent, and the message to the end
 abbrev pub server_error_fields : Fields (ℕ × Bool) ServerError ServerError
 server_error_fields = do
   code ← field error_code (from_context (λ c. c.0))
@@ -40,7 +40,7 @@ error_text_of code (Some state) message =
 abbrev pub error_text : ServerError → List ℕ
 error_text e = error_text_of e.code e.state e.message
 
--- the state is there just where the reader is told so, and has five bytes
+-- the state is there just where the reader is passed so, and has five bytes
 abbrev pub StateFits : Bool → Option SqlState → Type 0
 StateFits has_state None = IsFalse has_state
 StateFits has_state (Some state) = IsTrue has_state × (length (state_bytes state) ≡ 5)

@@ -31,7 +31,7 @@ session_state_info = packet session_state_info_fields (λ i. refl)
 abbrev pub state_string : Form (List SessionStateInfo)
 state_string = many (session_state_info.form tt)
 
--- a reading of a front, the bytes behind it dropped
+-- a reading of a front, the bytes after it dropped
 abbrev pub front_of : {A : Type 0} → Reading A → Reading A
 front_of (Ok x) = Ok (x.0, [])
 front_of (Err kind) = Err kind

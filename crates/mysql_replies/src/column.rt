@@ -47,7 +47,7 @@ pub type ColumnDefinitionCatalog = ConstBytes<Catalog, 4>;
 /// The catalog `def`; the schema, the table, the original table, the name and the original name,
 /// each a length-encoded string; then 13 bytes: `0c`, the character set (two bytes), the length
 /// (four), the type, the flags (two), the decimals, and two bytes that are skipped. Numbers have
-/// the low byte first.
+/// little-endian.
 ///
 /// A short definition is `UnexpectedEof`; another catalog, another byte for `0c`, or a byte that is
 /// no type is `InvalidData`. Reading copies the names once all five are there, and answers `Memory` where that is refused.

@@ -24,7 +24,7 @@ impl ConstFault for InvalidFixedLengthFieldsLen {
 pub type FixedLengthFieldsLen = ConstU8<InvalidFixedLengthFieldsLen, 0x0c>;
 
 /// The fields of a column that have fixed lengths, 13 bytes in all. Numbers of more than one byte
-/// have the low one first.
+/// have little-endian.
 #[derive(Clone, Debug, PartialEq, Eq, Drop)]
 pub(crate) struct ColumnFields {
     pub(crate) fixed_length_fields_len: FixedLengthFieldsLen,

@@ -1,5 +1,5 @@
 //! The names of a column, on memory of their own.
-#![tactic(auto, using(crate::proofs::NamesBehind::names), unfolding(crate::specs::ColumnNames::column_meta))]
+#![tactic(auto, using(crate::proofs::NamesAfter::names), unfolding(crate::specs::ColumnNames::column_meta))]
 
 ghost use Rattle.std.specs.Prelude.{◌≡◌, true, None, refl, IfOk};
 ghost use Rattle.mysql_replies.specs.ColumnNames as spec;
@@ -63,7 +63,7 @@ impl Parts for ColumnMeta<'_> {
     }
 }
 
-/// The names of a column behind one another, in memory that is taken at once: each begins where the one before it ends,
+/// The names of a column after one another, in memory that is taken at once: each begins where the one before it ends,
 /// and the original name runs to the end.
 #[derive(Default, Drop)]
 pub(crate) struct ColumnNames {

@@ -31,7 +31,7 @@ pub type ErrPacketHeader = ConstU8<InvalidErrPacketHeader, 0xff>;
 const PROGRESS_CODE: u16 = 0xffff;
 
 /// An error or a progress report (`Protocol::ERR_Packet`): the byte `ff`, a code of two bytes (the
-/// low one first), then what it is the code of.
+/// little-endian), then what it is the code of.
 ///
 /// Where the code is `ffff` and the flags have `CLIENT_PROGRESS_OBSOLETE`, that is a progress
 /// report. Else it is an error, with an SQL state where the flags have `CLIENT_PROTOCOL_41`.

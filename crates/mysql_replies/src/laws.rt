@@ -28,14 +28,14 @@ use std::hash::Hash;
 
 /// What is written of a request for a local file is read again, where nothing follows.
 #[tactic(auto, using(mysql_wire::proofs::Packets::packets, crate::proofs::PlainFits::plain))]
-pub fn local_infile_again()
+pub fn local_infile_round_trips()
     ensures spelled { (p : LocalInfilePacket) (rest : List ℕ) → local_infile.fits tt p rest → (local_infile.form tt).Spells p (local_infile.bytes p ++ rest) rest }
     ensures plain { (p : LocalInfilePacket) → (local_infile.form tt).Spells p (local_infile.bytes p) [] }
 {}
 
 /// What is written of an SQL state is read again, whatever follows.
 #[tactic(auto, using(mysql_wire::proofs::Packets::packets, crate::proofs::PlainFits::plain))]
-pub fn sql_state_again()
+pub fn sql_state_round_trips()
     ensures spelled { (s : SqlState) (rest : List ℕ) → sql_state.fits tt s rest → (sql_state.form tt).Spells s (sql_state.bytes s ++ rest) rest }
     ensures plain { (s : SqlState) (rest : List ℕ) → length (state_bytes s) ≡ 5 → (sql_state.form tt).Spells s (sql_state.bytes s ++ rest) rest }
 {}
@@ -45,23 +45,23 @@ pub fn equal_sql_states_hash_equally()
     ensures hash { (x y : SqlState) → IsTrue (⟦<crate::sql_state::SqlState as PartialEq>⟧.eq x y) → ⟦<crate::sql_state::SqlState as Hash>⟧.hash_input x ≡ ⟦<crate::sql_state::SqlState as Hash>⟧.hash_input y }
 {}
 
-/// What is written of an error is read again, where nothing follows and the reader is told the
+/// What is written of an error is read again, where nothing follows and the reader is passed the
 /// code, and whether there is a state.
 #[tactic(auto, using(mysql_wire::proofs::Packets::packets, crate::proofs::PlainFits::plain))]
-pub fn server_error_again()
-    ensures spelled { (told : ℕ × Bool) (e : ServerError) (rest : List ℕ) → server_error.fits told e rest → (server_error.form told).Spells e (server_error.bytes e ++ rest) rest }
+pub fn server_error_round_trips()
+    ensures spelled { (context : ℕ × Bool) (e : ServerError) (rest : List ℕ) → server_error.fits context e rest → (server_error.form context).Spells e (server_error.bytes e ++ rest) rest }
     ensures plain { (has_state : Bool) (e : ServerError) → StateFits has_state (sql_state_of e) → (server_error.form (error_code e, has_state)).Spells e (server_error.bytes e) [] }
 {}
 
 /// What is written of a progress report is read again, whatever follows.
 #[tactic(auto, using(mysql_wire::proofs::Packets::packets, crate::proofs::PlainFits::plain))]
-pub fn progress_report_again()
+pub fn progress_report_round_trips()
     ensures spelled { (r : ProgressReport) (rest : List ℕ) → progress_report.fits tt r rest → (progress_report.form tt).Spells r (progress_report.bytes r ++ rest) rest }
     ensures plain { (r : ProgressReport) (rest : List ℕ) → ProgressReportFits r → (progress_report.form tt).Spells r (progress_report.bytes r ++ rest) rest }
 {}
 
 /// What is written of an error or a progress report is read again.
-pub fn err_packet_again()
+pub fn err_packet_round_trips()
     ensures spelled { (capabilities : CapabilityFlags) (p : ErrPacket) (rest : List ℕ) → err_packet.fits capabilities p rest → (err_packet.form capabilities).Spells p (err_packet.bytes p ++ rest) rest }
 {}
 
@@ -73,7 +73,7 @@ pub fn err_packet_fits()
 
 /// What is written of an entry of a state string is read again, whatever follows.
 #[tactic(auto, using(mysql_wire::proofs::Packets::packets, crate::proofs::PlainFits::plain))]
-pub fn session_state_info_again()
+pub fn session_state_info_round_trips()
     ensures spelled { (i : SessionStateInfo) (rest : List ℕ) → session_state_info.fits tt i rest → (session_state_info.form tt).Spells i (session_state_info.bytes i ++ rest) rest }
     ensures plain { (i : SessionStateInfo) (rest : List ℕ) → length (data_bytes i) < 2 ^ 64 → (session_state_info.form tt).Spells i (session_state_info.bytes i ++ rest) rest }
 {}
@@ -86,7 +86,7 @@ pub fn state_string_once()
 
 /// What is written of a column is read again, whatever follows.
 #[tactic(auto, using(mysql_wire::proofs::Packets::packets, crate::proofs::PlainFits::plain))]
-pub fn column_again()
+pub fn column_round_trips()
     ensures spelled { (c : Column) (rest : List ℕ) → column.fits tt c rest → (column.form tt).Spells c (column.bytes c ++ rest) rest }
     ensures plain { (c : Column) (rest : List ℕ) → ColumnFits c → (column.form tt).Spells c (column.bytes c ++ rest) rest }
 {}

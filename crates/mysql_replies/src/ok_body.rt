@@ -4,7 +4,7 @@ ghost use Rattle.std.specs.Prelude.{◌≡◌};
 
 use mysql_wire::{LenEnc, RawBytes, StatusFlags};
 
-/// The body of an OK packet: what stands behind its header, as its kind reads it.
+/// The body of an OK packet: what stands after its header, as its kind reads it.
 ///
 /// The kinds' `parse_body` make it, and [`OkPacket`](crate::OkPacket) is made of it.
 #[derive(Clone, Debug, PartialEq, Eq, Drop)]

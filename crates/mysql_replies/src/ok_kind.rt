@@ -30,7 +30,7 @@ pub trait OkPacketKind {
     /// How the body is spelled, for what both sides can do.
     ghost body: { flags.CapabilityFlags → Form declared.OkPacketBody };
 
-    /// Reads the body behind the header. It takes no memory.
+    /// Reads the body after the header. It takes no memory.
     fn parse_body<'s, 'de>(
         capabilities: CapabilityFlags,
         buf: &mut ParseBuf<'de>,
@@ -40,7 +40,7 @@ pub trait OkPacketKind {
 }
 
 /// Reads the end of a body: two bytes of status flags, a count of warnings of two bytes, each the
-/// low one first, and the tail.
+/// little-endian, and the tail.
 #[tactic(auto, using(mysql_wire::proofs::Blocks::blocks), unfolding(crate::specs::OkBody::ok_end))]
 fn parse_end<'s, 'de>(
     capabilities: CapabilityFlags,

@@ -17,7 +17,7 @@ use std::fmt;
 /// How far a MariaDB server is with a long statement, sent in an error packet.
 ///
 /// Six bytes: a count of strings (ignored, written as 1), the stage, the last stage, and the
-/// progress in thousandths of a percent (three bytes, the low one first). Then the stage's text,
+/// progress in thousandths of a percent (three bytes, little-endian). Then the stage's text,
 /// length-encoded.
 #[derive(Clone, Debug, PartialEq, Eq, Drop)]
 pub struct ProgressReport<'a> {

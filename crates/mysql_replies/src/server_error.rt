@@ -17,7 +17,7 @@ use std::fmt;
 
 /// An error that a server reports: its code, its SQL state where one was sent, its message.
 ///
-/// The code stands in the packet that the error is a part of: reading is told it, and writing
+/// The code stands in the packet that the error is a part of: reading is passed it, and writing
 /// leaves it out.
 #[derive(Clone, Debug, PartialEq, Drop)]
 pub struct ServerError<'a> {

@@ -40,7 +40,7 @@ impl<'a> SessionStateInfo<'a> {
         self.content.as_bytes()
     }
 
-    /// The change that the data begins with; bytes behind it are dropped.
+    /// The change that the data begins with; bytes after it are dropped.
     ///
     /// The fault is that of reading the data as a change of this type. Memory is taken for a list of system variables
     /// alone.

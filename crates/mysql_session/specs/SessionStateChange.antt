@@ -54,7 +54,7 @@ session_state_change_bytes (change.TransactionCharacteristics c) = lenenc_text.b
 session_state_change_bytes (change.TransactionState s) = lenenc_text.bytes s
 session_state_change_bytes (change.Unsupported u) = lenenc_text.bytes u
 
--- The reader is told the kind of the change. A change of another kind is never read.
+-- The reader is passed the kind of the change. A change of another kind is never read.
 abbrev pub ChangeFits : SessionStateType → SessionStateChange → List ℕ → Type 0
 ChangeFits k (change.IsTracked b) rest = k ≡ kind.SESSION_TRACK_STATE_CHANGE
 ChangeFits k (change.Schema s) rest = (k ≡ kind.SESSION_TRACK_SCHEMA) × lenenc_text.fits tt s rest

@@ -18,7 +18,7 @@ use mysql_wire::MyDeserialize;
 use std::hash::Hash;
 
 /// What is written of each part of a change is read again, whatever follows.
-pub fn session_parts_again()
+pub fn session_parts_round_trips()
     ensures schema { (x : Schema) (rest : List ℕ) → lenenc_text.fits tt x rest → (lenenc_text.form tt).Spells x (lenenc_text.bytes x ++ rest) rest }
     ensures characteristics { (x : TransactionCharacteristics) (rest : List ℕ) → lenenc_text.fits tt x rest → (lenenc_text.form tt).Spells x (lenenc_text.bytes x ++ rest) rest }
     ensures state { (x : TransactionState) (rest : List ℕ) → lenenc_text.fits tt x rest → (lenenc_text.form tt).Spells x (lenenc_text.bytes x ++ rest) rest }
@@ -27,7 +27,7 @@ pub fn session_parts_again()
 {}
 
 /// What is written of a part that runs to the end is read again, where nothing follows.
-pub fn session_ends_again()
+pub fn session_ends_round_trips()
     ensures gtids { (x : Gtids) (rest : List ℕ) → gtids.fits tt x rest → (gtids.form tt).Spells x (gtids.bytes x ++ rest) rest }
     ensures variables { (xs : List SystemVariable) (rest : List ℕ) → system_variables.fits tt xs rest → (system_variables.form tt).Spells xs (system_variables.bytes xs ++ rest) rest }
 {}
@@ -38,9 +38,9 @@ pub fn system_variables_fit()
     ensures fits { (vs : List SystemVariable) → All SystemVariableFits vs → system_variables.fits tt vs [] }
 {}
 
-/// What is written of a change is read again, where the reader is told its type.
+/// What is written of a change is read again, where the reader is passed its type.
 #[tactic(auto, using(crate::proofs::SessionStateChangeAgain::session_changes))]
-pub fn session_state_change_again()
+pub fn session_state_change_round_trips()
     ensures spelled { (kind : SessionStateType) (c : SessionStateChange) (rest : List ℕ) → ChangeFits kind c rest → (session_state_change kind).Spells c (session_state_change_bytes c ++ rest) rest }
 {}
 

@@ -1,4 +1,4 @@
-//! What changes in a session, as a server reports it behind an OK packet.
+//! What changes in a session, as a server reports it after an OK packet.
 #![tactic(auto)]
 
 pub mod laws;

@@ -14,9 +14,9 @@ use mysql_wire::{
 };
 use std::alloc::{AllocError, Global};
 
-/// A change of a session's state, as the data of one entry behind an OK packet gives it.
+/// A change of a session's state, as the data of one entry after an OK packet gives it.
 ///
-/// Reading is told the entry's [`SessionStateType`], and never gives `Unsupported`.
+/// Reading is passed the entry's [`SessionStateType`], and never gives `Unsupported`.
 #[derive(Clone, Debug, PartialEq, Eq, Drop)]
 pub enum SessionStateChange<'a> {
     /// Whether changes are tracked (`SESSION_TRACK_STATE_CHANGE`): a length-encoded string, true

@@ -44,14 +44,14 @@ short_values [] = omega arith
 short_values (v ∷ values) =
     omega (arith, length-append (short (content_of v)) (data_bytes true values), short_small (content_of v), short_values values)
 
--- there is room for what is written of the next value
-pub next_fits : (bytes : Value → List ℕ) (values : List Value) (i : ℕ) (value : Value) (before now : List ℕ) (room : ℕ)
+-- there is capacity for what is written of the next value
+pub next_fits : (bytes : Value → List ℕ) (values : List Value) (i : ℕ) (value : Value) (before now : List ℕ) (capacity : ℕ)
     → i < length values
     → value ≡ get_or values i value
     → now ≡ before ++ flat_map bytes (take i values)
-    → length before + length (flat_map bytes values) ≤ room
-    → length now + length (bytes value) ≤ room
-next_fits bytes values i value before now room within is so_far fits =
+    → length before + length (flat_map bytes values) ≤ capacity
+    → length now + length (bytes value) ≤ capacity
+next_fits bytes values i value before now capacity within is so_far fits =
     let one = length-flat_map-take bytes values i value within in
     let this : length (bytes value) ≡ length (bytes (get_or values i value)) = ap (λ (v : Value). length (bytes v)) is in
     let long = ap length so_far ∙ length-append before (flat_map bytes (take i values)) in
@@ -90,7 +90,7 @@ pub where_more : (values : List Value) (bytes : List ℕ) → values ≢ [] → 
 where_more [] bytes some = absurd (some refl)
 where_more (v ∷ values) bytes some = refl
 
--- with nothing behind the last part
+-- with nothing after the last part
 pub ruleset whole = (where_none, where_more, append-nil, append_assoc)
 
 where_some_fits : (values : List Value) (bytes : List ℕ) → 10 + length bytes ≤ max_payload → 10 + length (where_some values bytes) ≤ max_payload

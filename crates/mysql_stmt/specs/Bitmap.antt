@@ -14,7 +14,7 @@ abbrev pub is_owned : {Z : Type 0} → CowSlice ℕ Z → Bool
 is_owned (slice.Borrowed r) = false
 is_owned (slice.Owned v) = true
 
--- the binary digit at a place of the number whose bytes these are, the low one first
+-- the binary digit at a place of the number whose bytes these are, little-endian
 abbrev pub cell : List ℕ → ℕ → ℕ
 cell bytes place = bit_at (le_value bytes) place
 

@@ -45,7 +45,7 @@ abbrev pub data_bytes : Bool → List Value → List ℕ
 data_bytes as_long_data values = flat_map (λ v. sent as_long_data (content_of v)) values
 
 -- the size of a request that sends all its values, of which there are some: the bytes before the bitmap and the byte
--- behind it are 11
+-- after it are 11
 abbrev pub whole_size : List Value → ℕ
 whole_size params = 11 + bytes_for 0 (length params) + 2 * length params + sum_by size_of params
 

@@ -31,7 +31,7 @@ use std::hash::Hash;
 
 /// What is written of a statement packet is read again, whatever follows.
 #[tactic(auto, using(mysql_wire::proofs::Packets::packets, crate::proofs::StmtAgain::stmt_again))]
-pub fn stmt_packet_again()
+pub fn stmt_packet_round_trips()
     ensures spelled { (p : StmtPacket) (rest : List ℕ) → stmt.fits tt p rest → (stmt.form tt).Spells p (stmt.bytes p ++ rest) rest }
     ensures read { (p : StmtPacket) (rest : List ℕ) → stmt.fits tt p rest → (stmt.form tt).reads (stmt.bytes p ++ rest) ≡ Ok (p, rest) }
     ensures plain { (p : StmtPacket) (rest : List ℕ) → StmtPacketFits p → (stmt.form tt).Spells p (stmt.bytes p ++ rest) rest }
@@ -44,7 +44,7 @@ pub fn stmt_packet_size() -> Option<usize>
     <crate::stmt::StmtPacket as MyDeserialize>::SIZE
 }
 
-/// Bytes spell at most one statement packet, with one rest behind it.
+/// Bytes spell at most one statement packet, with one rest after it.
 #[tactic(auto, using(mysql_wire::specs::Once::once))]
 pub fn stmt_packet_once()
     ensures value { (p q : StmtPacket) (bytes rest left : List ℕ) → (stmt.form tt).Spells p bytes rest → (stmt.form tt).Spells q bytes left → p ≡ q }
@@ -52,31 +52,31 @@ pub fn stmt_packet_once()
 {}
 
 /// What is written of the data of one parameter spells it, where nothing follows.
-pub fn long_data_again()
+pub fn long_data_round_trips()
     ensures spelled { (p : ComStmtSendLongData) (rest : List ℕ) → long_data.fits tt p rest → (long_data.form tt).Spells p (long_data.bytes p ++ rest) rest }
 {}
 
 /// What is written of the end of a statement spells it, whatever follows.
-pub fn close_again()
+pub fn close_round_trips()
     ensures spelled { (p : ComStmtClose) (rest : List ℕ) → close.fits tt p rest → (close.form tt).Spells p (close.bytes p ++ rest) rest }
 {}
 
 /// What is written of a bitmap of NULLs is read again for the count of its values, whatever follows.
-pub fn null_bitmap_again()
+pub fn null_bitmap_round_trips()
     ensures spelled { (offset count : ℕ) (bytes rest : List ℕ) → count + 7 + offset < 2 ^ 64 → length bytes ≡ bytes_for offset count →
         (null_bitmap offset count).Spells (borrowed bytes) (bytes ++ rest) rest }
     ensures read { (offset count : ℕ) (bytes rest : List ℕ) → count + 7 + offset < 2 ^ 64 → length bytes ≡ bytes_for offset count →
         (null_bitmap offset count).reads (bytes ++ rest) ≡ Ok (borrowed bytes, rest) }
 {}
 
-/// Bytes spell at most one row of these columns, with one rest behind it, in either protocol.
+/// Bytes spell at most one row of these columns, with one rest after it, in either protocol.
 #[tactic(auto, using(mysql_wire::specs::Once::once))]
 pub fn row_once()
     ensures text { (columns : List Column) (v w : List (Option Content)) (bytes rest left : List ℕ) → (text_row columns).Spells v bytes rest → (text_row columns).Spells w bytes left → (v ≡ w) × (rest ≡ left) }
     ensures binary { (offset : ℕ) (columns : List Column) (v w : List (Option Content)) (bytes rest left : List ℕ) → (bin_row offset columns).Spells v bytes rest → (bin_row offset columns).Spells w bytes left → (v ≡ w) × (rest ≡ left) }
 {}
 
-/// The bitmap of an execution stands behind its first ten bytes.
+/// The bitmap of an execution stands after its first ten bytes.
 #[tactic(auto, using(crate::proofs::HeadLength::head_length))]
 pub fn null_bitmap_offset() -> usize
     ensures value { result ≡ 10 }

@@ -1,5 +1,5 @@
 //! Prepared statements: what a server answers to one that it prepared, what an execution, long data and a close are
-//! written as, the bitmaps of NULLs, and the rows of results. The bulk executions of `mysql_bulk`, and the judge of
+//! written as, the bitmaps of NULLs, and the rows of results. The bulk executions of `mysql_bulk`, and the checker of
 //! their cuts of `mysql_cuts`, have a path here too.
 #![tactic(auto)]
 

@@ -27,7 +27,7 @@ pub type ComStmtSendLongDataHeader = ConstU8<InvalidComStmtSendLongDataHeader, 0
 /// `COM_STMT_SEND_LONG_DATA`: some bytes of one parameter, sent ahead of the execution that they
 /// are for. The server joins what it got for a parameter, and answers nothing.
 ///
-/// It is written alone, numbers with their low byte first:
+/// It is written alone, numbers with their little-endian:
 ///
 /// | Bytes | Field |
 /// |---|---|

@@ -18,7 +18,7 @@ use std::marker::{Model, PhantomData};
 /// A bitmap of NULLs, borrowed or owned: a bit for each column or parameter, set where its value is
 /// NULL.
 ///
-/// The bits are the binary digits of one number, whose bytes lie with the low one first. The bit of
+/// The bits are the binary digits of one number, whose bytes lie with little-endian. The bit of
 /// value `i` is the digit at `i + T::BIT_OFFSET`: a server leaves two digits out, a client none.
 ///
 /// In a clause a bitmap is its bytes, and whether it owns them. Bitmaps with the same bytes are
@@ -54,7 +54,7 @@ impl<T: SerializationSide> NullBitmap<'static, T> {
     /// Copies the bitmap of so many values off the front of the bytes.
     ///
     /// The count, with seven and the side's offset, fits `usize`, and the bytes are there, as their
-    /// length and [`bitmap_len`](Self::bitmap_len) tell. A refused growth takes none of them.
+    /// length and [`bitmap_len`](Self::bitmap_len) tell. An allocation that fails takes none of them.
     pub fn read(alloc: Global, input: &mut &[u8], num_columns: usize) -> Result<Self, AllocError>
         requires fits { num_columns + 7 + T.BIT_OFFSET < 2 ^ 64 }
         requires there { bytes_for T.BIT_OFFSET num_columns ≤ length input.old.now }

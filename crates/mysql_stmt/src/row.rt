@@ -170,7 +170,7 @@ impl Row {
 
     /// The values, all of which are there.
     ///
-    /// Where the growth is refused, the row is given up.
+    /// Where the allocation fails, the row is given up.
     pub fn unwrap(self, alloc: Global) -> Result<Vec<Value>, AllocError>
         requires { AllThere self.cells }
         ensures value { IfOk result (λ values. map Some values.items ≡ self.cells) }

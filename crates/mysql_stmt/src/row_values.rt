@@ -12,7 +12,7 @@ use mysql_replies::Column;
 use mysql_values::{SerializationSide, Value, read_bin_cell};
 use mysql_wire::{FaultOf, ParseBuf};
 
-/// Puts the value of a column behind the others: NULL where it is that, which takes no bytes.
+/// Puts the value of a column after the others: NULL where it is that, which takes no bytes.
 #[inline(always)]
 fn put_cell<'s>(
     is_null: bool,
@@ -20,11 +20,11 @@ fn put_cell<'s>(
     buf: &mut ParseBuf<'_>,
     cells: &mut Vec<Option<Value>>,
 ) -> Result<(), FaultOf<'s>>
-    requires room { vec_len cells.old < vec_capacity cells.old }
+    requires capacity { vec_len cells.old < vec_capacity cells.old }
     ensures put { OnOk result ((with_cell (held cells.old.items) (bin_value_unless is_null column.now)).reads buf.old ≡ Ok (held cells.new.items, buf.new)) }
     ensures refused { IfErr result (λ fault. RefusesValue fault ((bin_value_unless is_null column.now).reads buf.old)) }
     ensures len { OnOk result (vec_len cells.new ≡ vec_len cells.old + 1) }
-    ensures room { vec_capacity cells.old ≤ vec_capacity cells.new }
+    ensures capacity { vec_capacity cells.old ≤ vec_capacity cells.new }
 {
     if is_null {
         cells.push_reserved(Some(Value::NULL));
@@ -46,7 +46,7 @@ fn is_null_at<S: SerializationSide>(nulls: &NullBitmap<'_, S>, none: bool, i: us
     nulls.is_null(i)
 }
 
-/// The values of a binary row behind its bitmap, which has a bit for each column.
+/// The values of a binary row after its bitmap, which has a bit for each column.
 ///
 /// Most rows have no NULL: then no bit is looked at apart from the others.
 #[inline(never)]

@@ -22,7 +22,7 @@ impl ConstFault for InvalidStmtPacketStatus {
 
 /// What a server answers to a statement that it prepared: `COM_STMT_PREPARE_OK`.
 ///
-/// It is had by reading alone, and takes 12 bytes, numbers with their low byte first:
+/// It is had by reading alone, and takes 12 bytes, numbers with their little-endian:
 ///
 /// | Bytes | Field |
 /// |---|---|

@@ -8,12 +8,12 @@ use Rattle.mysql_values.specs.declared.value.Value.{Value}
 use Rattle.mysql_values.specs.Value.{Content, content_of, contents_of}
 use Rattle.mysql_values.specs.Params.{NamedValues, value_of, values_of_names, then_values, Refusal, Missing}
 
--- the contents, behind those of the names before
-abbrev pub behind : List Content → Result (List Content) Refusal → Result (List Content) Refusal
-behind front (Ok contents) = Ok (front ++ contents)
-behind front (Err refusal) = Err refusal
+-- the contents, after those of the names before
+abbrev pub later : List Content → Result (List Content) Refusal → Result (List Content) Refusal
+later front (Ok contents) = Ok (front ++ contents)
+later front (Err refusal) = Err refusal
 
-regroup : (front : List Content) (name : Vec ℕ) (v : Value) (others : Result (List Content) Refusal) → behind front (then_values name (Some v) others) ≡ behind (front ++ content_of v ∷ []) others
+regroup : (front : List Content) (name : Vec ℕ) (v : Value) (others : Result (List Content) Refusal) → later front (then_values name (Some v) others) ≡ later (front ++ content_of v ∷ []) others
 regroup front name v (Ok others) = ap Ok (sym (append_assoc front (content_of v ∷ []) others))
 regroup front name v (Err refusal) = refl
 
@@ -27,22 +27,22 @@ left_at values names i name lt is =
 
 pub next-name : (values : NamedValues) (names : List (Vec ℕ)) (i : ℕ) (name : Vec ℕ) (v copy : Value) (row : List Value) (total : Result (List Content) Refusal)
     → i < length names → name ≡ get_or names i name → value_of values name ≡ Some v → content_of copy ≡ content_of v
-    → behind (contents_of row) (values_of_names values (drop i names)) ≡ total
-    → behind (contents_of (row ++ copy ∷ [])) (values_of_names values (drop (i + 1) names)) ≡ total
+    → later (contents_of row) (values_of_names values (drop i names)) ≡ total
+    → later (contents_of (row ++ copy ∷ [])) (values_of_names values (drop (i + 1) names)) ≡ total
 next-name values names i name v copy row total lt is found same so_far =
     let left = left_at values names i name lt is in
     rw (map-append content_of row (copy ∷ []), same) (sym (regroup (contents_of row) name v (values_of_names values (drop (i + 1) names))) ∙ (rw (left, found) at so_far))
 
 pub no-value : (values : NamedValues) (names : List (Vec ℕ)) (i : ℕ) (name : Vec ℕ) (row : List Value) (total : Result (List Content) Refusal)
     → i < length names → name ≡ get_or names i name → value_of values name ≡ None
-    → behind (contents_of row) (values_of_names values (drop i names)) ≡ total
+    → later (contents_of row) (values_of_names values (drop i names)) ≡ total
     → total ≡ Err (Missing name.items)
 no-value values names i name row total lt is none so_far =
     let left = left_at values names i name lt is in
     sym (rw (left, none) at so_far)
 
 pub all-named : (values : NamedValues) (names : List (Vec ℕ)) (i : ℕ) (row : List Value) (total : Result (List Content) Refusal)
-    → length names ≤ i → behind (contents_of row) (values_of_names values (drop i names)) ≡ total → total ≡ Ok (contents_of row)
+    → length names ≤ i → later (contents_of row) (values_of_names values (drop i names)) ≡ total → total ≡ Ok (contents_of row)
 unfolding values_of_names
 all-named values names i row total le so_far = sym (rw (drop_of_length-le names le, append-nil (contents_of row)) at so_far)
 

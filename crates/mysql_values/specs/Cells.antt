@@ -11,7 +11,7 @@ use Rattle.mysql_values.specs.ValueDeserializer.{reads_bytes}
 abbrev pub held : List (Option Value) → List (Option Content)
 held cells = map (option_map content_of) cells
 
--- the cells, with a value that is read behind them
+-- the cells, with a value that is read after them
 abbrev pub with_cell : List (Option Content) → form.Form Content → form.Form (List (Option Content))
 with_cell cells value = form.map (λ v. cells ++ Some v ∷ []) value
 
@@ -19,7 +19,7 @@ with_cell cells value = form.map (λ v. cells ++ Some v ∷ []) value
 abbrev pub RefusesValue : FaultOf → Reading Content → Type 0
 RefusesValue fault read = Faults (reads_bytes read) fault read
 
--- what is read stands behind the cells before it, with these bytes left; or reading gives the fault, or memory ran out
+-- what is read stands after the cells before it, with these bytes left; or reading gives the fault, or memory ran out
 abbrev pub PutsOne : {E : Type 0} → (takes_memory : Bool) → Result E FaultOf → (before after : List (Option Content)) → List ℕ → Reading Content → Type 0
 PutsOne takes_memory (Ok x) before after rest read = then_read read (λ v left. Ok (before ++ Some v ∷ [], left)) ≡ Ok (after, rest)
 PutsOne takes_memory (Err e) before after rest read = Faults takes_memory e read

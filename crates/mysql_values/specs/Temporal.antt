@@ -47,7 +47,7 @@ time_span_bytes t =
     else 8 ∷ sign_byte t.is_negative ∷ [] ++ le_bytes 4 t.days ++ clock_bytes t.clock
     else 12 ∷ sign_byte t.is_negative ∷ [] ++ le_bytes 4 t.days ++ clock_bytes t.clock ++ le_bytes 4 t.micros
 
--- the length byte, and what stands behind it
+-- the length byte, and what stands after it
 abbrev pub date_time_size : DateTime → ℕ
 date_time_size t =
     if t.micros == 0

@@ -102,6 +102,6 @@ bin_value column_type.MYSQL_TYPE_VAR_STRING u = string_value
 bin_value column_type.MYSQL_TYPE_STRING u = string_value
 bin_value column_type.MYSQL_TYPE_GEOMETRY u = string_value
 
--- how a value is spelled in a column, of whose flags it is told whether numbers have no sign
+-- how a value is spelled in a column, of whose flags it is passed whether numbers have no sign
 abbrev pub value_in_column : ColumnType × ColumnFlags → Form Content
 value_in_column column = bin_value column.0 (has column.1.0 UNSIGNED_FLAG)

@@ -11,13 +11,13 @@ use crate::value_deserializer::{read_bin, read_long, read_string};
 use bitflags::Flags;
 use mysql_wire::{ColumnFlags, ColumnType, FaultOf, LeU64, ParseBuf, RawInt};
 
-/// Puts a value behind the others.
+/// Puts a value after the others.
 #[inline(always)]
 fn put(value: Value, cells: &mut Vec<Option<Value>>)
     requires { vec_len cells.old < vec_capacity cells.old }
     ensures held { held cells.new.items ≡ held cells.old.items ++ Some (content_of value) ∷ [] }
     ensures len { vec_len cells.new ≡ vec_len cells.old + 1 }
-    ensures room { vec_capacity cells.old ≤ vec_capacity cells.new }
+    ensures capacity { vec_capacity cells.old ≤ vec_capacity cells.new }
 {
     cells.push_reserved(Some(value));
 }
@@ -45,7 +45,7 @@ fn put_other<'s>(
     requires { vec_len cells.old < vec_capacity cells.old }
     ensures value { PutsOne (reads_bytes ((bin_value column_type is_unsigned).reads buf.old)) result (held cells.old.items) (held cells.new.items) buf.new ((bin_value column_type is_unsigned).reads buf.old) }
     ensures len { OnOk result (vec_len cells.new ≡ vec_len cells.old + 1) }
-    ensures room { vec_capacity cells.old ≤ vec_capacity cells.new }
+    ensures capacity { vec_capacity cells.old ≤ vec_capacity cells.new }
     ensures err { OnErr result (cells.new.items ≡ cells.old.items) }
 {
     let mut rest = buf.rest();
@@ -68,7 +68,7 @@ fn put_bin<'s>(
     requires { vec_len cells.old < vec_capacity cells.old }
     ensures value { PutsOne (reads_bytes ((bin_value column_type is_unsigned).reads buf.old)) result (held cells.old.items) (held cells.new.items) buf.new ((bin_value column_type is_unsigned).reads buf.old) }
     ensures len { OnOk result (vec_len cells.new ≡ vec_len cells.old + 1) }
-    ensures room { vec_capacity cells.old ≤ vec_capacity cells.new }
+    ensures capacity { vec_capacity cells.old ≤ vec_capacity cells.new }
     ensures err { OnErr result (cells.new.items ≡ cells.old.items) }
 {
     match column_type {
@@ -108,17 +108,17 @@ fn put_bin<'s>(
 }
 
 /// Reads a value in the form of its column's type, as [`ValueDeserializer<BinValue>`](crate::ValueDeserializer) does, and
-/// puts it behind the cells, where there is room for one more. After a refusal the cells are as they were.
+/// puts it after the cells, where there is capacity for one more. After a refusal the cells are as they were.
 #[inline(always)]
 pub fn read_bin_cell<'s>(
     column: (ColumnType, ColumnFlags),
     buf: &mut ParseBuf<'_>,
     cells: &mut Vec<Option<Value>>,
 ) -> Result<(), FaultOf<'s>>
-    requires room { vec_len cells.old < vec_capacity cells.old }
+    requires capacity { vec_len cells.old < vec_capacity cells.old }
     ensures put { OnOk result ((with_cell (held cells.old.items) (value_in_column column)).reads buf.old ≡ Ok (held cells.new.items, buf.new)) }
     ensures len { OnOk result (vec_len cells.new ≡ vec_len cells.old + 1) }
-    ensures room { vec_capacity cells.old ≤ vec_capacity cells.new }
+    ensures capacity { vec_capacity cells.old ≤ vec_capacity cells.new }
     ensures refused { IfErr result (λ fault. RefusesValue fault ((value_in_column column).reads buf.old)) }
     ensures err { OnErr result (cells.new.items ≡ cells.old.items) }
 {

@@ -24,7 +24,7 @@ pub fn bin_has_its_size()
 
 /// What is written of a value is read again, whatever follows, under the type that it has in a
 /// request, and under each other type with that form: it agrees with the type.
-pub fn value_again()
+pub fn value_round_trips()
     ensures agrees { (column_type : ColumnType) (is_unsigned : Bool) (content : Content) →
         ReadsBack column_type is_unsigned content → Agrees column_type is_unsigned content }
     ensures spelled { (column_type : ColumnType) (is_unsigned : Bool) (content : Content) (rest : List ℕ) →
@@ -59,7 +59,7 @@ pub fn strings_alone_take_memory()
 
 /// What is written of a parameter type is read again, whatever follows.
 #[tactic(auto, using(mysql_wire::proofs::Packets::packets), unfolding(crate::specs::ParamType::param_type))]
-pub fn param_type_again()
+pub fn param_type_round_trips()
     ensures spelled { (t : ParamType) (rest : List ℕ) → (type_flags t).0 < 2 ^ 8 → (param_type.form tt).Spells t (param_type.bytes t ++ rest) rest }
     ensures read { (t : ParamType) (rest : List ℕ) → (type_flags t).0 < 2 ^ 8 → (param_type.form tt).reads (param_type.bytes t ++ rest) ≡ Ok (t, rest) }
 {}

@@ -66,7 +66,7 @@ raw-faults b (fault.InvalidData text) (Err d) h = cc
 raw-faults b (fault.InvalidInput text) (Ok x) h = absurd cc
 raw-faults b (fault.InvalidInput text) (Err d) h = cc
 
--- what stands behind ff
+-- what stands after ff
 pub long_read : (bytes more rest : List ℕ) (v : RawInt LeU64 ℕ) → bytes ≡ 255 ∷ more → le_u64.reads more ≡ Ok (v, rest) → varlen.reads bytes ≡ Ok (v.0, rest)
 unfolding varlen raw
 long_read bytes more rest v e h = rw e (raw-number _ v rest h)

@@ -65,12 +65,12 @@ before_zero-found bytes k h = before_zero-some (take k bytes) bytes (drop 1 (dro
 pub before_zero-all : (bytes : List ℕ) → IsFirstByte (is_byte 0) bytes None → before_zero bytes ≡ bytes
 before_zero-all bytes h = before_zero-none bytes (no-zero bytes h)
 
--- the parts before and behind a place tell of the whole
+-- the parts before and after a place tell of the whole
 pub no-zero-parts : (k : ℕ) (bytes : List ℕ) → HasNoZero (take k bytes) → HasNoZero (drop k bytes) → HasNoZero bytes
-no-zero-parts zero bytes front behind = behind
-no-zero-parts (suc k) [] front behind = tt
-no-zero-parts (suc k) (zero ∷ bytes) front behind = absurd front
-no-zero-parts (suc k) (suc b ∷ bytes) front behind = no-zero-parts k bytes front behind
+no-zero-parts zero bytes front after = after
+no-zero-parts (suc k) [] front after = tt
+no-zero-parts (suc k) (zero ∷ bytes) front after = absurd front
+no-zero-parts (suc k) (suc b ∷ bytes) front after = no-zero-parts k bytes front after
 
 -- one byte more
 pub no-zero-next : (k : ℕ) (bytes : List ℕ) → HasNoZero (take k bytes) → nat_eq (slice_index_or bytes k 0) 0 ≡ false → HasNoZero (take (suc k) bytes)

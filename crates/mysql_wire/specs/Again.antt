@@ -32,4 +32,4 @@ lenenc_string-again content lt rest =
     let n = length content in
     rw append_assoc (n, content ++ rest, (raw_int n, refl, (n, refl, lenenc-again n lt (content ++ rest))), (refl, refl))
 
-pub ruleset lenenc_again = (lenenc-again, lenenc_string-again)
+pub ruleset lenenc_round_trips = (lenenc-again, lenenc_string-again)

@@ -28,7 +28,7 @@ null_string-again content no_zero rest = (no_zero, rw (before_zero-whole content
 
 -- ---- a count in front
 
--- the count's spelling is read again, and so is the content behind it
+-- the count's spelling is read again, and so is the content after it
 counted_bytes-again : {R : Type 0} (count : Form (RawInt R ℕ)) (width most : ℕ) (content : List ℕ) → length content ≤ most
     → IsSpelling count (raw_int (length content)) (le_bytes width (length content)) → IsSpelling (counted_bytes count) content (counted_bytes_of width most content)
 unfolding counted_bytes counted_bytes_of bytes

@@ -48,7 +48,7 @@ module _ {C A B X : Type 0} (of_left : A → X) (of_right : B → X) (l : Codec 
 
 -- ---- lists
 
--- each value fits in front of the ones behind it
+-- each value fits in front of the ones after it
 abbrev pub each_fits : {C A : Type 0} → Codec C A → C → List A → List ℕ → Type 0
 each_fits f c [] rest = Unit {0}
 each_fits f c (x ∷ xs) rest = f.fits c x (flat_map f.bytes xs ++ rest) × each_fits f c xs rest
@@ -59,7 +59,7 @@ abbrev pub is_there : List ℕ → Bool
 is_there [] = false
 is_there (b ∷ bytes) = true
 
--- it is left out only where nothing stands behind it
+-- it is left out only where nothing stands after it
 abbrev pub if_left_fits : {C A : Type 0} → Codec C A → C → Option A → List ℕ → Type 0
 if_left_fits f c None rest = rest ≡ []
 if_left_fits f c (Some a) rest = f.fits c a rest

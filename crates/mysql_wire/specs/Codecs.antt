@@ -105,7 +105,7 @@ packet f same = record {
 
 -- ---- parts of a packet
 
--- a part whose reader is told something else
+-- a part whose reader is passed something else
 abbrev pub with_context : {C D A : Type 0} → (C → D) → Codec D A → Codec C A
 with_context tell f = record {
   form = λ c. f.form (tell c);
@@ -116,11 +116,11 @@ with_context tell f = record {
   again = λ c a rest h. f.again (tell c) a rest h;
 }
 
--- a part whose reader is told nothing
+-- a part whose reader is passed nothing
 abbrev pub without_context : {C A : Type 0} → Codec (Unit {0}) A → Codec C A
 without_context f = with_context (λ c. tt) f
 
--- what the reader is told, and no byte says
+-- what the reader is passed, and no byte says
 abbrev pub from_context : {C A : Type 0} → (C → A) → Codec C A
 from_context of_reader = record {
   form = λ c. form.give (of_reader c);
@@ -178,7 +178,7 @@ list_to_end f some = record {
 
 -- ---- leaves
 
--- a form whose values fit, or don't, whatever stands behind them
+-- a form whose values fit, or don't, whatever stands after them
 abbrev pub leaf : {C A : Type 0} (f : Form A) (bytes : A → List ℕ) (len : A → ℕ) (Fits : A → Type 0)
     → ((a : A) → Fits a → length (bytes a) ≡ len a) → ((a : A) → Fits a → IsSpelling f a (bytes a)) → Codec C A
 leaf f bytes len Fits exact again = record {
@@ -190,7 +190,7 @@ leaf f bytes len Fits exact again = record {
   again = λ c a rest h. again a h rest;
 }
 
--- a number of so many bytes, the low one first
+-- a number of so many bytes, little-endian
 abbrev pub int : {C R : Type 0} → ℕ → Codec C (RawInt R ℕ)
 int {R} width = leaf (raw (form.number width)) (λ n. le_bytes width n.0) (λ n. width) (λ n. n.0 < 256 ^ width)
     (λ n h. length-le_bytes width n.0) (λ n h. raw-again R (form.number width) n.0 (le_bytes width n.0) (number-again width n.0 h))
@@ -230,7 +230,7 @@ abbrev pub byte_array : {C : Type 0} → ℕ → Codec C (List ℕ)
 byte_array n = leaf (form.bytes n) (λ content. content) (λ content. n) (λ content. length content ≡ n)
     (λ content h. h) (bytes-again n)
 
--- a byte string behind its length
+-- a byte string after its length
 abbrev pub string_lenenc : {C : Type 0} → Codec C (List ℕ)
 string_lenenc = leaf lenenc_string lenenc_string_bytes (λ content. length (lenenc_string_bytes content)) (λ content. length content < 2 ^ 64)
     (λ content h. refl) lenenc_string-again
@@ -271,7 +271,7 @@ abbrev pub int_lenenc : {C : Type 0} → Codec C (RawInt LenEnc ℕ)
 int_lenenc = leaf (raw lenenc_form.lenenc) (λ n. lenenc_form.lenenc_bytes n.0) (λ n. length (lenenc_form.lenenc_bytes n.0)) (λ n. n.0 < 2 ^ 64)
     (λ n h. refl) (λ n h. raw-again LenEnc lenenc_form.lenenc n.0 (lenenc_form.lenenc_bytes n.0) (lenenc-again n.0 h))
 
--- a byte string behind a count of one byte, and of four
+-- a byte string after a count of one byte, and of four
 abbrev pub string_u8 : {C : Type 0} → Codec C (List ℕ)
 string_u8 = leaf u8_string u8_string_bytes (λ content. length (u8_string_bytes content)) (λ content. length content < 2 ^ 8) (λ content h. refl) u8_string-again
 

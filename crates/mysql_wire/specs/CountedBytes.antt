@@ -1,4 +1,4 @@
--- Byte strings behind a count of a fixed width.
+-- Byte strings after a count of a fixed width.
 use Rattle.std.specs.Prelude.{◌≡◌, ◌++◌, ℕ, List, None, length, take, refl}
 use Rattle.mysql_wire.specs.Writing.{le_bytes}
 use Rattle.mysql_wire.specs.Form.{Form, ◌>>=◌, bytes}
@@ -15,7 +15,7 @@ pub size-counted_bytes : {R : Type 0} (count : Form (RawInt R ℕ)) → (counted
 unfolding counted_bytes
 size-counted_bytes count = refl
 
--- the first bytes of a content, so many at most, behind their count
+-- the first bytes of a content, so many at most, after their count
 unfoldable pub counted_bytes_of : (width most : ℕ) → List ℕ → List ℕ
 counted_bytes_of width most content = le_bytes width (length (take most content)) ++ take most content
 
@@ -23,7 +23,7 @@ counted_bytes_of width most content = le_bytes width (length (take most content)
 abbrev pub u8_string : Form (List ℕ)
 u8_string = counted_bytes byte
 
--- the first 255 bytes of a content, behind their count
+-- the first 255 bytes of a content, after their count
 abbrev pub u8_string_bytes : List ℕ → List ℕ
 u8_string_bytes = counted_bytes_of 1 255
 
@@ -31,6 +31,6 @@ u8_string_bytes = counted_bytes_of 1 255
 abbrev pub u32_string : Form (List ℕ)
 u32_string = counted_bytes le_u32
 
--- the first 2^32 - 1 bytes of a content, behind their count
+-- the first 2^32 - 1 bytes of a content, after their count
 abbrev pub u32_string_bytes : List ℕ → List ℕ
 u32_string_bytes = counted_bytes_of 4 4294967295

@@ -2,7 +2,7 @@
 use Rattle.std.specs.Prelude.{◌≡◌, ℕ, ◌+◌, List, [], ◌∷◌, None, refl}
 use Rattle.mysql_wire.specs.Form.{Form, ◌>>=◌, give}
 
--- a value of each form, whose function is told the place
+-- a value of each form, whose function is passed the place
 unfoldable pub each : {A C : Type 0} → (ℕ → C → Form A) → ℕ → List C → Form (List A)
 each form place [] = give []
 each form place (c ∷ cs) = do

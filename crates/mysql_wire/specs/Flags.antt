@@ -29,7 +29,7 @@ switched size on mask flags = if on then bit_or flags mask else without size fla
 abbrev pub flags_of : {N B : Type 0} → B → Option (FlagWord N B)
 flags_of bits = Some (record { 0 = bits; 1 = record {} })
 
--- a flag word of so many bytes, the low one first: every bit is kept
+-- a flag word of so many bytes, little-endian: every bit is kept
 abbrev pub flag_word : {N U : Type 0} → ℕ → Form (Const (FlagWord N ℕ) U)
 flag_word width = coded flags_of (number width)
 
@@ -37,7 +37,7 @@ flag_word width = coded flags_of (number width)
 pub flag_word-again : {N U : Type 0} (width : ℕ) (v : Const (FlagWord N ℕ) U) → v.0.0 < 256 ^ width → IsSpelling (flag_word width) v (le_bytes width v.0.0)
 flag_word-again width v lt = coded-again flags_of (number width) v.0.0 v (le_bytes width v.0.0) refl (number-again width v.0.0 lt)
 
-pub ruleset flag_word_again = (flag_word-again)
+pub ruleset flag_word_round_trips = (flag_word-again)
 
 abbrev pub BinlogDumpFlags : Type 0
 BinlogDumpFlags = FlagWord BinlogDumpNames ℕ

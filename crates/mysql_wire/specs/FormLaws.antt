@@ -42,8 +42,8 @@ module _ (n : ℕ) where
       let g = guard_ok (nat_lt (length bytes) n) kind.UnexpectedEof (take n bytes, drop n bytes) (c, rest) e in
       let long : n ≤ length bytes = ltb-false _ _ g.0 in
       let front : take n bytes ≡ c = ap (λ (p : List ℕ × List ℕ). p.0) g.1 in
-      let behind : drop n bytes ≡ rest = ap (λ (p : List ℕ × List ℕ). p.1) g.1 in
-      (rw (← front) (omega (arith, length-take n bytes)), rw (← front, ← behind) (sym (take-append-drop n bytes)))
+      let after : drop n bytes ≡ rest = ap (λ (p : List ℕ × List ℕ). p.1) g.1 in
+      (rw (← front) (omega (arith, length-take n bytes)), rw (← front, ← after) (sym (take-append-drop n bytes)))
 
   pub bytes-only : (c bytes rest : List ℕ) → bytes_Spells n c bytes rest → bytes_reads n bytes ≡ Ok (c, rest)
   bytes-only c bytes rest s =

@@ -23,7 +23,7 @@ pub record Form (A : Type 0) : Type 1 where
 -- ---- one form, and then another, which may depend on the value of the first
 
 module _ {A B : Type 0} (f : Form A) (g : A → Form B) where
-  -- the bytes of a value of the first form, and behind it those of the second
+  -- the bytes of a value of the first form, and after it those of the second
   abbrev pub then_Spells : B → List ℕ → List ℕ → Type 0
   then_Spells v bytes rest = (x : A) × (mid : List ℕ) × f.Spells x bytes mid × (g x).Spells v mid rest
 
@@ -73,13 +73,13 @@ abbrev pub ended : {A : Type 0} → A → List ℕ → List ℕ → Reading A
 ended v [] rest = Ok (v, rest)
 ended v (b ∷ bs) rest = Err kind.InvalidData
 
--- what was read of the part, all of it, and the bytes behind the part
+-- what was read of the part, all of it, and the bytes after the part
 abbrev pub whole : {A : Type 0} → Reading A → List ℕ → Reading A
 whole (Ok x) rest = ended x.0 x.1 rest
 whole (Err e) rest = Err e
 
 module _ {A : Type 0} (part : Form (List ℕ)) (f : Form A) where
-  -- the bytes of a part whose content, with nothing behind it, is a spelling of the value
+  -- the bytes of a part whose content, with nothing after it, is a spelling of the value
   abbrev pub within_Spells : A → List ℕ → List ℕ → Type 0
   within_Spells v bytes rest = (inside : List ℕ) × part.Spells inside bytes rest × f.Spells v inside []
 

@@ -22,7 +22,7 @@ size-raw R form size e = e
 abbrev pub number_of : {R : Type 0} → Form (RawInt R ℕ) → Form ℕ
 number_of form = map (λ n. n.0) form
 
--- one, two, three, four and eight bytes, the low one first
+-- one, two, three, four and eight bytes, little-endian
 abbrev pub byte : Form (RawInt ℕ ℕ)
 byte = raw (number 1)
 

@@ -5,7 +5,7 @@ use Rattle.mysql_wire.specs.Writing.{le_bytes}
 use Rattle.mysql_wire.specs.Form.{Form, ◌>>=◌, give, refuse, either, bytes}
 use Rattle.mysql_wire.specs.Int.{raw, byte, le_u16, le_u24, le_u64, number_of}
 
--- what stands behind the first byte
+-- what stands after the first byte
 abbrev pub lenenc_from : ℕ → Form ℕ
 lenenc_from first =
     either (nat_lt first 251) (give first)

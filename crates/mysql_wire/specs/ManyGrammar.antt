@@ -4,7 +4,7 @@ use Rattle.mysql_wire.specs.declared.fault.FaultKind.TheVariants as kind
 use Rattle.mysql_wire.specs.Reading.{Reading, then_read}
 use Rattle.mysql_wire.specs.Form.{Form}
 
--- the value, and what is read behind it; it took at least one of so many bytes
+-- the value, and what is read after it; it took at least one of so many bytes
 abbrev pub value_and_more : {A : Type 0} → ℕ → (List ℕ → Reading (List A)) → A → List ℕ → Reading (List A)
 value_and_more before next x mid = if nat_lt (length mid) before then then_read (next mid) (λ xs rest. Ok (x ∷ xs, rest)) else Err kind.InvalidData
 

@@ -9,7 +9,7 @@ HasNoZero [] = Unit {0}
 HasNoZero (zero ∷ bytes) = ⊥
 HasNoZero (suc b ∷ bytes) = HasNoZero bytes
 
--- the content has no zero, and a zero stands behind it
+-- the content has no zero, and a zero stands after it
 abbrev pub null_Spells : List ℕ → List ℕ → List ℕ → Type 0
 null_Spells content bytes rest = HasNoZero content × (bytes ≡ content ++ 0 ∷ rest)
 

@@ -46,9 +46,9 @@ long-again : (n : ℕ) → n < 2 ^ 64 → IsSpelling varlen n (255 ∷ le_bytes 
 unfolding varlen
 long-again n lt rest = inr (le_bytes 8 n ++ rest, refl, number-again 8 n lt rest)
 
-pub varlen_again : (n : ℕ) → n < 2 ^ 64 → IsSpelling varlen n (varlen_bytes n)
+pub varlen_round_trips : (n : ℕ) → n < 2 ^ 64 → IsSpelling varlen n (varlen_bytes n)
 unfolding varlen_bytes
-varlen_again n lt =
+varlen_round_trips n lt =
     elim (which (varlen_size n == 9)) [
       | inl nine ↦ rw nine (long-again n lt)
       | inr fewer ↦

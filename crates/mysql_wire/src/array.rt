@@ -52,7 +52,7 @@ impl<const N: usize> MySerialize for [u8; N] {
 fn append_few<const N: usize>(bytes: [u8; N], out: &mut Vec<u8>)
     requires { vec_len out.old + N ≤ vec_capacity out.old }
     ensures items { out.new.items ≡ out.old.items ++ bytes.entry }
-    ensures room { vec_capacity out.old ≤ vec_capacity out.new }
+    ensures capacity { vec_capacity out.old ≤ vec_capacity out.new }
 {
     for byte in &bytes {
         out.push_reserved(*byte);

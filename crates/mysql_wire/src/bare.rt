@@ -4,8 +4,8 @@ ghost use Rattle.std.specs.Prelude.{◌≡◌, take, ◌≤◌, length, refl};
 
 use crate::buf::ParseBuf;
 use crate::bytes::BytesRepr;
+use crate::capacity::append_to_capacity;
 use crate::fault::FaultOf;
-use crate::room::append_to_room;
 use std::cmp::min;
 
 // The first bytes, so many at most.
@@ -55,7 +55,7 @@ impl<const MAX: usize> BytesRepr for BareBytes<MAX> {
 
     #[inline(always)]
     fn append(content: &[u8], out: &mut Vec<u8>) {
-        append_to_room(Self::kept(content), out);
+        append_to_capacity(Self::kept(content), out);
     }
 
     ghost size_is = { λ _. refl };

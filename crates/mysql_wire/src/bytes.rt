@@ -20,7 +20,7 @@ use std::marker::{Model, PhantomData};
 
 /// How a byte string lies in the bytes.
 pub trait BytesRepr {
-    /// What a reading is told beside the bytes.
+    /// What a reading is passed beside the bytes.
     type Ctx: Drop;
 
     /// How a content is spelled.
@@ -46,11 +46,11 @@ pub trait BytesRepr {
     fn written_len(content: &[u8]) -> usize
         ensures { result ≡ saturated (length (written content.now)) };
 
-    /// Writes a content to a buffer that has room.
+    /// Writes a content to a buffer that has capacity.
     fn append(content: &[u8], out: &mut Vec<u8>)
         requires { vec_len out.old + length (written content.now) ≤ vec_capacity out.old }
         ensures items { out.new.items ≡ out.old.items ++ written content.now }
-        ensures room { vec_capacity out.old ≤ vec_capacity out.new };
+        ensures capacity { vec_capacity out.old ≤ vec_capacity out.new };
 
     /// No form of bytes has a constant size.
     ghost size_is: { (ctx : Self.Ctx) → (form ctx).size ≡ None };

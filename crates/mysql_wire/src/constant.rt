@@ -73,7 +73,7 @@ impl<T, const VALUE: u8> MySerialize for ConstU8<T, VALUE> {
     }
 }
 
-/// A number of 32 bits that has one value, in four bytes, the low one first.
+/// A number of 32 bits that has one value, in four bytes, little-endian.
 ///
 /// Another number is `InvalidData` with the text of the marker `T`.
 #[derive_where(Clone, Copy, PartialEq, Eq, Hash, Debug)]

@@ -1,16 +1,16 @@
-//! Byte strings behind a count of a fixed width.
+//! Byte strings after a count of a fixed width.
 
 ghost use Rattle.std.specs.Prelude.{take};
 
 use crate::bare::first_bytes;
 use crate::buf::ParseBuf;
 use crate::bytes::BytesRepr;
+use crate::capacity::append_to_capacity;
 use crate::fault::FaultOf;
 use crate::int::{IntRepr, RawInt};
 use crate::little_endian::LeU32;
-use crate::room::append_to_room;
 
-/// The bytes behind a count of one byte. Fewer bytes than the count: `UnexpectedEof`.
+/// The bytes after a count of one byte. Fewer bytes than the count: `UnexpectedEof`.
 ///
 /// The first 255 bytes of a content are written.
 #[derive(Clone, Copy, Debug)]
@@ -56,13 +56,13 @@ impl BytesRepr for U8Bytes {
     fn append(content: &[u8], out: &mut Vec<u8>) {
         let kept = first_bytes(content, u8::MAX as usize);
         <u8 as IntRepr>::append(kept.len() as u8, out);
-        append_to_room(kept, out);
+        append_to_capacity(kept, out);
     }
 
     ghost size_is = { λ _. size-counted_bytes byte };
 }
 
-/// The bytes behind a count of four bytes, the low one first. Fewer bytes than the count:
+/// The bytes after a count of four bytes, little-endian. Fewer bytes than the count:
 /// `UnexpectedEof`.
 ///
 /// The first 4,294,967,295 bytes of a content are written.
@@ -109,7 +109,7 @@ impl BytesRepr for U32Bytes {
     fn append(content: &[u8], out: &mut Vec<u8>) {
         let kept = first_bytes(content, u32::MAX as usize);
         <LeU32 as IntRepr>::append(kept.len() as u32, out);
-        append_to_room(kept, out);
+        append_to_capacity(kept, out);
     }
 
     ghost size_is = { λ _. size-counted_bytes le_u32 };

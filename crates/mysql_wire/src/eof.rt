@@ -4,8 +4,8 @@ ghost use Rattle.std.specs.Prelude.{refl};
 
 use crate::buf::ParseBuf;
 use crate::bytes::BytesRepr;
+use crate::capacity::append_to_capacity;
 use crate::fault::FaultOf;
-use crate::room::append_to_room;
 
 /// All the bytes that are left (`string<EOF>`). A content is written whole.
 #[derive(Clone, Copy, Debug)]
@@ -43,7 +43,7 @@ impl BytesRepr for EofBytes {
 
     #[inline(always)]
     fn append(content: &[u8], out: &mut Vec<u8>) {
-        append_to_room(content, out);
+        append_to_capacity(content, out);
     }
 
     ghost size_is = { λ _. refl };

@@ -37,11 +37,11 @@ pub trait IntRepr {
     fn written_len(value: Self::Primitive) -> usize
         ensures { result ≡ length (written value) };
 
-    /// Writes the number to the end of a buffer that has room.
+    /// Writes the number to the end of a buffer that has capacity.
     fn append(value: Self::Primitive, out: &mut Vec<u8>)
         requires { vec_len out.old + length (written value) ≤ vec_capacity out.old }
         ensures items { out.new.items ≡ out.old.items ++ written value }
-        ensures room { vec_capacity out.old ≤ vec_capacity out.new };
+        ensures capacity { vec_capacity out.old ≤ vec_capacity out.new };
 
     /// The form has that size.
     ghost size_is: { form.size ≡ SIZE };

@@ -19,16 +19,16 @@ pub fn items_len<T: MySerialize>(values: &[T]) -> usize
     total
 }
 
-/// Writes the values, in order, to the end of a buffer that has room for them.
+/// Writes the values, in order, to the end of a buffer that has capacity for them.
 ///
 /// It takes no memory.
 pub fn append_items<T: MySerialize>(values: &[T], out: &mut Vec<u8>)
     requires { vec_len out.old + length (flat_map T.bytes values.now) ≤ vec_capacity out.old }
     ensures items { out.new.items ≡ out.old.items ++ flat_map T.bytes values.now }
-    ensures room { vec_capacity out.old ≤ vec_capacity out.new }
+    ensures capacity { vec_capacity out.old ≤ vec_capacity out.new }
 {
     // While it is a variable of its own, the compiler keeps its length and its address in registers, and does not read
-    // them again behind each byte: 1,000 intervals of a GTID set are written in 4,000 instructions, and not in 67,000.
+    // them again after each byte: 1,000 intervals of a GTID set are written in 4,000 instructions, and not in 67,000.
     let empty = Vec::new(*out.allocator());
     let mut taken = mem::replace(out, empty);
     append_each(values, &mut taken);
@@ -39,7 +39,7 @@ pub fn append_items<T: MySerialize>(values: &[T], out: &mut Vec<u8>)
 fn append_each<T: MySerialize>(values: &[T], out: &mut Vec<u8>)
     requires { vec_len out.old + length (flat_map T.bytes values.now) ≤ vec_capacity out.old }
     ensures items { out.new.items ≡ out.old.items ++ flat_map T.bytes values.now }
-    ensures room { vec_capacity out.old ≤ vec_capacity out.new }
+    ensures capacity { vec_capacity out.old ≤ vec_capacity out.new }
 {
     for value in values {
         value.append(out);

@@ -21,17 +21,23 @@ mod lists;
 pub use crate::block::block_has_no_constant_size;
 use crate::proto::MyDeserialize;
 pub use byte_strings::{
-    array_again, bare_string_again, const_bytes_again, null_string_again, rest_again,
-    u8_string_again, u32_string_again,
+    array_round_trips, bare_string_round_trips, const_bytes_round_trips, null_string_round_trips,
+    rest_round_trips, u8_string_round_trips, u32_string_round_trips,
 };
-pub use constant_values::{coded_byte_again, flag_word_again, switching_changes_one_flag};
-pub use constants::{block_again, const_u8_again, const_u32_again, skip_again};
+pub use constant_values::{
+    coded_byte_round_trips, flag_word_round_trips, switching_changes_one_flag,
+};
+pub use constants::{
+    block_round_trips, const_u8_round_trips, const_u32_round_trips, skip_round_trips,
+};
 pub use equality::{
     equal_byte_strings_hash_equally, equal_coded_values_hash_equally,
     equal_flag_words_hash_equally, equal_integers_hash_equally, equal_lists_hash_equally,
 };
 pub use faults::{block_faults, first_fault_comes_first};
-pub use lists::{count_again, list_again, values_to_the_end_again, varlen_again};
+pub use lists::{
+    count_round_trips, list_round_trips, values_to_the_end_round_trips, varlen_round_trips,
+};
 
 /// Bytes are spellings of at most one value of a type, with one rest.
 pub fn at_most_one_value<'de, T: MyDeserialize<'de>>()
@@ -57,7 +63,7 @@ pub fn reading_is_spelling<'de, T: MyDeserialize<'de>>()
 
 /// A number that fits its width is read again, whatever follows.
 #[tactic(auto, using(crate::specs::Spelling::numbers_again))]
-pub fn number_again()
+pub fn number_round_trips()
     ensures one_byte { (n : ℕ) → n < 2 ^ 8 → IsSpelling byte (raw_int n) (le_bytes 1 n) }
     ensures two_bytes { (n : ℕ) → n < 2 ^ 16 → IsSpelling le_u16 (raw_int n) (le_bytes 2 n) }
     ensures three_bytes { (n : ℕ) → n < 2 ^ 24 → IsSpelling le_u24 (raw_int n) (le_bytes 3 n) }
@@ -66,13 +72,13 @@ pub fn number_again()
 {}
 
 /// A length-encoded number of up to 64 bits is read again, whatever follows.
-#[tactic(auto, using(crate::specs::Again::lenenc_again))]
-pub fn lenenc_again()
+#[tactic(auto, using(crate::specs::Again::lenenc_round_trips))]
+pub fn lenenc_round_trips()
     ensures { (n : ℕ) → n < 2 ^ 64 → IsSpelling lenenc n (lenenc_bytes n) }
 {}
 
 /// A length-encoded byte string is read again, whatever follows.
-#[tactic(auto, using(crate::specs::Again::lenenc_again))]
-pub fn lenenc_string_again()
+#[tactic(auto, using(crate::specs::Again::lenenc_round_trips))]
+pub fn lenenc_string_round_trips()
     ensures { (content : List ℕ) → length content < 2 ^ 64 → IsSpelling lenenc_string content (lenenc_string_bytes content) }
 {}

@@ -4,15 +4,15 @@ ghost use Rattle.std.specs.Prelude.{None};
 
 use crate::buf::ParseBuf;
 use crate::bytes::BytesRepr;
+use crate::capacity::append_to_capacity;
 use crate::fault::FaultOf;
 use crate::int::{IntRepr, RawInt};
 use crate::little_endian::{LeU16, LeU24, LeU64};
-use crate::room::append_to_room;
 
 /// The length-encoded form, of integers (`int<lenenc>`) and of byte strings (`string<lenenc>`).
 ///
-/// An integer is one byte up to `fa`; or `fc`, `fd` or `fe` and a number of 2, 3 or 8 bytes behind
-/// it, the low byte first. A longer spelling than needed is read too; `fb` and `ff` are
+/// An integer is one byte up to `fa`; or `fc`, `fd` or `fe` and a number of 2, 3 or 8 bytes after
+/// it, little-endian. A longer spelling than needed is read too; `fb` and `ff` are
 /// `InvalidData`. The shortest spelling is written.
 ///
 /// A byte string is the length-encoded length of its content, and then the content.
@@ -129,7 +129,7 @@ impl BytesRepr for LenEnc {
     #[tactic(auto, unfolding(crate::specs::LenEnc::lenenc_string_bytes))]
     fn append(content: &[u8], out: &mut Vec<u8>) {
         <LenEnc as IntRepr>::append(content.len() as u64, out);
-        append_to_room(content, out);
+        append_to_capacity(content, out);
     }
 
     ghost size_is = { λ _. size-lenenc_string };

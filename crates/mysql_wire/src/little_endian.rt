@@ -1,6 +1,6 @@
-//! Integers of fixed widths, the low byte first.
+//! Integers of fixed widths, little-endian.
 //!
-//! Their bytes are pushed to room that is proved to be there (`push_reserved`), so the buffer's capacity is not tested for
+//! Their bytes are pushed to capacity that is proved to be there (`push_reserved`), so the buffer's capacity is not tested for
 //! each field of a packet, and the compiler makes one store of the bytes: a statement packet is then read and written in
 //! half the instructions.
 
@@ -12,7 +12,7 @@ use crate::buf::ParseBuf;
 use crate::fault::FaultOf;
 use crate::int::IntRepr;
 
-/// A number of 16 bits: two bytes, the low one first (`int<2>`).
+/// A number of 16 bits: two bytes, little-endian (`int<2>`).
 #[derive(Clone, Copy, Debug)]
 pub struct LeU16;
 
@@ -50,7 +50,7 @@ impl IntRepr for LeU16 {
     ghost size_is = { size-number 2 };
 }
 
-/// A number of 32 bits: four bytes, the low one first (`int<4>`).
+/// A number of 32 bits: four bytes, little-endian (`int<4>`).
 #[derive(Clone, Copy, Debug)]
 pub struct LeU32;
 
@@ -90,7 +90,7 @@ impl IntRepr for LeU32 {
     ghost size_is = { size-number 4 };
 }
 
-/// A number of 24 bits, held in a `u32`: three bytes, the low one first (`int<3>`).
+/// A number of 24 bits, held in a `u32`: three bytes, little-endian (`int<3>`).
 ///
 /// Of a larger number the low 24 bits are written.
 #[derive(Clone, Copy, Debug)]
@@ -132,7 +132,7 @@ impl IntRepr for LeU24 {
     ghost size_is = { size-number 3 };
 }
 
-/// A number of 64 bits: eight bytes, the low one first (`int<8>`).
+/// A number of 64 bits: eight bytes, little-endian (`int<8>`).
 #[derive(Clone, Copy, Debug)]
 pub struct LeU64;
 

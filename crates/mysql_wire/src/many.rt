@@ -28,17 +28,17 @@ pub fn read_all<'s, 'a, T: MyDeserialize<'a, Ctx = ()> + Drop>(
         if rest.len() == before {
             return Err(FaultOf::InvalidData("Empty value in a list"));
         }
-        take_first_room(&mut items)?;
+        take_first_capacity(&mut items)?;
         items.push(item)?;
     }
     *buf = rest;
     Ok(items)
 }
 
-/// Takes the room that the first push would take. The compiler puts it where it is called, and the push behind it seldom
+/// Takes the capacity that the first push would take. The compiler puts it where it is called, and the push after it seldom
 /// grows: an OK packet with two lists is read in 44 instructions less.
 #[inline(always)]
-fn take_first_room<T>(items: &mut Vec<T>) -> Result<(), AllocError>
+fn take_first_capacity<T>(items: &mut Vec<T>) -> Result<(), AllocError>
     ensures items { items.new.items ≡ items.old.items }
 {
     if items.capacity() == 0 {

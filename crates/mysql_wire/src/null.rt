@@ -5,8 +5,8 @@ ghost use Rattle.mysql_wire.specs.Null.{HasNoZero};
 
 use crate::buf::ParseBuf;
 use crate::bytes::BytesRepr;
+use crate::capacity::append_to_capacity;
 use crate::fault::FaultOf;
-use crate::room::append_to_room;
 use memchr::memchr;
 
 /// The bytes up to a zero (`string<NUL>`), which is eaten. Without a zero: `UnexpectedEof`.
@@ -58,7 +58,7 @@ impl BytesRepr for NullBytes {
 
     #[inline(always)]
     fn append(content: &[u8], out: &mut Vec<u8>) {
-        append_to_room(Self::kept(content), out);
+        append_to_capacity(Self::kept(content), out);
         out.push_reserved(0);
     }
 
@@ -70,28 +70,28 @@ impl BytesRepr for NullBytes {
 fn has_zero(bytes: &[u8]) -> bool
     ensures none { result ≡ false → HasNoZero bytes.now }
 {
-    let Some(rest) = behind_chunks::<16>(bytes) else {
+    let Some(rest) = after_chunks::<16>(bytes) else {
         return true;
     };
-    let Some(rest) = behind_chunks::<4>(rest) else {
+    let Some(rest) = after_chunks::<4>(rest) else {
         return true;
     };
-    behind_chunks::<1>(rest).is_none()
+    after_chunks::<1>(rest).is_none()
 }
 
-/// The bytes behind all chunks of `N` at the front, or `None` where some chunk has a zero.
+/// The bytes after all chunks of `N` at the front, or `None` where some chunk has a zero.
 #[inline(always)]
-fn behind_chunks<const N: usize>(bytes: &[u8]) -> Option<&[u8]>
+fn after_chunks<const N: usize>(bytes: &[u8]) -> Option<&[u8]>
     requires some { 0 < N }
     requires few { N ≤ 16 }
     ensures rest { MatchOption result ⊤ (λ rest. (length rest.now < N) × (HasNoZero rest.now → HasNoZero bytes.now)) }
 {
     let mut rest = bytes;
-    while let Some((front, behind)) = rest.split_first_chunk::<N>() {
+    while let Some((front, after)) = rest.split_first_chunk::<N>() {
         if chunk_has_zero(front) {
             return None;
         }
-        rest = behind;
+        rest = after;
     }
     Some(rest)
 }

@@ -19,10 +19,10 @@ use std::fmt::Debug;
 use std::hash::{Hash, Hasher};
 use std::marker::{Model, PhantomData};
 
-/// How many values to reserve room for: no more than the count, nor than the unread bytes can hold.
+/// How many values to reserve capacity for: no more than the count, nor than the unread bytes can hold.
 ///
 /// Values without a constant size, or without bytes, get none: their list grows as they are read.
-fn room_for(count: u64, size: Option<usize>, unread: usize) -> usize
+fn capacity_for(count: u64, size: Option<usize>, unread: usize) -> usize
     ensures wanted { result ≤ count }
     ensures held { IsHeld size result unread }
 {
@@ -39,8 +39,8 @@ fn read_items<'s, 'a, T: MyDeserialize<'a, Ctx = ()> + Drop>(
 ) -> Result<Vec<T>, FaultOf<'s>>
     ensures value { Answers true (items_of result) buf.new ((counted count (T.form tt)).reads buf.old) }
 {
-    let room = room_for(count, <T::Size as Width>::SIZE, buf.len());
-    let mut items = Vec::with_capacity(buf.alloc(), room)?;
+    let capacity = capacity_for(count, <T::Size as Width>::SIZE, buf.len());
+    let mut items = Vec::with_capacity(buf.alloc(), capacity)?;
     for _ in 0..count {
         let item = buf.parse(())?;
         items.push(item)?;
@@ -50,7 +50,7 @@ fn read_items<'s, 'a, T: MyDeserialize<'a, Ctx = ()> + Drop>(
 
 /// How the count of a list lies in the bytes: [`LeU64`] or [`Unknown`].
 pub trait SeqRepr {
-    /// What a reading is told beside the bytes.
+    /// What a reading is passed beside the bytes.
     type Ctx: Drop;
 
     /// How the count is spelled.
@@ -68,14 +68,14 @@ pub trait SeqRepr {
     fn written_len(count: usize) -> usize
         ensures { result ≡ length (written count) };
 
-    /// Writes the count to a buffer that has room.
+    /// Writes the count to a buffer that has capacity.
     fn append(count: usize, out: &mut Vec<u8>)
         requires { vec_len out.old + length (written count) ≤ vec_capacity out.old }
         ensures items { out.new.items ≡ out.old.items ++ written count }
-        ensures room { vec_capacity out.old ≤ vec_capacity out.new };
+        ensures capacity { vec_capacity out.old ≤ vec_capacity out.new };
 }
 
-/// A count of eight bytes, the low one first.
+/// A count of eight bytes, little-endian.
 impl SeqRepr for LeU64 {
     type Ctx = ();
 
@@ -199,7 +199,7 @@ impl<'a, T, L> Seq<'a, T, L> {
 
     /// Puts a value at the end. Borrowed values are cloned first.
     ///
-    /// The caller knows that clones of the values equal them. Where a growth is refused, the list stays as it was and
+    /// The caller knows that clones of the values equal them. Where an allocation fails, the list stays as it was and
     /// the value is dropped.
     pub fn push(&mut self, alloc: Global, value: T) -> Result<(), AllocError>
     where

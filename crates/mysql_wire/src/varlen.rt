@@ -12,7 +12,7 @@ use crate::proto::MySerialize;
 use std::alloc::AllocError;
 
 /// A number of varying length: the low ones of the first byte count the bytes that follow it, and stand below a zero
-/// and the number. The byte `ff` stands before the eight bytes of a number, the low one first.
+/// and the number. The byte `ff` stands before the eight bytes of a number, little-endian.
 #[derive(Clone, Copy, Debug)]
 pub struct VarLen;
 
@@ -51,7 +51,7 @@ impl IntRepr for VarLen {
     ghost size_is = { size-varlen };
 }
 
-/// The number above a zero, which stands above the ones that count the bytes behind the first of so many.
+/// The number above a zero, which stands above the ones that count the bytes after the first of so many.
 #[inline]
 fn above_ones(value: u64, size: usize) -> u64
     requires some { 0 < size }
@@ -91,7 +91,7 @@ pub fn read_varlen_uint<'s>(buf: &mut ParseBuf<'_>) -> Result<u64, FaultOf<'s>>
 /// Writes a number in the fewest bytes that hold it at seven bits each, at most eight of them; or else as `ff` and
 /// eight bytes. The buffer grows once at the most.
 ///
-/// Where that growth is refused, the buffer is as it was.
+/// Where that allocation fails, the buffer is as it was.
 pub fn write_varlen_uint(out: &mut Vec<u8>, value: u64) -> Result<(), AllocError>
     ensures ok { OnOk result (out.new.items ≡ out.old.items ++ varlen_bytes value) }
     ensures err { OnErr result (out.new.items ≡ out.old.items) }

@@ -8,8 +8,8 @@ use Rattle.mysql_replies.specs.declared.ok_body.OkPacketBody.{OkPacketBody}
 use Rattle.mysql_packets.specs.OkBody.{old_eof_body}
 
 -- a byte of any value, and the body of an old end
-abbrev pub behind_a_byte : CapabilityFlags → Form OkPacketBody
-behind_a_byte capabilities = do
+abbrev pub after_a_byte : CapabilityFlags → Form OkPacketBody
+after_a_byte capabilities = do
   first ← byte
   old_eof_body capabilities
 

@@ -33,17 +33,17 @@ fn replies_that_were_read_round_trip(rt: HostRuntime) -> Result<(), Fail> {
         b"\x03def\x00\x00\x00\x00\x00\x0c?\x00\x0b\x00\x00\x00\x03\x01\x00\x02\x00\x00",
         (),
     )?;
-    replies::this_column_again(&column);
+    replies::this_column_round_trips(&column);
     let infile: LocalInfilePacket<'_> = read(rt.alloc(), b"\xfb", ())?;
-    replies::this_local_infile_again(&infile);
+    replies::this_local_infile_round_trips(&infile);
     let info: SessionStateInfo<'_> = read(rt.alloc(), b"\x02\x02\x011", ())?;
-    replies::this_session_state_info_again(&info);
+    replies::this_session_state_info_round_trips(&info);
     let statement: StmtPacket = read(
         rt.alloc(),
         b"\x00\x01\x00\x00\x00\x01\x00\x02\x00\x00\x00\x00",
         (),
     )?;
-    stmt::this_stmt_packet_again(&statement);
+    stmt::this_stmt_packet_round_trips(&statement);
     Ok(())
 }
 
@@ -52,9 +52,9 @@ fn errors_that_were_read_round_trip(rt: HostRuntime) -> Result<(), Fail> {
     let flags = CapabilityFlags::CLIENT_PROTOCOL_41;
     let packet: ErrPacket<'_> = read(rt.alloc(), b"\xffH\x04#HY000", flags)?;
     if let ErrPacket::Error(error) = &packet {
-        replies::this_server_error_again(error);
+        replies::this_server_error_round_trips(error);
         if let Some(state) = error.sql_state_ref() {
-            replies::this_sql_state_again(state);
+            replies::this_sql_state_round_trips(state);
         }
     }
     let flags = CapabilityFlags::CLIENT_PROGRESS_OBSOLETE;
@@ -64,7 +64,7 @@ fn errors_that_were_read_round_trip(rt: HostRuntime) -> Result<(), Fail> {
         flags,
     )?;
     if let ErrPacket::Progress(report) = &packet {
-        replies::this_progress_report_again(report);
+        replies::this_progress_report_round_trips(report);
     }
     Ok(())
 }
@@ -76,24 +76,24 @@ fn what_connects_and_was_read_round_trips(rt: HostRuntime) -> Result<(), Fail> {
         b"\x0a8\x00\x01\x00\x00\x00abcdefgh\x00\x00\x80\x08\x02\x00\x00\x00\x00\x00\x00\x00\x00\x00\x00\x00\x00\x00\x00\x07\x07\x07\x07\x07\x07\x07\x07\x07\x07\x07\x07\x07\x07\x07",
         (),
     )?;
-    auth::this_handshake_again(&handshake);
+    auth::this_handshake_round_trips(&handshake);
     let request: SslRequest = read(
         rt.alloc(),
         b"\x05\xa2\xae\x81\x00\x00\x00\x01-\x00\x00\x00\x00\x00\x00\x00\x00\x00\x00\x00\x00\x00\x00\x00\x00\x00\x00\x00\x14\x00\x00\x00",
         (),
     )?;
-    auth::this_ssl_request_again(&request);
+    auth::this_ssl_request_round_trips(&request);
     let response: HandshakeResponse<'_> = read(
         rt.alloc(),
         b"\x00\x00\x00\x00\x00\x00\x00\x01-\x00\x00\x00\x00\x00\x00\x00\x00\x00\x00\x00\x00\x00\x00\x00\x00\x00\x00\x00\x00\x00\x00\x00u\x00\x00",
         (),
     )?;
-    auth::this_handshake_response_again(&response);
+    auth::this_handshake_response_round_trips(&response);
     let flags = CapabilityFlags::CLIENT_PROTOCOL_41;
     let change: ComChangeUser<'_> = read(rt.alloc(), b"\x11root\x00\x00\x00-\x00\x00", flags)?;
-    auth::this_change_user_again(flags, &change);
+    auth::this_change_user_round_trips(flags, &change);
     let more: ComChangeUserMoreData<'_> = read(rt.alloc(), b"-\x00", flags)?;
-    auth::this_more_data_again(flags, &more);
+    auth::this_more_data_round_trips(flags, &more);
     Ok(())
 }
 
@@ -104,21 +104,21 @@ fn commands_that_were_read_round_trip(rt: HostRuntime) -> Result<(), Fail> {
         b"\x15\x07\x00\x00\x00\x01h\x00\x00\xea\x0c\x00\x00\x00\x00\x00\x00\x00\x00",
         (),
     )?;
-    repl::this_register_slave_again(&registration);
+    repl::this_register_slave_round_trips(&registration);
     let table: ComTableDump<'_> = read(rt.alloc(), b"\x13\x02db\x01t", ())?;
-    repl::this_table_dump_again(&table);
+    repl::this_table_dump_round_trips(&table);
     let dump: ComBinlogDump<'_> = read(
         rt.alloc(),
         b"\x12\x05\x00\x00\x00\x01\x00\x07\x00\x00\x00b.1",
         (),
     )?;
-    repl::this_binlog_dump_again(&dump);
+    repl::this_binlog_dump_round_trips(&dump);
     let ack: SemiSyncAckPacket<'_> = read(
         rt.alloc(),
         b"\xef\x04\x00\x00\x00\x00\x00\x00\x00b.1",
         (),
     )?;
-    repl::this_semi_sync_ack_again(&ack);
+    repl::this_semi_sync_ack_round_trips(&ack);
     Ok(())
 }
 
@@ -129,13 +129,13 @@ fn sids_that_were_read_round_trip(rt: HostRuntime) -> Result<(), Fail> {
         b"\x1e\x00\x00\x01\x00\x00\x00\x00\x00\x00\x00\x00\x00\x00\x00\x00\x00\x00\x00\x08\x00\x00\x00\x01\x00\x00\x00\x00\x00\x00\x01",
         (),
     )?;
-    repl::this_binlog_dump_gtid_again(&dump);
+    repl::this_binlog_dump_gtid_round_trips(&dump);
     let sid: Sid<'_> = read(
         rt.alloc(),
         b"\xa0\xb1\xc2\xd3\xe4\xf5g\x89\xab\xcd\xef\x01#Eg\x89\x00\x00\x00\x00\x00\x00\x00\x00",
         (),
     )?;
-    repl::this_sid_again(&sid);
-    repl::this_sid_text_again(&sid);
+    repl::this_sid_round_trips(&sid);
+    repl::this_sid_text_round_trips(&sid);
     Ok(())
 }

@@ -28,7 +28,7 @@ pub fn stop(alloc: Global) {
     let _ = Vec::<u8>::with_capacity(alloc, STOP);
 }
 
-/// Makes a call that answers a `Result`, with its growths counted; behind `value`, one that answers something else.
+/// Makes a call that answers a `Result`, with its growths counted; after `value`, one that answers something else.
 #[macro_export]
 macro_rules! counted {
     ($alloc:expr; value $call:expr) => {{

@@ -40,7 +40,7 @@ pub fn read<'a, P: Shows<T>, T: MyDeserialize<'a> + Drop>(
     }
 }
 
-/// Writes a record behind a byte, and tells the bytes, which are the `same` where those that were read begin so; or that
+/// Writes a record after a byte, and tells the bytes, which are the `same` where those that were read begin so; or that
 /// memory ran out, and the buffer then. The answer is what is written.
 pub fn write<T: MySerialize>(
     out: &mut Out,

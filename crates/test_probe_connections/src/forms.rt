@@ -1,7 +1,7 @@
 //! Wire forms: `form NAME BYTES`, with a count in front of the bytes where one is handed in.
 
 use crate::{Connections, flags, lists, words};
-use mysql_auth::LastName;
+use mysql_auth::EofName;
 use mysql_wire::{
     BareBytes, BytesRepr, ConstBytes, ConstBytesValue, ConstFault, ConstU8, ConstU32, EofBytes,
     Fault, IntRepr, LeU16, LeU24, LeU32, LeU64, LenEnc, NullBytes, ParseBuf, RawBytes, RawInt,
@@ -69,7 +69,7 @@ fn string(out: &mut Out, name: &str, request: &Request<'_>) -> Result<bool, Allo
         "eof_bytes" => round_trip::<Connections, RawBytes<'_, EofBytes>>(out, request, (), ())?,
         "u8_bytes" => round_trip::<Connections, RawBytes<'_, U8Bytes>>(out, request, (), ())?,
         "u32_bytes" => round_trip::<Connections, RawBytes<'_, U32Bytes>>(out, request, (), ())?,
-        "last_name" => round_trip::<Connections, RawBytes<'_, LastName>>(out, request, (), ())?,
+        "eof_name" => round_trip::<Connections, RawBytes<'_, EofName>>(out, request, (), ())?,
         _ => return Ok(false),
     }
     Ok(true)

@@ -122,7 +122,7 @@ fn with_each<'a>(
     Ok(dump)
 }
 
-/// A dump that is made of words, as it is told, written and read again.
+/// A dump that is made of words, as it is shown, written and read again.
 fn make(out: &mut Out, request: &Request<'_>) -> Result<(), AllocError> {
     let alloc = out.alloc();
     let flags = (request.number(2) & 0xffff) as u16;

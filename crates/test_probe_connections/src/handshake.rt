@@ -1,4 +1,4 @@
-//! What a server says first.
+//! The initial handshake.
 //!
 //! `handshake BYTES`, `version TEXT`, `make_handshake CAPABILITIES VERSION SCRAMBLE PLUGIN`.
 

@@ -28,7 +28,7 @@ pub fn answer(out: &mut Out, request: &Request<'_>) -> Result<bool, AllocError> 
     Ok(true)
 }
 
-/// Lists behind their counts, and of a count that is handed in.
+/// Lists after their counts, and of a count that is handed in.
 pub fn list(
     out: &mut Out,
     name: &str,

@@ -3,7 +3,7 @@
 //! `buf CALLS BYTES`, `content FORM BYTES`, `varlen BYTES`, `parts NAME`, `either SIDE NUMBER`.
 
 use crate::words;
-use mysql_auth::LastName;
+use mysql_auth::EofName;
 use mysql_wire::{
     BareBytes, BytesRepr, ColumnType, Const, Either, EofBytes, Fault, LeU16, LeU24, LeU32, LeU64,
     LenEnc, MySerialize, NullBytes, ParseBuf, RawBytes, RawInt, Skip, U8Bytes, U32Bytes, VarLen,
@@ -97,20 +97,20 @@ fn tell_kept<R: BytesRepr>(out: &mut Out, content: &[u8]) -> Result<(), AllocErr
     out.number("kept", content.len() as u64)?;
     words::yes(out, "empty", content.is_empty())?;
     words::yes(out, "default", content == RawBytes::default())?;
-    let is_same = is_written_with_room(out.alloc(), &content);
-    out.same("with_room", is_same)?;
+    let is_same = is_written_with_capacity(out.alloc(), &content);
+    out.same("with_capacity", is_same)?;
     let _ = write(out, &content, b"")?;
     Ok(())
 }
 
-/// Whether a content is written to its length, where there is room for it: nothing grows then.
-fn is_written_with_room<R: BytesRepr>(
+/// Whether a content is written to its length, where there is capacity for it: nothing grows then.
+fn is_written_with_capacity<R: BytesRepr>(
     alloc: Global,
     content: &RawBytes<'_, R>,
 ) -> Result<bool, AllocError> {
-    let mut room = Vec::with_capacity(alloc, content.defined_len())?;
-    counted!(alloc; content.serialize(&mut room))?;
-    Ok(room.len() == content.defined_len())
+    let mut capacity = Vec::with_capacity(alloc, content.defined_len())?;
+    counted!(alloc; content.serialize(&mut capacity))?;
+    Ok(capacity.len() == content.defined_len())
 }
 
 /// A content, as a form writes it.
@@ -121,7 +121,7 @@ fn content(out: &mut Out, form: &str, content: &[u8]) -> Result<(), AllocError> 
         "u8_bytes" => tell_kept::<U8Bytes>(out, content),
         "u32_bytes" => tell_kept::<U32Bytes>(out, content),
         "bare_bytes_2" => tell_kept::<BareBytes<2>>(out, content),
-        "last_name" => tell_kept::<LastName>(out, content),
+        "eof_name" => tell_kept::<EofName>(out, content),
         _ => tell_kept::<EofBytes>(out, content),
     }
 }

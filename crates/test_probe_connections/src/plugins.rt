@@ -1,4 +1,4 @@
-//! Authentication plugins, and what they are told and answer.
+//! Authentication plugins, and what they are sent and answer.
 //!
 //! `plugin BYTES`, `add_data PLUGIN BYTES`, `parsec BYTES`, `plugin_data KIND BYTES`.
 

@@ -84,7 +84,7 @@ impl<'a> Shows<Sid<'a>> for Connections {
     }
 }
 
-/// The interval of a word, as `1-6`: of the number behind the last.
+/// The interval of a word, as `1-6`: of the number after the last.
 fn interval_of(word: &str) -> GnoInterval {
     let (start, end) = word.split_once('-').unwrap_or((word, ""));
     GnoInterval::new(words::number(start), words::number(end))
@@ -109,7 +109,7 @@ fn with_tag<'a>(sid: Sid<'a>, word: &'a str) -> Sid<'a> {
     }
 }
 
-/// A sid that is made of words, as it is told and written.
+/// A sid that is made of words, as it is shown and written.
 fn make_sid(out: &mut Out, request: &Request<'_>) -> Result<(), AllocError> {
     let alloc = out.alloc();
     let sid = Sid::new([0x11; 16]);

@@ -91,7 +91,7 @@ impl Shows<PublicKeyRequest> for Connections {
     }
 }
 
-/// The key is told as text alone: there is no other way to it.
+/// The key is passed as text alone: there is no other way to it.
 impl<'a> Shows<PublicKeyResponse<'a>> for Connections {
     fn fields(record: &PublicKeyResponse<'a>, out: &mut Out) -> Result<(), AllocError> {
         let alloc = out.alloc();

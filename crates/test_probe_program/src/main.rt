@@ -18,7 +18,7 @@ impl Answers for Program {
     fn answer(out: &mut Out, request: &Request<'_>) -> Result<bool, AllocError> {
         let (call, input) = call_and_input(request)?;
         let words = words(request.alloc, call)?;
-        // (room for the lines, so that the growths that are met are the program's own)
+        // (capacity for the lines, so that the growths that are met are the program's own)
         let mut written = Vec::with_capacity(request.alloc, 8192)?;
         let mut reader = input.as_slice();
         let status =

@@ -1,6 +1,6 @@
 //! Bitmaps of NULLs.
 //!
-//! `bitmap SIDE COUNT BYTES` reads one of so many values; its places that are NULL are told below 64.
+//! `bitmap SIDE COUNT BYTES` reads one of so many values; its places that are NULL are passed below 64.
 //!
 //! `bits SIDE MAKING CALL ..` makes one, by `new:COUNT`, `from:BYTES` (which it borrows) or `read:COUNT:BYTES` (which
 //! it copies), and calls `set:PLACE`, `clear:PLACE`, `is:PLACE`, `len:COUNT` (`bitmap_len`). The sides are `client` and

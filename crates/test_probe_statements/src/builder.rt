@@ -1,6 +1,6 @@
 //! Calls on a bulk builder: `builder SETTINGS CALL ..`, with a `;` between the answers of each two calls.
 //!
-//! The settings of a builder of statement 1 are the packet limit, and behind commas `results`, `types`, `rows=K`, and
+//! The settings of a builder of statement 1 are the packet limit, and after commas `results`, `types`, `rows=K`, and
 //! `names=` with the names of the parameters and `/` between them. The calls:
 //!
 //! | Call | Is |

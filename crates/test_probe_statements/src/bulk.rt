@@ -1,7 +1,7 @@
 //! Bulk executions that are read.
 //!
 //! `bulk COLUMNS BYTES` reads a request of one row, `bulk_rows COLUMNS BYTES` the rows of a request, `bulk_type BYTES` a
-//! type, `bulk_value COLUMN BYTES` a value behind its indicator, `bulk_values COLUMNS BYTES` a row of them. The calls that
+//! type, `bulk_value COLUMN BYTES` a value after its indicator, `bulk_values COLUMNS BYTES` a row of them. The calls that
 //! take no bytes stand in [`bulk_calls`](crate::bulk_calls).
 
 use crate::value_forms::{column, tell_type};

@@ -1,6 +1,6 @@
 //! Conversions of values: `from_value TYPE VALUE`.
 //!
-//! The types are `value`, `i64`, `u64`, `bytes`, `text`, and each behind `option_`. A refusal hands the value back.
+//! The types are `value`, `i64`, `u64`, `bytes`, `text`, and each after `option_`. A refusal hands the value back.
 
 use crate::values::{push_value, tell_value, value};
 use mysql_values::{FromValue, FromValueError, Value};

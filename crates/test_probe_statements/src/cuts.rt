@@ -1,7 +1,7 @@
 //! Whether a cut of rows into requests is one of the fewest: `fewest LIMIT COLUMNS SIZES ENDS`.
 //!
-//! Behind the most bytes of a request stand `types` and `rows=K`, after commas each. SIZES are the bytes of the rows, and
-//! ENDS the rows behind which a request ends, with commas between them, or `()`. `row_size ROW` says the bytes of a row.
+//! After the most bytes of a request stand `types` and `rows=K`, after commas each. SIZES are the bytes of the rows, and
+//! ENDS the rows after which a request ends, with commas between them, or `()`. `row_size ROW` says the bytes of a row.
 
 use crate::values::row;
 use mysql_bulk::bulk_row_size;
@@ -42,7 +42,7 @@ fn places(alloc: Global, text: &str) -> Result<Vec<usize>, AllocError> {
     Ok(places)
 }
 
-/// The rule that stands behind a limit.
+/// The rule that stands after a limit.
 fn rule(text: &str) -> BulkRule {
     let mut rule = BulkRule::PLAIN;
     for word in text.split(',') {

@@ -1,6 +1,6 @@
 //! Prepared statements, and what is sent for one.
 //!
-//! `stmt BYTES`, `execute ID VALUES`, `execute_many ID COUNT VALUE` (of so many of one value, told without its bytes),
+//! `stmt BYTES`, `execute ID VALUES`, `execute_many ID COUNT VALUE` (of so many of one value, shown without its bytes),
 //! `long_data ID PARAMETER BYTES`, `close ID`.
 
 use crate::Statements;

@@ -18,14 +18,14 @@ use crate::ssl_request::SslRequest;
 use mysql_wire::CapabilityFlags;
 
 /// What is written of this request for TLS is read again, whatever follows.
-pub fn this_ssl_request_again(request: &SslRequest)
+pub fn this_ssl_request_round_trips(request: &SslRequest)
     ensures spelled { (rest : List ℕ) → (ssl_request.form tt).Spells request.now (ssl_request.bytes request.now ++ rest) rest }
 {
     request.widths();
 }
 
 /// What is written of this handshake is read again, where its parts fit.
-pub fn this_handshake_again(packet: &HandshakePacket<'_>)
+pub fn this_handshake_round_trips(packet: &HandshakePacket<'_>)
     ensures spelled { (rest : List ℕ) → HandshakePartsFit packet.now rest → (handshake.form tt).Spells packet.now (handshake.bytes packet.now ++ rest) rest }
 {
     let _protocol_version = packet.protocol_version();
@@ -38,7 +38,7 @@ pub fn this_handshake_again(packet: &HandshakePacket<'_>)
 }
 
 /// What is written of this response to a handshake is read again, whatever follows, where its parts fit.
-pub fn this_handshake_response_again(response: &HandshakeResponse<'_>)
+pub fn this_handshake_response_round_trips(response: &HandshakeResponse<'_>)
     ensures spelled { (rest : List ℕ) → ResponsePartsFit response.now → (handshake_response.form tt).Spells response.now (handshake_response.bytes response.now ++ rest) rest }
 {
     response.widths();
@@ -46,22 +46,22 @@ pub fn this_handshake_response_again(response: &HandshakeResponse<'_>)
 }
 
 /// Each key stands once among the attributes of more data.
-pub fn more_data_keys_stand_once(told: &ComChangeUserMoreData<'_>)
-    ensures once { (pairs : List Attribute) → connect_attributes told.now ≡ Some pairs → merged pairs ≡ pairs }
+pub fn more_data_keys_stand_once(given: &ComChangeUserMoreData<'_>)
+    ensures once { (pairs : List Attribute) → connect_attributes given.now ≡ Some pairs → merged pairs ≡ pairs }
 {
-    told.keys_stand_once();
+    given.keys_stand_once();
 }
 
 /// What is written of this more data is read again, under the flags that both sides know, where its parts fit.
-pub fn this_more_data_again(capabilities: CapabilityFlags, told: &ComChangeUserMoreData<'_>)
-    ensures spelled { (rest : List ℕ) → MoreDataPartsFit capabilities told.now → (more_data.form capabilities).Spells told.now (more_data.bytes told.now ++ rest) rest }
+pub fn this_more_data_round_trips(capabilities: CapabilityFlags, given: &ComChangeUserMoreData<'_>)
+    ensures spelled { (rest : List ℕ) → MoreDataPartsFit capabilities given.now → (more_data.form capabilities).Spells given.now (more_data.bytes given.now ++ rest) rest }
 {
-    told.width();
-    told.keys_stand_once();
+    given.width();
+    given.keys_stand_once();
 }
 
 /// What is written of this change of user is read again, under the flags that both sides know, where its parts fit.
-pub fn this_change_user_again(capabilities: CapabilityFlags, change: &ComChangeUser<'_>)
+pub fn this_change_user_round_trips(capabilities: CapabilityFlags, change: &ComChangeUser<'_>)
     ensures spelled { (rest : List ℕ) → ChangeUserPartsFit capabilities change.now rest → (change_user.form capabilities).Spells change.now (change_user.bytes change.now ++ rest) rest }
 {
     change.more_data_is_one();

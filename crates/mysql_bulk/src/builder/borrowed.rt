@@ -10,7 +10,7 @@ ghost use Rattle.mysql_bulk.specs.Row.{row_size, rows_packing};
 use super::ComStmtBulkExecuteRequestBuilder;
 use crate::declared_types::join_row;
 use crate::error::BulkRowRefusal;
-use crate::row::{append_copies, find_room};
+use crate::row::{append_copies, find_capacity};
 use crate::size::request_len;
 use mysql_cuts::BulkRule;
 use mysql_values::Value;
@@ -66,7 +66,7 @@ impl<'a> ComStmtBulkExecuteRequestBuilder<'a> {
         let Some(count) = self.count.checked_add(1) else {
             return false;
         };
-        let Ok(()) = find_room(&mut self.values, &mut self.types, self.types_due, arity) else {
+        let Ok(()) = find_capacity(&mut self.values, &mut self.types, self.types_due, arity) else {
             return false;
         };
         let Some(size) = append_copies(self.alloc, &mut self.values, row, most) else {

@@ -66,7 +66,7 @@ fn first_length(rows: &[Vec<Value>]) -> usize
     }
 }
 
-/// The bytes of each row in a request. A sum past 64 bits counts as a refused growth.
+/// The bytes of each row in a request. A sum past 64 bits counts as an allocation that fails.
 fn row_sizes(alloc: Global, rows: &[Vec<Value>]) -> Result<Vec<u64>, AllocError>
     ensures value { IfOk result (λ sizes. sizes.items ≡ map row_size (contents_of_rows rows.now)) }
 {
@@ -77,7 +77,7 @@ fn row_sizes(alloc: Global, rows: &[Vec<Value>]) -> Result<Vec<u64>, AllocError>
     Ok(sizes)
 }
 
-/// The bytes of a row in a request. A sum past 64 bits counts as a refused growth.
+/// The bytes of a row in a request. A sum past 64 bits counts as an allocation that fails.
 fn row_size(row: &[Value]) -> Result<u64, AllocError>
     ensures value { IfOk result (λ size. size ≡ row_size (contents_of row.now)) }
 {

@@ -1,4 +1,4 @@
-//! `handshake HEX`: what a server says first.
+//! `handshake HEX`: the initial handshake.
 
 ghost use Rattle.std.specs.Prelude.{◌≡◌, ◌++◌, IfOk, OnOk, string_bytes};
 ghost use Rattle.mysql_auth.specs.Handshake.{server_version};

@@ -27,7 +27,7 @@ fn show(alloc: Global, sid: &Sid<'_>) -> Result<Answer, AllocError>
     Ok(Answer::done(text_of(alloc, &[Line::text("sid", shown.as_str())])?))
 }
 
-/// A refusal by its name. A growth that was refused gives no answer of its own, but the error.
+/// A refusal by its name. An allocation that failed gives no answer of its own, but the error.
 fn refused(alloc: Global, refusal: &InvalidSid) -> Result<Answer, AllocError>
     ensures value { IfOk result (spec.IsSidRefusal refusal.now) }
 {

@@ -22,7 +22,7 @@ use crate::sid::{Sid, UUID_LEN};
 use crate::table_dump::ComTableDump;
 
 /// What is written of this registration is read again, whatever follows, where no string has more than 255 bytes.
-pub fn this_register_slave_again(registration: &ComRegisterSlave<'_>)
+pub fn this_register_slave_round_trips(registration: &ComRegisterSlave<'_>)
     ensures spelled { (rest : List ℕ) → length (hostname registration.now) < 2 ^ 8 → length (user registration.now) < 2 ^ 8 → length (password registration.now) < 2 ^ 8
         → (register_slave.form tt).Spells registration.now (register_slave.bytes registration.now ++ rest) rest }
 {
@@ -34,13 +34,13 @@ pub fn this_register_slave_again(registration: &ComRegisterSlave<'_>)
 
 /// What is written of this request for a table is read again, whatever follows, where no name has more than 255 bytes.
 #[tactic(auto, using(crate::proofs::Fits::plain_fits))]
-pub fn this_table_dump_again(request: &ComTableDump<'_>)
+pub fn this_table_dump_round_trips(request: &ComTableDump<'_>)
     ensures spelled { (rest : List ℕ) → length (database request.now) < 2 ^ 8 → length (table request.now) < 2 ^ 8
         → (table_dump.form tt).Spells request.now (table_dump.bytes request.now ++ rest) rest }
 {}
 
 /// What is written of this dump by position is read again, where nothing follows.
-pub fn this_binlog_dump_again(dump: &ComBinlogDump<'_>)
+pub fn this_binlog_dump_round_trips(dump: &ComBinlogDump<'_>)
     ensures spelled { (binlog_dump.form tt).Spells dump.now (binlog_dump.bytes dump.now) [] }
 {
     let _pos = dump.pos();
@@ -49,14 +49,14 @@ pub fn this_binlog_dump_again(dump: &ComBinlogDump<'_>)
 }
 
 /// What is written of this acknowledgement is read again, where nothing follows.
-pub fn this_semi_sync_ack_again(ack: &SemiSyncAckPacket<'_>)
+pub fn this_semi_sync_ack_round_trips(ack: &SemiSyncAckPacket<'_>)
     ensures spelled { (semi_sync_ack.form tt).Spells ack.now (semi_sync_ack.bytes ack.now) [] }
 {
     let _position = ack.position();
 }
 
 /// What is written of this sid is read again, whatever follows: where it has no tag, and in the form with tags.
-pub fn this_sid_again(sid: &Sid<'_>)
+pub fn this_sid_round_trips(sid: &Sid<'_>)
     ensures untagged { (rest : List ℕ) → spec.tag sid.now ≡ None → (spec.sid.form tt).Spells sid.now (spec.sid.bytes sid.now ++ rest) rest }
     ensures tagged { (rest : List ℕ) → (spec.tagged_sid.form tt).Spells sid.now (spec.tagged_sid.bytes sid.now ++ rest) rest }
 {
@@ -86,7 +86,7 @@ fn are_sids(sids: &[Sid<'_>])
 
 /// What is written of this dump by GTID set is read again, whatever follows, by either reader, where it is written as
 /// less than 2^32 bytes.
-pub fn this_binlog_dump_gtid_again(dump: &ComBinlogDumpGtid<'_>)
+pub fn this_binlog_dump_gtid_round_trips(dump: &ComBinlogDumpGtid<'_>)
     ensures lenient { (rest : List ℕ) → length (gtid_dump.bytes dump.now) < 2 ^ 32 → (gtid_dump.form false).Spells dump.now (gtid_dump.bytes dump.now ++ rest) rest }
     ensures strict { (rest : List ℕ) → length (gtid_dump.bytes dump.now) < 2 ^ 32 → (gtid_dump.form true).Spells dump.now (gtid_dump.bytes dump.now ++ rest) rest }
 {
@@ -98,7 +98,7 @@ pub fn this_binlog_dump_gtid_again(dump: &ComBinlogDumpGtid<'_>)
 
 /// The text that is written of this sid spells it, and is read as it, where it has at least one interval, and each is
 /// proper.
-pub fn this_sid_text_again(sid: &Sid<'_>)
+pub fn this_sid_text_round_trips(sid: &Sid<'_>)
     ensures spelled { ProperIntervals (spec.intervals sid.now) → SpellsSid (sid_text sid.now) sid.now }
     ensures read { ProperIntervals (spec.intervals sid.now) → read_sid (sid_text sid.now) ≡ Ok sid.now }
 {

@@ -19,7 +19,7 @@ use crate::session_state_info::SessionStateInfo;
 use crate::sql_state::SqlState;
 
 /// What is written of this column is read again, whatever follows.
-pub fn this_column_again(column: &Column)
+pub fn this_column_round_trips(column: &Column)
     ensures spelled { (rest : List ℕ) → (spec.column.form tt).Spells column.now (spec.column.bytes column.now ++ rest) rest }
 {
     let _schema = column.schema_ref().len();
@@ -34,12 +34,12 @@ pub fn this_column_again(column: &Column)
 }
 
 /// What is written of this request for a local file is read again, where nothing follows.
-pub fn this_local_infile_again(request: &LocalInfilePacket<'_>)
+pub fn this_local_infile_round_trips(request: &LocalInfilePacket<'_>)
     ensures spelled { (local_infile.form tt).Spells request.now (local_infile.bytes request.now) [] }
 {}
 
 /// What is written of this progress report is read again, whatever follows, where its progress has three bytes.
-pub fn this_progress_report_again(report: &ProgressReport<'_>)
+pub fn this_progress_report_round_trips(report: &ProgressReport<'_>)
     ensures spelled { (rest : List ℕ) → progress report.now < 2 ^ 24 → (progress_report.form tt).Spells report.now (progress_report.bytes report.now ++ rest) rest }
 {
     let _stage = report.stage();
@@ -47,9 +47,9 @@ pub fn this_progress_report_again(report: &ProgressReport<'_>)
     let _stage_info = report.stage_info_ref().len();
 }
 
-/// What is written of this error is read again, where nothing follows and the reader is told its code, and whether it has
+/// What is written of this error is read again, where nothing follows and the reader is passed its code, and whether it has
 /// a state.
-pub fn this_server_error_again(error: &ServerError<'_>)
+pub fn this_server_error_round_trips(error: &ServerError<'_>)
     ensures spelled { (server_error.form (error_code error.now, is_some (sql_state_of error.now))).Spells error.now (server_error.bytes error.now) [] }
 {
     if let Some(state) = error.sql_state_ref() {
@@ -58,14 +58,14 @@ pub fn this_server_error_again(error: &ServerError<'_>)
 }
 
 /// What is written of this entry of a state string is read again, whatever follows.
-pub fn this_session_state_info_again(info: &SessionStateInfo<'_>)
+pub fn this_session_state_info_round_trips(info: &SessionStateInfo<'_>)
     ensures spelled { (rest : List ℕ) → (session_state_info.form tt).Spells info.now (session_state_info.bytes info.now ++ rest) rest }
 {
     let _data = info.data_ref().len();
 }
 
 /// What is written of this SQL state is read again, whatever follows.
-pub fn this_sql_state_again(state: &SqlState)
+pub fn this_sql_state_round_trips(state: &SqlState)
     ensures spelled { (rest : List ℕ) → (sql_state.form tt).Spells state.now (sql_state.bytes state.now ++ rest) rest }
 {
     let _bytes = state.as_bytes();

@@ -9,7 +9,7 @@ ghost use Rattle.mysql_stmt.specs.Stmt.{stmt};
 use crate::stmt::StmtPacket;
 
 /// What is written of this statement packet is read again, whatever follows.
-pub fn this_stmt_packet_again(packet: &StmtPacket)
+pub fn this_stmt_packet_round_trips(packet: &StmtPacket)
     ensures spelled { (rest : List ℕ) → (stmt.form tt).Spells packet.now (stmt.bytes packet.now ++ rest) rest }
 {
     let _statement_id = packet.statement_id();

@@ -10,7 +10,7 @@ use std::marker::PhantomData;
 /// The names of [`StmtExecuteParamFlags`].
 pub struct StmtExecuteParamNames;
 
-/// What holds of one parameter of a statement, in the byte behind its type.
+/// What holds of one parameter of a statement, in the byte after its type.
 pub type StmtExecuteParamFlags = FlagWord<StmtExecuteParamNames, u8>;
 
 impl FlagWord<StmtExecuteParamNames, u8> {

@@ -12,44 +12,44 @@ use crate::const_bytes::{ConstBytes, ConstBytesValue};
 
 /// A content without a zero is read again in front of the zero that ends it, whatever follows.
 #[tactic(auto, using(crate::specs::BytesAgain::byte_strings_again))]
-pub fn null_string_again()
+pub fn null_string_round_trips()
     ensures { (content : List ℕ) → HasNoZero content → IsSpelling null_string content (null_bytes content) }
 {}
 
-/// A content of at most 255 bytes is read again behind its count of one byte, whatever follows.
+/// A content of at most 255 bytes is read again after its count of one byte, whatever follows.
 #[tactic(auto, using(crate::specs::BytesAgain::byte_strings_again))]
-pub fn u8_string_again()
+pub fn u8_string_round_trips()
     ensures { (content : List ℕ) → length content < 2 ^ 8 → IsSpelling u8_string content (u8_string_bytes content) }
 {}
 
-/// A content of less than 2^32 bytes is read again behind its count of four bytes, whatever
+/// A content of less than 2^32 bytes is read again after its count of four bytes, whatever
 /// follows.
 #[tactic(auto, using(crate::specs::BytesAgain::byte_strings_again))]
-pub fn u32_string_again()
+pub fn u32_string_round_trips()
     ensures { (content : List ℕ) → length content < 2 ^ 32 → IsSpelling u32_string content (u32_string_bytes content) }
 {}
 
 /// A content that the form's limit lets through is read again where its length is handed in,
 /// whatever follows.
 #[tactic(auto, using(crate::specs::BytesAgain::byte_strings_again))]
-pub fn bare_string_again()
+pub fn bare_string_round_trips()
     ensures { (most n : ℕ) (content : List ℕ) → length content ≡ n → n ≤ most → IsSpelling (bare n) content (take most content) }
 {}
 
 /// A content that runs to the end is read again where nothing follows.
 #[tactic(auto, using(crate::specs::BytesAgain::byte_strings_again))]
-pub fn rest_again()
+pub fn rest_round_trips()
     ensures { (content : List ℕ) → all_left.Spells content (content ++ []) [] }
 {}
 
 /// An array is read again, whatever follows.
 #[tactic(auto, using(crate::specs::BytesAgain::byte_strings_again))]
-pub fn array_again()
+pub fn array_round_trips()
     ensures { (n : ℕ) (content : List ℕ) → length content ≡ n → IsSpelling (bytes n) content content }
 {}
 
 /// A constant byte string is read again, whatever follows.
 #[tactic(auto, using(crate::specs::BytesAgain::byte_strings_again))]
-pub fn const_bytes_again<T: ConstBytesValue<LEN>, const LEN: usize>()
+pub fn const_bytes_round_trips<T: ConstBytesValue<LEN>, const LEN: usize>()
     ensures { (v : ConstBytes T LEN) → IsSpelling (const_bytes LEN T.VALUE) v T.VALUE }
 {}

@@ -14,8 +14,8 @@ use crate::constant_value::Const;
 use crate::flags::FlagWord;
 
 /// A flag word that fits its width is read again with every bit, whatever follows.
-#[tactic(auto, using(crate::specs::Flags::flag_word_again))]
-pub fn flag_word_again<N, U>()
+#[tactic(auto, using(crate::specs::Flags::flag_word_round_trips))]
+pub fn flag_word_round_trips<N, U>()
     ensures { (width : ℕ) (v : Const (FlagWord N ℕ) U) → v.0.0 < 256 ^ width → IsSpelling (flag_word width) v (le_bytes width v.0.0) }
 {}
 
@@ -28,7 +28,7 @@ pub fn switching_changes_one_flag()
 
 /// A coded byte is read again, whatever follows.
 #[tactic(auto, using(crate::specs::ColumnType::column_type_again, crate::specs::SessionStateType::session_state_type_again, crate::specs::MariadbBulkIndicator::mariadb_bulk_indicator_again))]
-pub fn coded_byte_again()
+pub fn coded_byte_round_trips()
     ensures column_type { (v : Const ColumnType ℕ) → IsSpelling column_type v (le_bytes 1 (column_type_code v.0)) }
     ensures session_state_type { (v : Const SessionStateType ℕ) → IsSpelling session_state_type v (le_bytes 1 (session_state_type_code v.0)) }
     ensures mariadb_bulk_indicator { (v : Const MariadbBulkIndicator ℕ) → IsSpelling mariadb_bulk_indicator v (le_bytes 1 (mariadb_bulk_indicator_code v.0)) }

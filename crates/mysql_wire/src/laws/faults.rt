@@ -8,8 +8,8 @@ ghost use Rattle.mysql_wire.specs.declared.fault.FaultKind.TheVariants.{InvalidD
 
 use crate::proto::MyDeserialize;
 
-/// Of one value and then another, whose reading may be told by the first: where the first has a fault, that is the
-/// answer; and else the second one's, on the bytes behind the first.
+/// Of one value and then another, whose reading may depend on the first: where the first has a fault, that is the
+/// answer; and else the second one's, on the bytes after the first.
 pub fn first_fault_comes_first<'de, A: MyDeserialize<'de>, B: MyDeserialize<'de>>()
     ensures first { (ctx : A.Ctx) (next : A → B.Ctx) (bytes : List ℕ) (fault : FaultKind) → (A.form ctx).reads bytes ≡ Err fault
         → then_reads (A.form ctx) (λ a. B.form (next a)) bytes ≡ Err fault }

@@ -5,7 +5,7 @@ use std::alloc::{AllocError, Global};
 use std::io::{Read, Write};
 use std::process::Abort;
 
-/// The words behind the program's name, parted by spaces; its input; and the status, where nothing fails.
+/// The words after the program's name, parted by spaces; its input; and the status, where nothing fails.
 pub type Call = (&'static str, &'static [u8], u8);
 
 /// Each command, as it is done and as it is refused; and bad calls, which read nothing.

@@ -1,7 +1,7 @@
 //! Kinds that a user makes.
 
 ghost use Rattle.mysql_packets.specs.OkBody.{common_ok_body};
-ghost use Rattle.test_calls.specs.Bodies.{behind_a_byte, never, nothing};
+ghost use Rattle.test_calls.specs.Bodies.{after_a_byte, never, nothing};
 
 use mysql_packets::constants::CapabilityFlags;
 use mysql_packets::io::{FaultOf, ParseBuf};
@@ -16,7 +16,7 @@ impl OkPacketKind for Versioned {
 
     const HEADER: u8 = 0x2a;
 
-    ghost body = { behind_a_byte };
+    ghost body = { after_a_byte };
 
     fn parse_body<'s, 'de>(
         capabilities: CapabilityFlags,

@@ -12,9 +12,9 @@ use std::alloc::AllocError;
 use std::fmt::Display;
 use test_probe::out::Out;
 
-/// What is told.
+/// What is passed.
 #[derive(Drop)]
-pub enum Told<'b> {
+pub enum Answered<'b> {
     /// What a call answered that adds a row.
     Added(&'b Result<Option<Vec<Value>>, BulkExecuteRequestBuilderError>),
     /// What a call answered that takes a copy of a row.
@@ -30,22 +30,22 @@ pub enum Told<'b> {
 }
 
 /// Adds it.
-pub fn tell(out: &mut Out, told: &Told<'_>) -> Result<(), AllocError> {
-    match told {
-        Told::Added(Ok(None)) => out.word("taken"),
-        Told::Added(Ok(Some(row))) => tell_row(out, "back", row.as_slice()),
-        Told::Added(Err(error)) => tell_refusal(out, error),
-        Told::Copied(Ok(true)) => out.word("taken"),
-        Told::Copied(Ok(false)) => out.word("kept"),
-        Told::Copied(Err(error)) => tell_row_refusal(out, error),
-        Told::Built(Ok(request)) => tell_request(out, request),
-        Told::Built(Err(error)) => tell_error(out, error),
-        Told::Next(None) => out.word("None"),
-        Told::Next(Some(Ok(request))) => tell_request(out, request),
-        Told::Next(Some(Err(error))) => tell_refusal(out, error),
-        Told::Request(request) => tell_request(out, request),
-        Told::Refusal(error) => tell_refusal(out, error),
-        Told::Row(name, row) => tell_row(out, name, row),
+pub fn tell(out: &mut Out, answered: &Answered<'_>) -> Result<(), AllocError> {
+    match answered {
+        Answered::Added(Ok(None)) => out.word("taken"),
+        Answered::Added(Ok(Some(row))) => tell_row(out, "back", row.as_slice()),
+        Answered::Added(Err(error)) => tell_refusal(out, error),
+        Answered::Copied(Ok(true)) => out.word("taken"),
+        Answered::Copied(Ok(false)) => out.word("kept"),
+        Answered::Copied(Err(error)) => tell_row_refusal(out, error),
+        Answered::Built(Ok(request)) => tell_request(out, request),
+        Answered::Built(Err(error)) => tell_error(out, error),
+        Answered::Next(None) => out.word("None"),
+        Answered::Next(Some(Ok(request))) => tell_request(out, request),
+        Answered::Next(Some(Err(error))) => tell_refusal(out, error),
+        Answered::Request(request) => tell_request(out, request),
+        Answered::Refusal(error) => tell_refusal(out, error),
+        Answered::Row(name, row) => tell_row(out, name, row),
     }
 }
 

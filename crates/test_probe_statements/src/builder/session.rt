@@ -1,6 +1,6 @@
 //! The calls of a line, one after another.
 
-use crate::builder::answers::{Told, tell};
+use crate::builder::answers::{Answered, tell};
 use crate::builder::input::{OddParams, OddRows};
 use crate::builder::settings::builder_of;
 use crate::params::params;
@@ -76,17 +76,17 @@ impl<'a> Session<'a> {
 
     fn add(&mut self, out: &mut Out, row: Vec<Value>) -> Result<(), AllocError> {
         let answer = counted!(out.alloc(); self.builder.add_row(row));
-        tell(out, &Told::Added(&answer))
+        tell(out, &Answered::Added(&answer))
     }
 
     fn add_slice(&mut self, out: &mut Out, row: Vec<Value>) -> Result<(), AllocError> {
         let answer = counted!(out.alloc(); self.builder.add_row_slice(row.as_slice()));
-        tell(out, &Told::Copied(&answer))
+        tell(out, &Answered::Copied(&answer))
     }
 
     fn put(&mut self, out: &mut Out, params: Params) -> Result<(), AllocError> {
         let answer = counted!(out.alloc(); self.builder.add_params(params));
-        tell(out, &Told::Added(&answer))
+        tell(out, &Answered::Added(&answer))
     }
 
     fn add_again(&mut self, out: &mut Out) -> Result<(), AllocError> {
@@ -98,7 +98,7 @@ impl<'a> Session<'a> {
 
     fn build(&mut self, out: &mut Out) -> Result<(), AllocError> {
         let answer = counted!(out.alloc(); self.builder.build());
-        tell(out, &Told::Built(&answer))
+        tell(out, &Answered::Built(&answer))
     }
 
     fn has(&self, out: &mut Out) -> Result<(), AllocError> {
@@ -137,13 +137,13 @@ impl<'a> Session<'a> {
         let rows = rows(out.alloc(), argument)?;
         let run = counted!(out.alloc(); value self.builder.build_all(rows));
         for request in run.requests.as_slice() {
-            tell(out, &Told::Request(request))?;
+            tell(out, &Answered::Request(request))?;
         }
         for end in run.ends.as_slice() {
             out.number("end", *end as u64)?;
         }
         match &run.refusal {
-            Some(error) => tell(out, &Told::Refusal(error)),
+            Some(error) => tell(out, &Answered::Refusal(error)),
             None => out.word("sent"),
         }
     }
@@ -170,7 +170,7 @@ impl<'a> Session<'a> {
     fn broken_off(&self, out: &mut Out, asked: u32) -> Result<(), AllocError> {
         out.number("asked", u64::from(asked))?;
         match &self.carried {
-            Some(row) => tell(out, &Told::Row("carried", row.as_slice())),
+            Some(row) => tell(out, &Answered::Row("carried", row.as_slice())),
             None => out.word("carried=none"),
         }
     }
@@ -186,7 +186,7 @@ fn run_of_rows(
     let mut run = builder.build_iter(input);
     for _ in 0..count.parse::<u8>().unwrap_or(0) {
         let answer = counted!(out.alloc(); value run.next());
-        tell(out, &Told::Next(&answer))?;
+        tell(out, &Answered::Next(&answer))?;
     }
     Ok(counted!(out.alloc(); value run.into_carried()))
 }
@@ -201,7 +201,7 @@ fn run_of_params(
     let mut run = builder.build_params_iter(input);
     for _ in 0..count.parse::<u8>().unwrap_or(0) {
         let answer = counted!(out.alloc(); value run.next());
-        tell(out, &Told::Next(&answer))?;
+        tell(out, &Answered::Next(&answer))?;
     }
     Ok(counted!(out.alloc(); value run.into_carried()))
 }

@@ -17,7 +17,7 @@ pub fn names_in(alloc: Global, settings: &str) -> Result<Vec<Vec<u8>>, AllocErro
     Ok(Vec::new(alloc))
 }
 
-/// The number behind a mark among some settings, or 0.
+/// The number after a mark among some settings, or 0.
 fn number_in(settings: &str, mark: &str) -> usize {
     for word in settings.split(',') {
         if let Some(digits) = word.strip_prefix(mark) {

@@ -1,4 +1,4 @@
-//! `ok CAPABILITIES BYTES`, `ok_end ..`, `ok_eof ..`, `ok_stream ..`; `ok_body CAPABILITIES BYTES` (what stands behind the
+//! `ok CAPABILITIES BYTES`, `ok_end ..`, `ok_eof ..`, `ok_stream ..`; `ok_body CAPABILITIES BYTES` (what stands after the
 //! first byte of `ok`), `session_info BYTES`.
 
 use crate::Statements;

@@ -205,7 +205,7 @@ fn converted<T: FromValue + Word + Drop, I: ColumnIndex + Drop>(
     }
 }
 
-/// Adds what a value is converted to, or the value that does not convert behind `refused:`.
+/// Adds what a value is converted to, or the value that does not convert after `refused:`.
 fn tell_converted<T: Word + Drop>(
     out: &mut Out,
     name: &str,

@@ -8,5 +8,5 @@ abbrev pub invariant-loop-value : goal.invariant-loop-value
 invariant-loop-value l = record {
   so_far : l.types.items ≡ types_with_row [] (contents_of (take l.value-index l.row));
   count : vec_len l.types ≡ l.value-index;
-  room : length l.row ≤ vec_capacity l.types;
+  capacity : length l.row ≤ vec_capacity l.types;
 }

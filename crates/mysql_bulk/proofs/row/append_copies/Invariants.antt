@@ -9,5 +9,5 @@ invariant-loop-value l = record {
   held : contents_of l.values.items ≡ contents_of l.initial.values.items ++ contents_of (take l.value-index l.row);
   stay : take l.before l.values.items ≡ l.initial.values.items;
   length_is : vec_len l.values ≡ l.before + l.value-index;
-  room : vec_capacity l.initial.values ≤ vec_capacity l.values;
+  capacity : vec_capacity l.initial.values ≤ vec_capacity l.values;
 }

@@ -21,6 +21,6 @@ loop-value-preserved c =
         length-append c.loop-value.indicators.items (c.indicator.result ∷ []),
         length-append c.loop-value.values.items (c.into_value.result ∷ []),
       );
-      values_room = omega (arith, c.loop-value.invariant.values_room, values.len, values.capacity, one_less);
-      indicators_room = omega (arith, c.loop-value.invariant.indicators_room, indicators.len, indicators.capacity, one_less);
+      values_capacity = omega (arith, c.loop-value.invariant.values_capacity, values.len, values.capacity, one_less);
+      indicators_capacity = omega (arith, c.loop-value.invariant.indicators_capacity, indicators.len, indicators.capacity, one_less);
     }

@@ -8,6 +8,6 @@ abbrev pub invariant-loop-value : goal.invariant-loop-value
 invariant-loop-value l = record {
   parted : sent_values l.indicators.items (contents_of l.values.items) ++ into_iter_items l.value-iterator ≡ l.fn.read.items;
   same_length : length l.indicators.items ≡ length l.values.items;
-  values_room : vec_len l.values + length (into_iter_items l.value-iterator) ≤ vec_capacity l.values;
-  indicators_room : vec_len l.indicators + length (into_iter_items l.value-iterator) ≤ vec_capacity l.indicators;
+  values_capacity : vec_len l.values + length (into_iter_items l.value-iterator) ≤ vec_capacity l.values;
+  indicators_capacity : vec_len l.indicators + length (into_iter_items l.value-iterator) ≤ vec_capacity l.indicators;
 }

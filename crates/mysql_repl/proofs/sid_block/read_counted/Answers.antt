@@ -5,7 +5,7 @@ use Rattle.mysql_wire.proofs.Counted.{next-item, fails, all-read}
 use Rattle.mysql_repl.specs.Sid.{sid_as}
 use Rattle.mysql_repl.proofs.sid_block.read_counted.Goals as goal
 
--- behind a number below it a count is not zero
+-- after a number below it a count is not zero
 any-above : (i count : ℕ) → i < count → is_any count ≡ true
 any-above i zero lt = absurd (omega (arith, lt))
 any-above i (suc n) lt = refl

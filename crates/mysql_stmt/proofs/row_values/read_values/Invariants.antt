@@ -10,5 +10,5 @@ invariant-loop-i g l = record {
   so_far : with_front (held l.cells.items) ((each (bin_cell l.nulls.bytes g.S.SerializationSide.BIT_OFFSET) l.i (drop l.i l.columns)).reads l.rest) ≡ (bin_cells l.nulls.bytes g.S.SerializationSide.BIT_OFFSET l.columns).reads l.fn.buf;
   count : length l.cells.items ≡ l.i;
   within : l.i ≤ length l.columns;
-  room : length l.columns ≤ vec_capacity l.cells;
+  capacity : length l.columns ≤ vec_capacity l.cells;
 }

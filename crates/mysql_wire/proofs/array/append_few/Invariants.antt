@@ -5,5 +5,5 @@ abbrev pub invariant-loop-byte : goal.invariant-loop-byte
 invariant-loop-byte g l =
     record {
       items : l.out.items ≡ l.initial.out.items ++ take l.byte-index l.fn.bytes;
-      room : vec_capacity l.initial.out ≡ vec_capacity l.out;
+      capacity : vec_capacity l.initial.out ≡ vec_capacity l.out;
     }

@@ -6,5 +6,5 @@ abbrev pub invariant-loop-value : goal.invariant-loop-value
 invariant-loop-value g l =
     record {
       items : l.out.items ≡ l.initial.out.items ++ flat_map g.T.MySerialize.bytes (take l.value-index l.values);
-      room : vec_capacity l.initial.out ≤ vec_capacity l.out;
+      capacity : vec_capacity l.initial.out ≤ vec_capacity l.out;
     }

@@ -20,7 +20,7 @@ pub loop-rest-preserved : goal.loop-rest-preserved
 loop-rest-preserved g c =
     let f = g.T.MyDeserialize.form tt in
     let shorter = tail-shorter c.parse.new.self c.loop-rest.rest c.parse.ensures.tail (omega (arith, c.len.ensures, c.len-before.ensures, c.if-len-before.false)) in
-    rw (c.in_ok-push.ensures.items, c.take_first_room.ensures.items) (one-more f c.loop-rest.items.items c.loop-rest.rest _ c.loop-rest.invariant c.in_ok-item.item c.parse.new.self shorter c.in_ok-item.ensures.value)
+    rw (c.in_ok-push.ensures.items, c.take_first_capacity.ensures.items) (one-more f c.loop-rest.items.items c.loop-rest.rest _ c.loop-rest.invariant c.in_ok-item.item c.parse.new.self shorter c.in_ok-item.ensures.value)
 
 pub returns-clause-value : goal.returns-clause-value
 returns-clause-value g c =

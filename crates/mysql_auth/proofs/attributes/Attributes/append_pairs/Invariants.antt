@@ -6,5 +6,5 @@ abbrev pub invariant-loop-key : goal.invariant-loop-key
 invariant-loop-key l =
     record {
       items : l.out.items ++ pairs_bytes l.key-iterator ≡ l.initial.out.items ++ pairs_bytes l.initial.key-iterator;
-      room : vec_capacity l.initial.out ≤ vec_capacity l.out;
+      capacity : vec_capacity l.initial.out ≤ vec_capacity l.out;
     }

@@ -20,7 +20,7 @@ append_pairs-requires c =
     let count = c.pairs_len.ensures.value ∙ whole-count content (vec_len c.args.out.now) (vec_capacity c.args.out.now) c.requires (omega (arith, c.args.out.now.small)) in
     let counted = ap length c.append.ensures.items ∙ length-append c.args.out.now.items (lenenc_bytes c.pairs_len.result) in
     let long = ap (λ n. length (lenenc_bytes n)) count in
-    omega (arith, string-length content, c.requires, counted, long, c.append.new.out.ok, c.args.out.now.ok, c.append.ensures.room)
+    omega (arith, string-length content, c.requires, counted, long, c.append.new.out.ok, c.args.out.now.ok, c.append.ensures.capacity)
 
 pub returns-clause-items : goal.returns-clause-items
 unfolding attributes lenenc_string_bytes

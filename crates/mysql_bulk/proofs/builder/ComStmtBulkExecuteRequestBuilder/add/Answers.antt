@@ -16,7 +16,7 @@ join_row-requires-clause-lengths c = λ due.
     let A : ℕ → Type 0 = TakesArity c.args.self.now.arity in
     let B : BuilderState → Type 0 = λ s. TakesArity s.arity (length (contents_of_row c.args.row)) in
     let taken = subst B (sym c.self.view_is) (subst A (c.len.ensures ∙ c.args.row.ok.0 ∙ sym (length-map c.args.row.items content_of)) (c.takes_arity.ensures.0 c.if-not-takes_arity.false)) in
-    rw (c.find_room.ensures.types, c.as_slice-2.ensures.value, ← length-map c.args.row.items content_of) (stored_before c.self.invariant (contents_of_row c.args.row) taken due)
+    rw (c.find_capacity.ensures.types, c.as_slice-2.ensures.value, ← length-map c.args.row.items content_of) (stored_before c.self.invariant (contents_of_row c.args.row) taken due)
 
 pub invariant_of-self-2 : goal.invariant_of-self-2
 invariant_of-self-2 c =
@@ -32,11 +32,11 @@ invariant_of-self-2 c =
     let total = subst T back (subst S c.as_slice.ensures.value c.in-Some.ensures.1) in
     let joined : c.join_row.new.types.items ≡ (if c.self.inside.types_due then types_with_row c.self.inside.types.items (contents_of_row c.args.row) else c.self.inside.types.items) =
     c.join_row.ensures
-    ∙ ap (λ (l : List ParamType). if c.self.inside.types_due then types_with_row l (contents_of c.as_slice-2.result.now) else l) c.find_room.ensures.types
+    ∙ ap (λ (l : List ParamType). if c.self.inside.types_due then types_with_row l (contents_of c.as_slice-2.result.now) else l) c.find_capacity.ensures.types
     ∙ ap (λ (r : List Value). if c.self.inside.types_due then types_with_row c.self.inside.types.items (contents_of r) else c.self.inside.types.items) c.as_slice-2.ensures.value in
     stored_next c.self.invariant c.in-Some.size c.len-arity.result c.in-Some-checked_add.count (contents_of_row c.args.row) (contents_of c.append_row.new.values.items) c.join_row.new.types.items taken fits total
     (c.len-arity.ensures ∙ c.args.row.ok.0 ∙ sym (length-map c.args.row.items content_of)) c.in-Some-checked_add.ensures.1
-    (held_after c.append_row.new.values.items c.self.inside.values.items c.args.row.items (c.append_row.ensures ∙ ap (λ (l : List Value). l ++ c.args.row.items) c.find_room.ensures.values)) joined
+    (held_after c.append_row.new.values.items c.self.inside.values.items c.args.row.items (c.append_row.ensures ∙ ap (λ (l : List Value). l ++ c.args.row.items) c.find_capacity.ensures.values)) joined
 
 pub returns : goal.returns
 returns c =
@@ -48,7 +48,7 @@ returns c =
       taken_now,
       subst F c.as_slice.ensures.value c.in-Some.ensures.0,
       state_next c.self.invariant c.len-arity.result c.in-Some-checked_add.count (contents_of_row c.args.row) (contents_of c.append_row.new.values.items) taken (c.len-arity.ensures ∙ c.args.row.ok.0 ∙ sym (length-map c.args.row.items content_of)) c.in-Some-checked_add.ensures.1
-          (held_after c.append_row.new.values.items c.self.inside.values.items c.args.row.items (c.append_row.ensures ∙ ap (λ (l : List Value). l ++ c.args.row.items) c.find_room.ensures.values))
+          (held_after c.append_row.new.values.items c.self.inside.values.items c.args.row.items (c.append_row.ensures ∙ ap (λ (l : List Value). l ++ c.args.row.items) c.find_capacity.ensures.values))
           ∙ ap (λ (s : BuilderState). after_row s (contents_of_row c.args.row)) c.self.view_is,
     )
 

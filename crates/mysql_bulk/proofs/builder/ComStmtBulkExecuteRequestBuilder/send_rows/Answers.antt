@@ -32,8 +32,8 @@ returns-then-is_none c =
     let stands = run_accepts c.rows.invariant c.fill.new.builder c.in-Ok.last c.fill.new.rows c.in-Ok.ensures.accepts in
     let end = accepts_end c.rows.self c.fill.new.builder c.rows.carried c.in-Ok.last c.rows.input c.fill.new.rows c.in-Ok.ensures.accepts in
     let sent = c.in-Ok-send.ensures in
-    let behind = run_sends stands c.send.new.builder c.send.new.requests.items c.send.new.ends.items c.in-Ok-send.end c.in-Ok.ensures.accepts.3 end sent.requests sent.ends sent.end in
-    ends_done behind (end (none_from c.in-Ok.last c.if-is_none.ensures)) (ap (λ (b : BuilderState). b.waiting) sent.requests.2.left)
+    let later = run_sends stands c.send.new.builder c.send.new.requests.items c.send.new.ends.items c.in-Ok-send.end c.in-Ok.ensures.accepts.3 end sent.requests sent.ends sent.end in
+    ends_done later (end (none_from c.in-Ok.last c.if-is_none.ensures)) (ap (λ (b : BuilderState). b.waiting) sent.requests.2.left)
 
 pub rows-preserved : goal.rows-preserved
 rows-preserved c =

@@ -17,7 +17,7 @@ use Rattle.mysql_bulk.proofs.builder.ComStmtBulkExecuteRequestBuilder.takes_copy
 pub join_row-requires-clause-lengths : goal.join_row-requires-clause-lengths
 join_row-requires-clause-lengths c = λ due.
     let B : BuilderState → Type 0 = λ s. TakesArity s.arity (length (contents_of c.args.row.now)) in
-    rw (c.find_room.ensures.types, ← length-map c.args.row.now content_of) (stored_before c.self.invariant (contents_of c.args.row.now) (subst B (sym c.self.view_is) c.requires) due)
+    rw (c.find_capacity.ensures.types, ← length-map c.args.row.now content_of) (stored_before c.self.invariant (contents_of c.args.row.now) (subst B (sym c.self.view_is) c.requires) due)
 
 pub invariant_of-self-2 : goal.invariant_of-self-2
 invariant_of-self-2 c =
@@ -32,9 +32,9 @@ invariant_of-self-2 c =
     (subst (λ n. n ≤ c.in-Some.most) bytes c.in-Some-append_copies.ensures.size.1)) in
     let total : c.self.inside.size + c.in-Some-append_copies.size ≡ sum_by row_size (rows ++ row ∷ []) = omega (arith, sum_by-append row_size rows (row ∷ []), c.self.invariant.flat.size_is, bytes) in
     let held : contents_of c.append_copies.new.values.items ≡ contents_of c.self.inside.values.items ++ row =
-    c.in-Some-append_copies.ensures.copies ∙ ap (λ (l : List Value). contents_of l ++ row) c.find_room.ensures.values in
+    c.in-Some-append_copies.ensures.copies ∙ ap (λ (l : List Value). contents_of l ++ row) c.find_capacity.ensures.values in
     let types : c.join_row.new.types.items ≡ (if c.self.inside.types_due then types_with_row c.self.inside.types.items row else c.self.inside.types.items) =
-    c.join_row.ensures ∙ ap (λ (l : List ParamType). if c.self.inside.types_due then types_with_row l row else l) c.find_room.ensures.types in
+    c.join_row.ensures ∙ ap (λ (l : List ParamType). if c.self.inside.types_due then types_with_row l row else l) c.find_capacity.ensures.types in
     stored_next c.self.invariant (c.self.inside.size + c.in-Some-append_copies.size) (length c.args.row.now) c.in-Some-checked_add.count row (contents_of c.append_copies.new.values.items) c.join_row.new.types.items
     (subst B (sym c.self.view_is) c.requires) fits total (sym long) c.in-Some-checked_add.ensures.1 held types
 
@@ -51,7 +51,7 @@ returns-clause-waits c =
     (c.in-Some.ensures.fits rows row (length-rows_of (unwrap_or c.self.inside.arity 0) c.self.inside.count (contents_of c.self.inside.values.items)) c.self.invariant.flat.size_is (long)
     (subst (λ n. n ≤ c.in-Some.most) bytes c.in-Some-append_copies.ensures.size.1)) in
     let held : contents_of c.append_copies.new.values.items ≡ contents_of c.self.inside.values.items ++ row =
-    c.in-Some-append_copies.ensures.copies ∙ ap (λ (l : List Value). contents_of l ++ row) c.find_room.ensures.values in (
+    c.in-Some-append_copies.ensures.copies ∙ ap (λ (l : List Value). contents_of l ++ row) c.find_capacity.ensures.values in (
       subst F c.self.view_is fits,
       state_next c.self.invariant (length c.args.row.now) c.in-Some-checked_add.count row (contents_of c.append_copies.new.values.items) (subst B (sym c.self.view_is) c.requires) (sym long)
           c.in-Some-checked_add.ensures.1 held

@@ -7,5 +7,5 @@ use Rattle.mysql_bulk.proofs.param_values.StmtBulkExecuteParamValues.new.Given a
 abbrev pub invariant-loop-value : goal.invariant-loop-value
 invariant-loop-value l = record {
   moved : l.row.items ++ map with_indicator (contents_of (into_iter_items l.value-iterator)) ≡ l.initial.row.items ++ map with_indicator (contents_of (into_iter_items l.initial.value-iterator));
-  room : vec_len l.row + length (into_iter_items l.value-iterator) ≤ vec_capacity l.row;
+  capacity : vec_len l.row + length (into_iter_items l.value-iterator) ≤ vec_capacity l.row;
 }

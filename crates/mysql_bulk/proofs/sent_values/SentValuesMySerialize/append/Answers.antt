@@ -11,7 +11,7 @@ append-requires c =
     let sent = sent_values c.args.self.now.indicators.now (contents_of c.args.self.now.values.now) in
     let fits = bytes_fit sent c.loop-place.place c.at.result c.at.ensures in
     let so_far = ap length c.loop-place.invariant.items ∙ length-append c.args.out.now.items (values_bytes (take c.loop-place.place sent)) in
-    omega (arith, fits, so_far, c.loop-place.bytes.ok, c.args.out.now.ok, c.loop-place.invariant.room, c.requires)
+    omega (arith, fits, so_far, c.loop-place.bytes.ok, c.args.out.now.ok, c.loop-place.invariant.capacity, c.requires)
 
 pub loop-place-preserved : goal.loop-place-preserved
 loop-place-preserved c =
@@ -21,7 +21,7 @@ loop-place-preserved c =
           ∙ ap (λ (l : List ℕ). l ++ param_value_bytes c.at.result) c.loop-place.invariant.items
           ∙ append_assoc c.args.out.now.items (values_bytes (take c.loop-place.place sent)) (param_value_bytes c.at.result)
           ∙ ap (λ (l : List ℕ). c.args.out.now.items ++ l) (sym (bytes_more sent c.loop-place.place c.at.result c.at.ensures));
-      room = omega (arith, c.append.ensures.room, c.loop-place.invariant.room);
+      capacity = omega (arith, c.append.ensures.capacity, c.loop-place.invariant.capacity);
     }
 
 pub returns-clause-items : goal.returns-clause-items

@@ -8,5 +8,5 @@ abbrev pub invariant-loop-place : goal.invariant-loop-place
 invariant-loop-place l =
     record {
       items : l.bytes.items ≡ l.fn.out.items ++ values_bytes (take l.place (sent_values l.self.indicators.now (contents_of l.self.values.now)));
-      room : vec_capacity l.fn.out ≤ vec_capacity l.bytes;
+      capacity : vec_capacity l.fn.out ≤ vec_capacity l.bytes;
     }

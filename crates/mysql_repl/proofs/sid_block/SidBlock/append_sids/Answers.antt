@@ -13,4 +13,4 @@ append-requires c =
     let fits = length-flat_map-take bytes sids c.loop-sid.sid-index sid c.loop-sid-test.true in
     let this : length (bytes sid) ≡ length (bytes (get_or sids c.loop-sid.sid-index sid)) = ap (λ x. length (bytes x)) c.sid-item.is in
     let so_far = ap length c.loop-sid.invariant.items ∙ length-append c.args.out.now.items (flat_map bytes (take c.loop-sid.sid-index sids)) in
-    omega (arith, fits, this, so_far, c.loop-sid.out.ok, c.args.out.now.ok, c.loop-sid.invariant.room, c.requires)
+    omega (arith, fits, this, so_far, c.loop-sid.out.ok, c.args.out.now.ok, c.loop-sid.invariant.capacity, c.requires)

@@ -7,5 +7,5 @@ abbrev pub invariant-loop-sid : goal.invariant-loop-sid
 invariant-loop-sid l =
     record {
       items : l.out.items ≡ l.initial.out.items ++ flat_map (sid_as l.tagged).bytes (take l.sid-index l.sid-items);
-      room : vec_capacity l.initial.out ≤ vec_capacity l.out;
+      capacity : vec_capacity l.initial.out ≤ vec_capacity l.out;
     }

@@ -25,7 +25,7 @@ loop-preserved g c =
           c.loop-test.true (ap (λ (r : Reading Content). then_read r (λ x rest. Ok (Some x, rest))) c.in_ok-value.ensures.value));
       count = search rules;
       within = search rules;
-      room = search rules;
+      capacity = search rules;
     }
 
 pub returns-clause-value : goal.returns-clause-value

@@ -10,5 +10,5 @@ invariant-loop g l = record {
   so_far : with_front (held l.cells.items) ((each text_cell l.index (drop l.index l.columns)).reads l.rest) ≡ (text_row l.columns).reads l.fn.buf;
   count : length l.cells.items ≡ l.index;
   within : l.index ≤ length l.columns;
-  room : length l.columns ≤ vec_capacity l.cells;
+  capacity : length l.columns ≤ vec_capacity l.cells;
 }

@@ -13,6 +13,6 @@ append-requires c =
     rw (c.from_value.ensures.value) (omega (
       arith,
       c.loop-value.out.ok,
-      c.loop-value.invariant.room,
+      c.loop-value.invariant.capacity,
       next_fits (λ v. param_type.bytes (type_of (content_of v))) c.args.self.now.0.now c.loop-value.value-index value out.items c.loop-value.out.items out.cap c.loop-value-test.true c.value-item.is c.loop-value.invariant.items fits,
     ))

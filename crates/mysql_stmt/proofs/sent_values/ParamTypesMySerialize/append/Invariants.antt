@@ -6,5 +6,5 @@ abbrev pub invariant-loop-value : goal.invariant-loop-value
 invariant-loop-value l =
     record {
       items : l.out.items ≡ l.initial.out.items ++ types_bytes (take l.value-index l.self.0.now);
-      room : vec_capacity l.initial.out ≤ vec_capacity l.out;
+      capacity : vec_capacity l.initial.out ≤ vec_capacity l.out;
     }

@@ -14,6 +14,6 @@ append-requires c =
     omega (
       arith,
       c.loop-value.out.ok,
-      c.loop-value.invariant.room,
+      c.loop-value.invariant.capacity,
       next_fits (λ v. sent long (content_of v)) values c.loop-value.value-index value out.items c.loop-value.out.items out.cap c.loop-value-test.true c.value-item.is c.loop-value.invariant.items fits,
     )

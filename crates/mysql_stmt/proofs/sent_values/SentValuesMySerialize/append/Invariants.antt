@@ -6,5 +6,5 @@ abbrev pub invariant-loop-value : goal.invariant-loop-value
 invariant-loop-value l =
     record {
       items : l.out.items ≡ l.initial.out.items ++ data_bytes l.as_long_data (take l.value-index l.self.values.now);
-      room : vec_capacity l.initial.out ≤ vec_capacity l.out;
+      capacity : vec_capacity l.initial.out ≤ vec_capacity l.out;
     }

@@ -1,5 +1,0 @@
-use Rattle.mysql_auth.proofs.Scanner.{behind-none}
-use Rattle.mysql_auth.proofs.version.mariadb_version_behind.Goals as goal
-
-pub returns-in-Some-clause-none : goal.returns-in-Some-clause-none
-returns-in-Some-clause-none c = behind-none c.args.text.now c.in-Some.rest.now c.mariadb_version_at.result c.in-Some.ensures.value c.mariadb_version_at.ensures.none

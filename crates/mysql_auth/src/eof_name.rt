@@ -1,0 +1,51 @@
+//! A name that runs to the end.
+
+ghost use Rattle.std.specs.Prelude.{false, ◌≡◌, ◌+◌, ◌++◌, ◌≤◌, vec_len, vec_capacity, length, List, ℕ, refl, OnErr};
+ghost use Rattle.mysql_wire.specs.Writing.{saturated};
+ghost use Rattle.mysql_wire.specs.Form.{Form};
+ghost use Rattle.mysql_wire.specs.Reading.{Answers, IsTail};
+
+use crate::trailing_zero::without_last_zero;
+use mysql_wire::{BytesRepr, FaultOf, NullBytes, ParseBuf};
+
+/// All the bytes that are left, without one zero at their end.
+///
+/// A content is written up to its first zero, and then a zero.
+#[derive(Clone, Copy, Debug)]
+pub struct EofName;
+
+impl BytesRepr for EofName {
+    type Ctx = ();
+
+    ghost use Rattle.mysql_auth.specs.EofName.{name_left};
+
+    ghost form = { λ _. name_left };
+
+    fn deserialize<'s, 'de>(
+        _ctx: (),
+        buf: &mut ParseBuf<'de>,
+    ) -> Result<ParseBuf<'de>, FaultOf<'s>> {
+        let name = without_last_zero(buf.eat_all());
+        Ok(ParseBuf::new(buf.alloc(), name))
+    }
+
+    ghost use Rattle.mysql_wire.specs.Null.{before_zero, null_bytes};
+
+    ghost kept = { before_zero };
+
+    fn kept(content: &[u8]) -> &[u8] {
+        <NullBytes as BytesRepr>::kept(content)
+    }
+
+    ghost written = { null_bytes };
+
+    fn written_len(content: &[u8]) -> usize {
+        <NullBytes as BytesRepr>::written_len(content)
+    }
+
+    fn append(content: &[u8], out: &mut Vec<u8>) {
+        <NullBytes as BytesRepr>::append(content, out)
+    }
+
+    ghost size_is = { λ _. refl };
+}
