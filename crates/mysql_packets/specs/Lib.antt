@@ -119,7 +119,7 @@ pub use Rattle.mysql_auth.specs.AuthSwitchRequest
 pub use Rattle.mysql_auth.specs.ComChangeUser
 pub use Rattle.mysql_auth.specs.Handshake
 pub use Rattle.mysql_auth.specs.HandshakeResponse
-pub use Rattle.mysql_auth.specs.LastName
+pub use Rattle.mysql_auth.specs.EofName
 pub use Rattle.mysql_auth.specs.OldAuthSwitchRequest
 pub use Rattle.mysql_auth.specs.Parsec
 pub use Rattle.mysql_auth.specs.PluginName
