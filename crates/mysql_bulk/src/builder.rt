@@ -1,4 +1,7 @@
-//! A builder of bulk requests.
+//! A builder of bulk requests: its settings, and rows that are handed over.
+//!
+//! Rows that are borrowed stand in `builder/borrowed.rt`, runs over rows and over parameters in `run.rt` and `params_run.rt`,
+//! and a whole run in `whole_run.rt`.
 
 ghost use Rattle.std.specs.Prelude.{◌≡◌, ◌≢◌, ◌+◌, ◌≤◌, ◌-◌, ◌↔◌, ◌++◌, ◌∷◌, [], length, IsTrue, MatchOption, Some, None, true, false, sum_by, List, ℕ};
 ghost use Rattle.std.specs.Option.{option_copied};
@@ -288,7 +291,7 @@ impl<'a> ComStmtBulkExecuteRequestBuilder<'a> {
     }
 
     /// Offers a row, and answers one that does not fit with those that wait.
-    // (inlined with `size_after`, since a loop over rows then takes some 20 instructions a row less)
+    // (inlined with `size_after`: a loop over rows is faster then)
     #[inline(always)]
     pub(crate) fn add(
         &mut self,

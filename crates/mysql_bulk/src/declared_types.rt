@@ -8,7 +8,7 @@ use mysql_values::{ParamType, Value};
 use mysql_wire::{ColumnType, StmtExecuteParamFlags};
 
 /// Joins a value to the type of its column so far.
-// (a type is written where it changes alone: a row of three values takes some 15 instructions less)
+// (a type is written where it changes alone)
 #[inline]
 fn join_value(kind: &mut ParamType, value: &Value)
     ensures { kind.new ≡ type_with kind.old (content_of value.now) }

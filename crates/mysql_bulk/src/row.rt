@@ -71,7 +71,7 @@ pub(crate) fn append_row(values: &mut Vec<Value>, row: Vec<Value>)
 ///
 /// `None` where it has more, or where memory for it was refused: then nothing is put there. Of bytes the copy is made in
 /// one piece.
-// (each kind is pushed where it is known: through one value for all kinds a row of three takes some 100 instructions more)
+// (each kind is pushed where it is known: one value for all kinds would be taken apart again)
 #[inline(always)]
 fn push_copy(alloc: Global, values: &mut Vec<Value>, value: &Value, most: u64) -> Option<u64>
     requires { vec_len values.old + 1 ≤ vec_capacity values.old }

@@ -129,7 +129,7 @@ impl<'a> MySerialize for SentValues<'a> {
     }
 
     // (the buffer is moved to a local one, whose place in memory no write to its bytes can change: so those of a number
-    // are one store, and a row of three values takes some 30 instructions less)
+    // are one store)
     fn append(&self, out: &mut Vec<u8>) {
         let none = Vec::new(*out.allocator());
         let mut bytes = mem::replace(out, none);

@@ -46,8 +46,7 @@ impl<const N: usize> MySerialize for [u8; N] {
     }
 }
 
-/// Writes a few bytes one by one, which the compiler makes one or two stores of: an error that is read and written takes
-/// 16 instructions less.
+/// Writes a few bytes one by one, which the compiler makes one or two stores of.
 #[inline(always)]
 fn append_few<const N: usize>(bytes: [u8; N], out: &mut Vec<u8>)
     requires { vec_len out.old + N ≤ vec_capacity out.old }

@@ -4,8 +4,7 @@ ghost use Rattle.std.specs.Prelude.{◌≡◌, ◌+◌, ◌++◌, ◌≤◌, len
 
 /// Copies bytes to the end of a buffer that has capacity for them.
 ///
-/// That there is capacity is tested here once more: the compiler then leaves out the buffer's growth and what it would change,
-/// so an error that is read and written takes 2 instructions less.
+/// That there is capacity is tested here once more: the compiler then leaves out the buffer's growth and what it would change.
 #[inline(always)]
 pub(crate) fn append_to_capacity(bytes: &[u8], out: &mut Vec<u8>)
     requires { vec_len out.old + length bytes.now ≤ vec_capacity out.old }

@@ -28,7 +28,7 @@ pub fn append_items<T: MySerialize>(values: &[T], out: &mut Vec<u8>)
     ensures capacity { vec_capacity out.old ≤ vec_capacity out.new }
 {
     // While it is a variable of its own, the compiler keeps its length and its address in registers, and does not read
-    // them again after each byte: 1,000 intervals of a GTID set are written in 4,000 instructions, and not in 67,000.
+    // them again after each byte.
     let empty = Vec::new(*out.allocator());
     let mut taken = mem::replace(out, empty);
     append_each(values, &mut taken);

@@ -1,8 +1,7 @@
 //! Integers of fixed widths, little-endian.
 //!
 //! Their bytes are pushed to capacity that is proved to be there (`push_reserved`), so the buffer's capacity is not tested for
-//! each field of a packet, and the compiler makes one store of the bytes: a statement packet is then read and written in
-//! half the instructions.
+//! each field of a packet, and the compiler makes one store of the bytes.
 
 ghost use Rattle.std.specs.Prelude.{Some};
 ghost use Rattle.mysql_wire.specs.Writing.{le_bytes};

@@ -36,7 +36,7 @@ pub fn read_all<'s, 'a, T: MyDeserialize<'a, Ctx = ()> + Drop>(
 }
 
 /// Takes the capacity that the first push would take. The compiler puts it where it is called, and the push after it seldom
-/// grows: an OK packet with two lists is read in 44 instructions less.
+/// grows.
 #[inline(always)]
 fn take_first_capacity<T>(items: &mut Vec<T>) -> Result<(), AllocError>
     ensures items { items.new.items ≡ items.old.items }

@@ -65,8 +65,7 @@ impl BytesRepr for NullBytes {
     ghost size_is = { λ _. size-null_string };
 }
 
-/// Whether some byte is a zero. For short texts, as names and versions are, it takes fewer instructions than `memchr`: a
-/// handshake is read and written in 500 of them, and not in 720.
+/// Whether some byte is a zero. For short texts, as names and versions are, it takes fewer instructions than `memchr`.
 fn has_zero(bytes: &[u8]) -> bool
     ensures none { result ≡ false → HasNoZero bytes.now }
 {

@@ -22,7 +22,7 @@ impl<'a> ComStmtBulkExecuteRequestBuilder<'a> {
     /// Where the row fits with those that wait, its copy waits too, and the answer is `Ok(true)`; where it does not fit
     /// with those that wait it is `Ok(false)`, and a request is built then. The refusals are those of `add_row`. Where no
     /// copy waits, the builder stays as it was.
-    // (inlined, since a loop that offers rows of a known length then takes some 100 instructions a row less)
+    // (inlined: a loop that offers rows of a known length is faster then)
     #[inline(always)]
     pub fn add_row_slice(&mut self, row: &[Value]) -> Result<bool, BulkRowRefusal>
         ensures { AddsCopy self.old (contents_of row.now) result self.new }
@@ -45,7 +45,7 @@ impl<'a> ComStmtBulkExecuteRequestBuilder<'a> {
 
     /// Whether a copy of a row, which has the arity, fits with the rows that wait and now waits too. Where memory was refused,
     /// it does not wait either.
-    // (its bytes are counted while it is copied: that takes some 50 instructions less for a row of three values)
+    // (its bytes are counted while it is copied, so that they are looked at once)
     #[inline(always)]
     fn takes_copy(&mut self, row: &[Value]) -> bool
         requires { TakesArity self.old.arity (length (contents_of row.now)) }
