@@ -10,7 +10,7 @@ use Rattle.mysql_replies.specs.declared.column_fields.ColumnFields.{ColumnFields
 use Rattle.mysql_replies.specs.declared.column_names.ColumnMeta.{ColumnMeta}
 use Rattle.mysql_replies.specs.ColumnFields.{fields_of}
 use Rattle.mysql_replies.specs.ColumnNames.{meta_of}
-use Rattle.mysql_replies.proofs.Same.{and-true, numbers-same, bytes-same, codes-same}
+use Rattle.mysql_session.proofs.Same.{and-true, numbers-same, bytes-same, codes-same}
 
 abbrev SameNames : ColumnMeta → ColumnMeta → Type 0
 SameNames a b = (a.schema ≡ b.schema) × ((a.table ≡ b.table) × ((a.org_table ≡ b.org_table) × ((a.name ≡ b.name) × (a.org_name ≡ b.org_name))))

@@ -3,22 +3,25 @@ use Rattle.std.proofs.Common.{◌≡◌, ◌↔◌, Decides, IsTrue, true, refl,
 use Rattle.std.proofs.lemmas.Bool.Decides.{Decides-and}
 use Rattle.mysql_wire.specs.contracts.codes.session_state_type.SessionStateType.{the_type}
 use Rattle.mysql_replies.specs.contracts.err_packet.ErrPacketPartialEq.TheImpl as derived_packet
+use Rattle.mysql_replies.specs.contracts.local_infile.LocalInfilePacketPartialEq.TheImpl as derived_infile
 use Rattle.mysql_replies.specs.contracts.ok_packet.OkPacketPartialEq.TheImpl as derived_ok
 use Rattle.mysql_replies.specs.contracts.progress_report.ProgressReportPartialEq.TheImpl as derived_report
 use Rattle.mysql_replies.specs.contracts.server_error.ServerErrorPartialEq.TheImpl as derived_error
 use Rattle.mysql_replies.specs.contracts.session_state_info.SessionStateInfoPartialEq.TheImpl as derived_info
 use Rattle.mysql_replies.specs.declared.err_packet.ErrPacket.{ErrPacket}
 use Rattle.mysql_replies.specs.declared.err_packet.ErrPacket.TheVariants as err
+use Rattle.mysql_replies.specs.declared.local_infile.LocalInfilePacket.{LocalInfilePacket}
 use Rattle.mysql_replies.specs.declared.ok_packet.OkPacket.{OkPacket}
 use Rattle.mysql_replies.specs.declared.progress_report.ProgressReport.{ProgressReport}
 use Rattle.mysql_replies.specs.declared.server_error.ServerError.{ServerError}
 use Rattle.mysql_replies.specs.declared.session_state_info.SessionStateInfo.{SessionStateInfo}
 use Rattle.mysql_replies.specs.declared.sql_state.SqlState.{SqlState}
 use Rattle.mysql_replies.specs.contracts.sql_state.SqlStatePartialEq.TheImpl as derived_state
+use Rattle.mysql_replies.specs.LocalInfile.{file_name, request_for}
 use Rattle.mysql_replies.specs.ProgressReport.{report_of}
 use Rattle.mysql_replies.specs.ServerError.{error_of}
 use Rattle.mysql_replies.specs.SqlState.{state_of}
-use Rattle.mysql_replies.proofs.Same.{and-true, numbers-same, bytes-same, codes-same, options-same}
+use Rattle.mysql_session.proofs.Same.{and-true, numbers-same, bytes-same, codes-same, options-same}
 
 info-each : (a b : SessionStateInfo) → Decides (derived_info.ghosts.eq a b) ((a.data_type.0 ≡ b.data_type.0) × (a.content ≡ b.content))
 info-each a b = Decides-and _ _ (and-true _ (codes-same the_type (search rules) a.data_type.0 b.data_type.0)) (bytes-same a.content b.content)
@@ -27,6 +30,12 @@ pub infos-same : (a b : SessionStateInfo) → IsTrue (derived_info.ghosts.eq a b
 infos-same a b = (
   λ e. let s = (info-each a b).0 e in λ i. record { data_type = record { 0 = s.0 i; 1 = record {} }; content = s.1 i },
   λ e. subst (λ (c : SessionStateInfo). derived_info.ghosts.eq a c ≡ true) e ((info-each a a).1 (refl, refl)),
+)
+
+pub local_infiles-same : (a b : LocalInfilePacket) → IsTrue (derived_infile.ghosts.eq a b) ↔ (a ≡ b)
+local_infiles-same a b = (
+  λ e. let s = (bytes-same a.file_name b.file_name).0 e in λ i. request_for (s i),
+  λ e. (bytes-same a.file_name b.file_name).1 (ap file_name e),
 )
 
 report-each : (a b : ProgressReport) → Decides (derived_report.ghosts.eq a b) ((a.stage.0 ≡ b.stage.0) × ((a.max_stage.0 ≡ b.max_stage.0) × ((a.progress.0 ≡ b.progress.0) × (a.stage_info ≡ b.stage_info))))
@@ -80,4 +89,4 @@ ok_packets-same a b = (
   λ e. subst (λ (c : OkPacket). derived_ok.ghosts.eq a c ≡ true) e ((ok-each a a).1 (refl, (refl, (refl, (refl, (refl, refl)))))),
 )
 
-pub ruleset equal_replies = (infos-same, reports-same, states-same, errors-same, packets-same, ok_packets-same)
+pub ruleset equal_replies = (infos-same, local_infiles-same, reports-same, states-same, errors-same, packets-same, ok_packets-same)

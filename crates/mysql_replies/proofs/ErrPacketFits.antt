@@ -1,12 +1,13 @@
 -- The plain condition of an error packet is enough.
-use Rattle.std.proofs.Common.{List, ℕ, Option, Some, None, Bool, refl, arith}
+use Rattle.std.proofs.Common.{◌≡◌, List, [], ℕ, Option, Some, None, is_some, Bool, refl, sym, arith}
+use Rattle.std.proofs.lemmas.List.{append-nil}
 use Rattle.mysql_wire.specs.CodecAgain.{option_fits}
 use Rattle.mysql_wire.specs.Codecs.{without_context}
 use Rattle.mysql_wire.specs.Flags.{CapabilityFlags}
 use Rattle.mysql_replies.specs.declared.err_packet.ErrPacket.{ErrPacket}
 use Rattle.mysql_replies.specs.declared.err_packet.ErrPacket.TheVariants as err
 use Rattle.mysql_replies.specs.declared.sql_state.SqlState.{SqlState}
-use Rattle.mysql_replies.specs.ErrPacket.{err_packet, sends_state, ErrPacketFits}
+use Rattle.mysql_replies.specs.ErrPacket.{err_packet, sends_state, ErrPacketFits, HasWidths, StateHasWidth, SuitsFlags}
 use Rattle.mysql_replies.specs.ProgressReport.{progress_report}
 use Rattle.mysql_replies.specs.ServerError.{server_error, StateFits}
 use Rattle.mysql_replies.specs.SqlState.{sql_state}
@@ -22,4 +23,27 @@ err_packet-fits capabilities (err.Error e) rest h = ((tt, (h.code, tt)), ((h.no_
 err_packet-fits capabilities (err.Progress r) rest h =
     ((tt, (omega arith, tt)), ((h.taken, ((omega arith, (h.stage, (h.max_stage, (h.progress, tt)))), (h.stage_info, tt))), tt))
 
-pub ruleset err_packets = (err_packet-fits)
+has-state : (sends : Bool) (state : Option SqlState) → is_some state ≡ sends → StateHasWidth state → StateFits sends state
+has-state sends None is width = sym is
+has-state sends (Some state) is width = (sym is, width)
+
+flags-fit : (capabilities : CapabilityFlags) (p : ErrPacket) → SuitsFlags capabilities p → HasWidths p → ErrPacketFits capabilities p []
+flags-fit capabilities (err.Error e) suits widths = record {
+  code = widths.0;
+  state = has-state (sends_state capabilities) e.state suits.0 widths.1;
+  no_report = suits.1;
+  at_end = refl;
+}
+flags-fit capabilities (err.Progress r) suits widths = record {
+  taken = suits.0;
+  stage = widths.0;
+  max_stage = widths.1;
+  progress = suits.1;
+  stage_info = widths.2;
+}
+
+pub err_packet-again : (capabilities : CapabilityFlags) (p : ErrPacket) → SuitsFlags capabilities p → HasWidths p → (err_packet.form capabilities).Spells p (err_packet.bytes p) []
+err_packet-again capabilities p suits widths =
+    rw (append-nil (err_packet.bytes p)) at (err_packet.again capabilities p [] (err_packet-fits capabilities p [] (flags-fit capabilities p suits widths)))
+
+pub ruleset err_packets = (err_packet-fits, err_packet-again)

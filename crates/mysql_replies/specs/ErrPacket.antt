@@ -1,5 +1,5 @@
 -- Errors and progress reports, in their packet.
-use Rattle.std.specs.Prelude.{◌≡◌, ℕ, ◌<◌, ◌^◌, List, [], length, Bool, true, false, IsTrue, IsFalse, ◌&&◌, ◌==◌, refl}
+use Rattle.std.specs.Prelude.{◌≡◌, ℕ, ◌<◌, ◌^◌, List, [], length, Option, Some, None, is_some, Bool, true, false, IsTrue, IsFalse, ◌&&◌, ◌==◌, refl}
 use Rattle.std.proofs.Common.{◌⊎◌, inl, inr}
 use Rattle.mysql_wire.specs.FlagMasks.{CLIENT_PROGRESS_OBSOLETE, CLIENT_PROTOCOL_41}
 use Rattle.mysql_wire.specs.Flags.{CapabilityFlags, has}
@@ -10,6 +10,8 @@ use Rattle.mysql_replies.specs.declared.err_packet.ErrPacket.TheVariants as err
 use Rattle.mysql_replies.specs.declared.progress_report.ProgressReport.{ProgressReport}
 use Rattle.mysql_replies.specs.declared.server_error.ServerError.{ServerError}
 use Rattle.mysql_replies.specs.ProgressReport.{progress_report, progress_text, stage, max_stage, progress, stage_info}
+use Rattle.mysql_replies.specs.declared.sql_state.SqlState.{SqlState}
+use Rattle.mysql_replies.specs.SqlState.{state_bytes}
 use Rattle.mysql_replies.specs.ServerError.{error_code, sql_state_of, server_error, error_text, StateFits}
 
 abbrev pub is_error : ErrPacket → Bool
@@ -84,3 +86,19 @@ pub record ReportFits (capabilities : CapabilityFlags) (r : ProgressReport) : Ty
 abbrev pub ErrPacketFits : CapabilityFlags → ErrPacket → List ℕ → Type 0
 ErrPacketFits capabilities (err.Error e) rest = ErrorFits capabilities e rest
 ErrPacketFits capabilities (err.Progress r) rest = ReportFits capabilities r
+
+-- the flags of both sides suit the packet: a report is taken, and its progress has three bytes; an error has a state just
+-- under protocol 4.1, and is not what is read as a report
+abbrev pub SuitsFlags : CapabilityFlags → ErrPacket → Type 0
+SuitsFlags capabilities (err.Error e) = (is_some (sql_state_of e) ≡ sends_state capabilities) × IsFalse (error_code e == 0xffff && takes_progress capabilities)
+SuitsFlags capabilities (err.Progress r) = IsTrue (takes_progress capabilities) × (progress r < 2 ^ 24)
+
+-- a state has its five bytes
+abbrev pub StateHasWidth : Option SqlState → Type 0
+StateHasWidth None = Unit {0}
+StateHasWidth (Some state) = length (state_bytes state) ≡ 5
+
+-- the numbers have their widths, but for a report's progress, whose type is wider
+abbrev pub HasWidths : ErrPacket → Type 0
+HasWidths (err.Error e) = (error_code e < 2 ^ 16) × StateHasWidth (sql_state_of e)
+HasWidths (err.Progress r) = (stage r < 2 ^ 8) × (max_stage r < 2 ^ 8) × (length (stage_info r) < 2 ^ 64)

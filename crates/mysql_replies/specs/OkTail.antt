@@ -1,5 +1,6 @@
 -- The end of an OK packet.
 use Rattle.std.specs.Prelude.{◌≡◌, ℕ, List, [], ◌∷◌, None, Bool, true, false, not, ◌&&◌, ◌==◌, refl}
+use Rattle.mysql_wire.specs.CodecFits.{is_there}
 use Rattle.mysql_wire.specs.FlagMasks.{CLIENT_SESSION_TRACK, SERVER_SESSION_STATE_CHANGED}
 use Rattle.mysql_wire.specs.Flags.{CapabilityFlags, StatusFlags, has}
 use Rattle.mysql_wire.specs.Form.{Form, ◌>>=◌, give, either, looking}
@@ -13,11 +14,6 @@ tracks capabilities = has capabilities.0 CLIENT_SESSION_TRACK
 -- the session has changed
 abbrev pub state_changed : StatusFlags → Bool
 state_changed status = has status.0 SERVER_SESSION_STATE_CHANGED
-
--- bytes are left
-abbrev pub is_there : List ℕ → Bool
-is_there [] = false
-is_there (b ∷ bytes) = true
 
 -- the next byte is there, and is not 0
 abbrev pub begins_with_no_zero : List ℕ → Bool

@@ -165,6 +165,12 @@ pub fn equal_session_state_infos_are_the_same()
     ensures same { (x y : SessionStateInfo) → IsTrue (⟦<crate::session_state_info::SessionStateInfo<'static> as PartialEq>⟧.eq x y) ↔ (x ≡ y) }
 {}
 
+/// Requests for a local file are equal exactly where they are the same.
+#[tactic(auto, using(crate::proofs::EqualReplies::equal_replies))]
+pub fn equal_local_infiles_are_the_same()
+    ensures same { (x y : LocalInfilePacket) → IsTrue (⟦<crate::local_infile::LocalInfilePacket<'static> as PartialEq>⟧.eq x y) ↔ (x ≡ y) }
+{}
+
 /// Errors and progress reports are equal exactly where they are the same.
 #[tactic(auto, using(crate::proofs::EqualReplies::equal_replies))]
 pub fn equal_err_packets_are_the_same()

@@ -1,2 +1,5 @@
+pub mod Same
+pub mod EqualChanges
+pub mod PlainFits
 pub mod SessionStateChangeAgain
 pub mod SystemVariablesFit

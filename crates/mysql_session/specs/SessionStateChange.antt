@@ -1,5 +1,5 @@
 -- A change of a session's state.
-use Rattle.std.specs.Prelude.{refl, ◌≡◌, ℕ, List, [], ◌∷◌, None, Bool, true, false, codes, nat_eq}
+use Rattle.std.specs.Prelude.{refl, ◌≡◌, ℕ, ◌<◌, ◌^◌, length, All, List, [], ◌∷◌, None, Bool, true, false, codes, nat_eq}
 use Rattle.std.specs.Cmp.Lexicographic.{pointwise}
 use Rattle.mysql_wire.specs.declared.codes.session_state_type.SessionStateType.{SessionStateType}
 use Rattle.mysql_wire.specs.declared.codes.session_state_type.SessionStateType.TheVariants as kind
@@ -9,7 +9,8 @@ use Rattle.mysql_wire.specs.LenEnc.{lenenc_string, size-lenenc_string}
 use Rattle.mysql_wire.specs.Many.{size-many}
 use Rattle.mysql_session.specs.declared.session_state_change.SessionStateChange.{SessionStateChange}
 use Rattle.mysql_session.specs.declared.session_state_change.SessionStateChange.TheVariants as change
-use Rattle.mysql_session.specs.SessionText.{lenenc_text, gtids}
+use Rattle.mysql_session.specs.SessionText.{lenenc_text, gtids, text_bytes}
+use Rattle.mysql_session.specs.SystemVariable.{SystemVariableFits}
 use Rattle.mysql_session.specs.SystemVariables.{system_variables}
 
 -- whether the content is `1`
@@ -63,3 +64,25 @@ ChangeFits k (change.Gtids g) rest = (k ≡ kind.SESSION_TRACK_GTIDS) × gtids.f
 ChangeFits k (change.TransactionCharacteristics c) rest = (k ≡ kind.SESSION_TRACK_TRANSACTION_CHARACTERISTICS) × lenenc_text.fits tt c rest
 ChangeFits k (change.TransactionState s) rest = (k ≡ kind.SESSION_TRACK_TRANSACTION_STATE) × lenenc_text.fits tt s rest
 ChangeFits k (change.Unsupported u) rest = ⊥
+
+-- ---- what makes a change be read again, in plain words
+
+-- the type that the reader of such a change is passed; none reads a change of another kind
+abbrev pub IsOfKind : SessionStateType → SessionStateChange → Type 0
+IsOfKind k (change.IsTracked b) = k ≡ kind.SESSION_TRACK_STATE_CHANGE
+IsOfKind k (change.Schema s) = k ≡ kind.SESSION_TRACK_SCHEMA
+IsOfKind k (change.SystemVariables vs) = k ≡ kind.SESSION_TRACK_SYSTEM_VARIABLES
+IsOfKind k (change.Gtids g) = k ≡ kind.SESSION_TRACK_GTIDS
+IsOfKind k (change.TransactionCharacteristics c) = k ≡ kind.SESSION_TRACK_TRANSACTION_CHARACTERISTICS
+IsOfKind k (change.TransactionState s) = k ≡ kind.SESSION_TRACK_TRANSACTION_STATE
+IsOfKind k (change.Unsupported u) = ⊥
+
+-- a length-encoded string has a length that a number of eight bytes can tell
+abbrev pub ChangeIsShort : SessionStateChange → Type 0
+ChangeIsShort (change.IsTracked b) = Unit {0}
+ChangeIsShort (change.Schema s) = length (text_bytes s) < 2 ^ 64
+ChangeIsShort (change.SystemVariables vs) = All SystemVariableFits vs
+ChangeIsShort (change.Gtids g) = Unit {0}
+ChangeIsShort (change.TransactionCharacteristics c) = length (text_bytes c) < 2 ^ 64
+ChangeIsShort (change.TransactionState s) = length (text_bytes s) < 2 ^ 64
+ChangeIsShort (change.Unsupported u) = length (text_bytes u) < 2 ^ 64

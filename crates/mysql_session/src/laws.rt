@@ -3,33 +3,44 @@
 //! Each law is a function with nothing in it, whose contract holds for all values.
 #![tactic(auto, using(mysql_wire::proofs::Packets::packets))]
 
-ghost use Rattle.std.specs.Prelude.{◌≡◌, ◌++◌, [], List, ℕ, None, IsTrue};
+ghost use Rattle.std.specs.Prelude.{◌≡◌, ◌++◌, ◌<◌, ◌^◌, ◌↔◌, [], List, ℕ, length, None, IsTrue};
 ghost use Rattle.std.specs.List.{All};
 ghost use Rattle.mysql_wire.specs.declared.codes.session_state_type.SessionStateType.{SessionStateType};
 ghost use Rattle.mysql_session.specs.declared.session_state_change.SessionStateChange.{SessionStateChange};
 ghost use Rattle.mysql_session.specs.declared.session_state_change.SessionStateChange.TheVariants as change;
 ghost use Rattle.mysql_session.specs.declared.system_variable.SystemVariable.{SystemVariable};
-ghost use Rattle.mysql_session.specs.SessionText.{lenenc_text, gtids, Gtids, Schema, TransactionCharacteristics, TransactionState, Unsupported};
-ghost use Rattle.mysql_session.specs.SessionStateChange.{session_state_change, session_state_change_bytes, ChangeFits};
+ghost use Rattle.mysql_session.specs.SessionText.{lenenc_text, gtids, text_bytes, Gtids, Schema, TransactionCharacteristics, TransactionState, Unsupported};
+ghost use Rattle.mysql_session.specs.SessionStateChange.{session_state_change, session_state_change_bytes, ChangeFits, ChangeIsShort, IsOfKind};
 ghost use Rattle.mysql_session.specs.SystemVariable.{system_variable, SystemVariableFits};
 ghost use Rattle.mysql_session.specs.SystemVariables.{system_variables};
+
+pub mod values;
 
 use mysql_wire::MyDeserialize;
 use std::hash::Hash;
 
 /// What is written of each part of a change is read again, whatever follows.
+#[tactic(auto, using(mysql_wire::proofs::Packets::packets, crate::proofs::PlainFits::plain))]
 pub fn session_parts_round_trips()
     ensures schema { (x : Schema) (rest : List ℕ) → lenenc_text.fits tt x rest → (lenenc_text.form tt).Spells x (lenenc_text.bytes x ++ rest) rest }
     ensures characteristics { (x : TransactionCharacteristics) (rest : List ℕ) → lenenc_text.fits tt x rest → (lenenc_text.form tt).Spells x (lenenc_text.bytes x ++ rest) rest }
     ensures state { (x : TransactionState) (rest : List ℕ) → lenenc_text.fits tt x rest → (lenenc_text.form tt).Spells x (lenenc_text.bytes x ++ rest) rest }
     ensures unsupported { (x : Unsupported) (rest : List ℕ) → lenenc_text.fits tt x rest → (lenenc_text.form tt).Spells x (lenenc_text.bytes x ++ rest) rest }
     ensures variable { (x : SystemVariable) (rest : List ℕ) → system_variable.fits tt x rest → (system_variable.form tt).Spells x (system_variable.bytes x ++ rest) rest }
+    ensures plain_schema { (x : Schema) (rest : List ℕ) → length (text_bytes x) < 2 ^ 64 → (lenenc_text.form tt).Spells x (lenenc_text.bytes x ++ rest) rest }
+    ensures plain_characteristics { (x : TransactionCharacteristics) (rest : List ℕ) → length (text_bytes x) < 2 ^ 64 → (lenenc_text.form tt).Spells x (lenenc_text.bytes x ++ rest) rest }
+    ensures plain_state { (x : TransactionState) (rest : List ℕ) → length (text_bytes x) < 2 ^ 64 → (lenenc_text.form tt).Spells x (lenenc_text.bytes x ++ rest) rest }
+    ensures plain_unsupported { (x : Unsupported) (rest : List ℕ) → length (text_bytes x) < 2 ^ 64 → (lenenc_text.form tt).Spells x (lenenc_text.bytes x ++ rest) rest }
+    ensures plain_variable { (x : SystemVariable) (rest : List ℕ) → SystemVariableFits x → (system_variable.form tt).Spells x (system_variable.bytes x ++ rest) rest }
 {}
 
 /// What is written of a part that runs to the end is read again, where nothing follows.
+#[tactic(auto, using(mysql_wire::proofs::Packets::packets, crate::proofs::PlainFits::plain))]
 pub fn session_ends_round_trips()
     ensures gtids { (x : Gtids) (rest : List ℕ) → gtids.fits tt x rest → (gtids.form tt).Spells x (gtids.bytes x ++ rest) rest }
     ensures variables { (xs : List SystemVariable) (rest : List ℕ) → system_variables.fits tt xs rest → (system_variables.form tt).Spells xs (system_variables.bytes xs ++ rest) rest }
+    ensures plain_gtids { (x : Gtids) → (gtids.form tt).Spells x (gtids.bytes x) [] }
+    ensures plain_variables { (xs : List SystemVariable) → All SystemVariableFits xs → (system_variables.form tt).Spells xs (system_variables.bytes xs) [] }
 {}
 
 /// What makes system variables be read again, where nothing follows: lengths that eight bytes can tell.
@@ -39,9 +50,10 @@ pub fn system_variables_fit()
 {}
 
 /// What is written of a change is read again, where the reader is passed its type.
-#[tactic(auto, using(crate::proofs::SessionStateChangeAgain::session_changes))]
+#[tactic(auto, using(crate::proofs::SessionStateChangeAgain::session_changes, crate::proofs::PlainFits::plain))]
 pub fn session_state_change_round_trips()
     ensures spelled { (kind : SessionStateType) (c : SessionStateChange) (rest : List ℕ) → ChangeFits kind c rest → (session_state_change kind).Spells c (session_state_change_bytes c ++ rest) rest }
+    ensures plain { (kind : SessionStateType) (c : SessionStateChange) → IsOfKind kind c → ChangeIsShort c → (session_state_change kind).Spells c (session_state_change_bytes c) [] }
 {}
 
 /// No bytes are read as a change of another kind.
@@ -80,3 +92,26 @@ pub fn system_variables_have_no_constant_size() -> Option<usize>
 {
     <crate::system_variables::SystemVariables as MyDeserialize>::SIZE
 }
+
+/// System variables are equal exactly where they are the same, and so are lists of them.
+#[tactic(auto, using(crate::proofs::EqualChanges::equal_changes))]
+pub fn equal_system_variables_are_the_same()
+    ensures one { (x y : SystemVariable) → IsTrue (⟦<crate::SystemVariable<'static> as PartialEq>⟧.eq x y) ↔ (x ≡ y) }
+    ensures list { (xs ys : List SystemVariable) → IsTrue (⟦<crate::SystemVariables<'static> as PartialEq>⟧.eq xs ys) ↔ (xs ≡ ys) }
+{}
+
+/// The parts of a change are equal exactly where they are the same, whether they borrow their bytes or own them.
+#[tactic(auto, using(crate::proofs::EqualChanges::equal_changes))]
+pub fn equal_parts_are_the_same()
+    ensures schema { (x y : Schema) → IsTrue (⟦<crate::Schema<'static> as PartialEq>⟧.eq x y) ↔ (x ≡ y) }
+    ensures gtids { (x y : Gtids) → IsTrue (⟦<crate::Gtids<'static> as PartialEq>⟧.eq x y) ↔ (x ≡ y) }
+    ensures characteristics { (x y : TransactionCharacteristics) → IsTrue (⟦<crate::TransactionCharacteristics<'static> as PartialEq>⟧.eq x y) ↔ (x ≡ y) }
+    ensures state { (x y : TransactionState) → IsTrue (⟦<crate::TransactionState<'static> as PartialEq>⟧.eq x y) ↔ (x ≡ y) }
+    ensures unsupported { (x y : Unsupported) → IsTrue (⟦<crate::Unsupported<'static> as PartialEq>⟧.eq x y) ↔ (x ≡ y) }
+{}
+
+/// Changes are equal exactly where they are the same.
+#[tactic(auto, using(crate::proofs::EqualChanges::equal_changes))]
+pub fn equal_changes_are_the_same()
+    ensures same { (x y : SessionStateChange) → IsTrue (⟦<crate::SessionStateChange<'static> as PartialEq>⟧.eq x y) ↔ (x ≡ y) }
+{}

@@ -1,10 +1,18 @@
--- A statement packet whose numbers have their widths is read again; packets are equal exactly where they are the same.
-use Rattle.std.proofs.Common.{◌≡◌, ◌↔◌, IsTrue, Decides, ℕ, List, ◌++◌, true, refl, subst}
+-- A statement packet whose numbers have their widths is read again; packets and bitmaps are equal exactly where they are
+-- the same.
+use Rattle.std.proofs.Common.{◌≡◌, ◌↔◌, nat_eq, IsTrue, Decides, ℕ, List, ◌++◌, true, refl, subst}
 use Rattle.std.proofs.lemmas.Bool.Decides.{Decides-and}
-use Rattle.mysql_replies.proofs.Same.{and-true, numbers-same}
+use Rattle.std.specs.Cmp.Lexicographic.{pointwise}
+use Rattle.mysql_replies.proofs.Same.{and-true, numbers-same, bytes-same}
 use Rattle.mysql_wire.specs.Codecs.{raw_int}
+use Rattle.mysql_stmt.specs.contracts.close.ComStmtClosePartialEq.TheImpl as derived_close
+use Rattle.mysql_stmt.specs.contracts.long_data.ComStmtSendLongDataPartialEq.TheImpl as derived_data
 use Rattle.mysql_stmt.specs.contracts.stmt.StmtPacketPartialEq.TheImpl as derived
+use Rattle.mysql_stmt.specs.declared.close.ComStmtClose.{ComStmtClose}
+use Rattle.mysql_stmt.specs.declared.long_data.ComStmtSendLongData.{ComStmtSendLongData}
 use Rattle.mysql_stmt.specs.declared.stmt.StmtPacket.{StmtPacket}
+use Rattle.mysql_stmt.specs.Bitmap.{Bitmap}
+use Rattle.mysql_stmt.specs.LongData.{long_data_of}
 use Rattle.mysql_stmt.specs.Stmt.{stmt, StmtPacketFits}
 
 pub stmt-plain : (p : StmtPacket) (rest : List ℕ) → StmtPacketFits p → (stmt.form tt).Spells p (stmt.bytes p ++ rest) rest
@@ -30,4 +38,23 @@ stmt_packets-same a b = (
   λ e. subst (λ (c : StmtPacket). derived.ghosts.eq a c ≡ true) e ((numbers-each a a).1 (refl, (refl, (refl, refl)))),
 )
 
-pub ruleset stmt_again = (stmt-plain, stmt_packets-same)
+data-each : (a b : ComStmtSendLongData) → Decides (derived_data.ghosts.eq a b) ((a.stmt_id.0 ≡ b.stmt_id.0) × ((a.param_index.0 ≡ b.param_index.0) × (a.content ≡ b.content)))
+data-each a b =
+    Decides-and _ _ (and-true _ (numbers-same a.stmt_id.0 b.stmt_id.0)) (Decides-and _ _ (and-true _ (numbers-same a.param_index.0 b.param_index.0)) (bytes-same a.content b.content))
+
+pub data-same : (a b : ComStmtSendLongData) → IsTrue (derived_data.ghosts.eq a b) ↔ (a ≡ b)
+data-same a b = (
+  λ e. let s = (data-each a b).0 e in λ i. long_data_of (s.0 i) (s.1.0 i) (s.1.1 i),
+  λ e. subst (λ (c : ComStmtSendLongData). derived_data.ghosts.eq a c ≡ true) e ((data-each a a).1 (refl, (refl, refl))),
+)
+
+pub closes-same : (a b : ComStmtClose) → IsTrue (derived_close.ghosts.eq a b) ↔ (a ≡ b)
+closes-same a b = (
+  λ e. let s = (numbers-same a.stmt_id b.stmt_id).0 e in λ i. record { stmt_id = s i },
+  λ e. subst (λ (c : ComStmtClose). derived_close.ghosts.eq a c ≡ true) e ((numbers-same a.stmt_id a.stmt_id).1 refl),
+)
+
+pub bitmaps-same : (a b : Bitmap) → IsTrue (pointwise nat_eq a.bytes b.bytes) ↔ (a.bytes ≡ b.bytes)
+bitmaps-same a b = bytes-same a.bytes b.bytes
+
+pub ruleset stmt_again = (stmt-plain, stmt_packets-same, data-same, closes-same, bitmaps-same)

@@ -4,7 +4,7 @@
 #![tactic(auto, using(mysql_wire::proofs::Packets::packets))]
 
 ghost use Rattle.std.specs.Prelude.{◌≡◌, ◌+◌, ◌<◌, ◌^◌, ◌++◌, ◌↔◌, ℕ, List, Ok, Option, Some, IsTrue, length};
-ghost use Rattle.mysql_stmt.specs.Bitmap.{bytes_for};
+ghost use Rattle.mysql_stmt.specs.Bitmap.{Bitmap, bytes_for};
 ghost use Rattle.mysql_stmt.specs.NullBitmap.{null_bitmap, borrowed};
 ghost use Rattle.mysql_stmt.specs.declared.stmt.StmtPacket.{StmtPacket};
 ghost use Rattle.mysql_stmt.specs.Stmt.{stmt, StmtPacketFits};
@@ -90,6 +90,19 @@ pub fn null_bitmap_offset() -> usize
 pub fn equal_stmt_packets_are_the_same()
     ensures same { (x y : StmtPacket) → IsTrue (⟦<crate::stmt::StmtPacket as PartialEq>⟧.eq x y) ↔ (x ≡ y) }
     ensures hash { (x y : StmtPacket) → IsTrue (⟦<crate::stmt::StmtPacket as PartialEq>⟧.eq x y) → ⟦<crate::stmt::StmtPacket as Hash>⟧.hash_input x ≡ ⟦<crate::stmt::StmtPacket as Hash>⟧.hash_input y }
+{}
+
+/// Long data and closes are equal exactly where they are the same.
+#[tactic(auto, using(crate::proofs::StmtAgain::stmt_again))]
+pub fn equal_stmt_commands_are_the_same()
+    ensures long_data { (x y : ComStmtSendLongData) → IsTrue (⟦<crate::long_data::ComStmtSendLongData<'static> as PartialEq>⟧.eq x y) ↔ (x ≡ y) }
+    ensures close { (x y : ComStmtClose) → IsTrue (⟦<crate::close::ComStmtClose as PartialEq>⟧.eq x y) ↔ (x ≡ y) }
+{}
+
+/// Bitmaps are equal exactly where their bytes are the same, whoever owns them.
+#[tactic(auto, using(crate::proofs::StmtAgain::stmt_again))]
+pub fn equal_null_bitmaps_have_the_same_bytes<T>()
+    ensures same { (x y : Bitmap) → IsTrue (⟦<crate::null_bitmap::NullBitmap<'static, T> as PartialEq>⟧.eq x y) ↔ (x.bytes ≡ y.bytes) }
 {}
 
 /// Rows are equal exactly where their values hold the same, and their columns are the same.

@@ -5,6 +5,8 @@
 
 ghost use Rattle.std.specs.Prelude.{◌++◌, ◌<◌, ◌^◌, [], ℕ, List, is_some};
 ghost use Rattle.mysql_replies.specs.Column as spec;
+ghost use Rattle.mysql_wire.specs.Flags.{CapabilityFlags};
+ghost use Rattle.mysql_replies.specs.ErrPacket.{err_packet, HasWidths, SuitsFlags};
 ghost use Rattle.mysql_replies.specs.LocalInfile.{local_infile};
 ghost use Rattle.mysql_replies.specs.ProgressReport.{progress_report, progress};
 ghost use Rattle.mysql_replies.specs.ServerError.{server_error, error_code, sql_state_of};
@@ -12,6 +14,7 @@ ghost use Rattle.mysql_replies.specs.SessionStateInfo.{session_state_info};
 ghost use Rattle.mysql_replies.specs.SqlState.{sql_state};
 
 use crate::column::Column;
+use crate::err_packet::ErrPacket;
 use crate::local_infile::LocalInfilePacket;
 use crate::progress_report::ProgressReport;
 use crate::server_error::ServerError;
@@ -54,6 +57,34 @@ pub fn this_server_error_round_trips(error: &ServerError<'_>)
 {
     if let Some(state) = error.sql_state_ref() {
         let _bytes = state.as_bytes();
+    }
+}
+
+/// What is written of this error packet is read again, where nothing follows and the flags of both sides suit it: a report
+/// is taken, and its progress has three bytes; an error has a state just under protocol 4.1, and is no report by its code.
+#[tactic(auto, using(crate::proofs::PlainFits::plain, crate::proofs::ErrPacketFits::err_packets))]
+pub fn this_err_packet_round_trips(packet: &ErrPacket<'_>)
+    ensures spelled { (capabilities : CapabilityFlags) → SuitsFlags capabilities packet.now → (err_packet.form capabilities).Spells packet.now (err_packet.bytes packet.now) [] }
+{
+    has_widths(packet);
+}
+
+/// The numbers of an error packet have their widths, but for a report's progress.
+fn has_widths(packet: &ErrPacket<'_>)
+    ensures value { HasWidths packet.now }
+{
+    match packet {
+        ErrPacket::Error(error) => {
+            let _code = error.error_code();
+            if let Some(state) = error.sql_state_ref() {
+                let _bytes = state.as_bytes();
+            }
+        }
+        ErrPacket::Progress(report) => {
+            let _stage = report.stage();
+            let _max_stage = report.max_stage();
+            let _stage_info = report.stage_info_ref().len();
+        }
     }
 }
 

@@ -1,0 +1,87 @@
+//! Laws on a value at hand: what a caller can use of a change that was made or read.
+//!
+//! Each function reads the lengths of its value, which shows that eight bytes can tell them.
+#![tactic(auto, using(crate::proofs::PlainFits::plain))]
+
+ghost use Rattle.std.specs.Prelude.{◌++◌, [], ℕ, List};
+ghost use Rattle.std.specs.List.{All};
+ghost use Rattle.mysql_wire.specs.declared.codes.session_state_type.SessionStateType.{SessionStateType};
+ghost use Rattle.mysql_session.specs.SessionStateChange.{session_state_change, session_state_change_bytes, ChangeIsShort, IsOfKind};
+ghost use Rattle.mysql_session.specs.SessionText.{lenenc_text, gtids};
+ghost use Rattle.mysql_session.specs.SystemVariable.{system_variable, SystemVariableFits};
+ghost use Rattle.mysql_session.specs.SystemVariables.{system_variables};
+
+use crate::session_state_change::SessionStateChange;
+use crate::session_text::{Gtids, SessionText};
+use crate::system_variable::SystemVariable;
+use crate::system_variables::SystemVariables;
+use mysql_wire::LenEnc;
+
+/// What is written of this part of a change is read again, whatever follows.
+pub fn this_session_text_round_trips<N>(text: &SessionText<'_, N, LenEnc>)
+    ensures spelled { (rest : List ℕ) → (lenenc_text.form tt).Spells text.now (lenenc_text.bytes text.now ++ rest) rest }
+{
+    let _bytes = text.as_bytes().len();
+}
+
+/// What is written of these GTIDs is read again, where nothing follows.
+pub fn these_gtids_round_trips(set: &Gtids<'_>)
+    ensures spelled { (gtids.form tt).Spells set.now (gtids.bytes set.now) [] }
+{}
+
+/// What is written of this system variable is read again, whatever follows.
+pub fn this_system_variable_round_trips(variable: &SystemVariable<'_>)
+    ensures fits { SystemVariableFits variable.now }
+    ensures spelled { (rest : List ℕ) → (system_variable.form tt).Spells variable.now (system_variable.bytes variable.now ++ rest) rest }
+{
+    let _name = variable.name_bytes().len();
+    let _value = variable.value_bytes().len();
+}
+
+/// What is written of these system variables is read again, where nothing follows.
+pub fn these_system_variables_round_trips(variables: &SystemVariables<'_>)
+    ensures fits { All SystemVariableFits variables.now }
+    ensures spelled { (system_variables.form tt).Spells variables.now (system_variables.bytes variables.now) [] }
+{
+    are_short(variables.as_slice());
+}
+
+/// The lengths of system variables are such that eight bytes can tell them.
+fn are_short(variables: &[SystemVariable<'_>])
+    ensures value { All SystemVariableFits variables.now }
+{
+    for variable in variables {
+        this_system_variable_round_trips(variable);
+    }
+}
+
+/// What is written of this change is read again, where nothing follows and the reader is passed its type.
+pub fn this_session_state_change_round_trips(change: &SessionStateChange<'_>)
+    ensures spelled { (kind : SessionStateType) → IsOfKind kind change.now → (session_state_change kind).Spells change.now (session_state_change_bytes change.now) [] }
+{
+    is_short(change);
+}
+
+/// The lengths of a change are such that eight bytes can tell them.
+fn is_short(change: &SessionStateChange<'_>)
+    ensures value { ChangeIsShort change.now }
+{
+    match change {
+        SessionStateChange::IsTracked(_) | SessionStateChange::Gtids(_) => {}
+        SessionStateChange::SystemVariables(variables) => these_system_variables_round_trips(
+            variables,
+        ),
+        SessionStateChange::Schema(schema) => {
+            let _bytes = schema.as_bytes().len();
+        }
+        SessionStateChange::TransactionCharacteristics(characteristics) => {
+            let _bytes = characteristics.as_bytes().len();
+        }
+        SessionStateChange::TransactionState(state) => {
+            let _bytes = state.as_bytes().len();
+        }
+        SessionStateChange::Unsupported(change) => {
+            let _bytes = change.as_bytes().len();
+        }
+    }
+}
