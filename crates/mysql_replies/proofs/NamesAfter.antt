@@ -1,9 +1,10 @@
 -- Names that were put after one another lie where their ends say.
-use Rattle.std.proofs.Common.{◌≡◌, ℕ, ◌+◌, ◌-◌, List, [], ◌++◌, length, take, refl, arith, append_assoc, length-append}
+use Rattle.std.proofs.Common.{◌≡◌, ℕ, zero, suc, ◌<◌, true, ◌+◌, ◌-◌, List, [], ◌++◌, length, take, refl, arith, append_assoc, length-append}
 use Rattle.std.proofs.lemmas.List.{append-nil}
 use Rattle.std.proofs.Math.Seq.{drop-append_seam, take-append_seam}
 use Rattle.std.specs.Prelude.{slice_range}
 use Rattle.mysql_wire.proofs.Packets.{packets}
+use Rattle.mysql_wire.specs.Seq.{is_any}
 use Rattle.mysql_replies.specs.ColumnNames.{meta_of, names_at}
 
 -- what stands after some bytes, up to where it ends
@@ -28,4 +29,9 @@ names_after s t o n m a b c d ea eb ec ed =
     let e5 : slice_range w d (length w) ≡ m = between (((s ++ t) ++ o) ++ n) m [] w d (length w) w4 at_m (omega (arith, length-append (((s ++ t) ++ o) ++ n) m)) in
     rw (e1, e2, e3, e4, e5) refl
 
-pub ruleset names = (packets, names_after)
+-- a count that is not 0 is of some
+pub some-any : (n : ℕ) → 0 < n → is_any n ≡ true
+some-any zero lt = absurd (omega (arith, lt))
+some-any (suc n) lt = refl
+
+pub ruleset names = (packets, names_after, some-any)

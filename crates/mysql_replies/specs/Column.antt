@@ -1,5 +1,5 @@
 -- A column of a result.
-use Rattle.std.specs.Prelude.{ℕ, ◌<◌, ◌^◌, Bool, is_ok, List, [], ◌∷◌, length, codes, refl}
+use Rattle.std.specs.Prelude.{ℕ, ◌<◌, ◌^◌, Bool, List, [], ◌∷◌, length, codes, refl}
 use Rattle.mysql_wire.specs.declared.codes.column_type.ColumnType.{ColumnType}
 use Rattle.mysql_wire.specs.Codec.{Codec, Fields}
 use Rattle.mysql_wire.specs.Codecs.{◌>>=◌, give, field, packet, const_bytes}
@@ -9,7 +9,7 @@ use Rattle.mysql_replies.specs.declared.column.Catalog.{Catalog}
 use Rattle.mysql_replies.specs.declared.column.Column.{Column}
 use Rattle.mysql_replies.specs.declared.column_names.ColumnMeta.{ColumnMeta}
 use Rattle.mysql_replies.specs.ColumnFields.{column_fields, fields_of}
-use Rattle.mysql_replies.specs.ColumnNames.{column_meta, meta_of}
+use Rattle.mysql_replies.specs.ColumnNames.{column_meta, meta_of, reads_a_name}
 
 -- `def`, length-encoded
 abbrev pub catalog_bytes : List ℕ
@@ -102,9 +102,9 @@ column = packet column_parts (λ c. refl)
 abbrev pub column_front : form.Form ColumnMeta
 column_front = form.◌>>=◌ ((const_bytes {T = Catalog} 4 catalog_bytes).form (tt {0})) (λ catalog. column_meta.form (tt {0}))
 
--- whether the bytes begin with the catalog and five names
+-- whether the bytes begin with the catalog and five names, one of which has any byte
 abbrev pub begins_with_names : List ℕ → Bool
-begins_with_names bytes = is_ok (column_front.reads bytes)
+begins_with_names bytes = reads_a_name (column_front.reads bytes)
 
 -- what makes a column be read again: lengths that a number of eight bytes can tell, and numbers of their widths
 pub record ColumnFits (c : Column) : Type 0 where

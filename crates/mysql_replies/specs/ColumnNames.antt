@@ -1,7 +1,9 @@
 -- The names of a column, and how they stand after one another in one buffer.
-use Rattle.std.specs.Prelude.{ℕ, ◌≤◌, Bool, is_ok, List, length, take, slice_range, refl}
+use Rattle.std.specs.Prelude.{ℕ, ◌+◌, ◌≤◌, Bool, false, List, length, take, slice_range, Ok, Err, refl}
 use Rattle.mysql_wire.specs.Codec.{Codec, Fields}
 use Rattle.mysql_wire.specs.Codecs.{◌>>=◌, give, field, packet, string_lenenc}
+use Rattle.mysql_wire.specs.Reading.{Reading}
+use Rattle.mysql_wire.specs.Seq.{is_any}
 use Rattle.mysql_replies.specs.declared.column_names.ColumnMeta.{ColumnMeta}
 use Rattle.mysql_replies.specs.declared.column_names.ColumnNames.TheInside.{Inside}
 
@@ -21,9 +23,14 @@ column_meta_fields = do
 unfoldable pub column_meta : Codec (Unit {0}) ColumnMeta
 column_meta = packet column_meta_fields (λ m. refl)
 
--- whether the bytes begin with five names
-abbrev pub names_are_there : List ℕ → Bool
-names_are_there bytes = is_ok ((column_meta.form tt).reads bytes)
+-- whether a name has any byte
+abbrev pub has_a_name : ColumnMeta → Bool
+has_a_name m = is_any (length m.schema + length m.table + length m.org_table + length m.name + length m.org_name)
+
+-- whether names are read, and one has any byte: the bytes are copied
+abbrev pub reads_a_name : Reading ColumnMeta → Bool
+reads_a_name (Ok x) = has_a_name x.0
+reads_a_name (Err e) = false
 
 -- the names that end at these places of the bytes
 abbrev pub names_at : List ℕ → (schema_end table_end org_table_end name_end : ℕ) → ColumnMeta

@@ -50,7 +50,8 @@ pub type ColumnDefinitionCatalog = ConstBytes<Catalog, 4>;
 /// little-endian.
 ///
 /// A short definition is `UnexpectedEof`; another catalog, another byte for `0c`, or a byte that is
-/// no type is `InvalidData`. Reading copies the names once all five are there, and answers `Memory` where that is refused.
+/// no type is `InvalidData`. Reading copies the names once all five are there, if one has any byte, and answers `Memory`
+/// where that is refused.
 #[derive(Clone, Debug, PartialEq, Eq, Drop)]
 pub struct Column {
     catalog: ColumnDefinitionCatalog,

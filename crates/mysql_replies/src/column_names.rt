@@ -1,7 +1,7 @@
 //! The names of a column, on memory of their own.
 #![tactic(auto, using(crate::proofs::NamesAfter::names), unfolding(crate::specs::ColumnNames::column_meta))]
 
-ghost use Rattle.std.specs.Prelude.{◌≡◌, true, None, refl, IfOk};
+ghost use Rattle.std.specs.Prelude.{◌≡◌, None, refl, IfOk, OnErr, IsTrue};
 ghost use Rattle.mysql_replies.specs.ColumnNames as spec;
 
 use mysql_wire::{
@@ -97,6 +97,7 @@ impl ColumnNames {
     /// A copy of these names.
     pub(crate) fn of(alloc: Global, meta: &ColumnMeta<'_>) -> Result<Self, AllocError>
         ensures value { IfOk result (λ names. names ≡ meta.now) }
+        ensures err { OnErr result (IsTrue (spec.has_a_name meta.now)) }
     {
         let len = meta
             .schema
@@ -212,7 +213,7 @@ impl<'de> MyDeserialize<'de> for ColumnNames {
 
     type Size = AnyWidth;
 
-    ghost takes_memory = { λ _ bytes. spec.names_are_there bytes };
+    ghost takes_memory = { λ _ bytes. spec.reads_a_name ((spec.column_meta.form tt).reads bytes) };
 
     type Ctx = ();
 
