@@ -72,7 +72,7 @@ impl ComStmtExecuteRequestBuilder {
         ensures params_flags { IfOk result (λ made. request.params_flags made.0 ≡ 1) }
         ensures params { IfOk result (λ made. request.params made.0 ≡ params.now) }
         ensures as_long_data { IfOk result (λ made. IsTrue (request.as_long_data made.0) ↔ (max_payload < whole_size params.now)) }
-        ensures as_long_data { IfOk result (λ made. made.1 ≡ request.as_long_data made.0) }
+        ensures answer { IfOk result (λ made. made.1 ≡ request.as_long_data made.0) }
         ensures fits { IfOk result (λ made. length params.now ≤ 65535 → length (request.execute_bytes made.0) ≤ max_payload) }
     {
         let params = ExecuteParams::new(alloc, params)?;
