@@ -2,10 +2,9 @@
 
 use mysql_packets::constants::CapabilityFlags;
 use mysql_packets::io::{FaultOf, ParseBuf};
-use mysql_packets::laws::auth::values as auth;
-use mysql_packets::laws::repl::values as repl;
 use mysql_packets::laws::replies::values as replies;
 use mysql_packets::laws::stmt::values as stmt;
+use mysql_packets::laws::{auth, repl};
 use mysql_packets::packets::{
     Column, ComBinlogDump, ComBinlogDumpGtid, ComChangeUser, ComChangeUserMoreData,
     ComRegisterSlave, ComTableDump, ErrPacket, HandshakePacket, HandshakeResponse,
