@@ -147,7 +147,7 @@ def main(count="2000000"):
         for made, wrong_, answered in pool.imap_unordered(part, tasks):
             whole += made
             failures += wrong_
-            kinds = {kind: kinds.get(kind, 0) + answered.get(kind, 0) for kind in {*kinds, *context}}
+            kinds = {kind: kinds.get(kind, 0) + answered.get(kind, 0) for kind in {*kinds, *answered}}
     print(f"malformed input: {whole} inputs, {kinds}")
     return summary("malformed input", whole - len(failures), failures, 10)
 
