@@ -1,4 +1,4 @@
-"""What a probe must show of a record, by the reference decoder: a table in each tell_*.py, by the word that begins a request."""
+"""What a probe must show of a record, by the reference decoder: a table in each describe_*.py, by the word that begins a request."""
 import describe  # noqa: F401  (it finds the reference decoder)
 
 from reference_decoder.buf import Buf, Eof, Invalid  # noqa: F401
