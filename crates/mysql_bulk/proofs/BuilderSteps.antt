@@ -1,23 +1,23 @@
 -- How a builder stores the rows that wait, and the request that it makes of them.
 use Rattle.std.proofs.Common.{◌≡◌, ◌≢◌, ℕ, zero, suc, ◌+◌, ◌*◌, ◌<◌, ◌≤◌, ◌^◌, Bool, true, false, if◌then◌else◌, List, [], ◌∷◌, ◌++◌, length, drop, Option, Some, None, unwrap_or, refl, sym, ◌∙◌, ap, subst, ◌⊎◌, inl, inr, arith, sum_by}
 use Rattle.std.specs.List.{AllZip}
-use Rattle.std.specs.Prelude.{fold}
+use Rattle.std.specs.Prelude.{All}
 use Rattle.std.proofs.Math.Nat.{suc-mul}
 use Rattle.std.proofs.lemmas.List.{length-drop, length-take-le, map-append, nil_from_length}
-use Rattle.std.proofs.lemmas.List.Sums.{fold-append}
-use Rattle.std.proofs.lemmas.List.FromFn.{length-map-range_with_len}
+use Rattle.std.proofs.lemmas.List.Elements.{All-nil, All-push}
 use Rattle.mysql_wire.specs.Writing.{saturated}
 use Rattle.mysql_cuts.specs.Cut.{PartFits, rows_in, request_size}
 use Rattle.mysql_values.specs.declared.param_type.ParamType.{ParamType}
 use Rattle.mysql_values.specs.declared.value.Value.{Value}
 use Rattle.mysql_values.specs.Value.{Content, content_of, contents_of}
-use Rattle.mysql_bulk.specs.Builder.{BuilderState, packing, IsStoredAs, waiting_size, WaitingFits, TakesArity, RowFits, after_row, arity_after, IsConsistent}
-use Rattle.mysql_bulk.specs.DeclaredTypes.{declared_type, column_values, declared_types, types_with_row}
+use Rattle.mysql_bulk.specs.Builder.{BuilderState, packing, IsStoredAs, waiting_size, WaitingFits, TakesArity, TakesRow, RowFits, after_row, arity_after, IsConsistent}
+use Rattle.mysql_bulk.specs.ColumnTypes.{TakesTypes, types_of_rows, types_so_far, types_after_row, MayFollow}
 use Rattle.mysql_bulk.specs.Row.{row_size, first_length, EqualLengths}
 use Rattle.mysql_bulk.specs.BuilderRows.{rows_of, waiting_rows}
-use Rattle.mysql_bulk.proofs.DeclaredTypes.{types_all, types_before}
+use Rattle.mysql_bulk.proofs.ColumnTypes.{spelled_long, length-types_of_rows, types_so_far_all, types_so_far_more, types_so_far_declared}
+use Rattle.mysql_bulk.proofs.DeclaredTypes.{types_before}
 use Rattle.mysql_bulk.proofs.RequestBytes.{size-rows_in}
-use Rattle.mysql_bulk.proofs.BuilderRows.{flat_values, flat_none, flat_rows, flat_more}
+use Rattle.mysql_bulk.proofs.BuilderRows.{flat_values, flat_none, flat_some, flat_rows, flat_more}
 
 pub saturated_small : (n : ℕ) → n < 2 ^ 64 → n ≡ saturated n
 unfolding saturated
@@ -45,10 +45,10 @@ as_many : (arity : Option ℕ) (n l : ℕ) → TakesArity arity n → l ≡ unwr
 as_many None n l t e = inr e
 as_many (Some a) n l t e = inl (e ∙ sym t)
 
-types_step : (b : Bool) (types : List ParamType) (rows : List (List Content)) (row : List Content) → types ≡ (if b then fold types_with_row [] rows else [])
-    → (if b then types_with_row types row else types) ≡ (if b then fold types_with_row [] (rows ++ row ∷ []) else [])
-types_step true types rows row e = ap (λ (l : List ParamType). types_with_row l row) e ∙ sym (fold-append types_with_row [] rows (row ∷ []))
-types_step false types rows row e = e
+types_step : (b : Bool) (columns : Option (List ParamType)) (types : List ParamType) (rows : List (List Content)) (row : List Content) → types ≡ (if b then types_so_far columns rows else [])
+    → (if b then types_after_row columns types row else types) ≡ (if b then types_so_far columns (rows ++ row ∷ []) else [])
+types_step true columns types rows row e = ap (λ (l : List ParamType). types_after_row columns l row) e ∙ types_so_far_more columns rows row
+types_step false columns types rows row e = e
 
 if_true : {X : Type 0} (b : Bool) (x y : X) → b ≡ true → (if b then x else y) ≡ x
 if_true true x y e = refl
@@ -72,11 +72,11 @@ module _ {s : BuilderState} {count size : ℕ} {values : List Content} {types : 
   pub stored_equal : EqualLengths (unwrap_or s.arity 0) s.waiting
   stored_equal = subst (EqualLengths (unwrap_or s.arity 0)) (sym k.rows_is) (equal_rows (unwrap_or s.arity 0) count values k.flat.lengths)
 
-  -- the types are the declared ones
-  pub stored_types : count ≢ 0 → types ≡ (if s.types_due then declared_types s.waiting else [])
+  -- the types are those of the rows
+  pub stored_types : count ≢ 0 → types ≡ (if s.types_due then types_of_rows s.columns s.waiting else [])
   stored_types n =
       k.types_is
-      ∙ if_same s.types_due (fold types_with_row [] s.waiting) (declared_types s.waiting) [] (types_all (unwrap_or s.arity 0) s.waiting (stored_rows n) stored_equal)
+      ∙ if_same s.types_due (types_so_far s.columns s.waiting) (types_of_rows s.columns s.waiting) [] (types_so_far_all s.columns (unwrap_or s.arity 0) s.waiting (stored_rows n) stored_equal)
 
   -- the values are those of the rows
   pub stored_values : values ≡ rows_in s.waiting
@@ -86,7 +86,7 @@ module _ {s : BuilderState} {count size : ℕ} {values : List Content} {types : 
   types_size n =
       let a = unwrap_or s.arity 0 in
       ap (λ (l : List ParamType). 2 * length l) (stored_types n)
-      ∙ length-if s.types_due a (declared_types s.waiting) (length-map-range_with_len (λ i. declared_type (column_values s.waiting i)) 0 (first_length s.waiting) ∙ first_long a s.waiting (stored_rows n) stored_equal)
+      ∙ length-if s.types_due a (types_of_rows s.columns s.waiting) (length-types_of_rows s.columns s.waiting k.taken ∙ first_long a s.waiting (stored_rows n) stored_equal)
 
   rows_size : size ≡ sum_by row_size s.waiting
   rows_size = k.flat.size_is ∙ ap (sum_by row_size) (sym k.rows_is)
@@ -114,27 +114,35 @@ module _ {s : BuilderState} {count size : ℕ} {values : List Content} {types : 
   pub stored_bound : count ≢ 0 → waiting_size s ≤ s.limit
   stored_bound n = (stored_allowed n).0
 
-  -- before a row of the right length: there are as many types, or none
-  pub stored_before : (row : List Content) → TakesArity s.arity (length row) → s.types_due ≡ true → (length types ≡ length row) ⊎ (types ≡ [])
+  -- before a row that may come next
+  pub stored_before : (row : List Content) → TakesRow s row → s.types_due ≡ true → MayFollow s.columns types row
   stored_before row t due =
-      let is : types ≡ fold types_with_row [] s.waiting = k.types_is ∙ if_true s.types_due (fold types_with_row [] s.waiting) [] due in
-      let N : List (List Content) → Type 0 = λ l. types ≡ fold types_with_row [] l in
-      elim (types_before (unwrap_or s.arity 0) s.waiting stored_equal) [
-        | inl long ↦ elim (as_many s.arity (length row) (length types) t (ap length is ∙ long)) [ inl same ↦ inl same | inr none ↦ inr (nil_from_length types none) ]
-        | inr none ↦ inr (subst N none is)
-      ]
+      let is : types ≡ types_so_far s.columns s.waiting = k.types_is ∙ if_true s.types_due (types_so_far s.columns s.waiting) [] due in
+      subst (λ l. MayFollow s.columns l row) (sym is) (so_far s.columns t.1)
+    where
+      so_far : (columns : Option (List ParamType)) → TakesTypes columns row → MayFollow columns (types_so_far columns s.waiting) row
+      so_far None taken =
+          elim (types_before (unwrap_or s.arity 0) s.waiting stored_equal) [
+            | inl long ↦ elim (as_many s.arity (length row) (length (types_so_far None s.waiting)) t.0 long) [
+              | inl same ↦ inl same
+              | inr none ↦ inr (nil_from_length (types_so_far None s.waiting) none)
+            ]
+            | inr none ↦ inr (ap (types_so_far None) none)
+          ]
+      so_far (Some declared) taken = (sym (spelled_long declared row taken), types_so_far_declared declared s.waiting)
 
   -- one more row waits
-  pub stored_more : (total : ℕ) (row : List Content) → TakesArity s.arity (length row) → RowFits s row → total ≡ sum_by row_size (s.waiting ++ row ∷ [])
-      → IsStoredAs (after_row s row) (count + 1) total (values ++ row) (if s.types_due then types_with_row types row else types)
+  pub stored_more : (total : ℕ) (row : List Content) → TakesRow s row → RowFits s row → total ≡ sum_by row_size (s.waiting ++ row ∷ [])
+      → IsStoredAs (after_row s row) (count + 1) total (values ++ row) (if s.types_due then types_after_row s.columns types row else types)
   stored_more total row t f e =
-      let rows = flat_rows s.arity count size values row k.flat t in
+      let rows = flat_rows s.arity count size values row k.flat t.0 in
       record {
         limit_is = k.limit_is;
         rows_is = ap (λ (l : List (List Content)). l ++ row ∷ []) k.rows_is ∙ sym rows;
-        flat = flat_more s.arity count size total values row k.flat t (e ∙ ap (λ (l : List (List Content)). sum_by row_size (l ++ row ∷ [])) k.rows_is);
+        flat = flat_more s.arity count size total values row k.flat t.0 (e ∙ ap (λ (l : List (List Content)). sum_by row_size (l ++ row ∷ [])) k.rows_is);
         fits = λ n. f;
-        types_is = types_step s.types_due types s.waiting row k.types_is;
+        taken = All-push (TakesTypes s.columns) s.waiting row k.taken t.1;
+        types_is = types_step s.types_due s.columns types s.waiting row k.types_is;
       }
 
   pub rows_more : (row : List Content) → TakesArity s.arity (length row) → waiting_rows (Some (length row)) (count + 1) (values ++ row) ≡ s.waiting ++ row ∷ []
@@ -143,15 +151,50 @@ module _ {s : BuilderState} {count size : ℕ} {values : List Content} {types : 
   abbrev pub with_row : ℕ → ℕ → List Content → BuilderState
   with_row a n more = record s { arity = Some a; waiting = waiting_rows (Some a) n more }
 
-  pub stored_next : (total a n : ℕ) (row more : List Content) (further : List ParamType) → TakesArity s.arity (length row) → RowFits s row → total ≡ sum_by row_size (s.waiting ++ row ∷ [])
-      → a ≡ length row → n ≡ count + 1 → more ≡ values ++ row → further ≡ (if s.types_due then types_with_row types row else types) → IsStoredAs (with_row a n more) n total more further
+  pub stored_next : (total a n : ℕ) (row more : List Content) (further : List ParamType) → TakesRow s row → RowFits s row → total ≡ sum_by row_size (s.waiting ++ row ∷ [])
+      → a ≡ length row → n ≡ count + 1 → more ≡ values ++ row → further ≡ (if s.types_due then types_after_row s.columns types row else types) → IsStoredAs (with_row a n more) n total more further
   stored_next total a n row more further t f e la ln lm lf =
       let P : List (List Content) → Type 0 = λ w.
-      IsStoredAs (record s { arity = Some (length row); waiting = w }) (count + 1) total (values ++ row) (if s.types_due then types_with_row types row else types) in
-      rw (la, ln, lm, lf) (subst P (sym (rows_more row t)) (stored_more total row t f e))
+      IsStoredAs (record s { arity = Some (length row); waiting = w }) (count + 1) total (values ++ row) (if s.types_due then types_after_row s.columns types row else types) in
+      rw (la, ln, lm, lf) (subst P (sym (rows_more row t.0)) (stored_more total row t f e))
 
   pub state_next : (a n : ℕ) (row more : List Content) → TakesArity s.arity (length row) → a ≡ length row → n ≡ count + 1 → more ≡ values ++ row → with_row a n more ≡ after_row s row
   state_next a n row more t la ln lm = rw (la, ln, lm) (ap (λ (w : List (List Content)). record s { arity = Some (length row); waiting = w }) (rows_more row t))
+
+  -- types are declared where no row waits
+  abbrev pub declared_state : List ParamType → BuilderState
+  declared_state declared = record s { columns = Some declared; arity = Some (length declared); types_due = true; waiting = waiting_rows (Some (length declared)) count values }
+
+  none_wait : s.waiting ≡ [] → count ≡ 0
+  none_wait e = flat_none s.arity count values (sym k.rows_is ∙ e)
+
+  pub stored_declared : (declared : List ParamType) → s.waiting ≡ [] → IsStoredAs (declared_state declared) count size values types
+  stored_declared declared e =
+      let none = none_wait e in
+      let was : length values ≡ 0 * unwrap_or s.arity 0 = k.flat.lengths ∙ ap (λ n. n * unwrap_or s.arity 0) none in
+      let now : count * length declared ≡ 0 * length declared = ap (λ n. n * length declared) none in
+      let no_row : waiting_rows (Some (length declared)) count values ≡ [] = flat_some (Some (length declared)) count values none in
+      record {
+        limit_is = k.limit_is;
+        rows_is = refl;
+        flat = record {
+          lengths = omega (arith, was, now);
+          none = λ h. cc;
+          size_is = k.flat.size_is ∙ ap (sum_by row_size) (sym k.rows_is ∙ e ∙ sym no_row);
+        };
+        fits = λ n. absurd (n no_row);
+        taken = subst (All (TakesTypes (Some declared))) (sym no_row) (All-nil (TakesTypes (Some declared)));
+        types_is = k.types_is ∙ no_types s.types_due s.columns s.waiting e ∙ ap (types_so_far (Some declared)) (sym no_row);
+      }
+    where
+      no_types : (due : Bool) (columns : Option (List ParamType)) (rows : List (List Content)) → rows ≡ [] → (if due then types_so_far columns rows else []) ≡ []
+      no_types false columns rows e = refl
+      no_types true None rows e = ap (types_so_far None) e
+      no_types true (Some declared) rows e = ap (types_so_far (Some declared)) e
+
+  pub state_declared : (declared : List ParamType) → s.waiting ≡ [] → declared_state declared ≡ record s { columns = Some declared; arity = Some (length declared); types_due = true }
+  state_declared declared e =
+      ap (λ (w : List (List Content)). record s { columns = Some declared; arity = Some (length declared); types_due = true; waiting = w }) (flat_some (Some (length declared)) count values (none_wait e) ∙ sym e)
 
   pub stored_fits : count ≢ 0 → 7 + 2 * length types + size < 2 ^ 64
   stored_fits n = omega (arith, stored_size n, stored_bound n, k.limit_is)
@@ -161,6 +204,7 @@ module _ {s : BuilderState} {count size : ℕ} {values : List Content} {types : 
   consistent = record {
     one_length = one (unwrap_or s.arity 0) s.waiting stored_equal;
     arity = known s.arity s.waiting k.flat.none (λ c. k.rows_is ∙ ap (λ n. rows_of (unwrap_or s.arity 0) n values) c) stored_equal;
+    taken = k.taken;
     fits = λ n. stored_allowed (λ c. n (k.rows_is ∙ ap (λ m. rows_of (unwrap_or s.arity 0) m values) c));
   }
     where

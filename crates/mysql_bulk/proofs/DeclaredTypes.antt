@@ -1,13 +1,12 @@
 -- The types of columns, while rows come one after another.
 use Rattle.std.proofs.Common.{◌≡◌, ◌≢◌, ◌⊎◌, inl, inr, ℕ, zero, suc, ◌+◌, ◌<◌, Bool, true, false, List, [], ◌∷◌, ◌++◌, length, take, get_or, refl, sym, ◌∙◌, ap, arith, add-one}
-use Rattle.std.specs.Prelude.{fold, ◌||◌}
+use Rattle.std.specs.Prelude.{fold, map, ◌||◌}
 use Rattle.std.specs.List.{list_any}
 use Rattle.std.proofs.Math.Bool.{or_assoc}
 use Rattle.std.proofs.lemmas.List.{ext_get_or}
 use Rattle.std.proofs.lemmas.List.FromFn.{get_or-map-range_with_len, length-map-range_with_len}
-use Rattle.mysql_values.specs.declared.value.Value.{Value}
 use Rattle.mysql_values.specs.SentType.{is_uint}
-use Rattle.mysql_values.specs.Value.{Content, content_of, contents_of}
+use Rattle.mysql_values.specs.Value.{Content}
 use Rattle.mysql_values.specs.Value.{NULL, Bytes, Int, UInt, Float, Double, Date, Time}
 use Rattle.mysql_wire.specs.declared.codes.column_type.ColumnType.TheVariants as column
 use Rattle.mysql_values.specs.declared.param_type.ParamType.{ParamType}
@@ -86,16 +85,16 @@ type_of_column (Time t ∷ values) = times_stay values
 
 -- ---- the columns of rows
 
-first_next : (row : List Value) (i : ℕ) (d : Value) → i < length row
-    → types_with_row [] (contents_of (take (suc i) row)) ≡ types_with_row [] (contents_of (take i row)) ++ type_of (content_of (get_or row i d)) ∷ []
-first_next [] i d h = absurd (omega arith)
-first_next (v ∷ row) zero d h = refl
-first_next (v ∷ row) (suc i) d h = ap (λ (l : List ParamType). type_of (content_of v) ∷ l) (first_next row i d (omega arith))
+first_next : {V : Type 0} (content : V → Content) (row : List V) (i : ℕ) (d : V) → i < length row
+    → types_with_row [] (map content (take (suc i) row)) ≡ types_with_row [] (map content (take i row)) ++ type_of (content (get_or row i d)) ∷ []
+first_next content [] i d h = absurd (omega arith)
+first_next content (v ∷ row) zero d h = refl
+first_next content (v ∷ row) (suc i) d h = ap (λ (l : List ParamType). type_of (content v) ∷ l) (first_next content row i d (omega arith))
 
 -- the types of a first row, one value after another
-pub first_more : (row : List Value) (i : ℕ) (d : Value) → i < length row
-    → types_with_row [] (contents_of (take (i + 1) row)) ≡ types_with_row [] (contents_of (take i row)) ++ type_of (content_of (get_or row i d)) ∷ []
-first_more row i d h = rw add-one (first_next row i d h)
+pub first_more : {V : Type 0} (content : V → Content) (row : List V) (i : ℕ) (d : V) → i < length row
+    → types_with_row [] (map content (take (i + 1) row)) ≡ types_with_row [] (map content (take i row)) ++ type_of (content (get_or row i d)) ∷ []
+first_more content row i d h = rw add-one (first_next content row i d h)
 
 length-types_with_row : (types : List ParamType) (row : List Content) → length types ≡ length row → length (types_with_row types row) ≡ length row
 length-types_with_row [] [] e = refl

@@ -1,4 +1,5 @@
 pub mod DeclaredTypes
+pub mod ColumnTypes
 pub mod BuilderRows
 pub mod SentValues
 pub mod RequestBytes
@@ -11,6 +12,7 @@ pub mod BuilderParams
 pub mod RequestNew
 pub mod ParamsRunSteps
 pub mod ReadingBack
+pub mod ReadingDeclared
 pub mod BuilderEq
 pub mod HeadTypes
 pub mod Memory

@@ -1,9 +1,11 @@
 -- What is written of a request is read again: its values, its head, and its rows.
-use Rattle.std.proofs.Common.{◌≡◌, ◌≢◌, ℕ, ◌+◌, ◌<◌, ◌^◌, Bool, true, false, if◌then◌else◌, List, [], ◌∷◌, ◌++◌, length, map, refl, sym, ◌∙◌, ap, subst, arith, append_assoc}
+use Rattle.std.proofs.Common.{◌≡◌, ◌≢◌, ℕ, ◌+◌, ◌<◌, ◌^◌, Bool, true, false, if◌then◌else◌, List, [], ◌∷◌, ◌++◌, length, map, inl, inr, refl, sym, ◌∙◌, ap, subst, arith, append_assoc}
 use Rattle.std.proofs.lemmas.List.{append-nil, map-append}
 use Rattle.std.proofs.lemmas.Grind.{flat_map-append}
-use Rattle.std.proofs.lemmas.List.Elements.{All-map}
-use Rattle.std.proofs.lemmas.List.FromFn.{length-map-range_with_len}
+use Rattle.std.proofs.lemmas.Bool.{and_parts, eqb-true}
+use Rattle.std.proofs.lemmas.Bool.Decides.{eqb_tells}
+use Rattle.std.proofs.lemmas.List.Elements.{All-nil, All-map, All-weaker}
+use Rattle.std.specs.Prelude.{◌&&◌, ◌||◌, ◌==◌, IsTrue, IfSome, Option, Some, None}
 use Rattle.std.specs.List.{All, AllZip, flat_map, list_any, range_with_len}
 use Rattle.mysql_wire.specs.FlagMasks.{UNSIGNED, UNSIGNED_FLAG}
 use Rattle.mysql_wire.specs.Each.{each}
@@ -19,6 +21,8 @@ use Rattle.mysql_values.specs.ReadingBack.{Agrees}
 use Rattle.mysql_values.specs.SentType.{is_uint}
 use Rattle.mysql_values.specs.Value.{Content, NULL, Bytes, Int, UInt, Float, Double, Date, Time, bin}
 use Rattle.mysql_bulk.specs.Builder.{BuilderState, IsRequest}
+use Rattle.mysql_bulk.specs.ColumnTypes.{is_declarable, is_integer, may_be_declared, TakesTypes, types_of_rows}
+use Rattle.mysql_bulk.proofs.ColumnTypes.{length-types_of_rows}
 use Rattle.mysql_bulk.specs.DeclaredTypes.{first_not_null, type_from, declared_type, declared_types, column_values}
 use Rattle.mysql_bulk.specs.Head.{BulkHead, head, sends_types, value_columns, column_of_type}
 use Rattle.mysql_bulk.specs.HeadTypes.{TypesFor}
@@ -68,7 +72,7 @@ value_round_trips : (place : ℕ) (column : BulkColumn) (v : Content) → Agrees
 value_round_trips place column v a rest = (with_indicator v, refl, param_value-again column (with_indicator v) (indicated column v a) rest)
 
 -- the bytes of a row
-abbrev row_bytes : List Content → List ℕ
+abbrev pub row_bytes : List Content → List ℕ
 row_bytes row = values_bytes (map with_indicator row)
 
 row_again : (place : ℕ) (columns : List BulkColumn) (row : List Content) → AgreesWith columns row → IsSpelling (each content_of_column place columns) row (row_bytes row)
@@ -88,7 +92,7 @@ row_some (column ∷ columns) [] n a = absurd a
 row_some (column ∷ columns) (v ∷ row) n a = omega arith
 
 -- the bytes of the values are those of the rows
-bytes_of_rows : (rows : List (List Content)) → flat_map row_bytes rows ≡ values_bytes (map with_indicator (rows_in rows))
+pub bytes_of_rows : (rows : List (List Content)) → flat_map row_bytes rows ≡ values_bytes (map with_indicator (rows_in rows))
 bytes_of_rows [] = refl
 bytes_of_rows (row ∷ rows) =
     ap (λ (b : List ℕ). row_bytes row ++ b) (bytes_of_rows rows)
@@ -143,13 +147,13 @@ request_again columns request rows f =
 
 -- ---- the request of a builder
 
-has_types : (types results : Bool) → sends_types (request_flags types results) ≡ types
+pub has_types : (types results : Bool) → sends_types (request_flags types results) ≡ types
 has_types true true = refl
 has_types true false = refl
 has_types false true = refl
 has_types false false = refl
 
-flags_small : (types results : Bool) → (request_flags types results).0 < 2 ^ 16
+pub flags_small : (types results : Bool) → (request_flags types results).0 < 2 ^ 16
 flags_small true true = omega arith
 flags_small true false = omega arith
 flags_small false true = omega arith
@@ -169,17 +173,32 @@ type_small (Double x) values = omega arith
 type_small (Date x) values = omega arith
 type_small (Time x) values = omega arith
 
+-- a type that may be declared has one flag at most
+pub declarable_small : (kind : ParamType) → may_be_declared kind ≡ true → kind.flags.0 < 2 ^ 8
+declarable_small kind e =
+    let flags = (and_parts (is_declarable kind.column_type) (kind.flags.0 == 0 || (kind.flags.0 == UNSIGNED && is_integer kind.column_type)) e).1 in
+    elim (eqb_tells kind.flags.0 0) [
+      | inl none ↦ omega (arith, none.1)
+      | inr some ↦ let unsigned = eqb-true kind.flags.0 UNSIGNED (and_parts (kind.flags.0 == UNSIGNED) (is_integer kind.column_type) (rw some.0 at flags)).0 in omega (arith, unsigned)
+    ]
+
 types_small : (rows : List (List Content)) → All (λ t. t.flags.0 < 2 ^ 8) (declared_types rows)
 types_small rows =
     All-map (λ (t : ParamType). t.flags.0 < 2 ^ 8) (λ i. declared_type (column_values rows i)) (range_with_len 0 (first_length rows)) (λ k d lt. type_small (first_not_null (column_values rows _)) (column_values rows _))
 
-sent_types : (b : Bool) (rows : List (List Content)) (count : ℕ) → count ≡ first_length rows → TypesFor b count (if b then declared_types rows else [])
-sent_types true rows count e = (length-map-range_with_len (λ i. declared_type (column_values rows i)) 0 (first_length rows) ∙ sym e, types_small rows)
-sent_types false rows count e = refl
+all_small : (declared : Option (List ParamType)) (rows : List (List Content)) → IfSome declared (λ types. All (λ kind. IsTrue (may_be_declared kind)) types) → All (λ t. t.flags.0 < 2 ^ 8) (types_of_rows declared rows)
+all_small None rows d = types_small rows
+all_small (Some types) [] d = All-nil (λ (t : ParamType). t.flags.0 < 2 ^ 8)
+all_small (Some types) (row ∷ rows) d = All-weaker (λ (kind : ParamType). IsTrue (may_be_declared kind)) (λ (t : ParamType). t.flags.0 < 2 ^ 8) declarable_small types d
 
-sent_or_passed : (b : Bool) (rows : List (List Content)) (columns : List BulkColumn) → (if b then map column_of_type (if b then declared_types rows else []) else columns) ≡ (if b then map column_of_type (declared_types rows) else columns)
-sent_or_passed true rows columns = refl
-sent_or_passed false rows columns = refl
+pub sent_types : (b : Bool) (declared : Option (List ParamType)) (rows : List (List Content)) (count : ℕ) → count ≡ first_length rows → All (TakesTypes declared) rows
+    → IfSome declared (λ types. All (λ kind. IsTrue (may_be_declared kind)) types) → TypesFor b count (if b then types_of_rows declared rows else [])
+sent_types true declared rows count e taken d = (length-types_of_rows declared rows taken ∙ sym e, all_small declared rows d)
+sent_types false declared rows count e taken d = refl
+
+sent_or_passed : (b : Bool) (types : List ParamType) (columns : List BulkColumn) → (if b then map column_of_type (if b then types else []) else columns) ≡ (if b then map column_of_type types else columns)
+sent_or_passed true types columns = refl
+sent_or_passed false types columns = refl
 
 pub part_fits : (s : BuilderState) (columns : List BulkColumn) (rows : List (List Content)) (request : BulkRequest) → IsRequest s rows request → PartAgrees s columns rows → RowsFit columns request rows
 part_fits s columns rows request r p =
@@ -188,12 +207,12 @@ part_fits s columns rows request r p =
     let T : Bool → List ParamType → Type 0 = λ c types. TypesFor c (length columns) types in
     let C : List BulkColumn → Type 0 = λ c. All (AgreesWith c) rows in
     let same : value_columns columns (head_of request) ≡ columns_read_by s columns rows =
-    ap (λ c. if c then map column_of_type request.types else columns) sends ∙ ap (λ types. if b then map column_of_type types else columns) r.types ∙ sent_or_passed b rows columns in
+    ap (λ c. if c then map column_of_type request.types else columns) sends ∙ ap (λ types. if b then map column_of_type types else columns) r.types ∙ sent_or_passed b (types_of_rows s.columns rows) columns in
     record {
       stmt_id = rw r.id p.stmt_id;
       bulk_flags = rw r.flags (flags_small b s.results);
       some = p.some;
-      types = subst (λ c. T c request.types) (sym sends) (subst (T b) (sym r.types) (sent_types b rows (length columns) p.long));
+      types = subst (λ c. T c request.types) (sym sends) (subst (T b) (sym r.types) (sent_types b s.columns rows (length columns) p.long r.taken p.declarable));
       values = r.values;
       agree = subst C (sym same) p.agree;
     }

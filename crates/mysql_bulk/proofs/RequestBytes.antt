@@ -1,7 +1,7 @@
 -- The bytes of a request, and how many they are.
 use Rattle.std.proofs.Common.{◌≡◌, ◌+◌, ◌*◌, Bool, true, false, if◌then◌else◌, List, [], ◌∷◌, ◌++◌, length, map, refl, ◌∙◌, ap, arith, length-append, sum_by}
 use Rattle.std.specs.List.{flat_map}
-use Rattle.std.proofs.lemmas.List.FromFn.{length-map-range_with_len}
+use Rattle.std.specs.Prelude.{All, Option}
 use Rattle.std.proofs.lemmas.List.Sums.{sum_by-append}
 use Rattle.mysql_wire.specs.MariadbBulkIndicator.{mariadb_bulk_indicator_code}
 use Rattle.mysql_wire.specs.Writing.{le_bytes}
@@ -9,9 +9,10 @@ use Rattle.mysql_cuts.specs.Cut.{rows_in, request_size}
 use Rattle.mysql_values.proofs.Sizes.{length-bin}
 use Rattle.mysql_values.specs.declared.param_type.ParamType.{ParamType}
 use Rattle.mysql_values.specs.declared.value.Value.{Value}
-use Rattle.mysql_values.specs.Value.{Content, bin, content_of, contents_of, size_of}
+use Rattle.mysql_values.specs.Value.{Content, bin, bin_size, content_of, contents_of}
 use Rattle.mysql_bulk.specs.Builder.{BuilderState, packing, IsRequest}
-use Rattle.mysql_bulk.specs.DeclaredTypes.{declared_type, column_values, declared_types}
+use Rattle.mysql_bulk.specs.ColumnTypes.{TakesTypes, types_of_rows}
+use Rattle.mysql_bulk.proofs.ColumnTypes.{length-types_of_rows}
 use Rattle.mysql_bulk.specs.Head.{BulkHead, head}
 use Rattle.mysql_bulk.specs.HeadTypes.{types_bytes, length-types}
 use Rattle.mysql_bulk.specs.ParamValue.{ParamValue, with_indicator, contents, param_value_bytes, values_bytes}
@@ -55,14 +56,14 @@ length-request r =
 pub ruleset request_lengths = (length-types, length-values)
 
 -- the values of a row have the size of what they hold
-pub size_of_contents : (row : List Value) → values_size row ≡ row_size (contents_of row)
-size_of_contents [] = refl
-size_of_contents (v ∷ row) =
+pub size_of_contents : {V : Type 0} (content : V → Content) (row : List V) → values_size content row ≡ row_size (map content row)
+size_of_contents content [] = refl
+size_of_contents {V} content (v ∷ row) =
     omega (
       arith,
-      size_of_contents row,
-      sum_by-append (λ (value : Value). 1 + size_of value) (v ∷ []) row,
-      sum_by-append param_size (content_of v ∷ []) (contents_of row),
+      size_of_contents content row,
+      sum_by-append (λ (value : V). 1 + bin_size (content value)) (v ∷ []) row,
+      sum_by-append param_size (content v ∷ []) (map content row),
     )
 
 -- ---- a request of rows
@@ -75,13 +76,13 @@ pub size-rows_in : (rows : List (List Content)) → row_size (rows_in rows) ≡ 
 size-rows_in [] = refl
 size-rows_in (row ∷ rows) = omega (arith, sum_by-append param_size row (rows_in rows), size-rows_in rows, sum_by-append row_size (row ∷ []) rows)
 
-types_size : (sent : Bool) (rows : List (List Content)) → 2 * length (if sent then declared_types rows else []) ≡ (if sent then 2 * first_length rows else 0)
-types_size true rows = ap (λ n. 2 * n) (length-map-range_with_len (λ i. declared_type (column_values rows i)) 0 (first_length rows))
-types_size false rows = refl
+types_size : (sent : Bool) (columns : Option (List ParamType)) (rows : List (List Content)) → All (TakesTypes columns) rows → 2 * length (if sent then types_of_rows columns rows else []) ≡ (if sent then 2 * first_length rows else 0)
+types_size true columns rows taken = ap (λ n. 2 * n) (length-types_of_rows columns rows taken)
+types_size false columns rows taken = refl
 
 -- the request of rows is written as the bytes of rows of their sizes
 pub size_of_rows : (s : BuilderState) (rows : List (List Content)) (request : BulkRequest) → IsRequest s rows request → length (request_bytes request) ≡ request_size (packing s (first_length rows)) s.types_due rows
 size_of_rows s rows request i =
-    let types : 2 * length request.types ≡ (if s.types_due then 2 * first_length rows else 0) = ap (λ (l : List ParamType). 2 * length l) i.types ∙ types_size s.types_due rows in
+    let types : 2 * length request.types ≡ (if s.types_due then 2 * first_length rows else 0) = ap (λ (l : List ParamType). 2 * length l) i.types ∙ types_size s.types_due s.columns rows i.taken in
     let values : row_size (contents request.values) ≡ sum_by row_size rows = ap (λ (l : List ParamValue). row_size (contents l)) i.values ∙ ap row_size (contents_indicators (rows_in rows)) ∙ size-rows_in rows in
     omega (arith, length-request request, types, values)

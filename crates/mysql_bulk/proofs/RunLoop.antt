@@ -13,14 +13,14 @@ use Rattle.mysql_bulk.specs.declared.error.BulkExecuteRequestBuilderError.{BulkE
 use Rattle.mysql_bulk.specs.declared.error.BulkExecuteRequestBuilderError.TheVariants as refused
 use Rattle.mysql_bulk.specs.declared.error.BulkExecuteRequestError.{BulkExecuteRequestError}
 use Rattle.mysql_values.specs.Params as given_by
-use Rattle.mysql_bulk.specs.Builder.{BuilderState, TakesArity, RowFits, IsConsistent}
+use Rattle.mysql_bulk.specs.Builder.{BuilderState, TakesRow, RowFits, IsConsistent}
 use Rattle.mysql_bulk.specs.RunLoop.{GivesRequests, WholeLoop, SentAllRows, RefusedRow, RefusedParams}
 use Rattle.mysql_bulk.specs.ParamsRun.{Names, GivesRowOfParams, NextRequestOfParams}
 use Rattle.mysql_bulk.specs.Request.{BulkRequest}
 use Rattle.mysql_bulk.specs.Row.{contents_of_row, contents_of_rows}
 use Rattle.mysql_bulk.specs.Run.{NextRow, RunState, Accepts, SendsRequest, NextRequest}
 use Rattle.mysql_bulk.specs.WholeRun.{RunGives}
-use Rattle.mysql_bulk.proofs.WholeRun.{Running, running_none, running_accepts, running_sends, next_long, fits_from, gives_all, gives_refused, gives_params}
+use Rattle.mysql_bulk.proofs.WholeRun.{Running, running_none, running_accepts, running_sends, next_taken, fits_from, gives_all, gives_refused, gives_params}
 
 two_ways : {A : Type 0} (b : Bool) → b ≡ true → b ≡ false → A
 two_ways b t f = let e : true ≡ false = sym t ∙ f in cc
@@ -104,7 +104,7 @@ module _ {S : Type 0} (steps : S → Option (Vec Value) → S → Type 0) where
     request_before_others s₀ s t request requests m row f c later =
         let Y : Option (Vec Value) → Type 0 = λ o. Yields (NextRow steps) (o, t.rows) later.rows later.place in
         let C : Option (Vec Value) → Type 0 = λ o. YieldsThen (NextRow steps) (s.carried, s.rows) f.accepted.taken o (None, t.rows) in
-        let G : Option (Vec Value) → Type 0 = λ o. IfSome o (λ row. TakesArity f.full.arity (length (contents_of_row row)) × (RowFits f.full (contents_of_row row) → ⊥)) in
+        let G : Option (Vec Value) → Type 0 = λ o. IfSome o (λ row. TakesRow f.full (contents_of_row row) × (RowFits f.full (contents_of_row row) → ⊥)) in
         let came = subst Y c later.came in
         let full = subst G c f.accepted.full in
         let all_rows = rows_across_requests (s.carried, s.rows) row t.rows f.accepted.taken later.rows later.place (subst C c f.accepted.came) came later.last in
@@ -121,8 +121,8 @@ module _ {S : Type 0} (steps : S → Option (Vec Value) → S → Type 0) where
               ∙ append_assoc (contents_of_rows f.accepted.taken) (contents_of_rows later.rows) rest
               ∙ ap (λ (l : List (List Content)). contents_of_rows f.accepted.taken ++ l) first.1 in
               let here = running_accepts f.full (contents_of_rows f.accepted.taken) (contents_of_row row ∷ first.0) (subst P seam r) f.accepted.accepts in
-              let long = next_long (contents_of_row row) first.0 here full.0 in
-              let there = running_sends t.builder (contents_of_row row ∷ first.0) request here f.builds long (λ g. full.1 (fits_from (contents_of_row row) first.0 here long g)) in
+              let next = next_taken (contents_of_row row) first.0 here full.0 in
+              let there = running_sends t.builder (contents_of_row row ∷ first.0) request here f.builds next (λ g. full.1 (fits_from (contents_of_row row) first.0 here next.0 g)) in
               let V : List (List Content) → Type 0 = Running s₀ all (before ++ request ∷ []) (ends ++ length (rows_in here.cut ++ f.full.waiting) ∷ []) (length (rows_in here.cut ++ f.full.waiting)) t.builder in
               let end = later.run_over_list rest is_rest all (before ++ request ∷ []) (ends ++ length (rows_in here.cut ++ f.full.waiting) ∷ []) (length (rows_in here.cut ++ f.full.waiting)) (subst V (sym first.1) there) in
               let Q : List BulkRequest → Type 0 = λ q. Running s₀ all q end.0 end.1.0 m rest in

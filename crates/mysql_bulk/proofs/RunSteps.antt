@@ -1,5 +1,5 @@
 -- Runs of a builder over rows.
-use Rattle.std.proofs.Common.{◌≡◌, ◌≢◌, Bool, true, false, List, [], ◌∷◌, ◌++◌, length, Option, Some, None, Result, Ok, Err, refl, sym, subst, inr}
+use Rattle.std.proofs.Common.{◌≡◌, ◌≢◌, Bool, true, false, List, [], ◌∷◌, ◌++◌, Option, Some, None, Result, Ok, Err, refl, sym, subst, inr}
 use Rattle.std.proofs.lemmas.List.{map_push}
 use Rattle.std.proofs.iter.Next.{Yields-more}
 use Rattle.std.specs.Iterator.{Yields}
@@ -7,10 +7,10 @@ use Rattle.std.specs.Global.{Vec}
 use Rattle.mysql_values.specs.declared.value.Value.{Value}
 use Rattle.mysql_values.specs.Value.{Content}
 use Rattle.mysql_bulk.specs.declared.error.BulkExecuteRequestError.{BulkExecuteRequestError}
-use Rattle.mysql_bulk.specs.declared.error.BulkExecuteRequestError.TheVariants.{MixedArity, RowTooLarge, MemoryRow, NoParams, Memory}
+use Rattle.mysql_bulk.specs.declared.error.BulkExecuteRequestError.TheVariants.{MixedArity, MixedTypes, RowTooLarge, MemoryRow, NoParams, Memory}
 use Rattle.mysql_bulk.specs.Row.{contents_of_row, contents_of_rows}
 use Rattle.mysql_bulk.specs.Builder.{BuilderState}
-use Rattle.mysql_bulk.specs.Builder.{TakesArity, RowFits, after_row, Adds, Builds, BuildsRequest}
+use Rattle.mysql_bulk.specs.Builder.{TakesRow, RowFits, after_row, Adds, Builds, BuildsRequest}
 use Rattle.mysql_bulk.specs.declared.error.BulkExecuteRequestBuilderError.{BulkExecuteRequestBuilderError}
 use Rattle.mysql_bulk.specs.declared.error.BulkExecuteRequestBuilderError.TheVariants.{Request}
 use Rattle.mysql_bulk.specs.Request.{BulkRequest}
@@ -18,9 +18,9 @@ use Rattle.mysql_bulk.specs.Run.{Accepts, NextRow, AcceptsUntilFull, RunState, A
 use Rattle.std.specs.Prelude.{IfSome, MatchOption, is_none, is_some, not}
 
 -- one more row is accepted
-pub Accepts-more : (s m t : BuilderState) (rows : List (List Content)) (row : List Content) → Accepts s rows m → TakesArity m.arity (length row) → RowFits m row → t ≡ after_row m row → Accepts s (rows ++ row ∷ []) t
+pub Accepts-more : (s m t : BuilderState) (rows : List (List Content)) (row : List Content) → Accepts s rows m → TakesRow m row → RowFits m row → t ≡ after_row m row → Accepts s (rows ++ row ∷ []) t
 Accepts-more s m t [] row a n f e =
-    let P : BuilderState → Type 0 = λ s. TakesArity s.arity (length row) × RowFits s row × (t ≡ after_row s row) in
+    let P : BuilderState → Type 0 = λ s. TakesRow s row × RowFits s row × (t ≡ after_row s row) in
     subst P a (n, f, e)
 Accepts-more s m t (r ∷ rows) row a n f e = (a.0, a.1, Accepts-more (after_row s r) m t rows row a.2 n f e)
 
@@ -31,6 +31,7 @@ Accepts-append s m t (r ∷ rows) others a b = (a.0, a.1, Accepts-append (after_
 -- a refusal leaves the state
 pub Adds-refused : (s t : BuilderState) (row : Vec Value) (e : BulkExecuteRequestError) → Adds s row (Err e) t → t ≡ s
 Adds-refused s t row MixedArity a = a.1
+Adds-refused s t row (MixedTypes back) a = a.3
 Adds-refused s t row (RowTooLarge back) a = a.4
 Adds-refused s t row (MemoryRow back) a = a.3
 Adds-refused s t row NoParams a = absurd a
@@ -62,6 +63,7 @@ answers (Some request) = Some (Ok request)
 -- where no request is built, no row waited
 pub none_built : (s t : BuilderState) (e : BulkExecuteRequestError) → Builds s (Err e) t → (s.waiting ≡ []) × (t ≡ s)
 none_built s t MixedArity b = absurd b
+none_built s t (MixedTypes row) b = absurd b
 none_built s t (RowTooLarge row) b = absurd b
 none_built s t (MemoryRow row) b = absurd b
 none_built s t NoParams b = b
@@ -133,7 +135,7 @@ module _ {S : Type 0} (steps : S → Option (Vec Value) → S → Type 0) where
 
   -- ---- what a call of `next` leads to
 
-  full_from : (m : BuilderState) (last : Option (Vec Value)) → IfSome last (λ row. Adds m row (Ok (Some row)) m) → IfSome last (λ row. TakesArity m.arity (length (contents_of_row row)) × (RowFits m (contents_of_row row) → ⊥))
+  full_from : (m : BuilderState) (last : Option (Vec Value)) → IfSome last (λ row. Adds m row (Ok (Some row)) m) → IfSome last (λ row. TakesRow m (contents_of_row row) × (RowFits m (contents_of_row row) → ⊥))
   full_from m None a = tt
   full_from m (Some row) a = (a.0, a.1)
 

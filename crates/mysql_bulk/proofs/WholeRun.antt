@@ -2,8 +2,9 @@
 use Rattle.std.proofs.Common.{◌≡◌, ◌≢◌, ℕ, ◌+◌, Bool, true, false, cond, if◌then◌else◌, List, [], ◌∷◌, ◌++◌, length, take, drop, Option, Some, None, Err, refl, sym, ◌∙◌, ap, subst, arith, length-append, append_assoc}
 use Rattle.std.proofs.lemmas.List.{append-nil, take-append-le, take-append-drop, take_at}
 use Rattle.std.proofs.lemmas.List.Sums.{take_while-cons}
-use Rattle.std.proofs.lemmas.Bool.{eqb-true, eq-eqb}
-use Rattle.std.specs.Prelude.{take_while, nat_eq, slice_get}
+use Rattle.std.proofs.lemmas.Bool.{eqb-true, eq-eqb, and_from, and_parts}
+use Rattle.std.proofs.lemmas.List.Elements.{All-nil, All-head, All-tail, All-push}
+use Rattle.std.specs.Prelude.{take_while, nat_eq, slice_get, All, option_map, ◌&&◌}
 use Rattle.std.specs.List.{prefix_len}
 use Rattle.std.specs.Global.{Vec}
 use Rattle.mysql_cuts.specs.Cut.{PartFits, rows_in, HasFittingCut, IsFewest, IsFullFromFront, NextDoesNotFit, types_after, ends_after}
@@ -14,13 +15,15 @@ use Rattle.mysql_values.specs.Value.{Content}
 use Rattle.mysql_bulk.specs.declared.error.BulkExecuteRequestBuilderError.{BulkExecuteRequestBuilderError}
 use Rattle.mysql_bulk.specs.declared.error.BulkExecuteRequestBuilderError.TheVariants.{Request, Params}
 use Rattle.mysql_bulk.specs.declared.error.BulkExecuteRequestError.{BulkExecuteRequestError}
-use Rattle.mysql_bulk.specs.declared.error.BulkExecuteRequestError.TheVariants.{MixedArity, RowTooLarge, MemoryRow, NoParams, Memory}
-use Rattle.mysql_bulk.specs.Builder.{BuilderState, packing, TakesArity, RowFits, after_row, Adds, IsRequest, BuildsRequest, after_request, arity_after, IsConsistent}
-use Rattle.mysql_bulk.specs.DeclaredTypes.{declared_types}
-use Rattle.mysql_bulk.specs.WholeRunRefusal.{equal_front, measure, RefusalOfRows}
+use Rattle.mysql_bulk.specs.declared.error.BulkExecuteRequestError.TheVariants.{MixedArity, MixedTypes, RowTooLarge, MemoryRow, NoParams, Memory}
+use Rattle.mysql_bulk.specs.Builder.{BuilderState, packing, TakesArity, TakesRow, RowFits, after_row, Adds, IsRequest, BuildsRequest, after_request, arity_after, IsConsistent}
+use Rattle.mysql_bulk.specs.ColumnTypes.{takes_types, TakesTypes, types_of_rows}
+use Rattle.mysql_bulk.specs.WholeRunRefusal.{taken_front, measure, RefusalOfRows, IsNextAfterFront, EachFrontFits}
 use Rattle.mysql_bulk.specs.Request.{BulkRequest, request_flags}
 use Rattle.mysql_bulk.specs.Row.{contents_of_row, first_length, EqualLengths, OneLength}
 use Rattle.mysql_bulk.specs.Run.{Accepts}
+use Rattle.mysql_values.specs.declared.param_type.ParamType.{ParamType}
+use Rattle.mysql_bulk.proofs.ColumnTypes.{taken_long}
 use Rattle.mysql_bulk.specs.WholeRun.{IsNew, HadMemory, AreRequests, due_after, left_by, RequestIsDue, OfArity, holding, EachWasDue, EndsBy, RefusalOfList, RunGives}
 
 EqualLengths-push : (a : ℕ) (rows : List (List Content)) (row : List Content) → EqualLengths a rows → length row ≡ a → EqualLengths a (rows ++ row ∷ [])
@@ -33,10 +36,12 @@ as_long : (known o : Option ℕ) (before : List (List Content)) (row : List Cont
 as_long known o [] row rest all a t e = ap first_length e
 as_long known o (r ∷ before) row rest all a t e = let T : Option ℕ → Type 0 = λ p. TakesArity p (length row) in subst T a t ∙ ap first_length e
 
--- on a new builder a row that is as long as the first may come next
-takes_as_long : (o : Option ℕ) (before : List (List Content)) (row : List Content) (rest all : List (List Content)) → o ≡ arity_after None before → before ++ row ∷ rest ≡ all → length row ≡ first_length all → TakesArity o (length row)
-takes_as_long o [] row rest all a e h = let T : Option ℕ → Type 0 = λ p. TakesArity p (length row) in subst T (sym a) tt
-takes_as_long o (r ∷ before) row rest all a e h = let T : Option ℕ → Type 0 = λ p. TakesArity p (length row) in subst T (sym a) (h ∙ sym (ap first_length e))
+-- on a new builder a row that is as long as the first, and that the declared types spell, may come next
+takes_as_long : (columns : Option (List ParamType)) (o : Option ℕ) (before : List (List Content)) (row : List Content) (rest all : List (List Content)) → o ≡ arity_after (option_map length columns) before
+    → before ++ row ∷ rest ≡ all → length row ≡ first_length all → TakesTypes columns row → TakesArity o (length row)
+takes_as_long None o [] row rest all a e h t = let T : Option ℕ → Type 0 = λ p. TakesArity p (length row) in subst T (sym a) tt
+takes_as_long (Some types) o [] row rest all a e h t = let T : Option ℕ → Type 0 = λ p. TakesArity p (length row) in subst T (sym a) (taken_long (Some types) types row refl t)
+takes_as_long columns o (r ∷ before) row rest all a e h t = let T : Option ℕ → Type 0 = λ p. TakesArity p (length row) in subst T (sym a) (h ∙ sym (ap first_length e))
 
 arity_more : (known : Option ℕ) (before : List (List Content)) (row : List Content) (rest all : List (List Content)) → before ++ row ∷ rest ≡ all → length row ≡ first_length all → Some (length row) ≡ arity_after known (before ++ row ∷ [])
 arity_more known [] row rest all e h = refl
@@ -64,7 +69,7 @@ due_sent s (p ∷ cut) = refl
 
 AreRequests-push : (s : BuilderState) (cut : List (List (List Content))) (requests : List BulkRequest) (part waiting : List (List Content)) (request : BulkRequest) → AreRequests s cut requests
     → IsRequest (left_by s cut waiting) part request → AreRequests s (cut ++ part ∷ []) (requests ++ request ∷ [])
-AreRequests-push s [] [] part waiting request a i = (record { id = i.id; flags = i.flags; types = i.types; values = i.values }, tt)
+AreRequests-push s [] [] part waiting request a i = (record { id = i.id; flags = i.flags; types = i.types; values = i.values; taken = i.taken }, tt)
 AreRequests-push s [] (q ∷ requests) part waiting request a i = absurd a
 AreRequests-push s (p ∷ cut) [] part waiting request a i = absurd a
 AreRequests-push s (p ∷ cut) (q ∷ requests) part waiting request a i =
@@ -73,8 +78,9 @@ AreRequests-push s (p ∷ cut) (q ∷ requests) part waiting request a i =
       AreRequests-push (after_request s) cut requests part waiting request a.1 (record {
         id = i.id;
         flags = i.flags ∙ ap (λ t. request_flags t s.results) (sym due);
-        types = i.types ∙ ap (λ t. if t then declared_types part else []) (sym due);
+        types = i.types ∙ ap (λ t. if t then types_of_rows s.columns part else []) (sym due);
         values = i.values;
+        taken = i.taken;
       }),
     )
 
@@ -104,19 +110,22 @@ length_of_waiting n [] [] e some = absurd (some refl)
 length_of_waiting n [] (row ∷ waiting) e some = e.0
 length_of_waiting n (row ∷ before) waiting e some = length_of_waiting n before waiting e.1 some
 
--- the next row, if there is one, has this length
-abbrev pub NextIsLong : ℕ → List (List Content) → Type 0
-NextIsLong n [] = Unit {0}
-NextIsLong n (row ∷ rest) = length row ≡ n
+-- the next row, if there is one, has this length, and the declared types spell it
+abbrev pub NextIsTaken : Option (List ParamType) → ℕ → List (List Content) → Type 0
+NextIsTaken columns n [] = Unit {0}
+NextIsTaken columns n (row ∷ rest) = (length row ≡ n) × TakesTypes columns row
 
-abbrev pub Long : ℕ → List Content → Bool
-Long n row = nat_eq (length row) n
+abbrev pub taken_as_long : Option (List ParamType) → ℕ → List Content → Bool
+taken_as_long columns n row = nat_eq (length row) n && takes_types columns row
 
-front_from : (n : ℕ) (before rest : List (List Content)) → EqualLengths n before → take_while (Long n) (before ++ rest) ≡ before ++ take_while (Long n) rest
-front_from n [] rest e = refl
-front_from n (row ∷ before) rest e =
-    let yes : Long n row ≡ true = eq-eqb (length row) n e.0 in
-    take_while-cons (Long n) row (before ++ rest) ∙ ap (λ b. cond b (row ∷ take_while (Long n) (before ++ rest)) []) yes ∙ ap (λ (l : List (List Content)). row ∷ l) (front_from n before rest e.1)
+front_from : (columns : Option (List ParamType)) (n : ℕ) (before rest : List (List Content)) → EqualLengths n before → All (TakesTypes columns) before
+    → take_while (taken_as_long columns n) (before ++ rest) ≡ before ++ take_while (taken_as_long columns n) rest
+front_from columns n [] rest e t = refl
+front_from columns n (row ∷ before) rest e t =
+    let P = taken_as_long columns n in
+    let yes : P row ≡ true = and_from (nat_eq (length row) n) (takes_types columns row) (eq-eqb (length row) n e.0) (All-head (TakesTypes columns) row before t) in
+    take_while-cons P row (before ++ rest) ∙ ap (λ b. cond b (row ∷ take_while P (before ++ rest)) []) yes
+    ∙ ap (λ (l : List (List Content)). row ∷ l) (front_from columns n before rest e.1 (All-tail (TakesTypes columns) row before t))
 
 slice_get_at : {X : Type 0} (xs : List X) (x : X) (ys : List X) → slice_get (xs ++ x ∷ ys) (length xs) ≡ Some x
 slice_get_at [] x ys = refl
@@ -135,6 +144,7 @@ pub record Running (s : BuilderState) (all : List (List Content)) (requests : Li
   pub whole : (rows_in cut ++ b.waiting) ++ rest ≡ all
   pub left : b ≡ left_by s cut b.waiting
   pub lengths : EqualLengths (first_length all) (rows_in cut ++ b.waiting)
+  pub taken : All (TakesTypes s.columns) (rows_in cut ++ b.waiting)
   pub packed : IsPacked (measure s all) s.types_due cut b.waiting (rows_in cut ++ b.waiting) rest
   pub arity_stays : (n : ℕ) → s.arity ≡ Some n → b.arity ≡ Some n
   pub due : EachWasDue s cut (b.waiting ++ rest)
@@ -149,6 +159,7 @@ running_none s rows c = record {
   whole = refl;
   left = ap (λ a. record s { arity = a }) c.arity;
   lengths = lengths s.waiting c.one_length;
+  taken = c.taken;
   packed = open_packed (measure s (s.waiting ++ rows)) s.types_due s.waiting rows (λ n. fits s.waiting n (c.fits n));
   arity_stays = λ n e. e;
   due = tt;
@@ -170,6 +181,10 @@ module _ {s : BuilderState} {all : List (List Content)} {requests : List BulkReq
   pub next_long : (row : List Content) (rest : List (List Content)) (r : Running s all requests ends sent b (row ∷ rest)) → TakesArity b.arity (length row) → length row ≡ first_length all
   next_long row rest r t = as_long s.arity b.arity (rows_in r.cut ++ b.waiting) row rest all (arity_is r) t r.whole
 
+  -- a row that may come next is that long, and the declared types spell it
+  pub next_taken : (row : List Content) (rest : List (List Content)) (r : Running s all requests ends sent b (row ∷ rest)) → TakesRow b row → NextIsTaken s.columns (first_length all) (row ∷ rest)
+  next_taken row rest r t = (next_long row rest r t.0, let T : BuilderState → Type 0 = λ u. TakesTypes u.columns row in subst T r.left t.1)
+
   -- the next row fits with those that wait where it fits in the open part, and the other way round
   fits_to : (row : List Content) (rest : List (List Content)) (r : Running s all requests ends sent b (row ∷ rest)) → length row ≡ first_length all → RowFits b row
       → PartFits (measure s all) (types_after (measure s all) s.types_due r.cut) (b.waiting ++ row ∷ [])
@@ -188,10 +203,11 @@ module _ {s : BuilderState} {all : List (List Content)} {requests : List BulkReq
       subst F (sym r.left) (subst A (sym h) (subst T (sym (due_is s all r.cut)) f))
 
   -- the next row is accepted
-  pub running_more : (row : List Content) (rest : List (List Content)) → Running s all requests ends sent b (row ∷ rest) → TakesArity b.arity (length row) → RowFits b row → Running s all requests ends sent (after_row b row) rest
+  pub running_more : (row : List Content) (rest : List (List Content)) → Running s all requests ends sent b (row ∷ rest) → TakesRow b row → RowFits b row → Running s all requests ends sent (after_row b row) rest
   running_more row rest r t f =
       let before = rows_in r.cut ++ b.waiting in
-      let h = next_long row rest r t in
+      let next = next_taken row rest r t in
+      let h = next.0 in
       let seam : before ++ row ∷ [] ≡ rows_in r.cut ++ (b.waiting ++ row ∷ []) = append_assoc (rows_in r.cut) b.waiting (row ∷ []) in
       let P : List (List Content) → Type 0 = λ l. IsPacked (measure s all) s.types_due r.cut (b.waiting ++ row ∷ []) l rest in
       let L : List (List Content) → Type 0 = EqualLengths (first_length all) in
@@ -206,25 +222,26 @@ module _ {s : BuilderState} {all : List (List Content)} {requests : List BulkReq
             ap (λ (u : BuilderState). record u { arity = Some (length row); waiting = b.waiting ++ row ∷ [] }) r.left
             ∙ ap (λ a. record s { arity = a; types_due = due_after s r.cut; waiting = b.waiting ++ row ∷ [] }) arity;
         lengths = subst L seam (EqualLengths-push (first_length all) before row r.lengths h);
+        taken = subst (All (TakesTypes s.columns)) seam (All-push (TakesTypes s.columns) before row r.taken next.1);
         packed = subst P seam (packed_more (measure s all) s.types_due r.cut b.waiting before row rest r.packed (fits_to row rest r h f));
-        arity_stays = λ n e. let T : Option ℕ → Type 0 = λ p. TakesArity p (length row) in ap Some (subst T (r.arity_stays n e) t);
+        arity_stays = λ n e. let T : Option ℕ → Type 0 = λ p. TakesArity p (length row) in ap Some (subst T (r.arity_stays n e) t.0);
         due = let D : List (List Content) → Type 0 = EachWasDue s r.cut in subst D (sym (append_assoc b.waiting (row ∷ []) rest)) r.due;
       }
 
   -- the request of the waiting rows is due
-  is_due : (rest : List (List Content)) (r : Running s all requests ends sent b rest) → b.waiting ≢ [] → NextIsLong (first_length all) rest
+  is_due : (rest : List (List Content)) (r : Running s all requests ends sent b rest) → b.waiting ≢ [] → NextIsTaken s.columns (first_length all) rest
       → NextDoesNotFit (measure s all) (types_after (measure s all) s.types_due r.cut) b.waiting rest → RequestIsDue (holding (record s { types_due = due_after s r.cut }) b.waiting) rest
-  is_due [] r some long n = some
-  is_due (row ∷ rest) r some long n =
+  is_due [] r some next n = some
+  is_due (row ∷ rest) r some next n =
       let A : ℕ → Type 0 = λ n. PartFits (packing s n) (due_after s r.cut) (b.waiting ++ row ∷ []) in
       let T : Bool → Type 0 = λ t. PartFits (measure s all) t (b.waiting ++ row ∷ []) in
-      (some, long ∙ sym (length_of_waiting (first_length all) (rows_in r.cut) b.waiting r.lengths some), λ f. n (subst T (due_is s all r.cut) (subst A long f)))
+      (some, (next.0 ∙ sym (length_of_waiting (first_length all) (rows_in r.cut) b.waiting r.lengths some), next.1), λ f. n (subst T (due_is s all r.cut) (subst A next.0 f)))
 
-  -- the waiting rows are sent, since the next row, if there is one, is as long and does not fit with them
-  pub running_sends : (t : BuilderState) (rest : List (List Content)) (request : BulkRequest) (r : Running s all requests ends sent b rest) → BuildsRequest b request t → NextIsLong (first_length all) rest
+  -- the waiting rows are sent, since the next row, if there is one, is taken and does not fit with them
+  pub running_sends : (t : BuilderState) (rest : List (List Content)) (request : BulkRequest) (r : Running s all requests ends sent b rest) → BuildsRequest b request t → NextIsTaken s.columns (first_length all) rest
       → NextDoesNotFit (measure s all) (types_after (measure s all) s.types_due r.cut) b.waiting rest
       → Running s all (requests ++ request ∷ []) (ends ++ length (rows_in r.cut ++ b.waiting) ∷ []) (length (rows_in r.cut ++ b.waiting)) t rest
-  running_sends t rest request r a long n =
+  running_sends t rest request r a next n =
       let before = rows_in r.cut ++ b.waiting in
       let cut = r.cut ++ b.waiting ∷ [] in
       let joined : rows_in cut ≡ before = joined_push (measure s all) r.cut b.waiting in
@@ -244,26 +261,27 @@ module _ {s : BuilderState} {all : List (List Content)} {requests : List BulkReq
             ∙ ap (λ (l : List (List Content)). record s { arity = arity_after s.arity l; types_due = s.rule.types_always; waiting = [] }) (sym same)
             ∙ ap (λ t. record s { arity = arity_after s.arity (rows_in cut ++ []); types_due = t; waiting = [] }) (sym (due_after-push s r.cut b.waiting));
         lengths = subst L (sym same) r.lengths;
+        taken = subst (All (TakesTypes s.columns)) (sym same) r.taken;
         packed = subst P (sym same) (packed_close (measure s all) s.types_due r.cut b.waiting before rest r.packed a.some n);
         arity_stays = r.arity_stays;
-        due = EachWasDue-push s r.cut b.waiting rest r.due (is_due rest r a.some long n);
+        due = EachWasDue-push s r.cut b.waiting rest r.due (is_due rest r a.some next n);
       })
 
   -- ---- what a run has given, wherever it stands
 
-  -- the rows so far, and those to come that are as long, are the beginning in which all rows are
-  front_is : (rest : List (List Content)) (r : Running s all requests ends sent b rest) → equal_front all ≡ (rows_in r.cut ++ b.waiting) ++ take_while (Long (first_length all)) rest
-  front_is rest r = ap (take_while (Long (first_length all))) (sym r.whole) ∙ front_from (first_length all) (rows_in r.cut ++ b.waiting) rest r.lengths
+  -- the rows so far, and those to come that are taken, are the beginning in which all rows are
+  front_is : (rest : List (List Content)) (r : Running s all requests ends sent b rest) → taken_front s all ≡ (rows_in r.cut ++ b.waiting) ++ take_while (taken_as_long s.columns (first_length all)) rest
+  front_is rest r = ap (take_while (taken_as_long s.columns (first_length all))) (sym r.whole) ∙ front_from s.columns (first_length all) (rows_in r.cut ++ b.waiting) rest r.lengths r.taken
 
   -- the cut is full from the front
-  full : (rest : List (List Content)) (r : Running s all requests ends sent b rest) → IsNew s → IsFullFromFront (measure s all) (equal_front all) r.cut
+  full : (rest : List (List Content)) (r : Running s all requests ends sent b rest) → IsNew s → IsFullFromFront (measure s all) (taken_front s all) r.cut
   full rest r n =
-      let front = take_while (Long (first_length all)) rest in
+      let front = take_while (taken_as_long s.columns (first_length all)) rest in
       let before = rows_in r.cut ++ b.waiting in
       let P : List (List Content) → Type 0 = IsPacked (measure s all) s.types_due r.cut b.waiting before in
       let F : List (List Content) → Type 0 = λ e. IsFullFromFront (measure s all) e r.cut in
-      let split : rest ≡ front ++ drop (prefix_len (Long (first_length all)) rest) rest = sym (take-append-drop (prefix_len (Long (first_length all)) rest) rest) in
-      let here = packed_front (measure s all) s.types_due r.cut b.waiting before front (drop (prefix_len (Long (first_length all)) rest) rest) (subst P split r.packed) in
+      let split : rest ≡ front ++ drop (prefix_len (taken_as_long s.columns (first_length all)) rest) rest = sym (take-append-drop (prefix_len (taken_as_long s.columns (first_length all)) rest) rest) in
+      let here = packed_front (measure s all) s.types_due r.cut b.waiting before front (drop (prefix_len (taken_as_long s.columns (first_length all)) rest) rest) (subst P split r.packed) in
       subst F (sym (front_is rest r)) (packed_full (measure s all) s.types_due r.cut b.waiting before front here n.types_due)
 
   -- on a new builder the first request sends types
@@ -288,6 +306,7 @@ module _ {s : BuilderState} {all : List (List Content)} {requests : List BulkReq
         let sent = rows_in r.cut ++ b.waiting in
         let A : Option ℕ → Type 0 = λ known. OfArity known sent in
         subst A (sym (arity_is r)) (of_arity s.arity sent (one_length_of sent rest all r.whole r.lengths));
+    taken = r.taken;
     arity_stays = r.arity_stays;
     each_was_due = r.due;
     left = r.left;
@@ -303,8 +322,8 @@ module _ {s : BuilderState} {all : List (List Content)} {requests : List BulkReq
   none_refused r n =
       let F : List (List Content) → Type 0 = HasFittingCut (measure s all) in
       let before = rows_in r.cut ++ b.waiting in
-      let front : equal_front all ≡ before = front_is [] r ∙ append-nil before in
-      (λ m. fits_front (measure s all) (equal_front all) m (subst F (sym front) (so_far_fits [] r n)), front ∙ sym (append-nil before) ∙ r.whole)
+      let front : taken_front s all ≡ before = front_is [] r ∙ append-nil before in
+      (λ m. fits_front (measure s all) (taken_front s all) m (subst F (sym front) (so_far_fits [] r n)), front ∙ sym (append-nil before) ∙ r.whole)
 
   -- all rows are in the cut
   pub gives_all : Running s all requests ends sent b [] → b.waiting ≡ [] → RunGives s all requests ends None b
@@ -322,36 +341,62 @@ module _ {s : BuilderState} {all : List (List Content)} {requests : List BulkReq
   pub gives_params : (e : ParamsError) → Running s all requests ends sent b [] → RunGives s all requests ends (Some (Params e)) b
   gives_params e r = gives [] (Some (Params e)) r refl (λ n h. none_refused r n) (λ n h. cc)
 
-  mixed : (row : List Content) (rest : List (List Content)) → Running s all requests ends sent b (row ∷ rest) → (TakesArity b.arity (length row) → ⊥) → IsNew s → RefusalOfRows s all (Some MixedArity)
-  mixed row rest r t n =
-      let before = rows_in r.cut ++ b.waiting in
-      let F : List (List Content) → Type 0 = HasFittingCut (measure s all) in
-      let known : b.arity ≡ arity_after None before = arity_is r ∙ ap (λ o. arity_after o before) n.arity in
-      let no : Long (first_length all) row ≡ false = not_true (Long (first_length all) row) (λ e. t (takes_as_long b.arity before row rest all known r.whole (eqb-true (length row) (first_length all) e))) in
-      let none : take_while (Long (first_length all)) (row ∷ rest) ≡ [] =
-      take_while-cons (Long (first_length all)) row rest ∙ ap (λ c. cond c (row ∷ take_while (Long (first_length all)) rest) []) no in
-      let front : equal_front all ≡ before = front_is (row ∷ rest) r ∙ ap (λ (l : List (List Content)). before ++ l) none ∙ append-nil before in (
-        λ m. fits_front (measure s all) (equal_front all) m (subst F (sym front) (so_far_fits (row ∷ rest) r n)),
-        λ e. let lengths : length before ≡ length (before ++ row ∷ rest) = ap length (sym front ∙ e ∙ sym r.whole) in omega (arith, lengths, length-append before (row ∷ rest)),
-      )
+  -- the next row is not taken: it comes after that beginning
+  module _ (row : List Content) (rest : List (List Content)) (r : Running s all requests ends sent b (row ∷ rest)) (no : (taken_as_long s.columns (first_length all)) row ≡ false) where
+    abbrev so_far : List (List Content)
+    so_far = rows_in r.cut ++ b.waiting
 
-  too_large : (row : Vec Value) (rest : List (List Content)) → Running s all requests ends sent b (contents_of_row row ∷ rest) → TakesArity b.arity (length (contents_of_row row)) → (RowFits b (contents_of_row row) → ⊥)
+    front_ends : taken_front s all ≡ so_far
+    front_ends =
+        let none : take_while (taken_as_long s.columns (first_length all)) (row ∷ rest) ≡ [] = take_while-cons (taken_as_long s.columns (first_length all)) row rest ∙ ap (λ c. cond c (row ∷ take_while (taken_as_long s.columns (first_length all)) rest) []) no in
+        front_is (row ∷ rest) r ∙ ap (λ (l : List (List Content)). so_far ++ l) none ∙ append-nil so_far
+
+    fronts_fit : IsNew s → EachFrontFits s all
+    fronts_fit n m = let F : List (List Content) → Type 0 = HasFittingCut (measure s all) in fits_front (measure s all) (taken_front s all) m (subst F (sym front_ends) (so_far_fits (row ∷ rest) r n))
+
+    next_after : IsNextAfterFront s all row
+    next_after = ap (λ (l : List (List Content)). slice_get l (length (taken_front s all))) (sym r.whole) ∙ ap (λ (l : List (List Content)). slice_get (so_far ++ row ∷ rest) (length l)) front_ends ∙ slice_get_at so_far row rest
+
+    arity_after_front : b.arity ≡ arity_after s.arity (taken_front s all)
+    arity_after_front = arity_is r ∙ ap (arity_after s.arity) (sym front_ends)
+
+  other_length : (row : List Content) (rest : List (List Content)) → Running s all requests ends sent b (row ∷ rest) → (TakesArity b.arity (length row) → ⊥) → IsNew s → RefusalOfRows s all (Some MixedArity)
+  other_length row rest r t n =
+      let known : b.arity ≡ arity_after (option_map length s.columns) (rows_in r.cut ++ b.waiting) = arity_is r ∙ ap (λ o. arity_after o (rows_in r.cut ++ b.waiting)) n.arity in
+      let no : (taken_as_long s.columns (first_length all)) row ≡ false = not_true ((taken_as_long s.columns (first_length all)) row) (λ e.
+      let both = and_parts (nat_eq (length row) (first_length all)) (takes_types s.columns row) e in
+      t (takes_as_long s.columns b.arity (rows_in r.cut ++ b.waiting) row rest all known r.whole (eqb-true (length row) (first_length all) both.0) both.1)) in
+      let A : Option ℕ → Type 0 = λ o. TakesArity o (length row) in
+      (fronts_fit row rest r no n, (row, next_after row rest r no, λ a. t (subst A (sym (arity_after_front row rest r no)) a)))
+
+  other_types : (row : Vec Value) (rest : List (List Content)) → Running s all requests ends sent b (contents_of_row row ∷ rest) → TakesArity b.arity (length (contents_of_row row)) → (TakesTypes b.columns (contents_of_row row) → ⊥) → IsNew s
+      → RefusalOfRows s all (Some (MixedTypes row))
+  other_types row rest r a t n =
+      let values = contents_of_row row in
+      let T : BuilderState → Type 0 = λ u. TakesTypes u.columns values → ⊥ in
+      let not_taken : TakesTypes s.columns values → ⊥ = subst T r.left t in
+      let no : (taken_as_long s.columns (first_length all)) values ≡ false = not_true ((taken_as_long s.columns (first_length all)) values) (λ e. not_taken (and_parts (nat_eq (length values) (first_length all)) (takes_types s.columns values) e).1) in
+      let A : Option ℕ → Type 0 = λ o. TakesArity o (length values) in
+      (fronts_fit values rest r no n, next_after values rest r no, subst A (arity_after_front values rest r no) a, not_taken)
+
+  too_large : (row : Vec Value) (rest : List (List Content)) → Running s all requests ends sent b (contents_of_row row ∷ rest) → TakesRow b (contents_of_row row) → (RowFits b (contents_of_row row) → ⊥)
       → b.waiting ≡ [] → IsNew s → RefusalOfRows s all (Some (RowTooLarge row))
   too_large row rest r t f w n =
       let values = contents_of_row row in
       let before = rows_in r.cut ++ b.waiting in
       let F : List (List Content) → Type 0 = HasFittingCut (measure s all) in
-      let h = next_long values rest r t in
-      let yes : Long (first_length all) values ≡ true = eq-eqb (length values) (first_length all) h in
-      let more = take_while (Long (first_length all)) rest in
-      let some : take_while (Long (first_length all)) (values ∷ rest) ≡ values ∷ more =
-      take_while-cons (Long (first_length all)) values rest ∙ ap (λ c. cond c (values ∷ more) []) yes in
-      let front : equal_front all ≡ before ++ values ∷ more = front_is (values ∷ rest) r ∙ ap (λ (l : List (List Content)). before ++ l) some in
+      let next = next_taken values rest r t in
+      let h = next.0 in
+      let yes : (taken_as_long s.columns (first_length all)) values ≡ true = and_from (nat_eq (length values) (first_length all)) (takes_types s.columns values) (eq-eqb (length values) (first_length all) h) next.1 in
+      let more = take_while (taken_as_long s.columns (first_length all)) rest in
+      let some : take_while (taken_as_long s.columns (first_length all)) (values ∷ rest) ≡ values ∷ more =
+      take_while-cons (taken_as_long s.columns (first_length all)) values rest ∙ ap (λ c. cond c (values ∷ more) []) yes in
+      let front : taken_front s all ≡ before ++ values ∷ more = front_is (values ∷ rest) r ∙ ap (λ (l : List (List Content)). before ++ l) some in
       let P : List (List Content) → Type 0 = λ part. IsPacked (measure s all) true r.cut part before (values ∷ rest) in
       let Q : List (List Content) → Type 0 = λ part. PartFits (measure s all) (types_after (measure s all) s.types_due r.cut) (part ++ values ∷ []) in
       let T : Bool → Type 0 = λ t. PartFits (measure s all) (types_after (measure s all) t r.cut) (values ∷ []) in
       let alone : PartFits (measure s all) (types_after (measure s all) true r.cut) (values ∷ []) → ⊥ = λ g. f (fits_from values rest r h (subst Q (sym w) (subst T (sym n.types_due) g))) in
-      let upto : take (length before + 1) (equal_front all) ≡ before ++ values ∷ [] =
+      let upto : take (length before + 1) (taken_front s all) ≡ before ++ values ∷ [] =
       ap (take (length before + 1)) (front ∙ sym (append_assoc before (values ∷ []) more))
       ∙ take_at (before ++ values ∷ []) more (length before + 1) (length-append before (values ∷ [])) in (
         length before,
@@ -364,7 +409,11 @@ module _ {s : BuilderState} {all : List (List Content)} {requests : List BulkReq
   pub gives_refused : (row : Vec Value) (rest : List (List Content)) (e : BulkExecuteRequestError) → Running s all requests ends sent b (contents_of_row row ∷ rest) → Adds b row (Err e) b → RunGives s all requests ends (Some (Request e)) b
   gives_refused row rest MixedArity r a =
       gives (contents_of_row row ∷ rest) (Some (Request MixedArity)) r (record { row = row; later = rest; is_next = refl; refused = a })
-      (λ n h. mixed (contents_of_row row) rest r a.0 n) (λ n h. cc)
+      (λ n h. other_length (contents_of_row row) rest r a.0 n) (λ n h. cc)
+  gives_refused row rest (MixedTypes back) r a =
+      let P : Vec Value → Type 0 = λ x. RefusalOfRows s all (Some (MixedTypes x)) in
+      gives (contents_of_row row ∷ rest) (Some (Request (MixedTypes back))) r (record { row = row; later = rest; is_next = refl; refused = a })
+      (λ n h. subst P (sym a.2) (other_types row rest r a.0 a.1 n)) (λ n h. cc)
   gives_refused row rest (RowTooLarge back) r a =
       let P : Vec Value → Type 0 = λ x. RefusalOfRows s all (Some (RowTooLarge x)) in
       gives (contents_of_row row ∷ rest) (Some (Request (RowTooLarge back))) r (record { row = row; later = rest; is_next = refl; refused = a })
@@ -385,4 +434,5 @@ pub new_consistent : (s : BuilderState) → IsNew s → IsConsistent s
 new_consistent s n =
     let one : List (List Content) → Type 0 = λ rows. EqualLengths (first_length rows) rows in
     let arity : List (List Content) → Type 0 = λ rows. s.arity ≡ arity_after s.arity rows in
-    record { one_length = subst one (sym n.waiting) tt; arity = subst arity (sym n.waiting) refl; fits = λ some. absurd (some n.waiting) }
+    let taken : List (List Content) → Type 0 = All (TakesTypes s.columns) in
+    record { one_length = subst one (sym n.waiting) tt; arity = subst arity (sym n.waiting) refl; taken = subst taken (sym n.waiting) (All-nil (TakesTypes s.columns)); fits = λ some. absurd (some n.waiting) }

@@ -18,7 +18,7 @@ use Rattle.mysql_bulk.specs.Request.{BulkRequest}
 use Rattle.mysql_bulk.specs.Row.{contents_of_row, contents_of_rows, first_length}
 use Rattle.mysql_bulk.specs.Run.{NextRowAfter, NextRow, AcceptsUntilFull}
 use Rattle.mysql_bulk.specs.WholeRun.{RequestIsDue, PutsRequest, RunGives}
-use Rattle.mysql_bulk.proofs.WholeRun.{Running, NextIsLong, running_none, running_accepts, running_sends, next_long, fits_from, gives_all, gives_memory, gives_refused}
+use Rattle.mysql_bulk.proofs.WholeRun.{Running, NextIsTaken, running_none, running_accepts, running_sends, next_long, next_taken, fits_from, gives_all, gives_memory, gives_refused}
 
 abbrev pub Input : Type 0
 Input = IntoIter (Vec Value) Global
@@ -110,22 +110,22 @@ module _ {s : BuilderState} {all : List (List Content)} {requests : List BulkReq
       at None r a e =
           let N : List (Vec Value) → Type 0 = λ h. NextDoesNotFit (measure s all) (types_after (measure s all) s.types_due r.cut) b.waiting (contents_of_rows h) in
           subst N (sym (e refl)) tt
-      at (Some row) r a e = λ f. a.1 (fits_from (contents_of_row row) (contents_of_rows (into_iter_items input)) r (next_long (contents_of_row row) (contents_of_rows (into_iter_items input)) r a.0) f)
+      at (Some row) r a e = λ f. a.1 (fits_from (contents_of_row row) (contents_of_rows (into_iter_items input)) r (next_long (contents_of_row row) (contents_of_rows (into_iter_items input)) r a.0.0) f)
 
-  next_is_long : IfSome carried (λ row. Adds b row (Ok (Some row)) b) → (carried ≡ None → held carried input ≡ []) → NextIsLong (first_length all) (contents_of_rows (held carried input))
-  next_is_long a e = at carried w.running a e
+  next_is_taken : IfSome carried (λ row. Adds b row (Ok (Some row)) b) → (carried ≡ None → held carried input ≡ []) → NextIsTaken s.columns (first_length all) (contents_of_rows (held carried input))
+  next_is_taken a e = at carried w.running a e
     where
       at : (o : Option (Vec Value)) (r : Running s all requests ends sent b (contents_of_rows (held o input))) → IfSome o (λ row. Adds b row (Ok (Some row)) b) → (o ≡ None → held o input ≡ [])
-          → NextIsLong (first_length all) (contents_of_rows (held o input))
-      at None r a e = let N : List (Vec Value) → Type 0 = λ h. NextIsLong (first_length all) (contents_of_rows h) in subst N (sym (e refl)) tt
-      at (Some row) r a e = next_long (contents_of_row row) (contents_of_rows (into_iter_items input)) r a.0
+          → NextIsTaken s.columns (first_length all) (contents_of_rows (held o input))
+      at None r a e = let N : List (Vec Value) → Type 0 = λ h. NextIsTaken s.columns (first_length all) (contents_of_rows h) in subst N (sym (e refl)) tt
+      at (Some row) r a e = next_taken (contents_of_row row) (contents_of_rows (into_iter_items input)) r a.0
 
   -- the waiting rows were sent
   pub run_sends : (t : BuilderState) (more : List BulkRequest) (further : List ℕ) (end : ℕ) → IfSome carried (λ row. Adds b row (Ok (Some row)) b) → (carried ≡ None → held carried input ≡ [])
       → PutsRequest b requests more t → further ≡ ends ++ end ∷ [] → end ≡ sent + length b.waiting → RunSoFar s all more further end t carried input
   run_sends t more further end a e put named count =
       let r = w.running in
-      let k = running_sends t (contents_of_rows (held carried input)) put.0 r put.2 (next_is_long a e) (next_does_not_fit a e) in
+      let k = running_sends t (contents_of_rows (held carried input)) put.0 r put.2 (next_is_taken a e) (next_does_not_fit a e) in
       let same : length (rows_in r.cut ++ b.waiting) ≡ end = length-append (rows_in r.cut) b.waiting ∙ ap (λ n. n + length b.waiting) (sym r.count) ∙ sym count in
       let R : List BulkRequest → List ℕ → ℕ → Type 0 = λ q e n. Running s all q e n t (contents_of_rows (held carried input)) in
       let a1 : R (requests ++ put.0 ∷ []) (ends ++ end ∷ []) end = subst (λ n. R (requests ++ put.0 ∷ []) (ends ++ n ∷ []) n) same k in

@@ -1,5 +1,5 @@
 -- A builder of bulk requests, and its steps.
-use Rattle.std.specs.Prelude.{◌≡◌, ◌≢◌, ℕ, ◌^◌, ◌<◌, Bool, true, false, if◌then◌else◌, List, [], ◌∷◌, ◌++◌, length, Option, Some, None, Result, Ok, Err, map, fold, unwrap_or}
+use Rattle.std.specs.Prelude.{◌≡◌, ◌≢◌, ℕ, ◌^◌, ◌<◌, Bool, true, false, if◌then◌else◌, List, [], ◌∷◌, ◌++◌, length, Option, Some, None, Result, Ok, Err, map, All, position, not, IsTrue, unwrap_or}
 use Rattle.std.specs.Global.{Vec}
 use Rattle.mysql_cuts.specs.declared.rule.BulkRule.{BulkRule}
 use Rattle.mysql_cuts.specs.Cut.{Packing, PartFits, rows_in, request_size}
@@ -8,13 +8,14 @@ use Rattle.mysql_values.specs.declared.param_type.ParamType.{ParamType}
 use Rattle.mysql_values.specs.declared.value.Value.{Value}
 use Rattle.mysql_values.specs.Params as given_by
 use Rattle.mysql_values.specs.Value.{Content}
+use Rattle.mysql_bulk.specs.declared.error.BulkColumnTypeError.{BulkColumnTypeError}
 use Rattle.mysql_bulk.specs.declared.error.BulkExecuteRequestError.{BulkExecuteRequestError}
-use Rattle.mysql_bulk.specs.declared.error.BulkExecuteRequestError.TheVariants.{MixedArity, RowTooLarge, MemoryRow, NoParams, Memory}
+use Rattle.mysql_bulk.specs.declared.error.BulkExecuteRequestError.TheVariants.{MixedArity, MixedTypes, RowTooLarge, MemoryRow, NoParams, Memory}
 use Rattle.mysql_bulk.specs.declared.error.BulkExecuteRequestBuilderError.{BulkExecuteRequestBuilderError}
 use Rattle.mysql_bulk.specs.declared.error.BulkExecuteRequestBuilderError.TheVariants as refused
 use Rattle.mysql_bulk.specs.declared.error.BulkRowRefusal.{BulkRowRefusal}
 use Rattle.mysql_bulk.specs.declared.error.BulkRowRefusal.TheVariants as copy_refused
-use Rattle.mysql_bulk.specs.DeclaredTypes.{declared_types, types_with_row}
+use Rattle.mysql_bulk.specs.ColumnTypes.{may_be_declared, TakesTypes, types_of_rows, types_so_far}
 use Rattle.mysql_bulk.specs.ParamValue.{with_indicator}
 use Rattle.mysql_bulk.specs.Request.{BulkRequest, request_flags, request_bytes}
 use Rattle.mysql_bulk.specs.Row.{contents_of_row, first_length, OneLength, rows_packing}
@@ -30,7 +31,9 @@ pub record BuilderState : Type 0 where
   pub rule : BulkRule
   -- the names of the parameters, in the order of the statement
   pub names : Option (List (Vec ℕ))
-  -- the length of the rows, once one was accepted
+  -- the types of the columns, if they were declared
+  pub columns : Option (List ParamType)
+  -- the length of the rows, once one was accepted or types were declared
   pub arity : Option ℕ
   -- the next request sends types
   pub types_due : Bool
@@ -40,12 +43,23 @@ pub record BuilderState : Type 0 where
 abbrev pub packing : BuilderState → ℕ → Packing (List Content)
 packing s arity = rows_packing s.rule s.limit arity
 
+-- ---- types are declared
+
+-- the columns are as many as the types, which are due in the next request; or this is the first type that may not be declared
+abbrev pub Declares : BuilderState → List ParamType → Result BuilderState BulkColumnTypeError → Type 0
+Declares s types (Ok t) = All (λ kind. IsTrue (may_be_declared kind)) types × (t ≡ record s { columns = Some types; arity = Some (length types); types_due = true })
+Declares s types (Err e) = position (λ kind. not (may_be_declared kind)) types ≡ Some e.place
+
 -- ---- a row is offered
 
 -- a row of this length may come after those that were accepted
 abbrev pub TakesArity : Option ℕ → ℕ → Type 0
 TakesArity None n = Unit {0}
 TakesArity (Some arity) n = n ≡ arity
+
+-- a row may come next: it has that length, and the declared types spell its values
+abbrev pub TakesRow : BuilderState → List Content → Type 0
+TakesRow s row = TakesArity s.arity (length row) × TakesTypes s.columns row
 
 -- the row fits in the open request
 abbrev pub RowFits : BuilderState → List Content → Type 0
@@ -57,11 +71,12 @@ after_row s row = record s { arity = Some (length row); waiting = s.waiting ++ r
 
 -- it waits, or is given back since it does not fit with those that wait, or is refused
 abbrev pub Adds : BuilderState → Vec Value → Result (Option (Vec Value)) BulkExecuteRequestError → BuilderState → Type 0
-Adds s row (Ok None) t = TakesArity s.arity (length (contents_of_row row)) × RowFits s (contents_of_row row) × (t ≡ after_row s (contents_of_row row))
-Adds s row (Ok (Some back)) t = TakesArity s.arity (length (contents_of_row row)) × (RowFits s (contents_of_row row) → ⊥) × (s.waiting ≢ []) × (back ≡ row) × (t ≡ s)
+Adds s row (Ok None) t = TakesRow s (contents_of_row row) × RowFits s (contents_of_row row) × (t ≡ after_row s (contents_of_row row))
+Adds s row (Ok (Some back)) t = TakesRow s (contents_of_row row) × (RowFits s (contents_of_row row) → ⊥) × (s.waiting ≢ []) × (back ≡ row) × (t ≡ s)
 Adds s row (Err MixedArity) t = (TakesArity s.arity (length (contents_of_row row)) → ⊥) × (t ≡ s)
-Adds s row (Err (RowTooLarge back)) t = TakesArity s.arity (length (contents_of_row row)) × (RowFits s (contents_of_row row) → ⊥) × (s.waiting ≡ []) × (back ≡ row) × (t ≡ s)
-Adds s row (Err (MemoryRow back)) t = TakesArity s.arity (length (contents_of_row row)) × RowFits s (contents_of_row row) × (back ≡ row) × (t ≡ s)
+Adds s row (Err (MixedTypes back)) t = TakesArity s.arity (length (contents_of_row row)) × (TakesTypes s.columns (contents_of_row row) → ⊥) × (back ≡ row) × (t ≡ s)
+Adds s row (Err (RowTooLarge back)) t = TakesRow s (contents_of_row row) × (RowFits s (contents_of_row row) → ⊥) × (s.waiting ≡ []) × (back ≡ row) × (t ≡ s)
+Adds s row (Err (MemoryRow back)) t = TakesRow s (contents_of_row row) × RowFits s (contents_of_row row) × (back ≡ row) × (t ≡ s)
 Adds s row (Err NoParams) t = ⊥
 Adds s row (Err Memory) t = ⊥
 
@@ -73,11 +88,12 @@ AddsRow s row (Err (refused.Params e)) t = ⊥
 
 -- a copy of a row is offered: it waits, or it does not fit with the rows that wait, or it is refused
 abbrev pub AddsCopy : BuilderState → List Content → Result Bool BulkRowRefusal → BuilderState → Type 0
-AddsCopy s row (Ok true) t = TakesArity s.arity (length row) × RowFits s row × (t ≡ after_row s row)
-AddsCopy s row (Ok false) t = TakesArity s.arity (length row) × (RowFits s row → ⊥) × (s.waiting ≢ []) × (t ≡ s)
+AddsCopy s row (Ok true) t = TakesRow s row × RowFits s row × (t ≡ after_row s row)
+AddsCopy s row (Ok false) t = TakesRow s row × (RowFits s row → ⊥) × (s.waiting ≢ []) × (t ≡ s)
 AddsCopy s row (Err copy_refused.MixedArity) t = (TakesArity s.arity (length row) → ⊥) × (t ≡ s)
-AddsCopy s row (Err copy_refused.TooLarge) t = TakesArity s.arity (length row) × (RowFits s row → ⊥) × (s.waiting ≡ []) × (t ≡ s)
-AddsCopy s row (Err copy_refused.Memory) t = TakesArity s.arity (length row) × RowFits s row × (t ≡ s)
+AddsCopy s row (Err copy_refused.MixedTypes) t = TakesArity s.arity (length row) × (TakesTypes s.columns row → ⊥) × (t ≡ s)
+AddsCopy s row (Err copy_refused.TooLarge) t = TakesRow s row × (RowFits s row → ⊥) × (s.waiting ≡ []) × (t ≡ s)
+AddsCopy s row (Err copy_refused.Memory) t = TakesRow s row × RowFits s row × (t ≡ s)
 
 -- parameters are offered: their values are a row, or they are refused
 abbrev pub AddsParams : BuilderState → Params → Result (Option (Vec Value)) BulkExecuteRequestBuilderError → BuilderState → Type 0
@@ -91,8 +107,10 @@ AddsParams s params (Err (refused.Params e)) t = given_by.Refuses params s.names
 pub record IsRequest (s : BuilderState) (rows : List (List Content)) (request : BulkRequest) : Type 0 where
   pub id : request.stmt_id ≡ s.stmt_id
   pub flags : request.bulk_flags ≡ request_flags s.types_due s.results
-  pub types : request.types ≡ (if s.types_due then declared_types rows else [])
+  pub types : request.types ≡ (if s.types_due then types_of_rows s.columns rows else [])
   pub values : request.values ≡ map with_indicator (rows_in rows)
+  -- which the declared types spell
+  pub taken : All (TakesTypes s.columns) rows
 
 -- the state after a request
 abbrev pub after_request : BuilderState → BuilderState
@@ -124,6 +142,7 @@ Builds s (Ok request) t = BuildsRequest s request t
 Builds s (Err NoParams) t = (s.waiting ≡ []) × (t ≡ s)
 Builds s (Err Memory) t = ⊥
 Builds s (Err MixedArity) t = ⊥
+Builds s (Err (MixedTypes row)) t = ⊥
 Builds s (Err (RowTooLarge row)) t = ⊥
 Builds s (Err (MemoryRow row)) t = ⊥
 
@@ -139,6 +158,8 @@ pub record IsConsistent (s : BuilderState) : Type 0 where
   -- the rows that wait are of one length, which is the arity
   pub one_length : OneLength s.waiting
   pub arity : s.arity ≡ arity_after s.arity s.waiting
+  -- the declared types spell them
+  pub taken : All (TakesTypes s.columns) s.waiting
   -- and they may be a request
   pub fits : s.waiting ≢ [] → WaitingFits s
 
@@ -148,4 +169,5 @@ pub record IsStoredAs (s : BuilderState) (count size : ℕ) (values : List Conte
   pub rows_is : s.waiting ≡ waiting_rows s.arity count values
   pub flat : IsFlat s.arity count size values
   pub fits : s.waiting ≢ [] → PartFits (packing s (unwrap_or s.arity 0)) s.types_due s.waiting
-  pub types_is : types ≡ (if s.types_due then fold types_with_row [] s.waiting else [])
+  pub taken : All (TakesTypes s.columns) s.waiting
+  pub types_is : types ≡ (if s.types_due then types_so_far s.columns s.waiting else [])

@@ -1,5 +1,6 @@
 pub mod Row
 pub mod DeclaredTypes
+pub mod ColumnTypes
 pub mod HeadTypes
 pub mod ParamValue
 pub mod ParamValues

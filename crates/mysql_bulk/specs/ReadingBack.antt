@@ -1,16 +1,17 @@
 -- Which rows are read again from the bytes of a request.
-use Rattle.std.specs.Prelude.{◌≡◌, ◌≢◌, ◌<◌, ◌^◌, if◌then◌else◌, List, [], length, map}
+use Rattle.std.specs.Prelude.{◌≡◌, ◌≢◌, ◌<◌, ◌^◌, Bool, true, false, if◌then◌else◌, pos, IsTrue, IfSome, List, [], ◌∷◌, length, map, Some}
 use Rattle.std.specs.List.{All, AllZip}
 use Rattle.mysql_wire.specs.FlagMasks.{UNSIGNED_FLAG}
 use Rattle.mysql_wire.specs.Flags.{has}
 use Rattle.mysql_cuts.specs.Cut.{rows_in}
 use Rattle.mysql_wire.specs.Form.{either, give}
 use Rattle.mysql_wire.specs.Spelling.{IsSpelling}
-use Rattle.mysql_values.specs.Value.{Content, NULL, bin}
+use Rattle.mysql_values.specs.Value.{Content, NULL, Int, UInt, bin}
 use Rattle.mysql_values.specs.ValueDeserializer.{bin_value}
-use Rattle.mysql_values.specs.ReadingBack.{Agrees}
+use Rattle.mysql_values.specs.declared.param_type.ParamType.{ParamType}
+use Rattle.mysql_values.specs.ReadingBack.{Agrees, IsInRange}
 use Rattle.mysql_bulk.specs.Row.{first_length}
-use Rattle.mysql_bulk.specs.DeclaredTypes.{declared_types}
+use Rattle.mysql_bulk.specs.ColumnTypes.{is_unsigned, may_be_declared, types_of_rows}
 use Rattle.mysql_bulk.specs.ParamValue.{ParamValue, with_indicator, value_follows}
 use Rattle.mysql_bulk.specs.ParamValues.{BulkColumn}
 use Rattle.mysql_bulk.specs.Head.{sends_types, value_columns, column_of_type}
@@ -44,11 +45,36 @@ pub record RowsFit (columns : List BulkColumn) (request : BulkRequest) (rows : L
 
 -- the columns by which a request of these rows is read, that a builder in this state builds
 abbrev pub columns_read_by : BuilderState → List BulkColumn → List (List Content) → List BulkColumn
-columns_read_by s columns rows = if s.types_due then map column_of_type (declared_types rows) else columns
+columns_read_by s columns rows = if s.types_due then map column_of_type (types_of_rows s.columns rows) else columns
 
 -- rows of one length that is not 0, whose values agree with these columns
 pub record PartAgrees (s : BuilderState) (columns : List BulkColumn) (rows : List (List Content)) : Type 0 where
   pub stmt_id : s.stmt_id < 2 ^ 32
   pub some : columns ≢ []
   pub long : length columns ≡ first_length rows
+  -- types that were declared may be
+  pub declarable : IfSome s.columns (λ types. All (λ kind. IsTrue (may_be_declared kind)) types)
   pub agree : All (AgreesWith (columns_read_by s columns rows)) rows
+
+-- ---- under types that a caller declared
+
+-- a number is read as a signed or unsigned one, as its type is
+abbrev pub as_signed : Bool → Content → Content
+as_signed true (Int (pos n)) = UInt n
+as_signed false (UInt n) = Int (pos n)
+as_signed unsigned value = value
+
+-- the values of a row, as they are read under these types
+abbrev pub row_under : List ParamType → List Content → List Content
+row_under [] row = row
+row_under (t ∷ types) [] = []
+row_under (t ∷ types) (value ∷ row) = as_signed (is_unsigned t) value ∷ row_under types row
+
+-- rows of at least one column for a builder for which these types were declared; their numbers have their widths
+pub record IsDeclaredPart (s : BuilderState) (types : List ParamType) (rows : List (List Content)) : Type 0 where
+  pub stmt_id : s.stmt_id < 2 ^ 32
+  pub columns : s.columns ≡ Some types
+  pub declarable : All (λ kind. IsTrue (may_be_declared kind)) types
+  pub some : types ≢ []
+  pub some_row : rows ≢ []
+  pub in_range : All (λ row. All IsInRange row) rows

@@ -4,7 +4,7 @@ use Rattle.mysql_wire.specs.Flags.{StmtBulkExecuteFlags}
 use Rattle.mysql_cuts.specs.Cut.{rows_in}
 use Rattle.mysql_values.specs.Value.{Content}
 use Rattle.mysql_bulk.specs.declared.error.BulkExecuteRequestError.{BulkExecuteRequestError}
-use Rattle.mysql_bulk.specs.declared.error.BulkExecuteRequestError.TheVariants.{MixedArity, RowTooLarge, MemoryRow, NoParams, Memory}
+use Rattle.mysql_bulk.specs.declared.error.BulkExecuteRequestError.TheVariants.{MixedArity, MixedTypes, RowTooLarge, MemoryRow, NoParams, Memory}
 use Rattle.mysql_bulk.specs.DeclaredTypes.{declared_types}
 use Rattle.mysql_bulk.specs.Head.{sends_types}
 use Rattle.mysql_bulk.specs.ParamValue.{with_indicator}
@@ -26,5 +26,6 @@ MakesRequest stmt_id bulk_flags rows (Ok request) = (rows ≢ []) × OneLength r
 MakesRequest stmt_id bulk_flags rows (Err NoParams) = rows ≡ []
 MakesRequest stmt_id bulk_flags rows (Err MixedArity) = (rows ≢ []) × (OneLength rows → ⊥)
 MakesRequest stmt_id bulk_flags rows (Err Memory) = (rows ≢ []) × OneLength rows
+MakesRequest stmt_id bulk_flags rows (Err (MixedTypes row)) = ⊥
 MakesRequest stmt_id bulk_flags rows (Err (RowTooLarge row)) = ⊥
 MakesRequest stmt_id bulk_flags rows (Err (MemoryRow row)) = ⊥

@@ -4,7 +4,7 @@ use Rattle.std.specs.Global.{Vec}
 use Rattle.mysql_cuts.specs.declared.rule.BulkRule.{BulkRule}
 use Rattle.mysql_cuts.specs.Cut.{Packing}
 use Rattle.mysql_values.specs.declared.value.Value.{Value}
-use Rattle.mysql_values.specs.Value.{Content, contents_of, bin_size, size_of}
+use Rattle.mysql_values.specs.Value.{Content, contents_of, bin_size}
 
 -- what the values of a row hold
 abbrev pub contents_of_row : Vec Value → List Content
@@ -40,9 +40,9 @@ param_size value = 1 + bin_size value
 abbrev pub row_size : List Content → ℕ
 row_size row = sum_by param_size row
 
--- the same, of values that are not looked into
-abbrev pub values_size : List Value → ℕ
-values_size row = sum_by (λ value. 1 + size_of value) row
+-- the same, of values that hold these contents
+abbrev pub values_size : {V : Type 0} → (V → Content) → List V → ℕ
+values_size content row = sum_by (λ value. 1 + bin_size (content value)) row
 
 -- how requests of rows of a length are measured, under a rule and a limit
 abbrev pub rows_packing : BulkRule → ℕ → ℕ → Packing (List Content)

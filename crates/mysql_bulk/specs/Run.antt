@@ -8,14 +8,14 @@ use Rattle.mysql_bulk.specs.declared.error.BulkExecuteRequestError.{BulkExecuteR
 use Rattle.mysql_bulk.specs.declared.error.BulkExecuteRequestBuilderError.{BulkExecuteRequestBuilderError}
 use Rattle.mysql_bulk.specs.declared.error.BulkExecuteRequestBuilderError.TheVariants.{Request, Params}
 use Rattle.mysql_bulk.specs.declared.run.BulkRequests.{BulkRequests}
-use Rattle.mysql_bulk.specs.Builder.{BuilderState, TakesArity, RowFits, after_row, Adds, BuildsRequest}
+use Rattle.mysql_bulk.specs.Builder.{BuilderState, TakesRow, RowFits, after_row, Adds, BuildsRequest}
 use Rattle.mysql_bulk.specs.Request.{BulkRequest}
 use Rattle.mysql_bulk.specs.Row.{contents_of_row, contents_of_rows}
 
 -- the rows are accepted one after another
 abbrev pub Accepts : BuilderState → List (List Content) → BuilderState → Type 0
 Accepts s [] t = t ≡ s
-Accepts s (row ∷ rows) t = TakesArity s.arity (length row) × RowFits s row × Accepts (after_row s row) rows t
+Accepts s (row ∷ rows) t = TakesRow s row × RowFits s row × Accepts (after_row s row) rows t
 
 module _ {S : Type 0} (steps : S → Option (Vec Value) → S → Type 0) where
   -- the next row to come: the carried one, if there is one, else what a call of the input gives
@@ -64,7 +64,7 @@ module _ {S : Type 0} (steps : S → Option (Vec Value) → S → Type 0) where
     pub taken : List (Vec Value)
     pub came : YieldsThen (NextRow steps) (s.carried, s.rows) taken t.carried (None, t.rows)
     pub accepts : Accepts s.builder (contents_of_rows taken) m
-    pub full : IfSome t.carried (λ row. TakesArity m.arity (length (contents_of_row row)) × (RowFits m (contents_of_row row) → ⊥))
+    pub full : IfSome t.carried (λ row. TakesRow m (contents_of_row row) × (RowFits m (contents_of_row row) → ⊥))
 
   -- rows to come were accepted, up to one that was refused
   pub record RefusesRow (s : RunState S) (e : BulkExecuteRequestError) (t : RunState S) : Type 0 where

@@ -1,5 +1,5 @@
 -- What a whole run gives: all its requests, why it ended, and what it leaves.
-use Rattle.std.specs.Prelude.{◌≡◌, ◌≢◌, ℕ, true, List, [], ◌∷◌, ◌++◌, length, Option, Some, None, Result, Ok, Err, Bool}
+use Rattle.std.specs.Prelude.{◌≡◌, ◌≢◌, ℕ, true, List, [], ◌∷◌, ◌++◌, length, Option, Some, None, Result, Ok, Err, Bool, All, option_map}
 use Rattle.std.specs.Global.{Vec}
 use Rattle.mysql_cuts.specs.Cut.{rows_in, NoneEmpty, FullFrom, IsFewest, IsFullFromFront, ends_after}
 use Rattle.mysql_values.specs.declared.value.Value.{Value}
@@ -8,8 +8,9 @@ use Rattle.mysql_bulk.specs.declared.error.BulkExecuteRequestError.{BulkExecuteR
 use Rattle.mysql_bulk.specs.declared.error.BulkExecuteRequestError.TheVariants.{MemoryRow, Memory}
 use Rattle.mysql_bulk.specs.declared.error.BulkExecuteRequestBuilderError.{BulkExecuteRequestBuilderError}
 use Rattle.mysql_bulk.specs.declared.error.BulkExecuteRequestBuilderError.TheVariants.{Request, Params}
-use Rattle.mysql_bulk.specs.Builder.{BuilderState, TakesArity, RowFits, IsRequest, Adds, BuildsRequest, after_request, arity_after}
-use Rattle.mysql_bulk.specs.WholeRunRefusal.{RefusalOfRows, equal_front, measure}
+use Rattle.mysql_bulk.specs.Builder.{BuilderState, TakesRow, RowFits, IsRequest, Adds, BuildsRequest, after_request, arity_after}
+use Rattle.mysql_bulk.specs.WholeRunRefusal.{RefusalOfRows, taken_front, measure}
+use Rattle.mysql_bulk.specs.ColumnTypes.{TakesTypes}
 use Rattle.mysql_bulk.specs.Request.{BulkRequest}
 use Rattle.mysql_bulk.specs.Row.{contents_of_row, first_length, EqualLengths}
 
@@ -17,7 +18,8 @@ use Rattle.mysql_bulk.specs.Row.{contents_of_row, first_length, EqualLengths}
 
 -- a builder that was only made and set up
 pub record IsNew (s : BuilderState) : Type 0 where
-  pub arity : s.arity ≡ None
+  -- it has the arity of the declared types, if there are any
+  pub arity : s.arity ≡ option_map length s.columns
   pub types_due : s.types_due ≡ true
   pub waiting : s.waiting ≡ []
 
@@ -43,10 +45,10 @@ pub record RefusesNextRow (t : BuilderState) (e : BulkExecuteRequestError) (drop
   pub is_next : dropped ≡ contents_of_row row ∷ later
   pub refused : Adds t row (Err e) t
 
--- the request of the rows that wait is due: no row is left, or the next one is as long and does not fit with them
+-- the request of the rows that wait is due: no row is left, or the next one is taken and does not fit with them
 abbrev pub RequestIsDue : BuilderState → List (List Content) → Type 0
 RequestIsDue t [] = t.waiting ≢ []
-RequestIsDue t (row ∷ later) = (t.waiting ≢ []) × TakesArity t.arity (length row) × (RowFits t row → ⊥)
+RequestIsDue t (row ∷ later) = (t.waiting ≢ []) × TakesRow t row × (RowFits t row → ⊥)
 
 -- the rows are of one length, which is this arity: there are none where none is known
 abbrev pub OfArity : Option ℕ → List (List Content) → Type 0
@@ -115,17 +117,19 @@ pub record RunGives (s : BuilderState) (rows : List (List Content)) (requests : 
   pub full_parts : FullFrom (measure s rows) s.types_due cut (t.waiting ++ dropped)
   -- the rows that were sent, and those that wait, are of one length, which is the builder's arity now
   pub one_length : OfArity t.arity (rows_in cut ++ t.waiting)
+  -- and the declared types spell them
+  pub taken : All (TakesTypes s.columns) (rows_in cut ++ t.waiting)
   -- an arity that it had stays
   pub arity_stays : (n : ℕ) → s.arity ≡ Some n → t.arity ≡ Some n
-  -- each part was due where it was sent: no row was left, or the next one was as long and did not fit with it
+  -- each part was due where it was sent: no row was left, or the next one was taken and did not fit with it
   pub each_was_due : EachWasDue s cut (t.waiting ++ dropped)
   -- the settings stay, and the arity and whether types are due are those after what was sent and waits
   pub left : t ≡ left_by s cut t.waiting
   -- why it ended
   pub ended : EndsBy refusal t dropped
-  -- on a new builder no fitting cut of a beginning of the rows of one length is ahead of these requests, however the run ends
-  pub full_from_front : IsNew s → IsFullFromFront (measure s rows) (equal_front rows) cut
-  -- with memory it is refused exactly where two rows differ in length or no cut of them fits
+  -- on a new builder no fitting cut of a beginning of the rows that it takes is ahead of these requests, however the run ends
+  pub full_from_front : IsNew s → IsFullFromFront (measure s rows) (taken_front s rows) cut
+  -- with memory it is refused exactly where a row is not taken or no cut of them fits
   pub refused : IsNew s → HadMemory refusal → RefusalOfList s rows refusal
   -- and else no fitting cut has fewer parts
   pub fewest : IsNew s → refusal ≡ None → IsFewest (measure s rows) rows cut

@@ -1,34 +1,48 @@
 -- Which lists of rows are refused.
-use Rattle.std.specs.Prelude.{◌≡◌, ◌≢◌, ℕ, ◌+◌, ◌≤◌, List, take, take_while, length, nat_eq, slice_get, Option, Some, None}
+use Rattle.std.specs.Prelude.{◌≡◌, ℕ, ◌+◌, ◌≤◌, ◌&&◌, List, take, take_while, length, nat_eq, slice_get, Option, Some, None}
 use Rattle.mysql_cuts.specs.Cut.{Packing, HasFittingCut}
 use Rattle.mysql_values.specs.Value.{Content}
 use Rattle.mysql_bulk.specs.declared.error.BulkExecuteRequestError.{BulkExecuteRequestError}
-use Rattle.mysql_bulk.specs.declared.error.BulkExecuteRequestError.TheVariants.{MixedArity, RowTooLarge, MemoryRow, NoParams, Memory}
-use Rattle.mysql_bulk.specs.Builder.{BuilderState, packing}
+use Rattle.mysql_bulk.specs.declared.error.BulkExecuteRequestError.TheVariants.{MixedArity, MixedTypes, RowTooLarge, MemoryRow, NoParams, Memory}
+use Rattle.mysql_bulk.specs.Builder.{BuilderState, packing, TakesArity, arity_after}
+use Rattle.mysql_bulk.specs.ColumnTypes.{takes_types, TakesTypes}
 use Rattle.mysql_bulk.specs.Row.{contents_of_row, first_length}
 
--- the longest beginning in which all rows are as long as the first
-abbrev pub equal_front : List (List Content) → List (List Content)
-equal_front rows = take_while (λ row. nat_eq (length row) (first_length rows)) rows
+-- the longest beginning in which all rows are as long as the first, and the declared types spell them
+abbrev pub taken_front : BuilderState → List (List Content) → List (List Content)
+taken_front s rows = take_while (λ row. nat_eq (length row) (first_length rows) && takes_types s.columns row) rows
 
 -- how the rows of a list are measured by a builder with these settings
 abbrev pub measure : BuilderState → List (List Content) → Packing (List Content)
 measure s rows = packing s (first_length rows)
 
--- each beginning of the rows of one length has a fitting cut
+-- each beginning of that beginning has a fitting cut
 abbrev pub EachFrontFits : BuilderState → List (List Content) → Type 0
-EachFrontFits s rows = (n : ℕ) → HasFittingCut (measure s rows) (take n (equal_front rows))
+EachFrontFits s rows = (n : ℕ) → HasFittingCut (measure s rows) (take n (taken_front s rows))
+
+-- the row after it
+abbrev pub IsNextAfterFront : BuilderState → List (List Content) → List Content → Type 0
+IsNextAfterFront s rows row = slice_get rows (length (taken_front s rows)) ≡ Some row
+
+-- the row has the length of the rows of that beginning, or of the declared types
+abbrev pub FrontTakesArity : BuilderState → List (List Content) → List Content → Type 0
+FrontTakesArity s rows row = TakesArity (arity_after s.arity (taken_front s rows)) (length row)
 
 -- why a list of rows is refused, if it is
 abbrev pub RefusalOfRows : BuilderState → List (List Content) → Option BulkExecuteRequestError → Type 0
-RefusalOfRows s rows None = EachFrontFits s rows × (equal_front rows ≡ rows)
-RefusalOfRows s rows (Some MixedArity) = EachFrontFits s rows × (equal_front rows ≢ rows)
+RefusalOfRows s rows None = EachFrontFits s rows × (taken_front s rows ≡ rows)
+RefusalOfRows s rows (Some MixedArity) = EachFrontFits s rows × ((row : List Content) × IsNextAfterFront s rows row × (FrontTakesArity s rows row → ⊥))
+RefusalOfRows s rows (Some (MixedTypes row)) =
+    EachFrontFits s rows
+    × IsNextAfterFront s rows (contents_of_row row)
+    × FrontTakesArity s rows (contents_of_row row)
+    × (TakesTypes s.columns (contents_of_row row) → ⊥)
 -- the least beginning without a fitting cut ends with this row
 RefusalOfRows s rows (Some (RowTooLarge row)) =
     (n : ℕ)
-    × (slice_get (equal_front rows) n ≡ Some (contents_of_row row))
-    × (HasFittingCut (measure s rows) (take (n + 1) (equal_front rows)) → ⊥)
-    × ((m : ℕ) → m ≤ n → HasFittingCut (measure s rows) (take m (equal_front rows)))
+    × (slice_get (taken_front s rows) n ≡ Some (contents_of_row row))
+    × (HasFittingCut (measure s rows) (take (n + 1) (taken_front s rows)) → ⊥)
+    × ((m : ℕ) → m ≤ n → HasFittingCut (measure s rows) (take m (taken_front s rows)))
 RefusalOfRows s rows (Some (MemoryRow row)) = ⊥
 RefusalOfRows s rows (Some NoParams) = ⊥
 RefusalOfRows s rows (Some Memory) = ⊥

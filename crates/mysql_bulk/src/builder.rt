@@ -1,21 +1,22 @@
 //! A builder of bulk requests: its settings, and rows that are handed over.
 //!
-//! Rows that are borrowed stand in `builder/borrowed.rt`, runs over rows and over parameters in `run.rt` and `params_run.rt`,
-//! and a whole run in `whole_run.rt`.
+//! Types that are declared for the columns stand in `builder/columns.rt`, rows that are borrowed in `builder/borrowed.rt`,
+//! runs over rows and over parameters in `run.rt` and `params_run.rt`, and a whole run in `whole_run.rt`.
 
-ghost use Rattle.std.specs.Prelude.{◌≡◌, ◌≢◌, ◌+◌, ◌≤◌, ◌-◌, ◌↔◌, ◌++◌, ◌∷◌, [], length, IsTrue, MatchOption, Some, None, true, false, sum_by, List, ℕ};
+ghost use Rattle.std.specs.Prelude.{◌≡◌, ◌≢◌, ◌+◌, ◌≤◌, ◌-◌, ◌↔◌, ◌++◌, ◌∷◌, [], length, map, IsTrue, MatchOption, Some, None, true, false, sum_by, List, ℕ};
 ghost use Rattle.std.specs.Option.{option_copied};
 ghost use Rattle.mysql_cuts.specs.Cut.{PartFits};
-ghost use Rattle.mysql_values.specs.Value.{Content, contents_of};
+ghost use Rattle.mysql_values.specs.Value.{Content};
 ghost use Rattle.mysql_bulk.specs.Builder.{TakesArity, RowFits, Adds, AddsRow, AddsParams, Builds, IsConsistent};
-ghost use Rattle.mysql_bulk.specs.BuilderEq.{rows_eq};
+ghost use Rattle.mysql_bulk.specs.BuilderEq.{columns_eq, rows_eq};
 ghost use Rattle.mysql_bulk.specs.Request.{request_flags};
 ghost use Rattle.mysql_bulk.specs.Row.{row_size, rows_packing};
 
-use crate::declared_types::join_row;
+use crate::column_types::join_types;
 use crate::error::{BulkExecuteRequestBuilderError, BulkExecuteRequestError};
 use crate::request::ComStmtBulkExecuteRequest;
-use crate::row::{append_row, bulk_row_size, find_capacity};
+use crate::row::{append_row, find_capacity, row_len};
+use crate::row_value::RowValue;
 use crate::size::request_len;
 use mysql_cuts::BulkRule;
 use mysql_values::{ParamType, Params, Value};
@@ -25,11 +26,23 @@ use std::marker::Model;
 use std::mem;
 
 mod borrowed;
+mod columns;
 
 /// Collects rows for requests of a bulk execution, none of which is past the limit.
 ///
 /// Rows are added until one does not fit; then a request is built of those that wait, and so on. The first request
 /// alone sends types, if `with_types_always` does not say otherwise.
+///
+/// The types are those that `with_column_types` declares. Where none are declared, they are those of each column's first
+/// value that is not `NULL`, and a number is unsigned where some value of its column is; then a server stores other
+/// values than were handed in, or breaks off in the middle, in two cases:
+///
+/// * Values of a column are of more than one kind: the server reads all of them under the one type. -1 beside an
+///   unsigned 5 is stored as 18446744073709551615, and 1 beside the double 1.5 as another number; no error tells of it.
+/// * A column is `NULL` in each row of the first request, which then declares `MYSQL_TYPE_NULL`: a later request, which
+///   sends no types, is refused where the column has a value, and the rows of the first one are stored.
+///
+/// With declared types neither happens.
 #[derive(Debug, Drop)]
 pub struct ComStmtBulkExecuteRequestBuilder<'a> {
     names: Option<&'a [Vec<u8>]>,
@@ -38,6 +51,7 @@ pub struct ComStmtBulkExecuteRequestBuilder<'a> {
     limit: u64,
     results: bool,
     rule: BulkRule,
+    columns: Option<&'a [ParamType]>,
     arity: Option<usize>,
     types_due: bool,
     /// The number of waiting rows, and their bytes in a request.
@@ -63,6 +77,7 @@ impl<'a> Model for ComStmtBulkExecuteRequestBuilder<'a> {
       results = a.results;
       rule = a.rule;
       names = option_copied a.names;
+      columns = option_copied a.columns;
       arity = a.arity;
       types_due = a.types_due;
       waiting = waiting_rows a.arity a.count (contents_of a.values.items);
@@ -74,6 +89,7 @@ impl<'a> Model for ComStmtBulkExecuteRequestBuilder<'a> {
       results = a.results;
       rule = a.rule;
       names = option_copied a.names;
+      columns = option_copied a.columns;
       arity = a.arity;
       types_due = a.types_due;
       waiting = waiting_rows a.arity a.count (contents_of a.values.items);
@@ -91,6 +107,7 @@ impl<'a> Clone for ComStmtBulkExecuteRequestBuilder<'a> {
             limit: self.limit,
             results: self.results,
             rule: self.rule,
+            columns: self.columns,
             arity: self.arity,
             types_due: self.types_due,
             count: self.count,
@@ -104,18 +121,19 @@ impl<'a> Clone for ComStmtBulkExecuteRequestBuilder<'a> {
 /// The same settings, and waiting rows whose values hold the same.
 impl<'a> PartialEq for ComStmtBulkExecuteRequestBuilder<'a> {
     ghost use Rattle.mysql_bulk.specs.BuilderEq.{builder_eq, builder_per};
-    ghost use Rattle.mysql_cuts.specs.contracts.rule.BulkRulePartialEq.TheImpl.Laws.{laws-law};
+    ghost use Rattle.mysql_cuts.specs.contracts.rule.BulkRulePartialEq.TheImpl.Laws as of_rules;
+    ghost use Rattle.mysql_values.specs.contracts.param_type.ParamTypePartialEq.TheImpl.Laws as of_types;
 
-    ghost eq = { builder_eq ⟦<BulkRule as PartialEq>⟧.eq };
+    ghost eq = { builder_eq ⟦<BulkRule as PartialEq>⟧.eq ⟦<ParamType as PartialEq>⟧.eq };
 
-    ghost laws = { builder_per ⟦<BulkRule as PartialEq>⟧.eq laws-law };
+    ghost laws = { builder_per ⟦<BulkRule as PartialEq>⟧.eq ⟦<ParamType as PartialEq>⟧.eq of_rules.laws-law of_types.laws-law };
 
     fn eq(&self, other: &Self) -> bool {
         self.stmt_id == other.stmt_id
             && self.limit == other.limit
             && self.results == other.results
             && self.rule == other.rule
-            && self.names == other.names
+            && self.same_columns(other)
             && self.types_due == other.types_due
             && self.arity == other.arity
             && self.same_rows_wait(other)
@@ -123,22 +141,22 @@ impl<'a> PartialEq for ComStmtBulkExecuteRequestBuilder<'a> {
 }
 
 /// The bytes of so many waiting rows with one more, if these may be one request.
-fn size_with(
+fn size_with<V: RowValue>(
     rule: BulkRule,
     limit: u64,
     types: bool,
     count: usize,
     size: u64,
-    row: &[Value],
+    row: &[V],
 ) -> Option<u64>
     ensures { (rows : List (List Content)) → length rows ≡ count → size ≡ sum_by row_size rows →
-        MatchOption result (PartFits (rows_packing rule limit (length row.now)) types (rows ++ contents_of row.now ∷ []) → ⊥)
-        (λ n. PartFits (rows_packing rule limit (length row.now)) types (rows ++ contents_of row.now ∷ []) × (n ≡ sum_by row_size (rows ++ contents_of row.now ∷ []))) }
+        MatchOption result (PartFits (rows_packing rule limit (length row.now)) types (rows ++ map V.content row.now ∷ []) → ⊥)
+        (λ n. PartFits (rows_packing rule limit (length row.now)) types (rows ++ map V.content row.now ∷ []) × (n ≡ sum_by row_size (rows ++ map V.content row.now ∷ []))) }
 {
     if rule.max_rows.is_some_and(|most| most <= count) {
         return None;
     }
-    let rows = size.checked_add(bulk_row_size(row)?)?;
+    let rows = size.checked_add(row_len(row)?)?;
     if request_len(row.len(), types, rows)? <= limit {
         Some(rows)
     } else {
@@ -164,7 +182,7 @@ impl<'a> ComStmtBulkExecuteRequestBuilder<'a> {
     /// A builder without rows. A request has at most as many bytes as a packet may, less four. It takes no memory.
     pub fn new(alloc: Global, stmt_id: u32, max_allowed_packet: usize) -> Self
         requires { 4 ≤ max_allowed_packet }
-        ensures { result ≡ record { stmt_id = stmt_id; limit = max_allowed_packet - 4; results = false; rule = record { types_always = false; max_rows = None }; names = None; arity = None; types_due = true; waiting = [] } }
+        ensures { result ≡ record { stmt_id = stmt_id; limit = max_allowed_packet - 4; results = false; rule = record { types_always = false; max_rows = None }; names = None; columns = None; arity = None; types_due = true; waiting = [] } }
     {
         ComStmtBulkExecuteRequestBuilder {
             names: None,
@@ -173,6 +191,7 @@ impl<'a> ComStmtBulkExecuteRequestBuilder<'a> {
             limit: (max_allowed_packet - 4) as u64,
             results: false,
             rule: BulkRule::PLAIN,
+            columns: None,
             arity: None,
             types_due: true,
             count: 0,
@@ -242,6 +261,13 @@ impl<'a> ComStmtBulkExecuteRequestBuilder<'a> {
         self.count != 0
     }
 
+    /// Whether both have the same names, and the same declared types.
+    fn same_columns(&self, other: &Self) -> bool
+        ensures { result ≡ columns_eq ⟦<ParamType as PartialEq>⟧.eq self.now other.now }
+    {
+        self.names == other.names && self.columns == other.columns
+    }
+
     /// Whether equal rows wait in both, where their rows have one length.
     fn same_rows_wait(&self, other: &Self) -> bool
         ensures { self.now.arity ≡ other.now.arity → result ≡ rows_eq self.now.waiting other.now.waiting }
@@ -276,9 +302,9 @@ impl<'a> ComStmtBulkExecuteRequestBuilder<'a> {
 
     /// The bytes of the waiting rows with one more, if these may be one request.
     #[inline(always)]
-    fn size_after(&self, row: &[Value]) -> Option<u64>
-        ensures { MatchOption result (RowFits self.now (contents_of row.now) → ⊥)
-            (λ n. RowFits self.now (contents_of row.now) × (n ≡ sum_by row_size (self.now.waiting ++ contents_of row.now ∷ []))) }
+    fn size_after<V: RowValue>(&self, row: &[V]) -> Option<u64>
+        ensures { MatchOption result (RowFits self.now (map V.content row.now) → ⊥)
+            (λ n. RowFits self.now (map V.content row.now) × (n ≡ sum_by row_size (self.now.waiting ++ map V.content row.now ∷ []))) }
     {
         size_with(
             self.rule,
@@ -302,6 +328,9 @@ impl<'a> ComStmtBulkExecuteRequestBuilder<'a> {
         if !self.takes_arity(row.len()) {
             return Err(BulkExecuteRequestError::MixedArity);
         }
+        if !self.takes_types(row.as_slice()) {
+            return Err(BulkExecuteRequestError::MixedTypes(row));
+        }
         let Some(size) = self.size_after(row.as_slice()) else {
             return if self.has_rows() {
                 Ok(Some(row))
@@ -316,7 +345,12 @@ impl<'a> ComStmtBulkExecuteRequestBuilder<'a> {
         let Ok(()) = find_capacity(&mut self.values, &mut self.types, self.types_due, arity) else {
             return Err(BulkExecuteRequestError::MemoryRow(row));
         };
-        join_row(&mut self.types, self.types_due, row.as_slice());
+        join_types(
+            &mut self.types,
+            self.types_due,
+            self.columns,
+            row.as_slice(),
+        );
         append_row(&mut self.values, row);
         self.size = size;
         self.count = count;
@@ -327,8 +361,9 @@ impl<'a> ComStmtBulkExecuteRequestBuilder<'a> {
     /// Offers a row. Where it fits with the rows that wait, it waits too, and the answer is `Ok(None)`.
     ///
     /// A row that does not fit with those that wait is handed back as `Ok(Some(row))`; a request is built then. Of the
-    /// refusals, `MixedArity` drops the row; `RowTooLarge` (it does not fit where nothing waits) and `MemoryRow` hand
-    /// it back. Where the row does not wait, the builder stays as it was.
+    /// refusals, `MixedArity` drops the row; `MixedTypes` (a declared type does not spell one of its values),
+    /// `RowTooLarge` (it does not fit where nothing waits) and `MemoryRow` hand it back. Where the row does not wait, the
+    /// builder stays as it was.
     pub fn add_row(
         &mut self,
         row: Vec<Value>,

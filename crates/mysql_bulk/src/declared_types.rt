@@ -1,22 +1,22 @@
 //! The types that a bulk request declares for its columns, while rows come one after another.
 
-ghost use Rattle.std.specs.Prelude.{◌≡◌, ◌+◌, ◌≤◌, ◌⊎◌, [], length, vec_capacity, true, if◌then◌else◌};
-ghost use Rattle.mysql_values.specs.Value.{content_of, contents_of};
+ghost use Rattle.std.specs.Prelude.{◌≡◌, ◌+◌, ◌≤◌, ◌⊎◌, [], length, map, vec_capacity, true, if◌then◌else◌};
 ghost use Rattle.mysql_bulk.specs.DeclaredTypes.{type_with, types_with_row};
 
-use mysql_values::{ParamType, Value};
+use crate::row_value::RowValue;
+use mysql_values::ParamType;
 use mysql_wire::{ColumnType, StmtExecuteParamFlags};
 
 /// Joins a value to the type of its column so far.
 // (a type is written where it changes alone)
 #[inline]
-fn join_value(kind: &mut ParamType, value: &Value)
-    ensures { kind.new ≡ type_with kind.old (content_of value.now) }
+fn join_value<V: RowValue>(kind: &mut ParamType, value: &V)
+    ensures { kind.new ≡ type_with kind.old (V.content value.now) }
 {
     let known = kind.column_type();
     if known == ColumnType::MYSQL_TYPE_NULL {
-        *kind = ParamType::from_value(value);
-    } else if value.is_uint() && known == ColumnType::MYSQL_TYPE_LONGLONG {
+        *kind = value.param_type();
+    } else if value.is_unsigned_number() && known == ColumnType::MYSQL_TYPE_LONGLONG {
         *kind = ParamType::new(
             ColumnType::MYSQL_TYPE_LONGLONG,
             StmtExecuteParamFlags::UNSIGNED,
@@ -26,20 +26,20 @@ fn join_value(kind: &mut ParamType, value: &Value)
 
 /// Writes down the types of the first row. There is capacity for them.
 #[tactic(auto, using(crate::proofs::DeclaredTypes::first_more))]
-fn first_types(types: &mut Vec<ParamType>, row: &[Value])
+fn first_types<V: RowValue>(types: &mut Vec<ParamType>, row: &[V])
     requires empty { types.old.items ≡ [] }
     requires capacity { length row.now ≤ vec_capacity types.old }
-    ensures { types.new.items ≡ types_with_row [] (contents_of row.now) }
+    ensures { types.new.items ≡ types_with_row [] (map V.content row.now) }
 {
     for value in row {
-        types.push_reserved(ParamType::from_value(value));
+        types.push_reserved(value.param_type());
     }
 }
 
 /// Joins the values of a further row to the types of their columns so far.
-fn further_types(types: &mut [ParamType], row: &[Value])
+fn further_types<V: RowValue>(types: &mut [ParamType], row: &[V])
     requires { length types.old ≡ length row.now }
-    ensures { types.new ≡ types_with_row types.old (contents_of row.now) }
+    ensures { types.new ≡ types_with_row types.old (map V.content row.now) }
 {
     for place in 0..row.len() {
         join_value(&mut types[place], &row[place]);
@@ -48,10 +48,10 @@ fn further_types(types: &mut [ParamType], row: &[Value])
 
 /// Joins the values of a row to the types of their columns so far, where types are due. There are none before the first
 /// row.
-pub(crate) fn join_row(types: &mut Vec<ParamType>, types_due: bool, row: &[Value])
+pub(crate) fn join_row<V: RowValue>(types: &mut Vec<ParamType>, types_due: bool, row: &[V])
     requires lengths { types_due ≡ true → (length types.old.items ≡ length row.now) ⊎ (types.old.items ≡ []) }
     requires capacity { types_due ≡ true → length row.now ≤ vec_capacity types.old }
-    ensures { types.new.items ≡ (if types_due then types_with_row types.old.items (contents_of row.now) else types.old.items) }
+    ensures { types.new.items ≡ (if types_due then types_with_row types.old.items (map V.content row.now) else types.old.items) }
 {
     if !types_due {
         return;

@@ -6,9 +6,12 @@ use thiserror::Error;
 /// Why a row or a request was refused.
 #[derive(Clone, Debug, PartialEq, Drop, Error)]
 pub enum BulkExecuteRequestError {
-    /// The row has not as many values as the rows before it.
+    /// The row has not as many values as the rows before it, or as types were declared.
     #[error("Mixed statement arity")]
     MixedArity,
+    /// The declared type of a column does not spell the row's value. The row is handed back.
+    #[error("Value that its declared type does not spell")]
+    MixedTypes(Vec<Value>),
     /// The row alone is past the limit of a request. The row is handed back.
     #[error("Got row bigger than max payload length")]
     RowTooLarge(Vec<Value>),
@@ -23,12 +26,23 @@ pub enum BulkExecuteRequestError {
     Memory,
 }
 
+/// A type that may not be declared for a column.
+#[derive(Clone, Copy, Debug, PartialEq, Eq, Error)]
+#[error("Type that may not be declared")]
+pub struct BulkColumnTypeError {
+    /// The place of the first such type.
+    pub place: usize,
+}
+
 /// Why a row that was borrowed was refused. The caller still has it.
 #[derive(Clone, Copy, Debug, PartialEq, Eq, Error)]
 pub enum BulkRowRefusal {
-    /// The row has not as many values as the rows before it.
+    /// The row has not as many values as the rows before it, or as types were declared.
     #[error("Mixed statement arity")]
     MixedArity,
+    /// The declared type of a column does not spell the row's value.
+    #[error("Value that its declared type does not spell")]
+    MixedTypes,
     /// The row alone is past the limit of a request.
     #[error("Got row bigger than max payload length")]
     TooLarge,

@@ -8,6 +8,7 @@ ghost use Rattle.mysql_cuts.specs.Fewest.{weights, NamesFewest};
 ghost use Rattle.mysql_wire.specs.FlagMasks.{UNSIGNED_FLAG};
 ghost use Rattle.mysql_wire.specs.Flags.{has};
 ghost use Rattle.mysql_values.specs.declared.params.ParamsError.{ParamsError};
+ghost use Rattle.mysql_values.specs.declared.param_type.ParamType.{ParamType};
 ghost use Rattle.mysql_values.specs.ReadingBack.{Agrees};
 ghost use Rattle.mysql_values.specs.Value.{Content};
 ghost use Rattle.mysql_bulk.specs.declared.error.BulkExecuteRequestBuilderError.TheVariants as refused;
@@ -18,7 +19,8 @@ ghost use Rattle.mysql_bulk.specs.ParamValue.{ParamValue, with_indicator, param_
 ghost use Rattle.mysql_bulk.specs.ParamValues.{BulkColumn, values_of_columns};
 ghost use Rattle.mysql_bulk.specs.ParamsRun.{Names, GivesRowOfParams, NextRequestOfParams};
 ghost use Rattle.mysql_bulk.specs.ReadRows.{bulk_rows};
-ghost use Rattle.mysql_bulk.specs.ReadingBack.{ParamValueAgrees, RequestFits, RowsFit, PartAgrees};
+ghost use Rattle.mysql_bulk.specs.Head.{column_of_type};
+ghost use Rattle.mysql_bulk.specs.ReadingBack.{ParamValueAgrees, RequestFits, RowsFit, PartAgrees, row_under, IsDeclaredPart};
 ghost use Rattle.mysql_bulk.specs.Request.{BulkRequest, request_bytes, written_size};
 ghost use Rattle.mysql_bulk.specs.RequestForm.{bulk_request};
 ghost use Rattle.mysql_bulk.specs.Row.{first_length, row_size, rows_packing};
@@ -128,4 +130,12 @@ pub fn request_rows_round_trips()
 pub fn built_rows_round_trips()
     ensures { (s : BuilderState) (columns : List BulkColumn) (rows : List (List Content)) (request : BulkRequest) →
         IsRequest s rows request → PartAgrees s columns rows → (bulk_rows columns).reads (request_bytes request) ≡ Ok (rows, []) }
+{}
+
+/// Where types were declared, a request is read as the rows that were handed in, whose numbers are signed or unsigned as the
+/// types say: under the types that it sends, or under the same types where it sends none.
+pub fn rows_under_declared_types_round_trips()
+    ensures { (s : BuilderState) (types : List ParamType) (rows : List (List Content)) (request : BulkRequest) →
+        IsRequest s rows request → IsDeclaredPart s types rows →
+        (bulk_rows (map column_of_type types)).reads (request_bytes request) ≡ Ok (map (row_under types) rows, []) }
 {}

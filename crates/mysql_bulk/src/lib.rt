@@ -3,6 +3,7 @@
 #![tactic(auto)]
 
 mod builder;
+mod column_types;
 mod declared_types;
 mod error;
 mod head;
@@ -13,13 +14,16 @@ mod params_run;
 mod read_rows;
 mod request;
 mod row;
+mod row_value;
 mod run;
 mod sent_values;
 mod size;
 mod whole_run;
 
 pub use builder::ComStmtBulkExecuteRequestBuilder;
-pub use error::{BulkExecuteRequestBuilderError, BulkExecuteRequestError, BulkRowRefusal};
+pub use error::{
+    BulkColumnTypeError, BulkExecuteRequestBuilderError, BulkExecuteRequestError, BulkRowRefusal,
+};
 pub use head::{ComStmtBulkExecuteHeader, InvalidComStmtBulkExecuteHeader};
 pub use mysql_values::ParamType as StmtBulkExecuteParamType;
 pub use param_value::StmtBulkExecuteParamValue;

@@ -1,9 +1,10 @@
 //! Rows of a bulk request: their sizes, their lengths and their values.
 
-ghost use Rattle.std.specs.Prelude.{◌≡◌, ◌+◌, ◌≤◌, ◌^◌, ◌++◌, ◌∷◌, ◌↔◌, [], length, take, true, IsTrue, IfSome, IfNone, OnSome, OnOk, MatchOption, vec_len, vec_capacity};
-ghost use Rattle.mysql_values.specs.Value.{content_of, contents_of, size_of};
+ghost use Rattle.std.specs.Prelude.{◌≡◌, ◌+◌, ◌≤◌, ◌^◌, ◌++◌, ◌↔◌, length, map, true, IsTrue, IfSome, IfNone, OnSome, OnOk, MatchOption, vec_len, vec_capacity};
+ghost use Rattle.mysql_values.specs.Value.{contents_of};
 ghost use Rattle.mysql_bulk.specs.Row.{row_size, values_size, contents_of_rows, EqualLengths};
 
+use crate::row_value::RowValue;
 use mysql_values::{ParamType, Value};
 use std::alloc::{AllocError, Global};
 
@@ -14,15 +15,23 @@ use std::alloc::{AllocError, Global};
 pub fn bulk_row_size(row: &[Value]) -> Option<u64>
     ensures value { MatchOption result (2 ^ 64 ≤ row_size (contents_of row.now)) (λ n. n ≡ row_size (contents_of row.now)) }
 {
+    row_len(row)
+}
+
+/// The same, whoever keeps the bytes of its values.
+#[inline(always)]
+pub(crate) fn row_len<V: RowValue>(row: &[V]) -> Option<u64>
+    ensures value { MatchOption result (2 ^ 64 ≤ row_size (map V.content row.now)) (λ n. n ≡ row_size (map V.content row.now)) }
+{
     size_of_values(row)
 }
 
-fn size_of_values(row: &[Value]) -> Option<u64>
-    ensures { MatchOption result (2 ^ 64 ≤ values_size row.now) (λ n. n ≡ values_size row.now) }
+fn size_of_values<V: RowValue>(row: &[V]) -> Option<u64>
+    ensures { MatchOption result (2 ^ 64 ≤ values_size V.content row.now) (λ n. n ≡ values_size V.content row.now) }
 {
     let mut size = 0u64;
     for value in row {
-        size = size.checked_add(1)?.checked_add(value.bin_len())?;
+        size = size.checked_add(1)?.checked_add(value.value_len())?;
     }
     Some(size)
 }
@@ -67,78 +76,26 @@ pub(crate) fn append_row(values: &mut Vec<Value>, row: Vec<Value>)
     values.append(&mut row).unwrap();
 }
 
-/// Puts a copy of a value at the end, where there is capacity, and answers its bytes in a request: no more than `most`.
-///
-/// `None` where it has more, or where memory for it was refused: then nothing is put there. Of bytes the copy is made in
-/// one piece.
-// (each kind is pushed where it is known: one value for all kinds would be taken apart again)
-#[inline(always)]
-fn push_copy(alloc: Global, values: &mut Vec<Value>, value: &Value, most: u64) -> Option<u64>
-    requires { vec_len values.old + 1 ≤ vec_capacity values.old }
-    ensures size { IfSome result (λ n. (n ≡ 1 + size_of value.now) × (n ≤ most)) }
-    ensures copy { OnSome result (contents_of values.new.items ≡ contents_of values.old.items ++ content_of value.now ∷ []) }
-    ensures kept { OnSome result (take (vec_len values.old) values.new.items ≡ values.old.items) }
-    ensures count { OnSome result (vec_len values.new ≡ vec_len values.old + 1) }
-    ensures none { IfNone result (values.new.items ≡ values.old.items) }
-    ensures capacity { vec_capacity values.old ≤ vec_capacity values.new }
-{
-    match value {
-        Value::NULL if 1 <= most => {
-            values.push_reserved(Value::NULL);
-            Some(1)
-        }
-        Value::Int(n) if 9 <= most => {
-            values.push_reserved(Value::Int(*n));
-            Some(9)
-        }
-        Value::Bytes(bytes) if bytes.len() < 251 && bytes.len() as u64 + 2 <= most => {
-            let copy = Vec::from_slice(alloc, bytes.as_slice()).ok()?;
-            values.push_reserved(Value::Bytes(copy));
-            Some(bytes.len() as u64 + 2)
-        }
-        _ => push_any(values, value, most),
-    }
-}
-
-/// The same, for a value of any kind.
-#[inline(never)]
-fn push_any(values: &mut Vec<Value>, value: &Value, most: u64) -> Option<u64>
-    requires { vec_len values.old + 1 ≤ vec_capacity values.old }
-    ensures size { IfSome result (λ n. (n ≡ 1 + size_of value.now) × (n ≤ most)) }
-    ensures copy { OnSome result (contents_of values.new.items ≡ contents_of values.old.items ++ content_of value.now ∷ []) }
-    ensures kept { OnSome result (take (vec_len values.old) values.new.items ≡ values.old.items) }
-    ensures count { OnSome result (vec_len values.new ≡ vec_len values.old + 1) }
-    ensures none { IfNone result (values.new.items ≡ values.old.items) }
-    ensures capacity { vec_capacity values.old ≤ vec_capacity values.new }
-{
-    let size = value.bin_len().checked_add(1)?;
-    if most < size {
-        return None;
-    }
-    values.push_reserved(value.clone().ok()?);
-    Some(size)
-}
-
 /// Puts copies of the values of a row at the end, where there is capacity, and answers its bytes in a request: no more than
 /// `most`.
 ///
 /// `None` where it has more, or where memory for one was refused: then nothing is put there.
 #[inline(always)]
-pub(crate) fn append_copies(
+pub(crate) fn append_copies<V: RowValue>(
     alloc: Global,
     values: &mut Vec<Value>,
-    row: &[Value],
+    row: &[V],
     most: u64,
 ) -> Option<u64>
     requires { vec_len values.old + length row.now ≤ vec_capacity values.old }
-    ensures size { IfSome result (λ n. (n ≡ values_size row.now) × (n ≤ most)) }
-    ensures copies { OnSome result (contents_of values.new.items ≡ contents_of values.old.items ++ contents_of row.now) }
+    ensures size { IfSome result (λ n. (n ≡ values_size V.content row.now) × (n ≤ most)) }
+    ensures copies { OnSome result (contents_of values.new.items ≡ contents_of values.old.items ++ map V.content row.now) }
     ensures none { IfNone result (values.new.items ≡ values.old.items) }
 {
     let before = values.len();
     let mut left = most;
     for value in row {
-        let Some(size) = push_copy(alloc, values, value, left) else {
+        let Some(size) = value.push_copy(alloc, values, left) else {
             values.truncate(before);
             return None;
         };

@@ -58,7 +58,7 @@ by_parts (Date t) (Date u) k s n = ap Date (same_date t u n)
 by_parts (Time t) (Time u) k s n = ap Time (same_time t u n)
 by_parts _ _ k s n = absurd (omega (arith, k))
 
-content_eq-same : (a b : Content) → content_eq a b ≡ true → a ≡ b
+pub content_eq-same : (a b : Content) → content_eq a b ≡ true → a ≡ b
 content_eq-same a b e =
     let kinds = and_parts (nat_eq (kind_of a) (kind_of b)) _ e in
     let others = and_parts _ (pointwise nat_eq (numbers_of a) (numbers_of b)) kinds.1 in

@@ -11,3 +11,5 @@ pub mod ContentEq
 pub mod SentType
 pub mod Cells
 pub mod ByContent
+pub mod ValueRef
+pub mod FromValueRef

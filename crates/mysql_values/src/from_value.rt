@@ -153,7 +153,7 @@ impl<T: FromValue> FromValue for Option<T> {
 ghost use Rattle.mysql_values.specs.Numeral.{WritesSigned, WritesUnsigned};
 
 /// The number that the bytes write.
-fn parse_i64(bytes: &[u8]) -> Option<i64>
+pub(crate) fn parse_i64(bytes: &[u8]) -> Option<i64>
     ensures { MatchOption result ((x : ℤ) → WritesSigned bytes.now x → ⊥) (WritesSigned bytes.now) }
 {
     match str::from_utf8(bytes) {
@@ -163,7 +163,7 @@ fn parse_i64(bytes: &[u8]) -> Option<i64>
 }
 
 /// The number that the bytes write.
-fn parse_u64(bytes: &[u8]) -> Option<u64>
+pub(crate) fn parse_u64(bytes: &[u8]) -> Option<u64>
     ensures { MatchOption result ((n : ℕ) → WritesUnsigned bytes.now n → ⊥) (WritesUnsigned bytes.now) }
 {
     match str::from_utf8(bytes) {

@@ -1,6 +1,6 @@
 //! Laws over the forms of values.
 
-ghost use Rattle.std.specs.Prelude.{◌≡◌, ◌<◌, ◌^◌, ◌++◌, ◌↔◌, ℕ, List, Bool, false, Ok, length, IsTrue};
+ghost use Rattle.std.specs.Prelude.{◌≡◌, ◌<◌, ◌^◌, ◌++◌, ◌↔◌, ℕ, ℤ, List, Bool, String, false, Ok, length, IsTrue};
 ghost use Rattle.mysql_wire.specs.declared.codes.column_type.ColumnType.{ColumnType};
 ghost use Rattle.mysql_values.specs.Value.{Content, bin, bin_size, content_of};
 ghost use Rattle.mysql_wire.specs.Flags.{ColumnFlags};
@@ -9,6 +9,12 @@ ghost use Rattle.mysql_values.specs.ReadingBack.{Agrees, IsInRange, ReadsBack, i
 ghost use Rattle.mysql_values.specs.SentType.{sent_type, is_uint};
 ghost use Rattle.mysql_values.specs.declared.value.Value.{Value};
 ghost use Rattle.mysql_values.specs.ContentEq.{content_eq};
+ghost use Rattle.std.specs.Global.{Global, Vec};
+ghost use Rattle.std.specs.String.{string_vec};
+ghost use Rattle.mysql_values.specs.declared.value_ref.ValueRef.{ValueRef};
+ghost use Rattle.mysql_values.specs.ValueRef.{ref_content};
+ghost use Rattle.mysql_values.specs.FromValue.{AsBytes, AsI64, AsText, AsU64};
+ghost use Rattle.mysql_values.specs.FromValueRef.{ContentAsBytes, ContentAsI64, ContentAsText, ContentAsU64};
 ghost use Rattle.mysql_values.specs.ParamType.{param_type, type_flags};
 
 use crate::param_type::ParamType;
@@ -47,6 +53,21 @@ pub fn sent_value_agrees()
 pub fn equal_values_hold_the_same()
     ensures same { (a b : Value) → IsTrue (⟦<crate::value::Value as PartialEq>⟧.eq a b) ↔ (content_of a ≡ content_of b) }
     ensures compared { (a b : Value) → ⟦<crate::value::Value as PartialEq>⟧.eq a b ≡ content_eq (content_of a) (content_of b) }
+{}
+
+/// Borrowed values are equal exactly where they hold the same, as values are.
+#[tactic(auto, using(crate::proofs::RefEq::equal_value_refs))]
+pub fn equal_value_refs_hold_the_same()
+    ensures same { (a b : ValueRef) → IsTrue (⟦<crate::value_ref::ValueRef<'static> as PartialEq>⟧.eq a b) ↔ (ref_content a ≡ ref_content b) }
+{}
+
+/// A borrowed value converts where the value itself does, to the same number, bytes or text.
+#[tactic(auto, using(crate::proofs::RefEq::converts_alike))]
+pub fn borrowed_values_convert_alike()
+    ensures signed { (v : Value) (x : ℤ) → AsI64 v x ↔ ContentAsI64 (content_of v) x }
+    ensures unsigned { (v : Value) (n : ℕ) → AsU64 v n ↔ ContentAsU64 (content_of v) n }
+    ensures bytes { (v : Value) (bytes : Vec ℕ) → AsBytes v bytes → ContentAsBytes (content_of v) bytes.items }
+    ensures text { (v : Value) (text : String Global) → AsText v text → ContentAsText (content_of v) (string_vec text).items }
 {}
 
 /// Reading a value takes memory only for a string of at least one byte: under a type of strings, or in text where the first

@@ -3,6 +3,7 @@
 
 mod bin_cell;
 mod from_value;
+mod from_value_ref;
 pub mod laws;
 mod param_type;
 mod params;
@@ -11,11 +12,16 @@ mod side;
 mod temporal;
 mod value;
 mod value_deserializer;
+mod value_ref;
+mod value_ref_reader;
 
 pub use bin_cell::read_bin_cell;
 pub use from_value::{FromValue, FromValueError};
+pub use from_value_ref::{FromValueRef, FromValueRefError};
 pub use param_type::ParamType;
 pub use params::{Params, ParamsError};
 pub use side::{Binary, ClientSide, SerializationSide, ServerSide, Text};
 pub use value::Value;
 pub use value_deserializer::{BinValue, TextValue, ValueDeserializer};
+pub use value_ref::ValueRef;
+pub use value_ref_reader::{read_bin_ref, read_text_ref};

@@ -4,6 +4,7 @@
 ghost use Rattle.std.specs.Prelude.{◌≡◌};
 
 use crate::value::Value;
+use crate::value_ref::ValueRef;
 use mysql_wire::{
     ColumnType, Const, FaultOf, Fixed, Flags, MyDeserialize, ParseBuf, Parts, Sink,
     StmtExecuteParamFlags, parts,
@@ -21,11 +22,28 @@ pub struct ParamType {
 impl ParamType {
     ghost use Rattle.mysql_values.specs.ParamType.{type_of, type_with_flags, type_column, type_flags};
     ghost use Rattle.mysql_values.specs.Value.{content_of};
+    ghost use Rattle.mysql_values.specs.ValueRef.{ref_content};
 
     /// The type that a value is sent as.
     #[inline]
     pub fn from_value(value: &Value) -> Self
         ensures value { result ≡ type_of (content_of value.now) }
+    {
+        let flags = if value.is_uint() {
+            StmtExecuteParamFlags::UNSIGNED
+        } else {
+            StmtExecuteParamFlags::from_bits_retain(0)
+        };
+        ParamType {
+            column_type: value.sent_type(),
+            flags,
+        }
+    }
+
+    /// The type that a borrowed value is sent as.
+    #[inline]
+    pub fn from_value_ref(value: &ValueRef<'_>) -> Self
+        ensures value { result ≡ type_of (ref_content value.now) }
     {
         let flags = if value.is_uint() {
             StmtExecuteParamFlags::UNSIGNED

@@ -3,8 +3,10 @@
 ghost use Rattle.std.specs.Prelude.{◌≡◌};
 ghost use Rattle.mysql_values.specs.Value.{content_of};
 ghost use Rattle.mysql_values.specs.SentType as sent;
+ghost use Rattle.mysql_values.specs.ValueRef.{ref_content};
 
 use crate::value::Value;
+use crate::value_ref::ValueRef;
 use mysql_wire::ColumnType;
 
 impl Value {
@@ -30,5 +32,31 @@ impl Value {
         ensures { result ≡ sent.is_uint (content_of self.now) }
     {
         matches!(self, Value::UInt(_))
+    }
+}
+
+impl ValueRef<'_> {
+    /// The column type that it is sent as, as [`Value::sent_type`] is.
+    #[inline]
+    pub fn sent_type(&self) -> ColumnType
+        ensures { result ≡ sent.sent_type (ref_content self.now) }
+    {
+        match self {
+            ValueRef::NULL => ColumnType::MYSQL_TYPE_NULL,
+            ValueRef::Bytes(_) => ColumnType::MYSQL_TYPE_VAR_STRING,
+            ValueRef::Int(_) | ValueRef::UInt(_) => ColumnType::MYSQL_TYPE_LONGLONG,
+            ValueRef::Float(_) => ColumnType::MYSQL_TYPE_FLOAT,
+            ValueRef::Double(_) => ColumnType::MYSQL_TYPE_DOUBLE,
+            ValueRef::Date(..) => ColumnType::MYSQL_TYPE_DATETIME,
+            ValueRef::Time(..) => ColumnType::MYSQL_TYPE_TIME,
+        }
+    }
+
+    /// Whether it is an unsigned number.
+    #[inline]
+    pub fn is_uint(&self) -> bool
+        ensures { result ≡ sent.is_uint (ref_content self.now) }
+    {
+        matches!(self, ValueRef::UInt(_))
     }
 }

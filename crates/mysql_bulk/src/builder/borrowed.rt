@@ -1,19 +1,21 @@
 //! Rows of which a builder takes copies.
 
-ghost use Rattle.std.specs.Prelude.{◌≡◌, ◌+◌, ◌≤◌, ◌++◌, ◌∷◌, [], length, IfSome, List, ℕ, sum_by};
+ghost use Rattle.std.specs.Prelude.{◌≡◌, ◌+◌, ◌≤◌, ◌++◌, ◌∷◌, [], length, map, IfSome, List, ℕ, sum_by};
 ghost use Rattle.std.specs.Bool.{OnTrue, OnFalse};
 ghost use Rattle.mysql_cuts.specs.Cut.{PartFits};
 ghost use Rattle.mysql_values.specs.Value.{Content, contents_of};
-ghost use Rattle.mysql_bulk.specs.Builder.{TakesArity, RowFits, AddsCopy, after_row};
+ghost use Rattle.mysql_values.specs.ValueRef.{ref_content};
+ghost use Rattle.mysql_bulk.specs.Builder.{TakesRow, RowFits, AddsCopy, after_row};
 ghost use Rattle.mysql_bulk.specs.Row.{row_size, rows_packing};
 
 use super::ComStmtBulkExecuteRequestBuilder;
-use crate::declared_types::join_row;
+use crate::column_types::join_types;
 use crate::error::BulkRowRefusal;
 use crate::row::{append_copies, find_capacity};
+use crate::row_value::RowValue;
 use crate::size::request_len;
 use mysql_cuts::BulkRule;
-use mysql_values::Value;
+use mysql_values::{Value, ValueRef};
 
 impl<'a> ComStmtBulkExecuteRequestBuilder<'a> {
     /// Offers copies of the values of a row, which stays with the caller: so one list of values can be filled and offered
@@ -27,8 +29,29 @@ impl<'a> ComStmtBulkExecuteRequestBuilder<'a> {
     pub fn add_row_slice(&mut self, row: &[Value]) -> Result<bool, BulkRowRefusal>
         ensures { AddsCopy self.old (contents_of row.now) result self.new }
     {
+        self.offer(row)
+    }
+
+    /// Offers copies of values whose bytes lie elsewhere, as in the packet of a row that was read: see
+    /// [`add_row_slice`](Self::add_row_slice). No byte is copied before the row is known to fit as far as that byte.
+    // (inlined as that one is)
+    #[inline(always)]
+    pub fn add_row_refs(&mut self, row: &[ValueRef<'_>]) -> Result<bool, BulkRowRefusal>
+        ensures { AddsCopy self.old (map ref_content row.now) result self.new }
+    {
+        self.offer(row)
+    }
+
+    /// Offers copies of the values of a row.
+    #[inline(always)]
+    fn offer<V: RowValue>(&mut self, row: &[V]) -> Result<bool, BulkRowRefusal>
+        ensures { AddsCopy self.old (map V.content row.now) result self.new }
+    {
         if !self.takes_arity(row.len()) {
             return Err(BulkRowRefusal::MixedArity);
+        }
+        if !self.takes_types(row) {
+            return Err(BulkRowRefusal::MixedTypes);
         }
         if self.takes_copy(row) {
             return Ok(true);
@@ -43,13 +66,13 @@ impl<'a> ComStmtBulkExecuteRequestBuilder<'a> {
         }
     }
 
-    /// Whether a copy of a row, which has the arity, fits with the rows that wait and now waits too. Where memory was refused,
+    /// Whether a copy of a row, which may come next, fits with the rows that wait and now waits too. Where memory was refused,
     /// it does not wait either.
     // (its bytes are counted while it is copied, so that they are looked at once)
     #[inline(always)]
-    fn takes_copy(&mut self, row: &[Value]) -> bool
-        requires { TakesArity self.old.arity (length (contents_of row.now)) }
-        ensures waits { OnTrue result (RowFits self.old (contents_of row.now) × (self.new ≡ after_row self.old (contents_of row.now))) }
+    fn takes_copy<V: RowValue>(&mut self, row: &[V]) -> bool
+        requires { TakesRow self.old (map V.content row.now) }
+        ensures waits { OnTrue result (RowFits self.old (map V.content row.now) × (self.new ≡ after_row self.old (map V.content row.now))) }
         ensures stays { OnFalse result (self.new ≡ self.old) }
     {
         let arity = row.len();
@@ -72,7 +95,7 @@ impl<'a> ComStmtBulkExecuteRequestBuilder<'a> {
         let Some(size) = append_copies(self.alloc, &mut self.values, row, most) else {
             return false;
         };
-        join_row(&mut self.types, self.types_due, row);
+        join_types(&mut self.types, self.types_due, self.columns, row);
         self.size += size;
         self.count = count;
         self.arity = Some(arity);

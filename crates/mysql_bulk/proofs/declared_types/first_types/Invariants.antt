@@ -1,12 +1,11 @@
-use Rattle.mysql_values.specs.Value.{contents_of}
-use Rattle.std.proofs.Common.{◌≡◌, ◌≤◌, length, take, []}
+use Rattle.std.proofs.Common.{◌≡◌, ◌≤◌, length, map, take, []}
 use Rattle.std.specs.Prelude.{vec_capacity, vec_len}
 use Rattle.mysql_bulk.specs.DeclaredTypes.{types_with_row}
 use Rattle.mysql_bulk.proofs.declared_types.first_types.Given as goal
 
 abbrev pub invariant-loop-value : goal.invariant-loop-value
-invariant-loop-value l = record {
-  so_far : l.types.items ≡ types_with_row [] (contents_of (take l.value-index l.row));
+invariant-loop-value g l = record {
+  so_far : l.types.items ≡ types_with_row [] (map g.V.RowValue.content (take l.value-index l.row));
   count : vec_len l.types ≡ l.value-index;
   capacity : length l.row ≤ vec_capacity l.types;
 }

@@ -3,4 +3,4 @@ use Rattle.mysql_bulk.specs.Row.{values_size}
 use Rattle.mysql_bulk.proofs.row.size_of_values.Given as goal
 
 abbrev pub invariant-loop-value : goal.invariant-loop-value
-invariant-loop-value l = l.size ≡ values_size (take l.value-index l.row)
+invariant-loop-value g l = l.size ≡ values_size g.V.RowValue.content (take l.value-index l.row)

@@ -40,6 +40,7 @@ returns c =
         flags = c.flags_of-bulk_flags.ensures;
         types = ap (λ v. v.items) c.replace-types.ensures.value ∙ stored_types k some;
         values = built_values _ (contents_of c.replace-values.result.items) _ (search rules) (ap (λ v. contents_of v.items) c.replace-values.ensures.value ∙ stored_values k);
+        taken = k.taken;
       };
       size = length-request _
           ∙ ap (λ (l : List Content). 7 + 2 * length c.replace-types.result.items + row_size l) (contents_of_sent _ (contents_of c.replace-values.result.items))

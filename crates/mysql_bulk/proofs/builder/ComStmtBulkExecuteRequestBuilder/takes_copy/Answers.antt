@@ -1,31 +1,32 @@
-use Rattle.std.proofs.Common.{◌≡◌, ◌+◌, ◌≤◌, ◌++◌, ◌∷◌, ℕ, List, [], length, sym, ◌∙◌, ap, arith, subst, sum_by, unwrap_or, if◌then◌else◌}
+use Rattle.std.proofs.Common.{◌≡◌, ◌+◌, ◌≤◌, ◌++◌, ◌∷◌, ℕ, List, [], length, map, sym, ◌∙◌, ap, arith, subst, sum_by, unwrap_or, if◌then◌else◌}
+use Rattle.std.specs.Option.{option_copied}
 use Rattle.std.proofs.lemmas.List.{length-map}
 use Rattle.std.proofs.lemmas.List.Sums.{sum_by-append}
 use Rattle.mysql_cuts.specs.Cut.{PartFits}
 use Rattle.mysql_values.specs.declared.value.Value.{Value}
-use Rattle.mysql_values.specs.Value.{content_of, contents_of}
+use Rattle.mysql_values.specs.Value.{contents_of}
 use Rattle.mysql_values.specs.declared.param_type.ParamType.{ParamType}
-use Rattle.mysql_bulk.specs.DeclaredTypes.{types_with_row}
+use Rattle.mysql_bulk.specs.ColumnTypes.{types_after_row}
 use Rattle.mysql_bulk.specs.Row.{row_size, rows_packing}
-use Rattle.mysql_bulk.specs.Builder.{BuilderState, TakesArity, RowFits, after_row}
+use Rattle.mysql_bulk.specs.Builder.{BuilderState, TakesRow, RowFits, after_row}
 use Rattle.mysql_bulk.specs.BuilderRows.{waiting_rows}
 use Rattle.mysql_bulk.proofs.BuilderRows.{length-rows_of}
 use Rattle.mysql_bulk.proofs.BuilderSteps.{stored_before, stored_next, state_next}
 use Rattle.mysql_bulk.proofs.RequestBytes.{size_of_contents}
 use Rattle.mysql_bulk.proofs.builder.ComStmtBulkExecuteRequestBuilder.takes_copy.Goals as goal
 
-pub join_row-requires-clause-lengths : goal.join_row-requires-clause-lengths
-join_row-requires-clause-lengths c = λ due.
-    let B : BuilderState → Type 0 = λ s. TakesArity s.arity (length (contents_of c.args.row.now)) in
-    rw (c.find_capacity.ensures.types, ← length-map c.args.row.now content_of) (stored_before c.self.invariant (contents_of c.args.row.now) (subst B (sym c.self.view_is) c.requires) due)
+pub join_types-requires-clause-may_follow : goal.join_types-requires-clause-may_follow
+join_types-requires-clause-may_follow g c = λ due.
+    let B : BuilderState → Type 0 = λ s. TakesRow s (map g.V.RowValue.content c.args.row.now) in
+    rw c.find_capacity.ensures.types (stored_before c.self.invariant (map g.V.RowValue.content c.args.row.now) (subst B (sym c.self.view_is) c.requires) due)
 
 pub invariant_of-self-2 : goal.invariant_of-self-2
-invariant_of-self-2 c =
-    let row = contents_of c.args.row.now in
-    let long = length-map c.args.row.now content_of in
+invariant_of-self-2 g c =
+    let row = map g.V.RowValue.content c.args.row.now in
+    let long = length-map c.args.row.now g.V.RowValue.content in
     let rows = waiting_rows c.self.inside.arity c.self.inside.count (contents_of c.self.inside.values.items) in
-    let B : BuilderState → Type 0 = λ s. TakesArity s.arity (length row) in
-    let bytes : c.in-Some-append_copies.size ≡ row_size row = c.in-Some-append_copies.ensures.size.0 ∙ size_of_contents c.args.row.now in
+    let B : BuilderState → Type 0 = λ s. TakesRow s row in
+    let bytes : c.in-Some-append_copies.size ≡ row_size row = c.in-Some-append_copies.ensures.size.0 ∙ size_of_contents g.V.RowValue.content c.args.row.now in
     let P : ℕ → Type 0 = λ n. PartFits (rows_packing c.self.inside.rule c.self.inside.limit n) c.self.inside.types_due (rows ++ row ∷ []) in
     let fits = subst P (sym long)
     (c.in-Some.ensures.fits rows row (length-rows_of (unwrap_or c.self.inside.arity 0) c.self.inside.count (contents_of c.self.inside.values.items)) c.self.invariant.flat.size_is (long)
@@ -33,19 +34,19 @@ invariant_of-self-2 c =
     let total : c.self.inside.size + c.in-Some-append_copies.size ≡ sum_by row_size (rows ++ row ∷ []) = omega (arith, sum_by-append row_size rows (row ∷ []), c.self.invariant.flat.size_is, bytes) in
     let held : contents_of c.append_copies.new.values.items ≡ contents_of c.self.inside.values.items ++ row =
     c.in-Some-append_copies.ensures.copies ∙ ap (λ (l : List Value). contents_of l ++ row) c.find_capacity.ensures.values in
-    let types : c.join_row.new.types.items ≡ (if c.self.inside.types_due then types_with_row c.self.inside.types.items row else c.self.inside.types.items) =
-    c.join_row.ensures ∙ ap (λ (l : List ParamType). if c.self.inside.types_due then types_with_row l row else l) c.find_capacity.ensures.types in
-    stored_next c.self.invariant (c.self.inside.size + c.in-Some-append_copies.size) (length c.args.row.now) c.in-Some-checked_add.count row (contents_of c.append_copies.new.values.items) c.join_row.new.types.items
+    let types : c.join_types.new.types.items ≡ (if c.self.inside.types_due then types_after_row (option_copied c.self.inside.columns) c.self.inside.types.items row else c.self.inside.types.items) =
+    c.join_types.ensures ∙ ap (λ (l : List ParamType). if c.self.inside.types_due then types_after_row (option_copied c.self.inside.columns) l row else l) c.find_capacity.ensures.types in
+    stored_next c.self.invariant (c.self.inside.size + c.in-Some-append_copies.size) (length c.args.row.now) c.in-Some-checked_add.count row (contents_of c.append_copies.new.values.items) c.join_types.new.types.items
     (subst B (sym c.self.view_is) c.requires) fits total (sym long) c.in-Some-checked_add.ensures.1 held types
 
 pub returns-clause-waits : goal.returns-clause-waits
-returns-clause-waits c =
-    let row = contents_of c.args.row.now in
-    let long = length-map c.args.row.now content_of in
+returns-clause-waits g c =
+    let row = map g.V.RowValue.content c.args.row.now in
+    let long = length-map c.args.row.now g.V.RowValue.content in
     let rows = waiting_rows c.self.inside.arity c.self.inside.count (contents_of c.self.inside.values.items) in
-    let B : BuilderState → Type 0 = λ s. TakesArity s.arity (length row) in
+    let B : BuilderState → Type 0 = λ s. TakesRow s row in
     let F : BuilderState → Type 0 = λ s. RowFits s row in
-    let bytes : c.in-Some-append_copies.size ≡ row_size row = c.in-Some-append_copies.ensures.size.0 ∙ size_of_contents c.args.row.now in
+    let bytes : c.in-Some-append_copies.size ≡ row_size row = c.in-Some-append_copies.ensures.size.0 ∙ size_of_contents g.V.RowValue.content c.args.row.now in
     let P : ℕ → Type 0 = λ n. PartFits (rows_packing c.self.inside.rule c.self.inside.limit n) c.self.inside.types_due (rows ++ row ∷ []) in
     let fits = subst P (sym long)
     (c.in-Some.ensures.fits rows row (length-rows_of (unwrap_or c.self.inside.arity 0) c.self.inside.count (contents_of c.self.inside.values.items)) c.self.invariant.flat.size_is (long)
@@ -53,7 +54,7 @@ returns-clause-waits c =
     let held : contents_of c.append_copies.new.values.items ≡ contents_of c.self.inside.values.items ++ row =
     c.in-Some-append_copies.ensures.copies ∙ ap (λ (l : List Value). contents_of l ++ row) c.find_capacity.ensures.values in (
       subst F c.self.view_is fits,
-      state_next c.self.invariant (length c.args.row.now) c.in-Some-checked_add.count row (contents_of c.append_copies.new.values.items) (subst B (sym c.self.view_is) c.requires) (sym long)
+      state_next c.self.invariant (length c.args.row.now) c.in-Some-checked_add.count row (contents_of c.append_copies.new.values.items) (subst B (sym c.self.view_is) c.requires).0 (sym long)
           c.in-Some-checked_add.ensures.1 held
           ∙ ap (λ (s : BuilderState). after_row s row) c.self.view_is,
     )

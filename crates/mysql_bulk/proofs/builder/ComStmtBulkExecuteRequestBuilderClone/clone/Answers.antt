@@ -22,6 +22,7 @@ returns c =
       results = c.self.inside.results;
       rule = c.self.inside.rule;
       names = option_copied c.self.inside.names;
+      columns = option_copied c.self.inside.columns;
       arity = c.self.inside.arity;
       types_due = c.self.inside.types_due;
       waiting = waiting_rows c.self.inside.arity c.self.inside.count held;

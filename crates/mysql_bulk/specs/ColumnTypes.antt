@@ -1,0 +1,109 @@
+-- The types that a caller declares for the columns, and the values that they spell.
+use Rattle.std.specs.Prelude.{◌≡◌, ◌⊎◌, ◌^◌, Bool, true, false, not, ◌&&◌, ◌||◌, ◌==◌, nat_lt, IsTrue, List, [], ◌∷◌, Option, Some, None, fold, length}
+use Rattle.std.specs.Int.{is_negative}
+use Rattle.mysql_wire.specs.FlagMasks.{UNSIGNED}
+use Rattle.mysql_wire.specs.Flags.{has}
+use Rattle.mysql_wire.specs.declared.codes.column_type.ColumnType.{ColumnType}
+use Rattle.mysql_wire.specs.declared.codes.column_type.ColumnType.TheVariants as column
+use Rattle.mysql_values.specs.declared.param_type.ParamType.{ParamType}
+use Rattle.mysql_values.specs.declared.temporal.DateTime.{DateTime}
+use Rattle.mysql_values.specs.ReadingBack.{is_string}
+use Rattle.mysql_values.specs.Temporal.{is_midnight}
+use Rattle.mysql_values.specs.Value.{Content, NULL, Bytes, Int, UInt, Float, Double, Date, Time}
+use Rattle.mysql_bulk.specs.DeclaredTypes.{declared_types, types_with_row}
+
+-- ---- types
+
+abbrev pub is_integer : ColumnType → Bool
+is_integer column.MYSQL_TYPE_LONGLONG = true
+is_integer _ = false
+
+abbrev pub is_float : ColumnType → Bool
+is_float column.MYSQL_TYPE_FLOAT = true
+is_float _ = false
+
+abbrev pub is_double : ColumnType → Bool
+is_double column.MYSQL_TYPE_DOUBLE = true
+is_double _ = false
+
+abbrev pub is_time : ColumnType → Bool
+is_time column.MYSQL_TYPE_TIME = true
+is_time _ = false
+
+abbrev pub is_unsigned : ParamType → Bool
+is_unsigned t = has t.flags.0 UNSIGNED
+
+-- values of the type are spelled as they are where no type is declared for them; BIT is a type of results alone
+abbrev pub is_declarable : ColumnType → Bool
+is_declarable column.MYSQL_TYPE_LONGLONG = true
+is_declarable column.MYSQL_TYPE_FLOAT = true
+is_declarable column.MYSQL_TYPE_DOUBLE = true
+is_declarable column.MYSQL_TYPE_DATE = true
+is_declarable column.MYSQL_TYPE_DATETIME = true
+is_declarable column.MYSQL_TYPE_TIMESTAMP = true
+is_declarable column.MYSQL_TYPE_TIME = true
+is_declarable column.MYSQL_TYPE_BIT = false
+is_declarable t = is_string t
+
+-- the type may be declared; integers alone may be unsigned
+abbrev pub may_be_declared : ParamType → Bool
+may_be_declared t = is_declarable t.column_type && (t.flags.0 == 0 || (t.flags.0 == UNSIGNED && is_integer t.column_type))
+
+-- ---- the values that they spell
+
+-- a date alone has no time of day
+abbrev pub spells_date : ColumnType → DateTime → Bool
+spells_date column.MYSQL_TYPE_DATE date = date.micros == 0 && is_midnight date.clock
+spells_date column.MYSQL_TYPE_DATETIME date = true
+spells_date column.MYSQL_TYPE_TIMESTAMP date = true
+spells_date _ date = false
+
+-- the value is spelled under the type as it is under its own
+abbrev pub spells : ParamType → Content → Bool
+spells t NULL = true
+spells t (Bytes bytes) = is_string t.column_type
+spells t (Int n) = is_integer t.column_type && not (is_unsigned t && is_negative n)
+spells t (UInt n) = is_integer t.column_type && (is_unsigned t || nat_lt n (2 ^ 63))
+spells t (Float bits) = is_float t.column_type
+spells t (Double bits) = is_double t.column_type
+spells t (Date date) = spells_date t.column_type date
+spells t (Time time) = is_time t.column_type
+
+-- the row has one value for each type, which spells it
+abbrev pub spell_row : List ParamType → List Content → Bool
+spell_row [] [] = true
+spell_row [] (value ∷ row) = false
+spell_row (t ∷ types) [] = false
+spell_row (t ∷ types) (value ∷ row) = spells t value && spell_row types row
+
+-- where types are declared, they spell the row
+abbrev pub takes_types : Option (List ParamType) → List Content → Bool
+takes_types None row = true
+takes_types (Some types) row = spell_row types row
+
+abbrev pub TakesTypes : Option (List ParamType) → List Content → Type 0
+TakesTypes columns row = IsTrue (takes_types columns row)
+
+-- ---- the types that a request has
+
+-- the types of the columns of rows: those that were declared, or else those of their values. For no row there are none
+abbrev pub types_of_rows : Option (List ParamType) → List (List Content) → List ParamType
+types_of_rows None rows = declared_types rows
+types_of_rows (Some types) [] = []
+types_of_rows (Some types) (row ∷ rows) = types
+
+-- the same so far, while rows come one after another
+abbrev pub types_so_far : Option (List ParamType) → List (List Content) → List ParamType
+types_so_far None rows = fold types_with_row [] rows
+types_so_far (Some types) [] = []
+types_so_far (Some types) (row ∷ rows) = types
+
+-- the types so far, after one more row
+abbrev pub types_after_row : Option (List ParamType) → List ParamType → List Content → List ParamType
+types_after_row None so_far row = types_with_row so_far row
+types_after_row (Some types) so_far row = types
+
+-- these are the types so far of rows as long as this one: of none, or of some
+abbrev pub MayFollow : Option (List ParamType) → List ParamType → List Content → Type 0
+MayFollow None so_far row = (length so_far ≡ length row) ⊎ (so_far ≡ [])
+MayFollow (Some types) so_far row = (length types ≡ length row) × ((so_far ≡ types) ⊎ (so_far ≡ []))

@@ -1,0 +1,54 @@
+//! Types that are declared for the columns.
+
+ghost use Rattle.std.specs.Prelude.{◌≡◌, [], map};
+ghost use Rattle.mysql_bulk.specs.Builder.{Declares};
+ghost use Rattle.mysql_bulk.specs.ColumnTypes.{takes_types};
+
+use super::ComStmtBulkExecuteRequestBuilder;
+use crate::column_types::{first_refused, spell_row};
+use crate::error::BulkColumnTypeError;
+use crate::row_value::RowValue;
+use mysql_values::ParamType;
+
+impl<'a> ComStmtBulkExecuteRequestBuilder<'a> {
+    /// Declares the types of the columns, which the next request sends whatever its rows hold, and then those that
+    /// `with_types_always` says. Only rows of as many values are taken, each of which is `NULL` or is spelled under its
+    /// column's type as it is under its own; another row is refused (`MixedArity`, `MixedTypes`).
+    ///
+    /// | Type | Values |
+    /// |---|---|
+    /// | `LONGLONG` | `Int`, and `UInt` below 2^63 |
+    /// | `LONGLONG`, unsigned | `UInt`, and `Int` of 0 and more |
+    /// | `FLOAT`, `DOUBLE` | `Float`, `Double` |
+    /// | `DATETIME`, `TIMESTAMP` | `Date` |
+    /// | `DATE` | `Date` without a time of day |
+    /// | `TIME` | `Time` |
+    /// | `VARCHAR`, `VAR_STRING`, `STRING`, the four `BLOB`s, `DECIMAL`, `NEWDECIMAL`, `ENUM`, `SET`, `JSON`, `VECTOR`, `GEOMETRY` | `Bytes` |
+    ///
+    /// Another type may not be declared, nor may an unsigned one that is not `LONGLONG`: the error has the place of the
+    /// first one, and the builder is dropped. A type takes as many bytes as one that is not declared, so each promise of
+    /// fewest requests stands. The types are not copied, and it takes no memory.
+    pub fn with_column_types(self, types: &'a [ParamType]) -> Result<Self, BulkColumnTypeError>
+        requires { self.waiting ≡ [] }
+        ensures { Declares self.entry types.now result }
+    {
+        if let Some(place) = first_refused(types) {
+            return Err(BulkColumnTypeError { place });
+        }
+        let mut builder = self;
+        builder.columns = Some(types);
+        builder.arity = Some(types.len());
+        builder.types_due = true;
+        Ok(builder)
+    }
+
+    /// Whether the declared types, if there are any, spell the row.
+    pub(crate) fn takes_types<V: RowValue>(&self, row: &[V]) -> bool
+        ensures { result ≡ takes_types self.now.columns (map V.content row.now) }
+    {
+        match self.columns {
+            Some(types) => spell_row(types, row),
+            None => true,
+        }
+    }
+}

@@ -1,0 +1,149 @@
+//! The values of a row that is offered, whoever keeps their bytes.
+
+ghost use Rattle.std.specs.Prelude.{◌≡◌, ◌+◌, ◌≤◌, ◌++◌, ◌∷◌, [], take, IfSome, IfNone, OnSome, vec_len, vec_capacity};
+ghost use Rattle.mysql_values.specs.ParamType.{type_of};
+ghost use Rattle.mysql_values.specs.SentType.{is_uint};
+ghost use Rattle.mysql_values.specs.Value.{bin_size, content_of, contents_of, size_of};
+ghost use Rattle.mysql_values.specs.ValueRef.{ref_content};
+
+use mysql_values::{ParamType, Value, ValueRef};
+use std::alloc::Global;
+
+/// A value of a row that is offered.
+pub(crate) trait RowValue {
+    ghost use Rattle.mysql_values.specs.Value.{Content};
+
+    /// What it holds.
+    ghost content: { Self → Content };
+
+    /// The value with its bytes where they are.
+    fn as_value_ref(&self) -> ValueRef<'_>
+        ensures value { ref_content result ≡ content self.now };
+
+    /// How many bytes its binary form takes.
+    fn value_len(&self) -> u64
+        ensures value { result ≡ bin_size (content self.now) };
+
+    /// The type that it is sent as.
+    fn param_type(&self) -> ParamType
+        ensures value { result ≡ type_of (content self.now) };
+
+    /// Whether it is an unsigned number.
+    fn is_unsigned_number(&self) -> bool
+        ensures value { result ≡ is_uint (content self.now) };
+
+    /// Puts a copy at the end of values that have capacity for it, and answers its bytes in a request: no more than `most`.
+    ///
+    /// `None` where it has more, or where memory for it was refused: then nothing is put there. Of bytes the copy is made
+    /// in one piece.
+    fn push_copy(&self, alloc: Global, values: &mut Vec<Value>, most: u64) -> Option<u64>
+        requires { vec_len values.old + 1 ≤ vec_capacity values.old }
+        ensures size { IfSome result (λ n. (n ≡ 1 + bin_size (content self.now)) × (n ≤ most)) }
+        ensures copy { OnSome result (contents_of values.new.items ≡ contents_of values.old.items ++ content self.now ∷ []) }
+        ensures kept { OnSome result (take (vec_len values.old) values.new.items ≡ values.old.items) }
+        ensures count { OnSome result (vec_len values.new ≡ vec_len values.old + 1) }
+        ensures none { IfNone result (values.new.items ≡ values.old.items) }
+        ensures capacity { vec_capacity values.old ≤ vec_capacity values.new };
+}
+
+impl RowValue for Value {
+    ghost use Rattle.mysql_values.specs.Value.{content_of};
+
+    ghost content = { content_of };
+
+    #[inline(always)]
+    fn as_value_ref(&self) -> ValueRef<'_> {
+        self.as_ref()
+    }
+
+    #[inline(always)]
+    fn value_len(&self) -> u64 {
+        self.bin_len()
+    }
+
+    #[inline(always)]
+    fn param_type(&self) -> ParamType {
+        ParamType::from_value(self)
+    }
+
+    #[inline(always)]
+    fn is_unsigned_number(&self) -> bool {
+        self.is_uint()
+    }
+
+    // (each kind is pushed where it is known: one value for all kinds would be taken apart again)
+    #[inline(always)]
+    fn push_copy(&self, alloc: Global, values: &mut Vec<Value>, most: u64) -> Option<u64> {
+        match self {
+            Value::NULL if 1 <= most => {
+                values.push_reserved(Value::NULL);
+                Some(1)
+            }
+            Value::Int(n) if 9 <= most => {
+                values.push_reserved(Value::Int(*n));
+                Some(9)
+            }
+            Value::Bytes(bytes) if bytes.len() < 251 && bytes.len() as u64 + 2 <= most => {
+                let copy = Vec::from_slice(alloc, bytes.as_slice()).ok()?;
+                values.push_reserved(Value::Bytes(copy));
+                Some(bytes.len() as u64 + 2)
+            }
+            _ => push_any(values, self, most),
+        }
+    }
+}
+
+/// The same, for a value of any kind.
+#[inline(never)]
+fn push_any(values: &mut Vec<Value>, value: &Value, most: u64) -> Option<u64>
+    requires { vec_len values.old + 1 ≤ vec_capacity values.old }
+    ensures size { IfSome result (λ n. (n ≡ 1 + size_of value.now) × (n ≤ most)) }
+    ensures copy { OnSome result (contents_of values.new.items ≡ contents_of values.old.items ++ content_of value.now ∷ []) }
+    ensures kept { OnSome result (take (vec_len values.old) values.new.items ≡ values.old.items) }
+    ensures count { OnSome result (vec_len values.new ≡ vec_len values.old + 1) }
+    ensures none { IfNone result (values.new.items ≡ values.old.items) }
+    ensures capacity { vec_capacity values.old ≤ vec_capacity values.new }
+{
+    let size = value.bin_len().checked_add(1)?;
+    if most < size {
+        return None;
+    }
+    values.push_reserved(value.clone().ok()?);
+    Some(size)
+}
+
+impl RowValue for ValueRef<'_> {
+    ghost use Rattle.mysql_values.specs.ValueRef.{ref_content};
+
+    ghost content = { ref_content };
+
+    #[inline(always)]
+    fn as_value_ref(&self) -> ValueRef<'_> {
+        *self
+    }
+
+    #[inline(always)]
+    fn value_len(&self) -> u64 {
+        self.bin_len()
+    }
+
+    #[inline(always)]
+    fn param_type(&self) -> ParamType {
+        ParamType::from_value_ref(self)
+    }
+
+    #[inline(always)]
+    fn is_unsigned_number(&self) -> bool {
+        self.is_uint()
+    }
+
+    #[inline(always)]
+    fn push_copy(&self, alloc: Global, values: &mut Vec<Value>, most: u64) -> Option<u64> {
+        let size = self.bin_len().checked_add(1)?;
+        if most < size {
+            return None;
+        }
+        values.push_reserved(self.to_value(alloc).ok()?);
+        Some(size)
+    }
+}

@@ -1,0 +1,128 @@
+//! Conversions of values whose bytes stay where they are.
+
+ghost use Rattle.std.specs.Prelude.{◌≡◌, IfOk, IfErr};
+ghost use Rattle.mysql_values.specs.ValueRef.{ref_content};
+
+use crate::from_value::{parse_i64, parse_u64};
+use crate::value_ref::ValueRef;
+use std::str;
+use thiserror::Error;
+
+/// A value that does not convert to the type that was asked for: the value itself, unchanged.
+#[derive(Clone, Copy, Debug, PartialEq, Error)]
+#[error("FromValueError")]
+pub struct FromValueRefError<'a>(pub ValueRef<'a>);
+
+/// What a value converts to without memory. Bytes stay where they are.
+///
+/// An owned value is made by [`ValueRef::to_value`], and converts as [`FromValue`](crate::FromValue) says.
+pub trait FromValueRef<'a>: Sized {
+    ghost use Rattle.mysql_values.specs.Value.{Content};
+
+    /// What a value with this content is as this type.
+    ghost Converts: { Content → Self → Type 0 };
+
+    /// Converts a value, or hands it back where it is none of this type.
+    fn from_value_ref_opt(value: ValueRef<'a>) -> Result<Self, FromValueRefError<'a>>
+        ensures ok { IfOk result (λ converted. Converts (ref_content value.entry) converted) }
+        ensures err { IfErr result (λ refusal. (refusal.0 ≡ value.entry) × ((x : Self) → Converts (ref_content value.entry) x → ⊥)) };
+}
+
+/// Every value, as it is.
+impl<'a> FromValueRef<'a> for ValueRef<'a> {
+    ghost use Rattle.std.specs.Prelude.{◌≡◌};
+    ghost use Rattle.mysql_values.specs.ValueRef.{ref_content};
+
+    ghost Converts = { λ content converted. content ≡ ref_content converted };
+
+    fn from_value_ref_opt(value: ValueRef<'a>) -> Result<Self, FromValueRefError<'a>> {
+        Ok(value)
+    }
+}
+
+/// A number in range, or bytes that write one in decimal, with an optional `+` or `-`.
+impl<'a> FromValueRef<'a> for i64 {
+    ghost use Rattle.mysql_values.specs.FromValueRef.{ContentAsI64};
+
+    ghost Converts = { ContentAsI64 };
+
+    fn from_value_ref_opt(value: ValueRef<'a>) -> Result<Self, FromValueRefError<'a>> {
+        match value {
+            ValueRef::Int(number) => Ok(number),
+            ValueRef::UInt(number) => {
+                i64::try_from(number).map_err(|_| FromValueRefError(ValueRef::UInt(number)))
+            }
+            ValueRef::Bytes(bytes) => match parse_i64(bytes) {
+                Some(number) => Ok(number),
+                None => Err(FromValueRefError(value)),
+            },
+            _ => Err(FromValueRefError(value)),
+        }
+    }
+}
+
+/// A number in range, or bytes that write one in decimal, with an optional `+`.
+impl<'a> FromValueRef<'a> for u64 {
+    ghost use Rattle.mysql_values.specs.FromValueRef.{ContentAsU64};
+
+    ghost Converts = { ContentAsU64 };
+
+    fn from_value_ref_opt(value: ValueRef<'a>) -> Result<Self, FromValueRefError<'a>> {
+        match value {
+            ValueRef::UInt(number) => Ok(number),
+            ValueRef::Int(number) => {
+                u64::try_from(number).map_err(|_| FromValueRefError(ValueRef::Int(number)))
+            }
+            ValueRef::Bytes(bytes) => match parse_u64(bytes) {
+                Some(number) => Ok(number),
+                None => Err(FromValueRefError(value)),
+            },
+            _ => Err(FromValueRefError(value)),
+        }
+    }
+}
+
+/// Bytes, where they are.
+impl<'a> FromValueRef<'a> for &'a [u8] {
+    ghost use Rattle.mysql_values.specs.FromValueRef.{ContentAsBytes};
+
+    ghost Converts = { λ content bytes. ContentAsBytes content bytes.now };
+
+    fn from_value_ref_opt(value: ValueRef<'a>) -> Result<Self, FromValueRefError<'a>> {
+        match value {
+            ValueRef::Bytes(bytes) => Ok(bytes),
+            _ => Err(FromValueRefError(value)),
+        }
+    }
+}
+
+/// Bytes that are UTF-8, where they are.
+impl<'a> FromValueRef<'a> for &'a str {
+    ghost use Rattle.mysql_values.specs.FromValueRef.{ContentAsText};
+
+    ghost Converts = { λ content text. ContentAsText content text.now };
+
+    fn from_value_ref_opt(value: ValueRef<'a>) -> Result<Self, FromValueRefError<'a>> {
+        match value {
+            ValueRef::Bytes(bytes) => match str::from_utf8(bytes) {
+                Ok(text) => Ok(text),
+                Err(_) => Err(FromValueRefError(value)),
+            },
+            _ => Err(FromValueRefError(value)),
+        }
+    }
+}
+
+/// NULL is None; another value is what it is as `T`.
+impl<'a, T: FromValueRef<'a>> FromValueRef<'a> for Option<T> {
+    ghost use Rattle.mysql_values.specs.FromValueRef.{ContentAsOption};
+
+    ghost Converts = { ContentAsOption T.Converts };
+
+    fn from_value_ref_opt(value: ValueRef<'a>) -> Result<Self, FromValueRefError<'a>> {
+        match value {
+            ValueRef::NULL => Ok(None),
+            other => Ok(Some(T::from_value_ref_opt(other)?)),
+        }
+    }
+}
