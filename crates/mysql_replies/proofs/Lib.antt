@@ -4,4 +4,5 @@ pub mod ErrPacketFits
 pub mod NamesAfter
 pub mod PlainFits
 pub mod Same
+pub mod AsSent
 pub mod StateString

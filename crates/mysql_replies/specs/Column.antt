@@ -31,6 +31,9 @@ name c = c.meta.name
 abbrev pub org_name : Column → List ℕ
 org_name c = c.meta.org_name
 
+abbrev pub names_of : Column → ColumnMeta
+names_of c = c.meta
+
 -- the type, the flags and the numbers
 abbrev pub column_type : Column → ColumnType
 column_type c = c.fields.column_type.0

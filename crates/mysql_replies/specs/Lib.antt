@@ -4,10 +4,9 @@ pub mod ServerError
 pub mod ProgressReport
 pub mod ErrPacket
 pub mod SessionStateInfo
-pub mod OkTail
-pub mod OkBody
+pub mod SessionStateChanges
+pub mod OkKind
 pub mod OkPacket
-pub mod OkDeserializer
 pub mod ColumnNames
 pub mod ColumnFields
 pub mod Column

@@ -1,8 +1,11 @@
 -- OK packets.
-use Rattle.std.specs.Prelude.{ℕ, zero, suc, List, [], ◌∷◌, Option, Some, None}
+use Rattle.std.specs.Prelude.{◌≡◌, ℕ, zero, suc, List, [], ◌∷◌, Option, Some, None, ◌==◌, refl}
 use Rattle.mysql_wire.specs.Flags.{StatusFlags}
-use Rattle.mysql_replies.specs.declared.ok_body.OkPacketBody.{OkPacketBody}
+use Rattle.mysql_wire.specs.Form.{Form, ◌>>=◌, give, either, refuse}
+use Rattle.mysql_wire.specs.Int.{byte}
+use Rattle.mysql_replies.specs.declared.ok_kind.OkPacketBody.{OkPacketBody}
 use Rattle.mysql_replies.specs.declared.ok_packet.OkPacket.{OkPacket}
+use Rattle.mysql_replies.specs.declared.ok_packet.OkPacketDeserializer.{OkPacketDeserializer}
 
 -- the rows, the insert id, the status, the count of warnings, the bytes of the info and of the state
 abbrev pub affected_rows : OkPacket → ℕ
@@ -49,3 +52,24 @@ packet_of b = record {
   info = unless_empty b.info;
   session_state_info = unless_empty b.session_state_info;
 }
+
+-- the packet
+abbrev pub packet : {T : Type 0} → OkPacketDeserializer T → OkPacket
+packet d = d.0
+
+abbrev pub deserialized : {T : Type 0} → OkPacketBody → OkPacketDeserializer T
+deserialized body = record { 0 = packet_of body; 1 = record {} }
+
+-- the header's byte, and the body
+unfoldable pub ok_packet : {T : Type 0} → ℕ → Form OkPacketBody → Form (OkPacketDeserializer T)
+ok_packet header body = do
+  first ← byte
+  either (first.0 == header)
+      (do
+        b ← body
+        give (deserialized b))
+      refuse
+
+pub size-ok_packet : (T : Type 0) (header : ℕ) (body : Form OkPacketBody) → (ok_packet {T = T} header body).size ≡ None
+unfolding ok_packet
+size-ok_packet T header body = refl

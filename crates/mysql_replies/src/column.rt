@@ -1,9 +1,10 @@
 //! A column of a result.
 #![tactic(auto, using(mysql_wire::proofs::Packets::packets), unfolding(crate::specs::Column::column))]
 
-ghost use Rattle.std.specs.Prelude.{◌≡◌, true, length, None, refl, IfOk, ◌∷◌};
+ghost use Rattle.std.specs.Prelude.{◌≡◌, true, length, None, refl, IfOk, OnErr, IsTrue, ◌∷◌};
 ghost use Rattle.mysql_wire.specs.Text.{GivesText};
 ghost use Rattle.mysql_replies.specs.Column as spec;
+ghost use Rattle.mysql_replies.specs.ColumnNames.{has_a_name};
 
 use crate::column_fields::ColumnFields;
 use crate::column_names::{ColumnMeta, ColumnNames, borrowed};
@@ -60,8 +61,13 @@ pub struct Column {
 }
 
 /// The column of these names and fields, which copies the names.
-fn named(alloc: Global, meta: &ColumnMeta<'_>, fields: ColumnFields) -> Result<Column, AllocError>
+pub(crate) fn named(
+    alloc: Global,
+    meta: &ColumnMeta<'_>,
+    fields: ColumnFields,
+) -> Result<Column, AllocError>
     ensures value { IfOk result (λ column. (column.meta ≡ meta.now) × (column.fields ≡ fields)) }
+    ensures memory { OnErr result (IsTrue (has_a_name meta.now)) }
 {
     Ok(Column {
         catalog: ConstBytes::new(),

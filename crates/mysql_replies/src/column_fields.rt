@@ -36,6 +36,23 @@ pub(crate) struct ColumnFields {
     pub(crate) filler: Skip<2>,
 }
 
+impl ColumnFields {
+    /// The same fields.
+    pub(crate) fn copied(&self) -> ColumnFields
+        ensures value { result ≡ self.now }
+    {
+        ColumnFields {
+            fixed_length_fields_len: ConstU8::new(),
+            character_set: RawInt::new(self.character_set.0),
+            column_length: RawInt::new(self.column_length.0),
+            column_type: Const::new(self.column_type.0),
+            flags: Const::new(self.flags.0),
+            decimals: RawInt::new(self.decimals.0),
+            filler: Skip,
+        }
+    }
+}
+
 impl<'de> MyDeserialize<'de> for ColumnFields {
     const SIZE: Option<usize> = Some(13);
 

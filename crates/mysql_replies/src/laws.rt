@@ -3,7 +3,7 @@
 //! Each law is a function with nothing in it, whose contract holds for all values.
 #![tactic(auto, using(mysql_wire::proofs::Packets::packets))]
 
-ghost use Rattle.std.specs.Prelude.{◌≡◌, ◌++◌, ◌<◌, ◌^◌, ◌↔◌, [], List, ℕ, length, Bool, None, Some, IsTrue};
+ghost use Rattle.std.specs.Prelude.{◌≡◌, ◌++◌, ◌<◌, ◌^◌, ◌↔◌, [], List, ℕ, length, Bool, None, Some, Ok, IsTrue};
 ghost use Rattle.mysql_wire.specs.Flags.{CapabilityFlags};
 ghost use Rattle.mysql_replies.specs.declared.column.Column.{Column};
 ghost use Rattle.mysql_replies.specs.declared.err_packet.ErrPacket.{ErrPacket};
@@ -18,7 +18,9 @@ ghost use Rattle.mysql_replies.specs.ErrPacket.{err_packet, ErrPacketFits};
 ghost use Rattle.mysql_replies.specs.LocalInfile.{local_infile};
 ghost use Rattle.mysql_replies.specs.ProgressReport.{progress_report, ProgressReportFits};
 ghost use Rattle.mysql_replies.specs.ServerError.{server_error, error_code, sql_state_of, StateFits};
-ghost use Rattle.mysql_replies.specs.SessionStateInfo.{session_state_info, data_bytes, state_string};
+ghost use Rattle.mysql_replies.specs.SessionStateInfo.{session_state_info, data_bytes, decoded, state_string};
+ghost use Rattle.mysql_replies.specs.SessionStateChanges.{decoded_as_sent};
+ghost use Rattle.mysql_session.specs.declared.session_state_change.SessionStateChange.{SessionStateChange};
 ghost use Rattle.mysql_replies.specs.SqlState.{sql_state, state_bytes};
 
 pub mod values;
@@ -78,6 +80,12 @@ pub fn session_state_info_round_trips()
     ensures plain { (i : SessionStateInfo) (rest : List ℕ) → length (data_bytes i) < 2 ^ 64 → (session_state_info.form tt).Spells i (session_state_info.bytes i ++ rest) rest }
 {}
 
+/// What a change is read as in the written layout, it is read as in the layouts that servers send.
+#[tactic(auto, using(crate::proofs::AsSent::as_sent))]
+pub fn session_state_change_as_sent()
+    ensures value { (i : SessionStateInfo) (change : SessionStateChange) → decoded i ≡ Ok (change, []) → decoded_as_sent i ≡ Ok (change, []) }
+{}
+
 /// A state string spells at most one list of entries.
 #[tactic(auto, using(mysql_wire::specs::Once::once))]
 pub fn state_string_once()
@@ -89,6 +97,11 @@ pub fn state_string_once()
 pub fn column_round_trips()
     ensures spelled { (c : Column) (rest : List ℕ) → column.fits tt c rest → (column.form tt).Spells c (column.bytes c ++ rest) rest }
     ensures plain { (c : Column) (rest : List ℕ) → ColumnFits c → (column.form tt).Spells c (column.bytes c ++ rest) rest }
+{}
+
+/// A column that stays in its packet is read of the same bytes as a column, and is that column.
+pub fn borrowed_columns_read_columns()
+    ensures read { (bytes : List ℕ) → (⟦<crate::column_ref::ColumnRef<'static> as MyDeserialize<'static>>⟧.form tt).reads bytes ≡ (column.form tt).reads bytes }
 {}
 
 /// A column has no constant size.

@@ -1,16 +1,35 @@
-//! The kinds of OK packets.
+//! The kinds of OK packets, and their bodies.
 
 ghost use Rattle.std.specs.Prelude.{false, ◌≡◌, ℕ, OnErr};
 ghost use Rattle.mysql_wire.specs.Flags as flags;
 ghost use Rattle.mysql_wire.specs.Form.{Form};
 ghost use Rattle.mysql_wire.specs.Reading.{Answers, IsTail};
-ghost use Rattle.mysql_replies.specs.OkBody.{common_ok_body, terminator_body, old_eof_body, ok_end};
+ghost use Rattle.mysql_replies.specs.OkKind.{common_ok_body, terminator_body, old_eof_body, ok_end, ok_tail, size-ok_tail};
 
-use crate::ok_body::OkPacketBody;
-use crate::ok_tail::OkTail;
+use bitflags::Flags;
 use mysql_wire::{
-    CapabilityFlags, Const, FaultOf, LeU16, LenEnc, ParseBuf, RawBytes, RawInt, StatusFlags,
+    AnyWidth, CapabilityFlags, Const, FaultOf, LeU16, LenEnc, MyDeserialize, ParseBuf, RawBytes,
+    RawInt, StatusFlags,
 };
+
+/// The body of an OK packet: what stands after its header, as its kind reads it.
+///
+/// The kinds' `parse_body` make it, and [`OkPacket`](crate::OkPacket) is made of it.
+#[derive(Clone, Debug, PartialEq, Eq, Drop)]
+pub struct OkPacketBody<'a> {
+    /// How many rows the statement changed.
+    pub(crate) affected_rows: u64,
+    /// The number that the last inserted row got, or 0.
+    pub(crate) last_insert_id: u64,
+    /// The state of the server.
+    pub(crate) status_flags: StatusFlags,
+    /// How many warnings there are.
+    pub(crate) warnings: u16,
+    /// A text for people, or nothing.
+    pub(crate) info: RawBytes<'a, LenEnc>,
+    /// The changes of the session's state, or nothing.
+    pub(crate) session_state_info: RawBytes<'a, LenEnc>,
+}
 
 /// A kind of OK packet: its header, and how its body is spelled.
 ///
@@ -20,7 +39,7 @@ pub trait OkPacketKind {
     ghost use Rattle.std.specs.Prelude.{ℕ};
     ghost use Rattle.mysql_wire.specs.Flags as flags;
     ghost use Rattle.mysql_wire.specs.Form.{Form};
-    ghost use Rattle.mysql_replies.specs.declared.ok_body.OkPacketBody as declared;
+    ghost use Rattle.mysql_replies.specs.declared.ok_kind.OkPacketBody as declared;
 
     ghost HEADER: { ℕ };
 
@@ -39,9 +58,60 @@ pub trait OkPacketKind {
         ensures tail { OnErr result (IsTail buf.new buf.old) };
 }
 
+/// The end of an OK packet: an info and the session's changes, each empty where it is not sent.
+#[derive(Drop)]
+pub struct OkTail<'a> {
+    pub(crate) info: RawBytes<'a, LenEnc>,
+    pub(crate) session_state_info: RawBytes<'a, LenEnc>,
+}
+
+impl<'de> MyDeserialize<'de> for OkTail<'de> {
+    const SIZE: Option<usize> = None;
+
+    type Size = AnyWidth;
+
+    type Ctx = (CapabilityFlags, StatusFlags);
+
+    ghost form = { λ ctx. ok_tail ctx.0 ctx.1 };
+
+    #[tactic(auto, using(mysql_wire::proofs::Tails::tails), unfolding(crate::specs::OkKind::ok_tail))]
+    fn deserialize<'s>(
+        ctx: (CapabilityFlags, StatusFlags),
+        buf: &mut ParseBuf<'de>,
+    ) -> Result<Self, FaultOf<'s>> {
+        let (capabilities, status_flags) = ctx;
+        let tracks = capabilities.contains(CapabilityFlags::CLIENT_SESSION_TRACK);
+        let state_changed = status_flags.contains(StatusFlags::SERVER_SESSION_STATE_CHANGED);
+        if tracks && !buf.is_empty() {
+            let info = buf.parse(())?;
+            let session_state_info = if state_changed {
+                buf.parse(())?
+            } else {
+                RawBytes::default()
+            };
+            Ok(OkTail {
+                info,
+                session_state_info,
+            })
+        } else if buf.first().is_some_and(|first| first != 0) {
+            Ok(OkTail {
+                info: buf.parse(())?,
+                session_state_info: RawBytes::default(),
+            })
+        } else {
+            Ok(OkTail {
+                info: RawBytes::default(),
+                session_state_info: RawBytes::default(),
+            })
+        }
+    }
+
+    ghost size_is = { λ ctx. size-ok_tail ctx.0 ctx.1 };
+}
+
 /// Reads the end of a body: two bytes of status flags, a count of warnings of two bytes, each the
 /// little-endian, and the tail.
-#[tactic(auto, using(mysql_wire::proofs::Blocks::blocks), unfolding(crate::specs::OkBody::ok_end))]
+#[tactic(auto, using(mysql_wire::proofs::Blocks::blocks), unfolding(crate::specs::OkKind::ok_end))]
 fn parse_end<'s, 'de>(
     capabilities: CapabilityFlags,
     affected_rows: u64,

@@ -1,6 +1,6 @@
-//! An OK packet.
+//! OK packets, of each kind.
 
-ghost use Rattle.std.specs.Prelude.{true, ◌≡◌, ℕ, List, [], Option, Some, None, Ok, IfOk, option_map};
+ghost use Rattle.std.specs.Prelude.{true, false, ◌≡◌, ℕ, List, [], Option, Some, None, Ok, IfOk, option_map};
 ghost use Rattle.std.specs.Cow.{cow_str_bytes};
 ghost use Rattle.mysql_wire.specs.Reading.{Answers};
 ghost use Rattle.mysql_wire.specs.Seq.{items_of};
@@ -8,11 +8,17 @@ ghost use Rattle.mysql_wire.specs.Text.{lossy_text, OptionBorrowsUtf8};
 ghost use Rattle.mysql_replies.specs.OkPacket as spec;
 ghost use Rattle.mysql_replies.specs.SessionStateInfo.{state_string};
 
-use crate::ok_body::OkPacketBody;
+use crate::ok_kind::{OkPacketBody, OkPacketKind};
+use crate::session_state_changes::SessionStateChanges;
 use crate::session_state_info::SessionStateInfo;
-use mysql_wire::{Fault, LenEnc, ParseBuf, RawBytes, StatusFlags, read_all};
+use mysql_wire::{
+    AnyWidth, CapabilityFlags, ConstFault, Fault, FaultOf, LenEnc, MyDeserialize, ParseBuf,
+    RawBytes, RawInt, StatusFlags, read_all,
+};
 use std::alloc::{AllocError, Global};
 use std::borrow::CowStr;
+use std::marker::PhantomData;
+use thiserror::Error;
 
 /// An OK packet of any kind. An insert id of 0, an empty info and an empty state are absent.
 #[derive(Clone, Debug, PartialEq, Eq, Drop)]
@@ -149,6 +155,21 @@ impl<'a> OkPacket<'a> {
         }
     }
 
+    /// The changes that the state string spells, one after another, in the layouts that servers send; none where there is
+    /// no state.
+    ///
+    /// No list is made: each change borrows from the packet, or is its own fault, after which the next ones are given.
+    /// Memory is taken for a list of system variables alone.
+    pub fn session_state_changes(&self, alloc: Global) -> SessionStateChanges<'_>
+        ensures value { result ≡ spec.state_bytes self.now }
+    {
+        let bytes: &[u8] = match &self.session_state_info {
+            Some(state) => state.as_bytes(),
+            None => b"",
+        };
+        SessionStateChanges::new(ParseBuf::new(alloc, bytes))
+    }
+
     /// The same packet, on memory of its own.
     pub fn into_owned(self, alloc: Global) -> Result<OkPacket<'static>, AllocError>
         ensures value { IfOk result (λ owned. owned ≡ self.entry) }
@@ -173,4 +194,66 @@ impl<'a> TryFrom<OkPacketBody<'a>> for OkPacket<'a> {
     fn try_from(body: OkPacketBody<'a>) -> Result<OkPacket<'a>, Fault> {
         Ok(OkPacket::from_body(body))
     }
+}
+
+/// The first byte of an OK packet is not that of its kind.
+#[derive(Clone, Copy, Debug, Default, PartialEq, Eq, Hash, Error)]
+#[error("Invalid OK packet header")]
+pub struct InvalidOkPacketHeader;
+
+impl ConstFault for InvalidOkPacketHeader {
+    const MESSAGE: &'static str = "Invalid OK packet header";
+}
+
+/// An OK packet of the kind `T`: the header of `T`, and its body.
+///
+/// No byte is `UnexpectedEof`, another header is `InvalidData`; else the fault is that of the body.
+#[derive(Drop)]
+#[derive_where(Clone, Debug, PartialEq, Eq)]
+pub struct OkPacketDeserializer<'de, T>(OkPacket<'de>, PhantomData<T>);
+
+impl<'de, T> OkPacketDeserializer<'de, T> {
+    /// The packet.
+    #[inline]
+    pub fn into_inner(self) -> OkPacket<'de>
+        ensures value { result ≡ spec.packet self.entry }
+    {
+        self.0
+    }
+}
+
+impl<'de, T> From<OkPacketDeserializer<'de, T>> for OkPacket<'de> {
+    ghost from_gives = { λ d p. p ≡ spec.packet d };
+
+    fn from(deserializer: OkPacketDeserializer<'de, T>) -> OkPacket<'de> {
+        deserializer.0
+    }
+}
+
+impl<'de, T: OkPacketKind> MyDeserialize<'de> for OkPacketDeserializer<'de, T> {
+    const SIZE: Option<usize> = None;
+
+    type Size = AnyWidth;
+
+    /// What both sides can do.
+    type Ctx = CapabilityFlags;
+
+    ghost form = { λ capabilities. spec.ok_packet T.HEADER (T.body capabilities) };
+
+    #[tactic(auto, unfolding(crate::specs::OkPacket::ok_packet))]
+    fn deserialize<'s>(
+        capabilities: CapabilityFlags,
+        buf: &mut ParseBuf<'de>,
+    ) -> Result<Self, FaultOf<'s>> {
+        let mut rest = buf.rest();
+        let header: RawInt<u8> = rest.parse(())?;
+        if header.0 != T::HEADER {
+            return Err(FaultOf::InvalidData(InvalidOkPacketHeader::MESSAGE));
+        }
+        let body = T::parse_body(capabilities, &mut rest)?;
+        *buf = rest;
+        Ok(OkPacketDeserializer(OkPacket::from_body(body), PhantomData))
+    }
+
+    ghost size_is = { λ capabilities. spec.size-ok_packet _ T.HEADER (T.body capabilities) };
 }

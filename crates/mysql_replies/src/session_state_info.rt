@@ -5,6 +5,7 @@ ghost use Rattle.std.specs.Prelude.{true, ◌≡◌, [], List, ℕ, None, refl, 
 ghost use Rattle.mysql_wire.specs.Reading.{Answers};
 ghost use Rattle.mysql_session.specs.SessionStateChange.{session_state_change, lists_variables};
 ghost use Rattle.mysql_replies.specs.SessionStateInfo as spec;
+ghost use Rattle.mysql_replies.specs.SessionStateChanges as changes;
 
 use mysql_session::SessionStateChange;
 use mysql_wire::{
@@ -43,13 +44,26 @@ impl<'a> SessionStateInfo<'a> {
     /// The change that the data begins with; bytes after it are dropped.
     ///
     /// The fault is that of reading the data as a change of this type. Memory is taken for a list of system variables
-    /// alone.
+    /// alone. Servers send a state change in another layout: [`decode_as_sent`](Self::decode_as_sent) reads both.
     pub fn decode(&self, alloc: Global) -> Result<SessionStateChange<'_>, Fault>
         ensures value { Answers (lists_variables (spec.data_type self.now) (spec.data_bytes self.now)) result [] (spec.decoded self.now) }
         ensures spelled { IfOk result (λ change. (rest : List ℕ) × (session_state_change (spec.data_type self.now)).Spells change (spec.data_bytes self.now) rest) }
     {
         let mut data = ParseBuf::new(alloc, self.content.as_bytes());
         data.parse(self.data_type.0)
+    }
+
+    /// The change, in either layout of a state change (`SESSION_TRACK_STATE_CHANGE`).
+    ///
+    /// Servers send its data as one byte, the truth value itself: `1` where changes are tracked. All else is as
+    /// [`decode`](Self::decode) reads it, with the same faults.
+    pub fn decode_as_sent(&self, alloc: Global) -> Result<SessionStateChange<'_>, Fault>
+        ensures value { Answers (lists_variables (spec.data_type self.now) (spec.data_bytes self.now)) result [] (changes.decoded_as_sent self.now) }
+    {
+        read_as_sent(
+            self.data_type.0,
+            ParseBuf::new(alloc, self.content.as_bytes()),
+        )
     }
 
     /// The same, on memory of its own.
@@ -61,6 +75,28 @@ impl<'a> SessionStateInfo<'a> {
             content: self.content.into_owned(alloc)?,
         })
     }
+}
+
+/// Whether it is a state change, which has two layouts.
+fn is_state_change(data_type: SessionStateType) -> bool
+    ensures value { result ≡ changes.is_state_change data_type }
+{
+    matches!(data_type, SessionStateType::SESSION_TRACK_STATE_CHANGE)
+}
+
+/// The change that data of this type spells, in the layouts that servers send.
+pub(crate) fn read_as_sent<'a>(
+    data_type: SessionStateType,
+    data_bytes: ParseBuf<'a>,
+) -> Result<SessionStateChange<'a>, Fault>
+    ensures value { Answers (lists_variables data_type data_bytes.entry) result [] (changes.change_as_sent data_type data_bytes.entry) }
+{
+    let mut bytes = data_bytes;
+    let change: Result<SessionStateChange<'a>, Fault> = bytes.parse(data_type);
+    if change.is_err() && is_state_change(data_type) && bytes.len() == 1 {
+        return Ok(SessionStateChange::IsTracked(bytes.eat_all() == b"1".as_slice()));
+    }
+    change
 }
 
 impl<'de> MyDeserialize<'de> for SessionStateInfo<'de> {

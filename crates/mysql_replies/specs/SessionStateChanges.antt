@@ -1,0 +1,52 @@
+-- The session's changes, one after another, in the layouts that servers send.
+use Rattle.std.specs.Prelude.{◌≡◌, ◌≢◌, ℕ, List, [], ◌∷◌, length, Option, Some, None, Result, Ok, Err, Bool, true, false, ◌&&◌, ◌==◌}
+use Rattle.mysql_wire.specs.declared.codes.session_state_type.SessionStateType.{SessionStateType}
+use Rattle.mysql_wire.specs.declared.codes.session_state_type.SessionStateType.TheVariants as kind
+use Rattle.mysql_wire.specs.declared.fault.FaultOf.{FaultOf}
+use Rattle.mysql_wire.specs.LenEnc.{lenenc_string}
+use Rattle.mysql_wire.specs.Reading.{Reading, Answers, Faults}
+use Rattle.mysql_session.specs.SessionStateChange.{session_state_change, is_tracked, lists_variables}
+use Rattle.mysql_session.specs.declared.session_state_change.SessionStateChange.{SessionStateChange}
+use Rattle.mysql_replies.specs.declared.session_state_info.SessionStateInfo.{SessionStateInfo}
+use Rattle.mysql_replies.specs.SessionStateInfo.{session_state_info, data_type, data_bytes, front_of}
+
+abbrev pub is_state_change : SessionStateType → Bool
+is_state_change kind.SESSION_TRACK_STATE_CHANGE = true
+is_state_change kind.SESSION_TRACK_SYSTEM_VARIABLES = false
+is_state_change kind.SESSION_TRACK_SCHEMA = false
+is_state_change kind.SESSION_TRACK_GTIDS = false
+is_state_change kind.SESSION_TRACK_TRANSACTION_CHARACTERISTICS = false
+is_state_change kind.SESSION_TRACK_TRANSACTION_STATE = false
+
+-- what is read; where that is refused, one byte alone is the truth value
+abbrev pub sent_unless_read : Bool → List ℕ → Reading SessionStateChange → Reading SessionStateChange
+sent_unless_read one bytes (Ok x) = Ok x
+sent_unless_read true bytes (Err kind) = Ok (is_tracked bytes, [])
+sent_unless_read false bytes (Err kind) = Err kind
+
+-- the change that data of this type begins with, or the state change that one byte is
+abbrev pub change_as_sent : SessionStateType → List ℕ → Reading SessionStateChange
+change_as_sent type bytes = sent_unless_read (is_state_change type && (length bytes == 1)) bytes (front_of ((session_state_change type).reads bytes))
+
+abbrev pub decoded_as_sent : SessionStateInfo → Reading SessionStateChange
+decoded_as_sent i = change_as_sent (data_type i) (data_bytes i)
+
+-- what comes after an entry, whatever its type: nothing, where it is cut
+abbrev pub rest_of : {A : Type 0} → Reading A → List ℕ
+rest_of (Ok x) = x.1
+rest_of (Err kind) = []
+
+abbrev pub after_entry : List ℕ → List ℕ
+after_entry [] = []
+after_entry (type ∷ bytes) = rest_of (lenenc_string.reads bytes)
+
+-- the answer for an entry that was read, with what follows it; or its fault, and what follows an entry of any type
+abbrev pub ChangeOf : List ℕ → Reading SessionStateInfo → Result SessionStateChange FaultOf → List ℕ → Type 0
+ChangeOf bytes (Ok x) r rest = Answers (lists_variables (data_type x.0) (data_bytes x.0)) r [] (decoded_as_sent x.0) × (rest ≡ x.1)
+ChangeOf bytes (Err kind) (Ok change) rest = ⊥
+ChangeOf bytes (Err kind) (Err fault) rest = Faults {A = SessionStateInfo} false fault (Err kind) × (rest ≡ after_entry bytes)
+
+-- the next change of the bytes that are left, and what is left then
+abbrev pub NextChange : List ℕ → Option (Result SessionStateChange FaultOf) → List ℕ → Type 0
+NextChange bytes None rest = (bytes ≡ []) × (rest ≡ [])
+NextChange bytes (Some r) rest = (bytes ≢ []) × ChangeOf bytes ((session_state_info.form tt).reads bytes) r rest

@@ -1,0 +1,194 @@
+//! A column of a result that stays in its packet.
+#![tactic(auto, using(mysql_wire::proofs::Packets::packets), unfolding(crate::specs::Column::column, crate::specs::ColumnNames::column_meta))]
+
+ghost use Rattle.std.specs.Prelude.{◌≡◌, None, refl, IfOk, IfErr, OnErr, IsTrue, false};
+ghost use Rattle.mysql_wire.specs.Reading.{Answers};
+ghost use Rattle.mysql_replies.specs.Column as spec;
+ghost use Rattle.mysql_replies.specs.ColumnNames.{column_meta, has_a_name};
+
+use crate::column::{Column, ColumnDefinitionCatalog, named};
+use crate::column_fields::ColumnFields;
+use crate::column_names::{ColumnMeta, borrowed};
+use mysql_wire::{
+    AnyWidth, BytesRepr, ColumnFlags, ColumnType, FaultOf, LenEnc, MyDeserialize, ParseBuf,
+};
+use std::alloc::{AllocError, Global};
+use std::marker::Model;
+
+/// The names of a column, where they lie. In a clause they are a column's names.
+#[derive(Drop)]
+struct Names<'a> {
+    schema: &'a [u8],
+    table: &'a [u8],
+    org_table: &'a [u8],
+    name: &'a [u8],
+    org_name: &'a [u8],
+}
+
+impl<'a> Model for Names<'a> {
+    ghost use Rattle.mysql_replies.specs.declared.column_names.ColumnMeta.{ColumnMeta};
+    ghost use Rattle.mysql_replies.specs.ColumnNames.{meta_of};
+
+    ghost Value = { ColumnMeta };
+
+    ghost view = { λ n. meta_of n.schema.now n.table.now n.org_table.now n.name.now n.org_name.now };
+}
+
+/// Reads five length-encoded strings. After a fault the bytes are as they were.
+#[inline(always)]
+fn read_names<'s, 'de>(buf: &mut ParseBuf<'de>) -> Result<Names<'de>, FaultOf<'s>>
+    ensures value { Answers false result buf.new ((column_meta.form tt).reads buf.old) }
+    ensures err { OnErr result (buf.new ≡ buf.old) }
+{
+    let mut rest = buf.rest();
+    let mut schema: ParseBuf<'de> = <LenEnc as BytesRepr>::deserialize((), &mut rest)?;
+    let mut table: ParseBuf<'de> = <LenEnc as BytesRepr>::deserialize((), &mut rest)?;
+    let mut org_table: ParseBuf<'de> = <LenEnc as BytesRepr>::deserialize((), &mut rest)?;
+    let mut name: ParseBuf<'de> = <LenEnc as BytesRepr>::deserialize((), &mut rest)?;
+    let mut org_name: ParseBuf<'de> = <LenEnc as BytesRepr>::deserialize((), &mut rest)?;
+    *buf = rest;
+    Ok(Names {
+        schema: schema.eat_all(),
+        table: table.eat_all(),
+        org_table: org_table.eat_all(),
+        name: name.eat_all(),
+        org_name: org_name.eat_all(),
+    })
+}
+
+/// A column of a result (`Protocol::ColumnDefinition41`) whose names stay in the packet: [`Column`] without memory.
+///
+/// It is read of the same bytes as a [`Column`], with the same faults but for `Memory`, and in a clause it is that column.
+#[derive(Drop)]
+pub struct ColumnRef<'a> {
+    names: Names<'a>,
+    fields: ColumnFields,
+}
+
+impl<'a> Model for ColumnRef<'a> {
+    ghost use Rattle.mysql_replies.specs.declared.column.Column.{Column};
+
+    ghost Value = { Column };
+
+    ghost view = { λ c. record { catalog = record { 0 = record {} }; meta = c.names; fields = c.fields } };
+}
+
+impl<'a> ColumnRef<'a> {
+    /// The bytes of the name of the schema.
+    #[inline]
+    pub fn schema(&self) -> &'a [u8]
+        ensures value { result.now ≡ spec.schema self.now }
+    {
+        self.names.schema
+    }
+
+    /// The bytes of the name of the table, or of its alias.
+    #[inline]
+    pub fn table(&self) -> &'a [u8]
+        ensures value { result.now ≡ spec.table self.now }
+    {
+        self.names.table
+    }
+
+    /// The bytes of the name of the table itself.
+    #[inline]
+    pub fn org_table(&self) -> &'a [u8]
+        ensures value { result.now ≡ spec.org_table self.now }
+    {
+        self.names.org_table
+    }
+
+    /// The bytes of the name of the column, or of its alias.
+    #[inline]
+    pub fn name(&self) -> &'a [u8]
+        ensures value { result.now ≡ spec.name self.now }
+    {
+        self.names.name
+    }
+
+    /// The bytes of the name of the column itself.
+    #[inline]
+    pub fn org_name(&self) -> &'a [u8]
+        ensures value { result.now ≡ spec.org_name self.now }
+    {
+        self.names.org_name
+    }
+
+    /// The number of the character set (collation).
+    #[inline]
+    pub fn character_set(&self) -> u16
+        ensures value { result ≡ spec.character_set self.now }
+    {
+        self.fields.character_set.0
+    }
+
+    /// The most characters of a value, for showing it.
+    #[inline]
+    pub fn column_length(&self) -> u32
+        ensures value { result ≡ spec.column_length self.now }
+    {
+        self.fields.column_length.0
+    }
+
+    /// The type of the values.
+    #[inline]
+    pub fn column_type(&self) -> ColumnType
+        ensures value { result ≡ spec.column_type self.now }
+    {
+        self.fields.column_type.0
+    }
+
+    /// The flags.
+    #[inline]
+    pub fn flags(&self) -> ColumnFlags
+        ensures value { result ≡ spec.flags self.now }
+    {
+        self.fields.flags.0
+    }
+
+    /// The most decimals of a value: 0 for integers and strings of fixed length, 31 for other strings and floats, else up to 81.
+    #[inline]
+    pub fn decimals(&self) -> u8
+        ensures value { result ≡ spec.decimals self.now }
+    {
+        self.fields.decimals.0
+    }
+
+    /// The column with names of its own. It takes memory where a name has any byte.
+    pub fn to_column(&self, alloc: Global) -> Result<Column, AllocError>
+        ensures value { IfOk result (λ column. column ≡ self.now) }
+        ensures memory { IfErr result (λ _. IsTrue (has_a_name (spec.names_of self.now))) }
+    {
+        let meta = ColumnMeta {
+            schema: borrowed(self.names.schema),
+            table: borrowed(self.names.table),
+            org_table: borrowed(self.names.org_table),
+            name: borrowed(self.names.name),
+            org_name: borrowed(self.names.org_name),
+        };
+        named(alloc, &meta, self.fields.copied())
+    }
+}
+
+/// As a [`Column`], but for `Memory`: none is taken.
+impl<'de> MyDeserialize<'de> for ColumnRef<'de> {
+    const SIZE: Option<usize> = None;
+
+    type Size = AnyWidth;
+
+    type Ctx = ();
+
+    ghost form = { spec.column.form };
+
+    #[inline]
+    fn deserialize<'s>(_ctx: (), buf: &mut ParseBuf<'de>) -> Result<Self, FaultOf<'s>> {
+        let mut rest = buf.rest();
+        let _catalog: ColumnDefinitionCatalog = rest.parse(())?;
+        let names = read_names(&mut rest)?;
+        let fields: ColumnFields = rest.parse(())?;
+        *buf = rest;
+        Ok(ColumnRef { names, fields })
+    }
+
+    ghost size_is = { λ _. unfold spec.column in refl };
+}
