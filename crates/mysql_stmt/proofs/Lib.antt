@@ -1,6 +1,9 @@
 pub mod Cells
 pub mod RowMemory
 pub mod Nulls
+pub mod OptionLengths
+pub mod OptionBytes
+pub mod NullsAmong
 pub mod ParamLengths
 pub mod Copies
 pub mod NullBits
@@ -11,3 +14,5 @@ pub mod CellsEq
 pub mod EqualRows
 pub mod StmtAgain
 pub mod PutCells
+pub mod RowViews
+pub mod PlainOptions

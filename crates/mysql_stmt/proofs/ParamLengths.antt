@@ -82,11 +82,11 @@ some_fit bitmap flags values false len rule few =
       | inr fits ↦ omega (arith, length-parts bitmap flags (types_bytes values) (data_bytes false values), length-types_bytes values, length-values values)
     ]
 
-pub where_none : (values : List Value) (bytes : List ℕ) → values ≡ [] → where_some values bytes ≡ []
+pub where_none : {A : Type 0} (values : List A) (bytes : List ℕ) → values ≡ [] → where_some values bytes ≡ []
 where_none [] bytes none = refl
 where_none (v ∷ values) bytes none = absurd cc
 
-pub where_more : (values : List Value) (bytes : List ℕ) → values ≢ [] → where_some values bytes ≡ bytes
+pub where_more : {A : Type 0} (values : List A) (bytes : List ℕ) → values ≢ [] → where_some values bytes ≡ bytes
 where_more [] bytes some = absurd (some refl)
 where_more (v ∷ values) bytes some = refl
 

@@ -60,7 +60,7 @@ abbrev pub some_params_bytes : ExecuteParams → List ℕ
 some_params_bytes p = take 8192 p.bitmap.bytes ++ le_bytes 1 p.flags.0.0 ++ types_bytes p.values.now ++ data_bytes p.as_long_data p.values.now
 
 -- the bytes, where there are values
-abbrev pub where_some : List Value → List ℕ → List ℕ
+abbrev pub where_some : {A : Type 0} → List A → List ℕ → List ℕ
 where_some [] bytes = []
 where_some (v ∷ values) bytes = bytes
 

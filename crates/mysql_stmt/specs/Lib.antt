@@ -4,7 +4,12 @@ pub mod NullBitmap
 pub mod Close
 pub mod LongData
 pub mod ExecuteParams
+pub mod ExecuteWithOptions
 pub mod Execute
+pub mod ExecuteParam
 pub mod Row
 pub mod RowForm
 pub mod RowEq
+pub mod RowView
+pub mod StmtWithMetadata
+pub mod PlainExecution

@@ -13,7 +13,7 @@ pub trait ColumnIndex {
     ghost use Rattle.mysql_replies.specs.declared.column.Column.{Column};
 
     /// Which answers of [`idx`](Self::idx) there may be for these columns: any, where an implementation does not say. What
-    /// [`Row::get`](crate::Row::get) and the like promise is passed of a place that is found so.
+    /// [`Row::get`](crate::Row::get) and the like promise speaks of a place that is found so.
     ghost Finds: { Self → List Column → Option ℕ → Type 0 } = { λ _ _ _. Unit {0} };
 
     /// The place of the column among these.

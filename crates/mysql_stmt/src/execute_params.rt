@@ -4,8 +4,9 @@ ghost use Rattle.std.specs.Prelude.{◌≡◌, ◌+◌, ◌≤◌, ◌<◌, ◌�
 ghost use Rattle.mysql_wire.specs.Writing.{saturated};
 ghost use Rattle.mysql_stmt.specs.ExecuteParams.{MarksNulls, whole_size, max_payload, params_bytes};
 
+use crate::items::Items;
 use crate::null_bitmap::NullBitmap;
-use crate::sent_values::{ParamTypes, SentValues};
+use crate::sent_values::{AsSent, ParamTypes};
 use mysql_values::{ClientSide, Value};
 use mysql_wire::{
     BareBytes, Const, Parts, RawBytes, Sink, StmtExecuteParamsFlags, items_len, parts,
@@ -72,17 +73,6 @@ impl<'a> ExecuteParams<'a> {
             as_long_data: whole_len(values) > MAX_PAYLOAD_LEN,
         })
     }
-
-    /// The values as they are sent.
-    fn sent_values(&self) -> SentValues<'a>
-        ensures values { result.values.now ≡ self.now.values.now }
-        ensures as_long_data { result.as_long_data ≡ self.now.as_long_data }
-    {
-        SentValues {
-            values: self.values,
-            as_long_data: self.as_long_data,
-        }
-    }
 }
 
 impl Parts for ExecuteParams<'_> {
@@ -96,12 +86,13 @@ impl Parts for ExecuteParams<'_> {
             let bitmap: RawBytes<'_, WrittenBitmap> = RawBytes::new(CowSlice::Borrowed(
                 self.bitmap.as_bytes(),
             ));
-            sink.part(&parts!(
-                bitmap,
-                self.flags,
-                ParamTypes(self.values),
-                self.sent_values()
-            ));
+            let values = Items {
+                items: self.values,
+                form: AsSent {
+                    as_long_data: self.as_long_data,
+                },
+            };
+            sink.part(&parts!(bitmap, self.flags, ParamTypes(self.values), values));
         }
     }
 }

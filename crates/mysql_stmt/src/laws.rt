@@ -3,11 +3,14 @@
 //! Each law is a function with nothing in it, whose contract holds for all values.
 #![tactic(auto, using(mysql_wire::proofs::Packets::packets))]
 
-ghost use Rattle.std.specs.Prelude.{◌≡◌, ◌+◌, ◌<◌, ◌^◌, ◌++◌, ◌↔◌, ℕ, List, Ok, Option, Some, IsTrue, length};
+ghost use Rattle.std.specs.Prelude.{◌≡◌, ◌+◌, ◌<◌, ◌^◌, ◌++◌, ◌↔◌, ℕ, List, Ok, Option, Some, None, IsTrue, length};
 ghost use Rattle.mysql_stmt.specs.Bitmap.{Bitmap, bytes_for};
 ghost use Rattle.mysql_stmt.specs.NullBitmap.{null_bitmap, borrowed};
 ghost use Rattle.mysql_stmt.specs.declared.stmt.StmtPacket.{StmtPacket};
 ghost use Rattle.mysql_stmt.specs.Stmt.{stmt, StmtPacketFits};
+ghost use Rattle.mysql_wire.specs.Flags.{CapabilityFlags};
+ghost use Rattle.mysql_stmt.specs.declared.stmt_with_metadata.StmtPacketWithMetadata.{StmtPacketWithMetadata};
+ghost use Rattle.mysql_stmt.specs.StmtWithMetadata.{stmt_with_metadata};
 ghost use Rattle.mysql_stmt.specs.declared.close.ComStmtClose.{ComStmtClose};
 ghost use Rattle.mysql_stmt.specs.Close.{close};
 ghost use Rattle.mysql_stmt.specs.declared.long_data.ComStmtSendLongData.{ComStmtSendLongData};
@@ -16,8 +19,13 @@ ghost use Rattle.mysql_replies.specs.declared.column.Column.{Column};
 ghost use Rattle.mysql_values.specs.Value.{Content};
 ghost use Rattle.mysql_stmt.specs.Execute.{execute_head};
 ghost use Rattle.mysql_stmt.specs.declared.execute.ComStmtExecuteRequest.{ComStmtExecuteRequest};
+ghost use Rattle.mysql_stmt.specs.Execute.{execute_bytes};
+ghost use Rattle.mysql_stmt.specs.ExecuteWithOptions as with_options;
+ghost use Rattle.mysql_stmt.specs.PlainExecution.{AsksForNothing};
+ghost use Rattle.mysql_stmt.specs.declared.execute_with_options.ComStmtExecuteWithOptions.{ComStmtExecuteWithOptions};
 ghost use Rattle.mysql_stmt.specs.Row.{AnswersFound, Cells, CopyConvertsTo, FoundConverts};
 ghost use Rattle.mysql_stmt.specs.RowForm.{text_row, bin_row};
+ghost use Rattle.mysql_stmt.specs.RowView.{bin_row_of, text_row_of};
 ghost use Rattle.mysql_values.specs.ByContent.{IsConvertible};
 ghost use Rattle.mysql_values.specs.Cells.{held};
 ghost use Rattle.mysql_values.specs.declared.value.Value.{Value};
@@ -25,6 +33,8 @@ ghost use Rattle.mysql_values.specs.declared.value.Value.{Value};
 pub mod values;
 
 use crate::column_index::ColumnIndex;
+use crate::execute_param::AsExecuteParam;
+use crate::typed_column::TypedColumn;
 use mysql_values::FromValue;
 use mysql_wire::MyDeserialize;
 use std::hash::Hash;
@@ -36,6 +46,22 @@ pub fn stmt_packet_round_trips()
     ensures read { (p : StmtPacket) (rest : List ℕ) → stmt.fits tt p rest → (stmt.form tt).reads (stmt.bytes p ++ rest) ≡ Ok (p, rest) }
     ensures plain { (p : StmtPacket) (rest : List ℕ) → StmtPacketFits p → (stmt.form tt).Spells p (stmt.bytes p ++ rest) rest }
 {}
+
+/// What is written of a statement packet with its metadata byte is read again under the flags that it was read under, whatever
+/// follows.
+pub fn stmt_packet_with_metadata_round_trips()
+    ensures spelled { (capabilities : CapabilityFlags) (p : StmtPacketWithMetadata) (rest : List ℕ) → stmt_with_metadata.fits capabilities p rest →
+        (stmt_with_metadata.form capabilities).Spells p (stmt_with_metadata.bytes p ++ rest) rest }
+    ensures read { (capabilities : CapabilityFlags) (p : StmtPacketWithMetadata) (rest : List ℕ) → stmt_with_metadata.fits capabilities p rest →
+        (stmt_with_metadata.form capabilities).reads (stmt_with_metadata.bytes p ++ rest) ≡ Ok (p, rest) }
+{}
+
+/// A statement packet that may have its metadata byte has no constant size.
+pub fn stmt_packet_with_metadata_has_no_constant_size() -> Option<usize>
+    ensures value { result ≡ None }
+{
+    <crate::stmt_with_metadata::StmtPacketWithMetadata as MyDeserialize>::SIZE
+}
 
 /// A statement packet takes 12 bytes.
 pub fn stmt_packet_size() -> Option<usize>
@@ -76,6 +102,15 @@ pub fn row_once()
     ensures binary { (offset : ℕ) (columns : List Column) (v w : List (Option Content)) (bytes rest left : List ℕ) → (bin_row offset columns).Spells v bytes rest → (bin_row offset columns).Spells w bytes left → (v ≡ w) × (rest ≡ left) }
 {}
 
+/// Reading all values of a row by a view gives what [`RowDeserializer`](crate::RowDeserializer) reads of it: the same values,
+/// the same bytes after them, or the same kind of fault.
+#[tactic(auto, using(crate::proofs::RowViews::row_views))]
+pub fn views_read_rows()
+    ensures binary { (offset : ℕ) (columns : List Column) (bytes : List ℕ) →
+        (bin_row_of ⟦<mysql_replies::Column as TypedColumn>⟧.type_of ⟦<mysql_replies::Column as TypedColumn>⟧.unsigned offset columns).reads bytes ≡ (bin_row offset columns).reads bytes }
+    ensures text { (columns : List Column) (bytes : List ℕ) → (text_row_of (length columns)).reads bytes ≡ (text_row columns).reads bytes }
+{}
+
 /// The bitmap of an execution stands after its first ten bytes.
 #[tactic(auto, using(crate::proofs::HeadLength::head_length))]
 pub fn null_bitmap_offset() -> usize
@@ -84,6 +119,13 @@ pub fn null_bitmap_offset() -> usize
 {
     crate::execute::ComStmtExecuteRequestBuilder::NULL_BITMAP_OFFSET
 }
+
+/// An execution that asks for nothing beside its values is written as the plain request of the same values.
+#[tactic(auto, using(crate::proofs::PlainOptions::plain_options))]
+pub fn options_for_nothing_write_the_plain_request()
+    ensures bytes { (o : ComStmtExecuteWithOptions Value) (r : ComStmtExecuteRequest) → AsksForNothing o r →
+        with_options.request_bytes ⟦<mysql_values::Value as AsExecuteParam>⟧.param o ≡ execute_bytes r }
+{}
 
 /// Statement packets are equal exactly where they are the same, and equal ones hash equally.
 #[tactic(auto, using(crate::proofs::StmtAgain::stmt_again))]

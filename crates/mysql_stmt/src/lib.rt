@@ -3,34 +3,47 @@
 //! their cuts of `mysql_cuts`, have a path here too.
 #![tactic(auto)]
 
+mod binary_row_view;
 mod close;
 mod column_index;
 mod execute;
+mod execute_param;
 mod execute_params;
+mod execute_with_options;
+mod items;
 pub mod laws;
 mod long_data;
 mod null_bitmap;
+mod param_nulls;
 mod row;
 mod row_deserializer;
 mod row_protocol;
 mod row_values;
+mod sent_params;
 mod sent_values;
 mod stmt;
+mod stmt_with_metadata;
+mod text_row_view;
+mod typed_column;
 
+pub use binary_row_view::BinaryRowView;
 pub use close::ComStmtClose;
 pub use column_index::ColumnIndex;
 pub use execute::{
     ComStmtExecuteHeader, ComStmtExecuteRequest, ComStmtExecuteRequestBuilder,
     InvalidComStmtExecuteHeader, InvalidIterationCount, IterationCount,
 };
+pub use execute_param::{AsExecuteParam, ExecuteParam, QueryAttribute};
+pub use execute_with_options::{ComStmtExecuteOptionsBuilder, ComStmtExecuteWithOptions, Cursor};
 pub use long_data::{
     ComStmtSendLongData, ComStmtSendLongDataHeader, InvalidComStmtSendLongDataHeader,
 };
 pub use mysql_bulk::{
-    BulkExecuteRequestBuilderError, BulkExecuteRequestError, BulkParamsRequests, BulkRequests,
-    BulkRowRefusal, BulkRun, ComStmtBulkExecuteHeader, ComStmtBulkExecuteRequest,
-    ComStmtBulkExecuteRequestBuilder, InvalidComStmtBulkExecuteHeader, StmtBulkExecuteParamType,
-    StmtBulkExecuteParamValue, StmtBulkExecuteParamValues, bulk_row_size, read_bulk_rows,
+    BulkColumnTypeError, BulkExecuteRequestBuilderError, BulkExecuteRequestError,
+    BulkParamsRequests, BulkRequests, BulkRowRefusal, BulkRun, ComStmtBulkExecuteHeader,
+    ComStmtBulkExecuteRequest, ComStmtBulkExecuteRequestBuilder, InvalidComStmtBulkExecuteHeader,
+    StmtBulkExecuteParamType, StmtBulkExecuteParamValue, StmtBulkExecuteParamValues, bulk_row_size,
+    read_bulk_rows,
 };
 pub use mysql_cuts::{BulkRule, cut_is_fewest};
 pub use null_bitmap::NullBitmap;
@@ -38,3 +51,6 @@ pub use row::{Row, new_row, new_row_raw};
 pub use row_deserializer::RowDeserializer;
 pub use row_protocol::RowProtocol;
 pub use stmt::{InvalidStmtPacketStatus, StmtPacket};
+pub use stmt_with_metadata::StmtPacketWithMetadata;
+pub use text_row_view::TextRowView;
+pub use typed_column::TypedColumn;

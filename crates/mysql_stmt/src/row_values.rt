@@ -35,7 +35,11 @@ fn put_cell<'s>(
 
 /// Whether the value at that place is NULL, where it is known whether none is.
 #[inline(always)]
-fn is_null_at<S: SerializationSide>(nulls: &NullBitmap<'_, S>, none: bool, i: usize) -> bool
+pub(crate) fn is_null_at<S: SerializationSide>(
+    nulls: &NullBitmap<'_, S>,
+    none: bool,
+    i: usize,
+) -> bool
     requires there { i + S.BIT_OFFSET < 8 * length nulls.now.bytes }
     requires none { IsTrue none → All (λ b. b ≡ 0) nulls.now.bytes }
     ensures value { IsTrue result ↔ (cell nulls.now.bytes (i + S.BIT_OFFSET) ≡ 1) }

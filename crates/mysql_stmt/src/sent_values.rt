@@ -2,6 +2,7 @@
 
 ghost use Rattle.std.specs.Prelude.{◌≡◌};
 
+use crate::items::ItemForm;
 use mysql_values::{ParamType, Value};
 use mysql_wire::MySerialize;
 
@@ -26,69 +27,32 @@ impl MySerialize for ParamTypes<'_> {
     }
 }
 
-/// A value as an execution sends it: without a byte string where those are sent ahead, as long data.
+/// Values are written as an execution sends them: without byte strings where those are sent ahead, as long data.
 #[derive(Drop)]
-struct SentValue<'a> {
-    value: &'a Value,
-    as_long_data: bool,
+pub(crate) struct AsSent {
+    pub(crate) as_long_data: bool,
 }
 
-impl MySerialize for SentValue<'_> {
+impl ItemForm<Value> for AsSent {
     ghost use Rattle.mysql_values.specs.Value.{content_of};
     ghost use Rattle.mysql_stmt.specs.ExecuteParams.{sent};
 
-    ghost bytes = { λ v. sent v.as_long_data (content_of v.value.now) };
+    ghost item_bytes = { λ form value. sent form.as_long_data (content_of value) };
 
+    #[inline(always)]
     #[tactic(auto, unfolding(mysql_wire::specs::Writing::saturated))]
-    fn defined_len(&self) -> usize {
-        match self.value {
+    fn item_len(&self, value: &Value) -> usize {
+        match value {
             Value::Bytes(_) if self.as_long_data => 0,
             value => value.defined_len(),
         }
     }
 
-    fn append(&self, out: &mut Vec<u8>) {
-        match self.value {
+    #[inline(always)]
+    fn append_item(&self, value: &Value, out: &mut Vec<u8>) {
+        match value {
             Value::Bytes(_) if self.as_long_data => {}
             value => value.append(out),
-        }
-    }
-}
-
-/// Values as an execution sends them, one after another.
-#[derive(Drop)]
-pub(crate) struct SentValues<'a> {
-    pub(crate) values: &'a [Value],
-    pub(crate) as_long_data: bool,
-}
-
-impl MySerialize for SentValues<'_> {
-    ghost use Rattle.mysql_stmt.specs.ExecuteParams.{data_bytes};
-
-    ghost bytes = { λ v. data_bytes v.as_long_data v.values.now };
-
-    #[tactic(auto, unfolding(mysql_wire::specs::Writing::saturated))]
-    fn defined_len(&self) -> usize {
-        let as_long_data = self.as_long_data;
-        let mut total: usize = 0;
-        for value in self.values {
-            let sent = SentValue {
-                value,
-                as_long_data,
-            };
-            total = total.saturating_add(sent.defined_len());
-        }
-        total
-    }
-
-    fn append(&self, out: &mut Vec<u8>) {
-        let as_long_data = self.as_long_data;
-        for value in self.values {
-            let sent = SentValue {
-                value,
-                as_long_data,
-            };
-            sent.append(out);
         }
     }
 }

@@ -27,11 +27,11 @@ loop-i-preserved c =
           let others = λ (k : ℕ) (other : k ≢ i). w.in_ok-set.ensures.others k (λ e. other (e ∙ place)) in
           rw (w.bitmap-is) (record {
             len = w.in_ok-set.ensures.len ∙ c.loop-i.invariant.len;
-            cells = marked params i value old new c.loop-i-test.true c.index-params-i.is c.loop-i.invariant.cells this others;
+            cells = marked (λ (v : Value). null_bit (content_of v)) params i value old new c.loop-i-test.true c.index-params-i.is c.loop-i.invariant.cells this others;
           })
       | in_default w ↦
           rw (w.bitmap-is) (record {
             len = c.loop-i.invariant.len;
-            cells = unmarked params i value old c.loop-i-test.true c.index-params-i.is (not_null value w.in_default.not-NULL) c.loop-i.invariant.cells;
+            cells = unmarked (λ (v : Value). null_bit (content_of v)) params i value old c.loop-i-test.true c.index-params-i.is (not_null value w.in_default.not-NULL) c.loop-i.invariant.cells;
           })
     ]

@@ -1,0 +1,100 @@
+//! The types and the values of an execution's parameters and attributes, as they are sent.
+#![tactic(auto, using(crate::proofs::OptionLengths::written), unfolding(mysql_wire::specs::Writing::saturated))]
+
+ghost use Rattle.std.specs.Prelude.{◌≡◌, [], true};
+ghost use Rattle.mysql_values.specs.ValueRef.{ref_content};
+ghost use Rattle.mysql_stmt.specs.ExecuteParam.{value_of};
+
+use crate::execute_param::{AsExecuteParam, ExecuteParam, QueryAttribute};
+use crate::items::ItemForm;
+use mysql_values::{ParamType, ValueRef};
+use mysql_wire::{BytesRepr, LenEnc, MySerialize};
+
+/// As which value the bitmap and the types have a parameter: one that was sent ahead is a byte string.
+#[inline(always)]
+pub(crate) fn typed_value<V: AsExecuteParam>(param: &V) -> ValueRef<'_>
+    ensures value { ref_content result ≡ value_of (V.param param.now) }
+{
+    match param.as_execute_param() {
+        ExecuteParam::Value(value) => value,
+        ExecuteParam::SentAhead => ValueRef::Bytes(&[]),
+    }
+}
+
+/// Parameters are written as their types, each with an empty name where there are names.
+#[derive(Drop)]
+pub(crate) struct AsParamTypes {
+    pub(crate) has_names: bool,
+}
+
+impl<V: AsExecuteParam> ItemForm<V> for AsParamTypes {
+    ghost use Rattle.mysql_stmt.specs.ExecuteParam.{type_bytes, value_of};
+
+    ghost item_bytes = { λ form param. type_bytes form.has_names [] (value_of (V.param param)) };
+
+    #[inline(always)]
+    fn item_len(&self, _param: &V) -> usize {
+        if self.has_names { 3 } else { 2 }
+    }
+
+    #[inline(always)]
+    fn append_item(&self, param: &V, out: &mut Vec<u8>) {
+        ParamType::from_value_ref(&typed_value(param)).append(out);
+        if self.has_names {
+            <LenEnc as BytesRepr>::append(&[], out);
+        }
+    }
+}
+
+/// Attributes are written as their types, each with its name.
+#[derive(Drop)]
+pub(crate) struct AsAttributeTypes;
+
+impl ItemForm<QueryAttribute<'_>> for AsAttributeTypes {
+    ghost use Rattle.mysql_values.specs.ValueRef.{ref_content};
+    ghost use Rattle.mysql_stmt.specs.ExecuteParam.{type_bytes};
+
+    ghost item_bytes = { λ _ attribute. type_bytes true attribute.name.now (ref_content attribute.value) };
+
+    #[inline(always)]
+    fn item_len(&self, attribute: &QueryAttribute<'_>) -> usize {
+        let name = attribute.name;
+        <LenEnc as BytesRepr>::written_len(name).saturating_add(2)
+    }
+
+    #[inline(always)]
+    fn append_item(&self, attribute: &QueryAttribute<'_>, out: &mut Vec<u8>) {
+        ParamType::from_value_ref(&attribute.value).append(out);
+        <LenEnc as BytesRepr>::append(attribute.name, out);
+    }
+}
+
+/// Parameters are written as their values: without those that were sent ahead, and without byte strings where they are long data.
+#[derive(Drop)]
+pub(crate) struct AsParamValues {
+    pub(crate) as_long_data: bool,
+}
+
+impl<V: AsExecuteParam> ItemForm<V> for AsParamValues {
+    ghost use Rattle.mysql_stmt.specs.ExecuteParam.{param_bytes};
+
+    ghost item_bytes = { λ form param. param_bytes form.as_long_data (V.param param) };
+
+    #[inline(always)]
+    fn item_len(&self, param: &V) -> usize {
+        match param.as_execute_param() {
+            ExecuteParam::Value(ValueRef::Bytes(_)) if self.as_long_data => 0,
+            ExecuteParam::Value(value) => value.defined_len(),
+            ExecuteParam::SentAhead => 0,
+        }
+    }
+
+    #[inline(always)]
+    fn append_item(&self, param: &V, out: &mut Vec<u8>) {
+        match param.as_execute_param() {
+            ExecuteParam::Value(ValueRef::Bytes(_)) if self.as_long_data => {}
+            ExecuteParam::Value(value) => value.append(out),
+            ExecuteParam::SentAhead => {}
+        }
+    }
+}
