@@ -2,13 +2,13 @@
 use Rattle.std.proofs.Common.{ℕ, List, Option, Some, None, Bool, true, false}
 use Rattle.mysql_wire.specs.Codec.{Codec}
 use Rattle.mysql_wire.specs.CodecFits.{option_fits}
-use Rattle.mysql_wire.specs.Codecs.{string_null, string_u8, string_lenenc}
+use Rattle.mysql_wire.specs.Codecs.{one_of, string_null, string_u8, string_lenenc}
 use Rattle.mysql_wire.specs.Null.{HasNoZero}
 use Rattle.mysql_auth.specs.Attributes.{attributes, AttributesFit}
 use Rattle.mysql_auth.specs.PluginName.{plugin_null_or_eof, PluginFits}
 use Rattle.mysql_auth.specs.SslRequest.{ssl_request}
 use Rattle.mysql_auth.specs.declared.handshake_response.HandshakeResponse.{HandshakeResponse}
-use Rattle.mysql_auth.specs.HandshakeResponse.{handshake_response, one_of, scramble, database, plugin, sent_attributes, counts_by_lenenc, counts_by_byte, sends_database, sends_plugin, sends_attributes, scramble_buf, db_name, auth_plugin, connect_attributes, ScrambleFits, PartFits, HandshakeResponseFits}
+use Rattle.mysql_auth.specs.HandshakeResponse.{handshake_response, scramble, database, plugin, sent_attributes, counts_by_lenenc, counts_by_byte, sends_database, sends_plugin, sends_attributes, scramble_buf, db_name, auth_plugin, connect_attributes, ScrambleFits, PartFits, HandshakeResponseFits}
 
 scramble-fits : (by_lenenc by_byte : Bool) (content rest : List ℕ) → ScrambleFits by_lenenc by_byte content
     → (one_of {C = Unit {0}} by_lenenc string_lenenc (one_of by_byte string_u8 string_null)).fits tt content rest

@@ -1,15 +1,17 @@
 -- Pairs that are put into a map one after another.
-use Rattle.std.proofs.Common.{◌≡◌, ℕ, Bool, true, false, List, [], ◌∷◌, ◌++◌, map, if◌then◌else◌, refl, sym, subst, ap, ◌∙◌, append_assoc}
-use Rattle.std.proofs.lemmas.List.{append-nil}
-use Rattle.std.proofs.lemmas.Map.Keys.{IsDistinct-head, IsDistinct-tail}
+use Rattle.std.proofs.Common.{◌≡◌, ℕ, suc, ◌+◌, ◌<◌, Bool, true, false, ◌||◌, List, [], ◌∷◌, ◌++◌, length, take, get_or, map, arith, if◌then◌else◌, refl, sym, subst, ap, ◌∙◌, append_assoc}
+use Rattle.std.proofs.Math.Seq.{take-suc}
+use Rattle.std.proofs.lemmas.List.{append-nil, map-append}
+use Rattle.std.proofs.lemmas.List.Sums.{fold-append}
+use Rattle.std.proofs.lemmas.Map.Keys.{IsDistinct-head, IsDistinct-tail, IsDistinct-push}
 use Rattle.std.specs.Cmp.Lexicographic.{pointwise, nat_list_eq_equiv}
 use Rattle.std.specs.Global.{Global}
-use Rattle.std.specs.List.{IsDistinct, AllByRecursion}
+use Rattle.std.specs.List.{IsDistinct, AllByRecursion, list_any}
 use Rattle.std.specs.Map.{keys_of}
 use Rattle.std.specs.Prelude.{nat_eq, string_bytes, string_eq}
 use Rattle.std.specs.declared.string.String.{String}
 use Rattle.indexmap.specs.IndexMap.{insert_entry, insert_all}
-use Rattle.mysql_auth.specs.Attributes.{Attribute, merged, text_pair}
+use Rattle.mysql_auth.specs.Attributes.{Attribute, merged, text_pair, lossy_pair, lossy_pairs}
 
 abbrev same : List ℕ → List ℕ → Bool
 same = pointwise nat_eq
@@ -37,6 +39,38 @@ merged-after front (e ∷ es) once =
 -- pairs of which each key stands once stay as they are
 pub merged-once : (es : List Attribute) → IsDistinct same (keys_of es) → merged es ≡ es
 merged-once es once = merged-after [] es once
+
+-- ---- a key that no other has
+
+same_or : (b c : Bool) → (b || c) ≡ false → (b ≡ false) × (c ≡ false)
+same_or false c none = (refl, none)
+same_or true c none = absurd cc
+
+-- it goes last
+pub new-last : (es : List Attribute) (k v : List ℕ) → list_any (λ e. same k e.0) es ≡ false → insert_entry same es k v ≡ es ++ (k, v) ∷ []
+new-last [] k v none = refl
+new-last (e ∷ es) k v none =
+    let each = same_or (same k e.0) (list_any (λ e. same k e.0) es) none in
+    rw each.0 (ap (λ (rest : List Attribute). e ∷ rest) (new-last es k v each.1))
+
+keys-any : (es : List Attribute) (k : List ℕ) → list_any (same k) (keys_of es) ≡ list_any (λ e. same k e.0) es
+keys-any [] k = refl
+keys-any (e ∷ es) k = ap (λ b. same k e.0 || b) (keys-any es k)
+
+keys-last : (es : List Attribute) (p : Attribute) → keys_of (es ++ p ∷ []) ≡ keys_of es ++ p.0 ∷ []
+keys-last [] p = refl
+keys-last (e ∷ es) p = ap (λ (ks : List (List ℕ)). e.0 ∷ ks) (keys-last es p)
+
+-- and each key stands once again
+pub new-once : (es : List Attribute) (p : Attribute) → IsDistinct same (keys_of es) → list_any (λ e. same p.0 e.0) es ≡ false → IsDistinct same (keys_of (es ++ p ∷ []))
+new-once es p once none =
+    subst (IsDistinct same) (sym (keys-last es p)) (IsDistinct-push nat_list_eq_equiv (keys_of es) p.0 once (keys-any es p.0 ∙ none))
+
+pub none-twice : IsDistinct same (keys_of {K = List ℕ} {X = List ℕ} [])
+unfolding IsDistinct
+none-twice = tt
+
+pub ruleset distinct = (new-once, none-twice, merged-once)
 
 -- ---- texts
 
@@ -67,4 +101,26 @@ texts-once (e ∷ es) once = (others-apart e.0 es once.0, texts-once es once.1)
 pub merged-texts : (es : List (String Global × String Global)) → IsDistinct string_eq (keys_of es) → merged (map text_pair es) ≡ map text_pair es
 merged-texts es once = merged-once (map text_pair es) (texts-once es once)
 
-pub ruleset merges = (merged-once, merged-texts, texts-insert)
+-- a list that is the pairs of a map
+pub once-listed : (list es : List Attribute) → IsDistinct same (keys_of es) → list ≡ es → merged list ≡ list
+once-listed list es once is = rw is (merged-once es once)
+
+pub texts-listed : (list : List Attribute) (es : List (String Global × String Global)) → IsDistinct string_eq (keys_of es) → list ≡ map text_pair es → merged list ≡ list
+texts-listed list es once is = rw is (merged-texts es once)
+
+-- the texts of one pair more
+pub texts-next : (pairs : List Attribute) (i : ℕ) (d : Attribute) (es : List (String Global × String Global)) (k v : String Global) → i < length pairs
+    → map text_pair es ≡ lossy_pairs (take i pairs) → text_pair (k, v) ≡ lossy_pair (get_or pairs i d)
+    → map text_pair (insert_entry string_eq es k v) ≡ lossy_pairs (take (i + 1) pairs)
+texts-next pairs i d es k v lt so_far is =
+    let one : i + 1 ≡ suc i = omega arith in
+    let more : take (i + 1) pairs ≡ take i pairs ++ get_or pairs i d ∷ [] = rw one (take-suc pairs i d lt) in
+    let put : insert_entry same (map text_pair es) (string_bytes k) (string_bytes v) ≡ insert_entry same (lossy_pairs (take i pairs)) (string_bytes k) (string_bytes v) =
+    ap (λ (front : List Attribute). insert_entry same front (string_bytes k) (string_bytes v)) so_far in
+    let last : insert_entry same (lossy_pairs (take i pairs)) (string_bytes k) (string_bytes v) ≡ insert_all same (lossy_pairs (take i pairs)) (lossy_pair (get_or pairs i d) ∷ []) =
+    ap (λ (p : Attribute). insert_entry same (lossy_pairs (take i pairs)) p.0 p.1) is in
+    let joined : lossy_pairs (take i pairs ++ get_or pairs i d ∷ []) ≡ insert_all same (lossy_pairs (take i pairs)) (lossy_pair (get_or pairs i d) ∷ []) =
+    ap (λ (all : List Attribute). merged all) (map-append lossy_pair (take i pairs) (get_or pairs i d ∷ [])) ∙ fold-append _ [] (map lossy_pair (take i pairs)) (lossy_pair (get_or pairs i d) ∷ []) in
+    texts-insert es k v ∙ put ∙ last ∙ sym joined ∙ ap lossy_pairs (sym more)
+
+pub ruleset merges = (merged-once, merged-texts, once-listed, texts-listed, append-nil, append_assoc)

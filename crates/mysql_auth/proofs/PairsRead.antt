@@ -1,8 +1,9 @@
 -- A loop that reads pairs into a map.
-use Rattle.std.proofs.Common.{◌≡◌, ◌≢◌, ℕ, ◌+◌, ◌<◌, ◌≤◌, List, [], ◌∷◌, length, Ok, Err, Bool, true, false, refl, sym, ap, ◌∙◌, arith}
+use Rattle.std.proofs.Common.{◌≡◌, ◌≢◌, ℕ, ◌+◌, ◌<◌, ◌≤◌, List, [], ◌∷◌, ◌++◌, length, Ok, Err, Bool, true, false, refl, sym, ap, ◌∙◌, arith}
 use Rattle.std.proofs.lemmas.Bool.{lt-ltb}
 use Rattle.std.proofs.lemmas.List.{length-append}
 use Rattle.std.specs.Cmp.Lexicographic.{pointwise}
+use Rattle.std.specs.List.{list_any}
 use Rattle.std.specs.Prelude.{nat_eq}
 use Rattle.indexmap.specs.IndexMap.{insert_entry, insert_all}
 use Rattle.mysql_wire.specs.declared.fault.FaultOf.{FaultOf}
@@ -16,6 +17,7 @@ use Rattle.mysql_wire.specs.Many.{many, value_and_more}
 use Rattle.mysql_wire.specs.ManyLaws.{many-next}
 use Rattle.mysql_wire.specs.Seq.{is_any}
 use Rattle.mysql_auth.specs.Attributes.{Attribute, attribute}
+use Rattle.mysql_auth.proofs.Merging.{new-last}
 
 abbrev same : List ℕ → List ℕ → Bool
 same = pointwise nat_eq
@@ -87,4 +89,12 @@ any-left [] whole some le = absurd (some refl)
 any-left (b ∷ bytes) [] some le = absurd (omega (arith, le))
 any-left (b ∷ bytes) (w ∷ whole) some le = refl
 
+-- one pair whose key is new, and those after it
+pub new-pair : (entries : List Attribute) (p : Attribute) (bytes after : List ℕ) → bytes ≢ [] → f.reads bytes ≡ Ok (p, after) → list_any (λ e. same p.0 e.0) entries ≡ false
+    → put_after (entries ++ p ∷ []) ((many f).reads after) ≡ put_after entries ((many f).reads bytes)
+new-pair entries p bytes after some e new =
+    ap (λ (es : List Attribute). put_after es ((many f).reads after)) (sym (new-last entries p.0 p.1 new)) ∙ one-pair entries p bytes after some e
+
 pub ruleset pair_loops = (one-pair, no-pair, pair-faults, pair-shorter, any-left)
+
+pub ruleset new_pairs = (new-pair, no-pair, pair-faults, pair-shorter, any-left)

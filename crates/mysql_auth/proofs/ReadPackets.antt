@@ -1,6 +1,6 @@
 -- The parts of packets that were read fit, but for what their lengths have to tell.
 use Rattle.std.proofs.Common.{◌≡◌, ℕ, List, Option, Bool, true, false, refl, sym, subst, ap, ◌∙◌}
-use Rattle.mysql_wire.specs.Codecs.{string_null, string_u8, string_lenenc}
+use Rattle.mysql_wire.specs.Codecs.{one_of, string_null, string_u8, string_lenenc}
 use Rattle.mysql_wire.specs.Flags.{CapabilityFlags}
 use Rattle.mysql_wire.specs.Form.{when}
 use Rattle.mysql_wire.specs.Null.{HasNoZero, null_string}
@@ -8,7 +8,7 @@ use Rattle.mysql_auth.specs.Attributes.{Attribute, AreShort, AreShortIn, attribu
 use Rattle.mysql_auth.specs.ComChangeUser as change
 use Rattle.mysql_auth.specs.ComChangeUser.{change_user, last_part, more_data, named_plugin, NamedFits, GivenShort, MoreDataPartsFit, MoreIsShort, MorePartsFit, ChangeUserIsShort, ChangeUserPartsFit}
 use Rattle.mysql_auth.specs.Handshake.{handshake, handshake_head, handshake_block, server_version}
-use Rattle.mysql_auth.specs.HandshakeResponse.{handshake_response, one_of, scramble, database, plugin, sent_attributes, counts_by_lenenc, counts_by_byte, sends_database, sends_plugin, sends_attributes, PartFits, ScrambleFits, ScrambleIsShort, ResponseIsShort, ResponsePartsFit}
+use Rattle.mysql_auth.specs.HandshakeResponse.{handshake_response, scramble, database, plugin, sent_attributes, counts_by_lenenc, counts_by_byte, sends_database, sends_plugin, sends_attributes, PartFits, ScrambleFits, ScrambleIsShort, ResponseIsShort, ResponsePartsFit}
 use Rattle.mysql_auth.specs.PluginName.{PluginFits, plugin_null, plugin_null_or_eof}
 use Rattle.mysql_auth.specs.declared.auth_plugin.AuthPlugin.{AuthPlugin}
 use Rattle.mysql_auth.specs.declared.com_change_user.ComChangeUser.{ComChangeUser}

@@ -7,7 +7,7 @@ use Rattle.mysql_wire.specs.Null.{HasNoZero, null_string}
 use Rattle.mysql_auth.specs.AuthPlugin.{plugin_name, plugin_named, plugin_of}
 use Rattle.mysql_auth.specs.HandshakeResponse.{PartFits}
 use Rattle.mysql_auth.specs.PluginName.{PluginFits, has_zero, plugin_null, plugin_null_or_eof}
-use Rattle.mysql_auth.specs.TrailingZero.{ends_in_zero, without_last_zero}
+use Rattle.mysql_auth.specs.EofName.{ends_in_zero, without_last_zero}
 use Rattle.mysql_auth.specs.declared.auth_plugin.AuthPlugin.{AuthPlugin}
 
 -- ---- texts without a zero

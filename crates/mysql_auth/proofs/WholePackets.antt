@@ -11,7 +11,7 @@ use Rattle.mysql_auth.specs.OldAuthSwitchRequest.{old_auth_switch_request}
 use Rattle.mysql_auth.specs.PublicKeyRequest.{public_key_request}
 use Rattle.mysql_auth.specs.PublicKeyResponse.{public_key_response}
 use Rattle.mysql_auth.specs.SslRequest.{ssl_request, SslRequestFits}
-use Rattle.mysql_auth.specs.TrailingZero.{without_last_zero}
+use Rattle.mysql_auth.specs.EofName.{without_last_zero}
 use Rattle.mysql_auth.specs.declared.auth_more_data.AuthMoreData.{AuthMoreData}
 use Rattle.mysql_auth.specs.declared.auth_plugin.AuthPlugin.{AuthPlugin}
 use Rattle.mysql_auth.specs.declared.auth_switch_request.AuthSwitchRequest.{AuthSwitchRequest}

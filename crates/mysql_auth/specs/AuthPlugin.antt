@@ -5,7 +5,7 @@ use Rattle.std.proofs.lemmas.List.{append-nil}
 use Rattle.std.specs.Cmp.Lexicographic.{pointwise}
 use Rattle.mysql_wire.specs.Codec.{Codec}
 use Rattle.mysql_wire.specs.Form.{map, all_left}
-use Rattle.mysql_auth.specs.TrailingZero.{without_last_zero, zero-off}
+use Rattle.mysql_auth.specs.EofName.{without_last_zero, zero-off}
 use Rattle.mysql_auth.specs.Parsec.{parsec_salt}
 use Rattle.mysql_auth.specs.declared.auth_plugin.AuthPlugin.{AuthPlugin}
 use Rattle.mysql_auth.specs.declared.auth_plugin.AuthPlugin.TheVariants as plugin

@@ -1,5 +1,5 @@
 -- The initial handshake.
-use Rattle.std.specs.Prelude.{◌≡◌, ℕ, ◌+◌, ◌-◌, ◌*◌, ◌<◌, ◌≤◌, ◌^◌, List, [], ◌++◌, length, take, replicate, Option, option_map, Some, None, Bool, true, false, if◌then◌else◌, min, refl}
+use Rattle.std.specs.Prelude.{◌≡◌, ℕ, ◌+◌, ◌-◌, ◌*◌, ◌<◌, ◌≤◌, ◌^◌, List, [], ◌++◌, length, take, replicate, Option, option_map, Some, None, Bool, true, false, if◌then◌else◌, min, max, refl}
 use Rattle.std.specs.Option.{unwrap_or}
 use Rattle.mysql_wire.specs.Codec.{Codec, Fields}
 use Rattle.mysql_wire.specs.Codecs.{◌>>=◌, give, field, block, packet, when, u8, u16, u32, flags, skip, byte_array, string_bare, string_null}
@@ -9,10 +9,8 @@ use Rattle.mysql_wire.specs.Int.{raw_int}
 use Rattle.mysql_wire.specs.Null.{HasNoZero}
 use Rattle.mysql_wire.specs.declared.int.RawInt.{RawInt}
 use Rattle.mysql_auth.specs.AuthPlugin.{plugin_of}
-use Rattle.mysql_auth.specs.Scramble.{scramble_length}
-use Rattle.mysql_auth.specs.TrailingZero.{without_last_zero}
 use Rattle.mysql_auth.specs.declared.auth_plugin.AuthPlugin.{AuthPlugin}
-use Rattle.mysql_auth.specs.EofName.{eof_name}
+use Rattle.mysql_auth.specs.EofName.{eof_name, without_last_zero}
 use Rattle.mysql_auth.specs.declared.handshake_head.HandshakeHead.{HandshakeHead}
 use Rattle.mysql_auth.specs.declared.handshake.HandshakePacket.{HandshakePacket}
 
@@ -93,6 +91,10 @@ length_of (Some scramble) = 8 + min (length scramble) 247
 
 unfoldable pub data_length : HandshakePacket → ℕ
 data_length p = if has_name (capabilities p) then length_of (scramble_2 p) else 0
+
+-- the bytes of scramble 2 that are read, for the length of both
+abbrev pub scramble_length : ℕ → ℕ
+scramble_length data_length = max 13 (data_length - 8)
 
 -- ---- the layout
 

@@ -1,7 +1,7 @@
 -- The answer to a handshake.
 use Rattle.std.specs.Prelude.{◌≡◌, ℕ, ◌<◌, ◌^◌, ◌==◌, ◌&&◌, ◌||◌, nat_lt, nat_le, List, length, Option, Some, None, Bool, true, false, if◌then◌else◌, refl}
 use Rattle.mysql_wire.specs.Codec.{Codec, Fields}
-use Rattle.mysql_wire.specs.Codecs.{◌>>=◌, give, field, packet, when, string_null, string_u8, string_lenenc}
+use Rattle.mysql_wire.specs.Codecs.{◌>>=◌, give, field, packet, when, one_of, string_null, string_u8, string_lenenc}
 use Rattle.mysql_wire.specs.FlagMasks.{CLIENT_CONNECT_WITH_DB, CLIENT_SECURE_CONNECTION, CLIENT_PLUGIN_AUTH, CLIENT_CONNECT_ATTRS, CLIENT_PLUGIN_AUTH_LENENC_CLIENT_DATA}
 use Rattle.mysql_wire.specs.Flags.{CapabilityFlags, MariadbCapabilities, has}
 use Rattle.mysql_wire.specs.Null.{HasNoZero}
@@ -71,11 +71,6 @@ abbrev pub counts_by_byte : SslRequest → Bool
 counts_by_byte head = has (ssl.capabilities head).0 CLIENT_SECURE_CONNECTION
 
 -- ---- the layout
-
--- the one codec or the other
-abbrev pub one_of : {C A : Type 0} → Bool → Codec C A → Codec C A → Codec C A
-one_of true left right = left
-one_of false left right = right
 
 -- Length-encoded under CLIENT_PLUGIN_AUTH_LENENC_CLIENT_DATA; else after a length of one byte under
 -- CLIENT_SECURE_CONNECTION; else up to a zero.

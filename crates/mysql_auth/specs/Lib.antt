@@ -1,15 +1,14 @@
-pub mod TrailingZero
+pub mod EofName
 pub mod AuthPlugin
 pub mod AuthPluginData
 pub mod Parsec
-pub mod Scramble
 pub mod AuthMoreData
 pub mod PublicKeyRequest
 pub mod PublicKeyResponse
 pub mod OldAuthSwitchRequest
 pub mod AuthSwitchRequest
+pub mod Supported
 pub mod SslRequest
-pub mod EofName
 pub mod Handshake
 pub mod Version
 pub mod Scan

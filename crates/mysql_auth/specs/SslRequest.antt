@@ -1,11 +1,13 @@
 -- The request for TLS.
 use Rattle.std.specs.Prelude.{◌≡◌, ℕ, ◌<◌, ◌^◌, Some, refl}
+use Rattle.std.specs.Int.RustNames.{bit_or}
 use Rattle.mysql_wire.specs.Form.{size-block}
 use Rattle.mysql_wire.specs.Codec.{Codec, Fields}
 use Rattle.mysql_wire.specs.Codecs.{◌>>=◌, give, field, block, packet, u8, u32, flags, skip}
 use Rattle.mysql_wire.specs.Flags.{CapabilityFlags, MariadbCapabilities}
 use Rattle.mysql_wire.specs.Int.{raw_int}
 use Rattle.mysql_auth.specs.declared.ssl_request.SslRequest.{SslRequest}
+use Rattle.mysql_auth.specs.Supported.{CLIENT_SSL}
 
 abbrev pub capabilities : SslRequest → CapabilityFlags
 capabilities p = p.capabilities.0
@@ -31,6 +33,14 @@ request_of capabilities max_packet_size character_set mariadb = record {
 
 abbrev pub with_mariadb : MariadbCapabilities → SslRequest → SslRequest
 with_mariadb mariadb p = request_of (capabilities p) (max_packet_size p) (character_set p) mariadb
+
+-- CLIENT_SSL, by which a server knows a request for TLS
+abbrev pub with_client_ssl : ℕ → ℕ
+with_client_ssl bits = bit_or bits CLIENT_SSL
+
+-- the same request with that flag
+abbrev pub for_tls : SslRequest → SslRequest
+for_tls p = request_of (record { 0 = with_client_ssl (capabilities p).0; 1 = record {} }) (max_packet_size p) (character_set p) (mariadb_capabilities p)
 
 abbrev pub ssl_request_fields : Fields (Unit {0}) SslRequest SslRequest
 ssl_request_fields = do

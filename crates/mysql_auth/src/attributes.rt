@@ -1,20 +1,23 @@
 //! Attributes of a connection.
 #![tactic(auto, using(mysql_wire::proofs::Packets::packets), unfolding(crate::specs::Attributes::attributes, crate::specs::Attributes::attribute))]
 
-ghost use Rattle.std.specs.Prelude.{true, false, vec_len, vec_capacity, ◌≡◌, ◌+◌, ◌++◌, ◌≤◌, ◌<◌, [], List, ℕ, length, map, option_map, IfOk, is_ok, None, refl};
+ghost use Rattle.std.specs.Prelude.{true, vec_len, vec_capacity, ◌≡◌, ◌≢◌, ◌+◌, ◌++◌, ◌≤◌, [], List, ℕ, length, map, option_map, IfOk, is_ok, None, refl};
 ghost use Rattle.mysql_wire.specs.Reading.{Answers};
 ghost use Rattle.mysql_wire.specs.Seq.{counts_any, is_any};
 ghost use Rattle.mysql_wire.specs.Writing.{saturated};
 ghost use Rattle.mysql_auth.specs.AttributeBytes.{attributes_len};
 ghost use Rattle.mysql_auth.specs.Attributes as spec;
 
+use crate::attribute::{Attribute, has_key};
+use crate::merged::read_merged;
 use indexmap::IndexMap;
 use mysql_wire::{
     AnyWidth, BytesRepr, FaultOf, IntRepr, LenEnc, MyDeserialize, MySerialize, ParseBuf, RawBytes,
-    RawInt, parts,
+    RawInt, append_items, items_len,
 };
 use std::alloc::{AllocError, Global};
 use std::borrow::CowSlice;
+use std::cmp::min;
 use std::fmt;
 use std::fmt::Debug;
 use std::marker::Model;
@@ -26,64 +29,65 @@ use std::marker::Model;
 ///
 /// In contracts it is the list of the pairs.
 #[derive(Drop)]
-pub(crate) struct Attributes<'a>(IndexMap<RawBytes<'a, LenEnc>, RawBytes<'a, LenEnc>>);
+pub(crate) struct Attributes<'a> {
+    list: Vec<Attribute<'a>>,
+}
 
 impl<'a> Model for Attributes<'a> {
-    ghost use Rattle.std.specs.Prelude.{ℕ, List};
+    ghost use Rattle.std.specs.Prelude.{◌≡◌, ℕ, List};
+    ghost use Rattle.mysql_auth.specs.Attributes.{merged};
 
     ghost Value = { List (List ℕ × List ℕ) };
 
-    ghost view = { λ a. a.0.entries };
+    ghost view = { λ a. a.list.items };
+
+    ghost invariant = { λ a. merged a.list.items ≡ a.list.items };
 }
 
-/// A key and its value.
-fn read_attribute<'s, 'a>(
-    buf: &mut ParseBuf<'a>,
-) -> Result<(RawBytes<'a, LenEnc>, RawBytes<'a, LenEnc>), FaultOf<'s>>
-    ensures value { Answers false result buf.new ((spec.attribute.form tt).reads buf.old) }
+/// How many pairs are looked through for a key. Of more pairs a map is made.
+const FEW: usize = 16;
+
+/// Reads few pairs to the end. Where they are many, or a key comes again, all are read anew, into a map.
+#[tactic(auto, using(crate::proofs::PairsRead::new_pairs, crate::proofs::Merging::distinct))]
+fn read_few<'s, 'a>(inside: ParseBuf<'a>) -> Result<Attributes<'a>, FaultOf<'s>>
+    requires some { inside ≢ [] }
+    ensures value { Answers true result [] (spec.pairs.reads inside.entry) }
 {
-    let key = buf.parse(())?;
-    let value = buf.parse(())?;
-    Ok((key, value))
+    // (a pair takes two bytes at least)
+    let capacity = min(FEW, inside.len() / 2);
+    let mut list = Vec::with_capacity(inside.alloc(), capacity)?;
+    let mut rest = inside.rest();
+    while !rest.is_empty() {
+        let attribute = Attribute::read(&mut rest)?;
+        if list.len() == FEW || has_key(&list, attribute.key.as_bytes()) {
+            return read_many(inside);
+        }
+        list.push(attribute)?;
+    }
+    Ok(Attributes { list })
 }
 
-/// A key and its value, on memory of their own.
-fn owned_attribute(
-    alloc: Global,
-    key: RawBytes<'_, LenEnc>,
-    value: RawBytes<'_, LenEnc>,
-) -> Result<(RawBytes<'static, LenEnc>, RawBytes<'static, LenEnc>), AllocError>
-    ensures value { IfOk result (λ owned. owned ≡ (key.entry, value.entry)) }
+/// Reads pairs to the end.
+fn read_many<'s, 'a>(inside: ParseBuf<'a>) -> Result<Attributes<'a>, FaultOf<'s>>
+    ensures value { Answers true result [] (spec.pairs.reads inside.entry) }
 {
-    let key = key.into_owned(alloc)?;
-    let value = value.into_owned(alloc)?;
-    Ok((key, value))
-}
-
-/// A key and its value as texts, with U+FFFD for what is not UTF-8.
-fn attribute_texts(
-    alloc: Global,
-    key: &RawBytes<'_, LenEnc>,
-    value: &RawBytes<'_, LenEnc>,
-) -> Result<(String, String), AllocError>
-    ensures value { IfOk result (λ texts. spec.text_pair texts ≡ spec.lossy_pair (key.now, value.now)) }
-{
-    let key = key.as_str(alloc)?.into_owned(alloc)?;
-    let value = value.as_str(alloc)?.into_owned(alloc)?;
-    Ok((key, value))
+    let alloc = inside.alloc();
+    let merged = read_merged(inside)?;
+    let list = merged.into_list(alloc)?;
+    Ok(Attributes { list })
 }
 
 /// The attributes that these bytes are the pairs of.
 #[tactic(auto, using(crate::proofs::PairsRead::pair_loops))]
-fn read_pairs<'s, 'a>(mut inside: ParseBuf<'a>) -> Result<Attributes<'a>, FaultOf<'s>>
+fn read_pairs<'s, 'a>(inside: ParseBuf<'a>) -> Result<Attributes<'a>, FaultOf<'s>>
     ensures value { Answers (is_any (length inside.entry)) result [] (spec.pairs.reads inside.entry) }
 {
-    let mut map = IndexMap::new(inside.alloc());
-    while !inside.is_empty() {
-        let (key, value) = read_attribute(&mut inside)?;
-        map.insert(key, value)?;
+    if inside.is_empty() {
+        return Ok(Attributes {
+            list: Vec::new(inside.alloc()),
+        });
     }
-    Ok(Attributes(map))
+    read_few(inside)
 }
 
 impl<'a> Attributes<'a> {
@@ -95,21 +99,20 @@ impl<'a> Attributes<'a> {
     ) -> Result<Attributes<'static>, AllocError>
         ensures value { IfOk result (λ a. a ≡ map spec.text_pair texts.entries) }
     {
-        let mut map = IndexMap::with_capacity(alloc, texts.len())?;
+        let mut list = Vec::with_capacity(alloc, texts.len())?;
         for (key, value) in texts {
             let key = RawBytes::new(CowSlice::Owned(key.into_bytes()));
             let value = RawBytes::new(CowSlice::Owned(value.into_bytes()));
-            map.insert(key, value)?;
+            list.push(Attribute::new(key, value))?;
         }
-        Ok(Attributes(map))
+        Ok(Attributes { list })
     }
 
     /// Each key stands once.
-    #[tactic(auto, using(crate::proofs::Merging::merges))]
     pub(crate) fn keys_stand_once(&self)
         ensures value { spec.merged self.now ≡ self.now }
     {
-        let _pairs = self.0.iter();
+        let _list = &self.list;
     }
 
     /// The attributes as texts, with U+FFFD for what is not UTF-8. Where two keys become one text, it keeps the first
@@ -119,49 +122,39 @@ impl<'a> Attributes<'a> {
         ensures value { IfOk result (λ texts. map spec.text_pair texts.entries ≡ spec.lossy_pairs self.now) }
         ensures once { spec.merged self.now ≡ self.now }
     {
-        let mut texts = IndexMap::with_capacity(alloc, self.0.len())?;
-        for (key, value) in self.0.iter() {
-            let (key, value) = attribute_texts(alloc, key, value)?;
+        let mut texts = IndexMap::with_capacity(alloc, self.list.len())?;
+        for attribute in self.list.iter() {
+            let (key, value) = attribute.texts(alloc)?;
             texts.insert(key, value)?;
         }
         Ok(texts)
     }
 
     /// The same, on memory of their own.
-    #[tactic(auto, using(crate::proofs::Merging::merges))]
     pub(crate) fn into_owned(self, alloc: Global) -> Result<Attributes<'static>, AllocError>
         ensures value { IfOk result (λ owned. owned ≡ self.entry) }
     {
-        let mut map = IndexMap::with_capacity(alloc, self.0.len())?;
-        for (key, value) in self.0 {
-            let (key, value) = owned_attribute(alloc, key, value)?;
-            map.insert(key, value)?;
+        let mut list = Vec::with_capacity(alloc, self.list.len())?;
+        for attribute in self.list {
+            list.push(attribute.into_owned(alloc)?)?;
         }
-        Ok(Attributes(map))
-    }
-
-    /// How many bytes the pairs are written as, or `usize::MAX` where that is less.
-    #[tactic(auto, using(crate::proofs::PairsWritten::pair_lengths), unfolding(mysql_wire::specs::Writing::saturated, mysql_wire::specs::Writing::saturating_sum, crate::specs::Attributes::attribute))]
-    fn pairs_len(&self) -> usize
-        ensures value { result ≡ saturated (length (spec.pairs_bytes self.now)) }
-    {
-        let mut total: usize = 0;
-        for (key, value) in self.0.iter() {
-            total = total.saturating_add(parts!(*key, *value).defined_len());
-        }
-        total
+        Ok(Attributes { list })
     }
 
     /// Writes the pairs to the end of a buffer that has capacity for them.
-    #[tactic(auto, using(crate::proofs::PairsWritten::pair_writes), unfolding(crate::specs::Attributes::attribute))]
     fn append_pairs(&self, out: &mut Vec<u8>)
         requires { vec_len out.old + length (spec.pairs_bytes self.now) ≤ vec_capacity out.old }
         ensures items { out.new.items ≡ out.old.items ++ spec.pairs_bytes self.now }
         ensures capacity { vec_capacity out.old ≤ vec_capacity out.new }
     {
-        for (key, value) in self.0.iter() {
-            parts!(*key, *value).append(out);
-        }
+        append_items(self.list.as_slice(), out);
+    }
+
+    /// How many bytes the pairs are written as, or `usize::MAX` where that is less.
+    fn pairs_len(&self) -> usize
+        ensures value { result ≡ saturated (length (spec.pairs_bytes self.now)) }
+    {
+        items_len(self.list.as_slice())
     }
 }
 
@@ -183,7 +176,9 @@ impl Clone for Attributes<'_> {
     ghost is_clone = { λ a copy. copy ≡ a };
 
     fn clone(&self) -> Result<Self, AllocError> {
-        Ok(Attributes(self.0.clone()?))
+        Ok(Attributes {
+            list: self.list.clone()?,
+        })
     }
 }
 
@@ -197,7 +192,7 @@ impl PartialEq for Attributes<'_> {
 
     /// The same pairs in the same order.
     fn eq(&self, other: &Self) -> bool {
-        self.0.as_slice() == other.0.as_slice()
+        self.list == other.list
     }
 }
 
@@ -210,7 +205,11 @@ impl Eq for Attributes<'_> {
 
 impl Debug for Attributes<'_> {
     fn fmt<W: fmt::Write>(&self, f: &mut fmt::Formatter<W>) -> fmt::Result {
-        self.0.fmt(f)
+        let mut map = f.debug_map();
+        for attribute in self.list.iter() {
+            map.entry(&attribute.key, &attribute.value);
+        }
+        map.finish()
     }
 }
 

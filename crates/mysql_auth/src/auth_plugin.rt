@@ -4,8 +4,8 @@
 ghost use Rattle.std.specs.Prelude.{true, ◌≡◌, None, Some, IfOk, IfSome, IfNone, is_ok};
 ghost use Rattle.mysql_auth.specs.AuthPlugin as spec;
 
+use crate::eof_name::without_last_zero;
 use crate::parsec::parse_parsec_salt;
-use crate::trailing_zero::without_last_zero;
 use mysql_wire::{
     AnyWidth, EofBytes, FaultOf, MyDeserialize, ParseBuf, Parts, RawBytes, Sink, Skip, parts,
 };

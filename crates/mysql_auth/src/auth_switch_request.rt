@@ -5,10 +5,10 @@ ghost use Rattle.std.specs.Prelude.{◌≡◌, IfOk};
 ghost use Rattle.std.specs.Cow.{cow_slice_items};
 ghost use Rattle.mysql_auth.specs.AuthPlugin.{plugin_of};
 ghost use Rattle.mysql_auth.specs.AuthSwitchRequest as spec;
-ghost use Rattle.mysql_auth.specs.TrailingZero.{without_last_zero};
+ghost use Rattle.mysql_auth.specs.EofName.{without_last_zero};
 
 use crate::auth_plugin::AuthPlugin;
-use crate::trailing_zero::without_last_zero;
+use crate::eof_name::without_last_zero;
 use mysql_wire::{
     AnyWidth, ConstFault, ConstU8, EofBytes, FaultOf, MyDeserialize, NullBytes, ParseBuf, Parts,
     RawBytes, Sink, parts,
@@ -63,11 +63,27 @@ impl<'a> AuthSwitchRequest<'a> {
     }
 
     /// The plugin's data, mostly a new scramble, without one zero at its end.
+    ///
+    /// `mysql_native_password` and `caching_sha2_password` want this: their scramble of 20 bytes has a zero after it. A
+    /// scramble without one, as that of `client_ed25519`, may end in a zero of its own, which is missing here:
+    /// [`plugin_data_raw`](AuthSwitchRequest::plugin_data_raw) has it.
     #[inline]
     pub fn plugin_data(&self) -> &[u8]
         ensures value { result.now ≡ without_last_zero (spec.plugin_data self.now) }
     {
         without_last_zero(self.plugin_data.as_bytes())
+    }
+
+    /// The plugin's data, whole: each byte after the zero of the plugin's name, to the end of the packet.
+    ///
+    /// `client_ed25519` and `parsec` want this: their scramble is 32 random bytes with no zero after them. Of
+    /// `mysql_native_password` and `caching_sha2_password` it is the scramble of 20 bytes and a zero, which
+    /// [`plugin_data`](AuthSwitchRequest::plugin_data) takes off.
+    #[inline]
+    pub fn plugin_data_raw(&self) -> &[u8]
+        ensures value { result.now ≡ spec.plugin_data self.now }
+    {
+        self.plugin_data.as_bytes()
     }
 
     /// The same request, on memory of its own.

@@ -12,7 +12,6 @@ ghost use Rattle.mysql_auth.specs.ComChangeUser as spec;
 ghost use Rattle.mysql_auth.specs.declared.com_change_user_more_data.ComChangeUserMoreData.{ComChangeUserMoreData};
 
 use crate::com_change_user_more_data::ComChangeUserMoreData;
-use crate::optional_bytes::bytes_or_empty;
 use mysql_wire::{
     AnyWidth, CapabilityFlags, ConstFault, ConstU8, FaultOf, MyDeserialize, NullBytes, ParseBuf,
     Parts, RawBytes, Sink, U8Bytes, parts,
@@ -48,6 +47,16 @@ pub struct ComChangeUser<'a> {
     auth_plugin_data: RawBytes<'a, U8Bytes>,
     database: RawBytes<'a, NullBytes>,
     more_data: Option<ComChangeUserMoreData<'a>>,
+}
+
+/// These bytes, or none.
+pub(crate) fn bytes_or_empty<'a, R>(content: Option<CowSlice<'a, u8>>) -> RawBytes<'a, R>
+    ensures value { result ≡ option_map_or cow_slice_items content.entry [] }
+{
+    match content {
+        Some(content) => RawBytes::new(content),
+        None => RawBytes::default(),
+    }
 }
 
 impl<'a> ComChangeUser<'a> {

@@ -1,12 +1,23 @@
-//! A name that runs to the end.
+//! A name that runs to the end, and a zero at its end.
 
 ghost use Rattle.std.specs.Prelude.{false, ◌≡◌, ◌+◌, ◌++◌, ◌≤◌, vec_len, vec_capacity, length, List, ℕ, refl, OnErr};
 ghost use Rattle.mysql_wire.specs.Writing.{saturated};
 ghost use Rattle.mysql_wire.specs.Form.{Form};
 ghost use Rattle.mysql_wire.specs.Reading.{Answers, IsTail};
+ghost use Rattle.mysql_auth.specs.EofName.{without_last_zero};
 
-use crate::trailing_zero::without_last_zero;
 use mysql_wire::{BytesRepr, FaultOf, NullBytes, ParseBuf};
+
+/// The bytes, without one zero at their end.
+#[inline]
+pub(crate) fn without_last_zero(bytes: &[u8]) -> &[u8]
+    ensures value { result.now ≡ without_last_zero bytes.now }
+{
+    match bytes {
+        [front @ .., 0] => front,
+        _ => bytes,
+    }
+}
 
 /// All the bytes that are left, without one zero at their end.
 ///

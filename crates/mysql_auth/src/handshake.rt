@@ -9,10 +9,8 @@ ghost use Rattle.mysql_auth.specs.Handshake as spec;
 ghost use Rattle.mysql_auth.specs.Version.{HasVersion, IsMariadbVersion};
 
 use crate::auth_plugin::AuthPlugin;
-use crate::eof_name::EofName;
-use crate::handshake_head::HandshakeHead;
-use crate::scramble::scramble_length;
-use crate::trailing_zero::without_last_zero;
+use crate::eof_name::{EofName, without_last_zero};
+use crate::handshake_head::{HandshakeHead, scramble_length};
 use crate::version::{mariadb_server_version, server_version};
 use bitflags::Flags;
 use mysql_wire::{
@@ -44,6 +42,10 @@ const NONCE_LEN: usize = 20;
 /// | 1 | the length of both scrambles: 8 less, but at least 13, is that of the second |
 /// | 6 | skipped |
 /// | 4 | `mariadb_ext_capabilities` |
+///
+/// A server that refuses a connection sends an error in place of the handshake, as `ff 1004 "Too many connections"`. No
+/// flags are agreed yet, and no server puts an SQL state into it: an `ErrPacket` reads it with `CapabilityFlags::empty()`
+/// as its context, and refuses it under `CLIENT_PROTOCOL_41`.
 #[derive(Clone, Debug, PartialEq, Eq, Hash, Drop)]
 pub struct HandshakePacket<'a> {
     head: HandshakeHead<'a>,

@@ -12,6 +12,16 @@ use mysql_wire::{
 };
 use std::alloc::{AllocError, Global};
 use std::borrow::CowSlice;
+use std::cmp::max;
+
+/// How many bytes the second scramble of a handshake has, for the length of both that stands in the handshake: what is
+/// left after the first 8, and at least 13.
+#[inline]
+pub(crate) fn scramble_length(data_length: u8) -> usize
+    ensures value { result ≡ spec.scramble_length data_length }
+{
+    max(13, usize::from(data_length).saturating_sub(8))
+}
 
 /// What every handshake has: the versions, and 31 bytes.
 ///

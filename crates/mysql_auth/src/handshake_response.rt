@@ -16,11 +16,12 @@ ghost use Rattle.mysql_wire.specs.Seq.{counts_any};
 ghost use Rattle.mysql_auth.specs.AttributeBytes.{in_response, sent_len};
 ghost use Rattle.mysql_auth.specs.Attributes.{Attribute, merged, text_pair, lossy_pairs};
 ghost use Rattle.mysql_auth.specs.HandshakeResponse as spec;
+ghost use Rattle.mysql_auth.specs.SslRequest as ssl;
 ghost use Rattle.mysql_auth.specs.SslRequest.{SslRequestFits};
 
 use crate::attributes::{Attributes, attributes_of};
 use crate::auth_plugin::AuthPlugin;
-use crate::optional_bytes::bytes_or_empty;
+use crate::com_change_user::bytes_or_empty;
 use crate::plugin_name::plugin_to_zero_or_end;
 use crate::ssl_request::SslRequest;
 use bitflags::Flags;
@@ -181,6 +182,21 @@ impl<'a> HandshakeResponse<'a> {
         ensures value { result ≡ spec.collation self.now }
     {
         self.head.character_set()
+    }
+
+    /// The request for TLS that goes before this response: its flags and `CLIENT_SSL`, its packet size, its collation
+    /// and its capabilities of MariaDB's own.
+    ///
+    /// MySQL and MariaDB read the response by the flags of the request before it, and not by the response's own.
+    /// [`new`](HandshakeResponse::new) sets some flags by what is given, so a request that is made of other flags lets
+    /// a server take one part of the response for another, as the database's name for the plugin's.
+    pub fn ssl_request(&self) -> SslRequest
+        ensures capabilities { (ssl.capabilities result).0 ≡ ssl.with_client_ssl (spec.capabilities self.now).0 }
+        ensures max_packet_size { ssl.max_packet_size result ≡ spec.max_packet_size self.now }
+        ensures character_set { ssl.character_set result ≡ spec.collation self.now }
+        ensures mariadb_capabilities { ssl.mariadb_capabilities result ≡ spec.mariadb_ext_capabilities self.now }
+    {
+        self.head.for_tls()
     }
 
     /// What the client answers to the scramble.

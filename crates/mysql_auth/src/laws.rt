@@ -140,7 +140,7 @@ pub fn auth_more_data_has_no_constant_size() -> Option<usize>
     <crate::auth_more_data::AuthMoreData<'static> as MyDeserialize>::SIZE
 }
 
-/// A request for a public key has no constant size that is passed, though it is one byte.
+/// A request for a public key states no constant size, though it is one byte.
 pub fn public_key_request_has_no_constant_size() -> Option<usize>
     ensures value { result ≡ None }
 {

@@ -2,6 +2,7 @@
 //! the switches to another plugin, the packets with keys and further data, and the change of a session's user.
 #![tactic(auto)]
 
+mod attribute;
 mod attributes;
 mod auth_more_data;
 mod auth_plugin;
@@ -14,15 +15,14 @@ mod handshake;
 mod handshake_head;
 mod handshake_response;
 pub mod laws;
+mod merged;
 mod old_auth_switch_request;
-mod optional_bytes;
 mod parsec;
 mod plugin_name;
 mod public_key_request;
 mod public_key_response;
-mod scramble;
 mod ssl_request;
-mod trailing_zero;
+mod supported;
 mod version;
 
 pub use auth_more_data::{AuthMoreData, AuthMoreDataHeader, InvalidAuthMoreDataHeader};
@@ -43,3 +43,4 @@ pub use public_key_response::{
     InvalidPublicKeyResponse, PublicKeyResponse, PublicKeyResponseHeader,
 };
 pub use ssl_request::SslRequest;
+pub use supported::supported_capabilities;

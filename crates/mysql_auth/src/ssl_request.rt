@@ -10,6 +10,9 @@ use mysql_wire::{
     Parts, RawInt, Sink, Skip, parts,
 };
 
+/// The flag `CLIENT_SSL`, by which a server knows a request for TLS.
+const CLIENT_SSL: u32 = 1 << 11;
+
 /// A client's request to go on in TLS (`Protocol::SSLRequest`): the first 32 bytes of a
 /// handshake response, numbers with their little-endian.
 ///
@@ -77,6 +80,19 @@ impl SslRequest {
         ensures value { result ≡ spec.character_set self.now }
     {
         self.character_set.0
+    }
+
+    /// The same request with the flag `CLIENT_SSL`.
+    pub(crate) fn for_tls(&self) -> Self
+        ensures value { result ≡ spec.for_tls self.now }
+    {
+        let bits = self.capabilities().bits() | CLIENT_SSL;
+        SslRequest::new(
+            CapabilityFlags::from_bits_retain(bits),
+            self.max_packet_size(),
+            self.character_set(),
+        )
+        .with_mariadb_capabilities(self.mariadb_capabilities())
     }
 
     /// Each number has its width.

@@ -1,14 +1,15 @@
 -- The plain conditions on sids are enough for reading back.
-use Rattle.std.proofs.Common.{◌≡◌, ◌<◌, ◌^◌, ℕ, List, [], ◌∷◌, length, Option, Some, None, is_some, Bool, true, false, ◌||◌, refl}
+use Rattle.std.proofs.Common.{◌≡◌, ◌<◌, ◌^◌, ℕ, List, [], ◌∷◌, length, Option, Some, None, is_some, Bool, true, false, ◌||◌, nat_lt, if◌then◌else◌, refl}
 use Rattle.std.specs.List.{list_any}
 use Rattle.mysql_wire.specs.CodecFits.{each_fits}
+use Rattle.mysql_wire.specs.CountedBytes.{u32_string}
+use Rattle.mysql_wire.specs.FormLaws.{whole-beginning}
 use Rattle.mysql_repl.specs.declared.gno_interval.GnoInterval.{GnoInterval}
 use Rattle.mysql_repl.specs.declared.sid.Sid.{Sid}
 use Rattle.mysql_repl.specs.declared.binlog_dump_gtid.ComBinlogDumpGtid.{ComBinlogDumpGtid}
 use Rattle.mysql_repl.specs.GnoInterval.{interval}
 use Rattle.mysql_repl.specs.Sid.{sid, tagged_sid, sid_as, IsSid, AreSids, AreIntervals}
-use Rattle.mysql_repl.specs.SidBlock.{has_tag, any_tag, content, BlockFits}
-use Rattle.mysql_repl.specs.SidBlockAgain.{strict-lenient}
+use Rattle.mysql_repl.specs.SidBlock.{layout, head_of, sids_form, block_form, has_tag, any_tag, content, BlockFits}
 use Rattle.mysql_repl.specs.BinlogDumpGtid.{gtid_dump, gtid_dump_head, GtidDumpFits}
 
 intervals-fit : (is : List GnoInterval) (rest : List ℕ) → AreIntervals is → each_fits interval tt is rest
@@ -52,7 +53,20 @@ pub gtid_dump-fits : (strict : Bool) (p : ComBinlogDumpGtid) (rest : List ℕ) �
 unfolding gtid_dump gtid_dump_head
 gtid_dump-fits strict p rest h = ((tt, (h.flags, (h.server_id, tt))), (h.filename, (h.pos, (block-fits p.sid_block h.sids h.block, tt))))
 
--- what the strict reader accepts, the other reads as the same
+-- ---- what the strict reader accepts, the other reads as the same
+
+known-step : (unknown : Bool) (x head : ℕ) → (if unknown then None else Some x) ≡ Some head → Some x ≡ Some head
+known-step true x head e = absurd cc
+known-step false x head e = e
+
+known : (x head : ℕ) → head_of true x ≡ Some head → head_of false x ≡ Some head
+known x head e = known-step (nat_lt 1 (layout x)) x head e
+
+strict-lenient : (sids : List Sid) (bytes rest : List ℕ) → (block_form true).Spells sids bytes rest → (block_form false).Spells sids bytes rest
+unfolding block_form sids_form
+strict-lenient sids bytes rest s =
+    whole-beginning u32_string (sids_form false) sids bytes rest (s.0, s.1, (s.2.0, s.2.1, (s.2.2.0, known _ _ s.2.2.1, s.2.2.2), s.2.3))
+
 pub strict-is_lenient : (p : ComBinlogDumpGtid) (bytes rest : List ℕ) → (gtid_dump.form true).Spells p bytes rest → (gtid_dump.form false).Spells p bytes rest
 unfolding gtid_dump gtid_dump_head
 strict-is_lenient p bytes rest s =

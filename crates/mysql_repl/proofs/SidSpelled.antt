@@ -36,14 +36,14 @@ number-lacks c out plus text n (inr p) = rw p.1 (ne_eqb 43 c plus, digits-lack c
 lacks_colon : (text : List ℕ) (n : ℕ) → SpellsNumber text n → Lacks 58 text
 lacks_colon text n h = number-lacks 58 (λ d low high e. omega (arith, low, high, e)) (λ e. omega (arith, e)) text n h
 
-lacks_hyphen : (text : List ℕ) (n : ℕ) → SpellsNumber text n → Lacks 45 text
+pub lacks_hyphen : (text : List ℕ) (n : ℕ) → SpellsNumber text n → Lacks 45 text
 lacks_hyphen text n h = number-lacks 45 (λ d low high e. omega (arith, low, high, e)) (λ e. omega (arith, e)) text n h
 
 no-plus : (ds : List ℕ) → IsNumeral 10 ds → get_or ds 0 0 ≡ 43 → ⊥
 no-plus [] h e = omega (arith, h.0)
 no-plus (d ∷ ds) h e = let r = digit_from_value d h.1.0 in omega (arith, r.0, e)
 
-number-spelled : (text : List ℕ) (n : ℕ) → SpellsNumber text n → n < 2 ^ 64 → number_of text ≡ Some n
+pub number-spelled : (text : List ℕ) (n : ℕ) → SpellsNumber text n → n < 2 ^ 64 → number_of text ≡ Some n
 unfolding number_of
 number-spelled text n (inl d) lt =
     let plain : without_leading_plus text ≡ text = without_leading_plus_none text (no-plus text d.0) in
@@ -54,7 +54,7 @@ number-spelled text n (inr p) lt =
 
 -- ---- intervals
 
-checked-ok : (first last : ℕ) → 0 < first → first ≤ last → last + 1 < 2 ^ 64 → checked first last ≡ Ok (interval_of first (last + 1))
+pub checked-ok : (first last : ℕ) → 0 < first → first ≤ last → last + 1 < 2 ^ 64 → checked first last ≡ Ok (interval_of first (last + 1))
 checked-ok first last some le lt =
     rw (ne_eqb last 18446744073709551615 (λ e. omega (arith, e, lt)), lt-leb (last + 1) first (omega (arith, le)), ne_eqb first 0 (λ e. omega (arith, e, some))) refl
 
@@ -135,7 +135,7 @@ both false b h = absurd cc
 other : (c : ℕ) → is_later c ≡ true → c == 58 ≡ false
 other c h = ne_eqb c 58 (λ e. let wrong : is_later 58 ≡ true = rw e at h in absurd cc)
 
-no-digit : (c : ℕ) → is_first c ≡ true → is_ascii_digit c ≡ false
+pub no-digit : (c : ℕ) → is_first c ≡ true → is_ascii_digit c ≡ false
 no-digit c h = grind (arith, nat_tests)
 
 -- after a uuid: what does not begin with a digit and has a colon begins with a tag

@@ -22,18 +22,18 @@ use Rattle.mysql_repl.proofs.SidSpelled.{sid-spelled}
 -- ---- intervals
 
 -- an interval's text, without its colon
-abbrev body_by : Bool → GnoInterval → List ℕ
+abbrev pub body_by : Bool → GnoInterval → List ℕ
 body_by true i = decimal (start i)
 body_by false i = decimal (start i) ++ 45 ∷ decimal (end i - 1)
 
-abbrev body : GnoInterval → List ℕ
+abbrev pub body : GnoInterval → List ℕ
 body i = body_by (end i == start i + 1) i
 
 text-by : (b : Bool) (i : GnoInterval) → (if b then codes ":" ++ decimal (start i) else codes ":" ++ (decimal (start i) ++ (codes "-" ++ decimal (end i - 1)))) ≡ 58 ∷ body_by b i
 text-by true i = refl
 text-by false i = refl
 
-text-is : (i : GnoInterval) → interval_text i ≡ 58 ∷ body i
+pub text-is : (i : GnoInterval) → interval_text i ≡ 58 ∷ body i
 text-is i = text-by (end i == start i + 1) i
 
 written-number : (n : ℕ) → n < 2 ^ 64 → SpellsNumber (decimal n) n

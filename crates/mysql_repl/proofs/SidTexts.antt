@@ -9,7 +9,7 @@ use Rattle.std.proofs.lemmas.List.{length-drop}
 use Rattle.std.proofs.lemmas.List.Splits.{slice_split_first, slice_split-cons_no}
 use Rattle.std.proofs.lemmas.Str.Parse.{IsNumeralModel, numerals_by_value, tells_all_ascii_digits}
 use Rattle.std.proofs.lemmas.Str.Pattern.{IsSplitOnceResult, split_once_first}
-use Rattle.mysql_repl.specs.SidText.{colon, hyphen, is, has, before, after, number_in, number_of, parts_of}
+use Rattle.mysql_repl.specs.SidText.{colon, hyphen, comma, is, has, before, after, number_in, number_of, parts_of}
 
 pub which : (b : Bool) → (b ≡ true) ⊎ (b ≡ false)
 which true = inl refl
@@ -30,7 +30,11 @@ pub cut-hyphen : (bs : List ℕ) (r : _) → IsSplitOnceResult 45 bs r
     → MatchOption r (has hyphen bs ≡ false) (λ x. (has hyphen bs ≡ true) × (x.0.now ≡ before hyphen bs) × (x.1.now ≡ after hyphen bs))
 cut-hyphen bs r h = cut 45 bs r h (omega arith)
 
-pub ruleset cuts = (cut-colon, cut-hyphen)
+pub cut-comma : (bs : List ℕ) (r : _) → IsSplitOnceResult 44 bs r
+    → MatchOption r (has comma bs ≡ false) (λ x. (has comma bs ≡ true) × (x.0.now ≡ before comma bs) × (x.1.now ≡ after comma bs))
+cut-comma bs r h = cut 44 bs r h (omega arith)
+
+pub ruleset cuts = (cut-colon, cut-hyphen, cut-comma)
 
 -- ---- numbers
 
@@ -68,7 +72,7 @@ pub ruleset numbers = (number-parse)
 
 -- ---- parts
 
-one-part : (p : ℕ → Bool) (xs : List ℕ) → nat_lt (position_or_len p xs) (length xs) ≡ false → slice_split p xs ≡ xs ∷ []
+pub one-part : (p : ℕ → Bool) (xs : List ℕ) → nat_lt (position_or_len p xs) (length xs) ≡ false → slice_split p xs ≡ xs ∷ []
 one-part p [] h = refl
 one-part p (x ∷ xs) h =
     elim (which (p x)) [

@@ -1,9 +1,8 @@
 -- The counts that bytes tell. Where one is there, and is not zero, reading takes memory.
 use Rattle.std.specs.Prelude.{ℕ, Bool, true, false}
-use Rattle.mysql_wire.specs.Form.{Form, ◌>>=◌, bytes, give, decode}
+use Rattle.mysql_wire.specs.Form.{Form, ◌>>=◌, bytes, give, decode, beginning}
 use Rattle.mysql_wire.specs.CountedBytes.{u32_string}
 use Rattle.mysql_wire.specs.Int.{le_u64, number_of}
-use Rattle.mysql_repl.specs.Beginning.{beginning}
 use Rattle.mysql_repl.specs.BinlogDumpGtid.{gtid_dump_head}
 use Rattle.mysql_repl.specs.SidBlock.{head_of, count_of}
 use Rattle.mysql_repl.specs.TagString.{tag_form}

@@ -4,10 +4,8 @@ pub mod BinlogDump
 pub mod SemiSyncAck
 pub mod GnoInterval
 pub mod Tag
-pub mod VarlenString
 pub mod TagString
 pub mod Sid
-pub mod Beginning
 pub mod SidBlock
 pub mod SidBlockAgain
 pub mod BinlogDumpGtid
@@ -15,6 +13,11 @@ pub mod Counts
 pub mod BinlogRequest
 pub mod SidText
 pub mod SidTextParts
+pub mod ServerSids
+pub mod MergedIntervals
+pub mod GtidSetText
+pub mod GtidSetTextParts
+pub mod GtidSetWritten
 pub mod ProperSid
 pub mod SidGrammar
 pub mod RequestBytes

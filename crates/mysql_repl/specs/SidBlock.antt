@@ -1,14 +1,13 @@
 -- The sids of a dump: a head, and so many sids in one of two layouts.
 use Rattle.std.specs.Prelude.{ℕ, ◌+◌, ◌*◌, ◌/◌, ◌%◌, ◌<◌, ◌^◌, List, [], ◌++◌, length, min, Option, Some, None, is_some, Bool, true, false, ◌&&◌, ◌==◌, nat_lt, if◌then◌else◌}
 use Rattle.std.specs.List.{flat_map, list_any}
-use Rattle.mysql_wire.specs.Form.{Form, ◌>>=◌, decode, within}
+use Rattle.mysql_wire.specs.Form.{Form, ◌>>=◌, decode, within, beginning}
 use Rattle.mysql_wire.specs.CodecFits.{each_fits}
 use Rattle.mysql_wire.specs.CountedBytes.{u32_string}
 use Rattle.mysql_wire.specs.Int.{le_u64, number_of}
 use Rattle.mysql_wire.specs.Seq.{counted}
 use Rattle.mysql_wire.specs.Writing.{le_bytes}
 use Rattle.mysql_repl.specs.declared.sid.Sid.{Sid}
-use Rattle.mysql_repl.specs.Beginning.{beginning}
 use Rattle.mysql_repl.specs.Sid.{sid_as}
 
 -- ---- the head: in its top byte the layout, below it the count

@@ -1,5 +1,5 @@
 -- What is written of a block is read again, by either reader.
-use Rattle.std.specs.Prelude.{◌≡◌, ℕ, ◌+◌, ◌*◌, ◌/◌, ◌%◌, ◌<◌, ◌≤◌, ◌^◌, List, [], ◌∷◌, ◌++◌, length, min, take, Some, None, Bool, true, false, nat_lt, if◌then◌else◌, refl}
+use Rattle.std.specs.Prelude.{◌≡◌, ℕ, ◌+◌, ◌*◌, ◌/◌, ◌%◌, ◌<◌, ◌≤◌, ◌^◌, List, [], ◌∷◌, ◌++◌, length, min, take, Some, Bool, true, false, if◌then◌else◌, refl}
 use Rattle.std.specs.List.{flat_map}
 use Rattle.std.proofs.Common.{arith, subst}
 use Rattle.std.proofs.lemmas.Bool.{eq-eqb, ne_eqb, le-ltb}
@@ -14,9 +14,8 @@ use Rattle.mysql_wire.specs.Seq.{counted}
 use Rattle.mysql_wire.specs.Spelling.{IsSpelling, le_u64-again}
 use Rattle.mysql_wire.specs.Writing.{le_bytes}
 use Rattle.mysql_repl.specs.declared.sid.Sid.{Sid}
-use Rattle.mysql_repl.specs.Beginning.{whole-beginning}
 use Rattle.mysql_repl.specs.Sid.{sid_as, sid, tagged_sid}
-use Rattle.mysql_repl.specs.SidBlock.{layout, is_tagged, head_of, head_for, sids_form, block_form, any_tag, content, block_bytes, BlockFits}
+use Rattle.mysql_repl.specs.SidBlock.{is_tagged, head_of, head_for, sids_form, block_form, any_tag, content, block_bytes, BlockFits}
 
 -- each sid takes at least one byte
 some-bytes : (tagged : Bool) (s : Sid) (rest : List ℕ) → (sid_as tagged).fits tt s rest → 0 < length ((sid_as tagged).bytes s)
@@ -98,16 +97,3 @@ sid_block = record {
   exact = λ strict sids rest h. refl;
   again = block-again;
 }
-
-known-step : (unknown : Bool) (x head : ℕ) → (if unknown then None else Some x) ≡ Some head → Some x ≡ Some head
-known-step true x head e = absurd cc
-known-step false x head e = e
-
-known : (x head : ℕ) → head_of true x ≡ Some head → head_of false x ≡ Some head
-known x head e = known-step (nat_lt 1 (layout x)) x head e
-
--- what a strict reader accepts, the other reads as the same
-pub strict-lenient : (sids : List Sid) (bytes rest : List ℕ) → (block_form true).Spells sids bytes rest → (block_form false).Spells sids bytes rest
-unfolding block_form sids_form
-strict-lenient sids bytes rest s =
-    whole-beginning u32_string (sids_form false) sids bytes rest (s.0, s.1, (s.2.0, s.2.1, (s.2.2.0, known _ _ s.2.2.1, s.2.2.2), s.2.3))

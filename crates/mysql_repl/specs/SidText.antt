@@ -17,12 +17,15 @@ use Rattle.mysql_repl.specs.Tag.{tag_fault}
 
 -- ---- cuts
 
--- the codes of a colon and of a hyphen
+-- the codes of a colon, of a hyphen and of a comma
 abbrev pub colon : ℕ
 colon = 58
 
 abbrev pub hyphen : ℕ
 hyphen = 45
+
+abbrev pub comma : ℕ
+comma = 44
 
 abbrev pub is : ℕ → ℕ → Bool
 is separator c = c == separator

@@ -7,8 +7,9 @@ use Rattle.mysql_wire.specs.Form.{Form, decode}
 use Rattle.mysql_wire.specs.Spelling.{IsSpelling}
 use Rattle.mysql_wire.specs.Codec.{Codec}
 use Rattle.mysql_wire.specs.Codecs.{leaf}
+use Rattle.mysql_wire.specs.Varlen.{varlen_string, varlen_string_bytes}
+use Rattle.mysql_wire.specs.VarlenAgain.{varlen_string-again}
 use Rattle.mysql_repl.specs.Tag.{is_tag, IsTag, is_first, is_later}
-use Rattle.mysql_repl.specs.VarlenString.{varlen_string, varlen_string_bytes, varlen_string-again}
 
 -- no bytes are no tag; what else is no tag is invalid
 unfoldable pub tag_of : List ℕ → Option (Option (List ℕ))

@@ -12,9 +12,11 @@ ghost use Rattle.mysql_repl.specs.Counts.{sid_count};
 
 use crate::sid::Sid;
 use crate::sid_block::{SidBlock, read_block};
+use crate::taken::append_taken;
 use mysql_wire::{
     AnyWidth, BinlogDumpFlags, Const, ConstFault, ConstU8, Fault, FaultOf, Flags, LeU16, LeU32,
-    LeU64, MyDeserialize, ParseBuf, Parts, RawBytes, RawInt, Seq, Sink, U32Bytes, parts,
+    LeU64, MyDeserialize, MySerialize, ParseBuf, Parts, RawBytes, RawInt, Seq, Sink, U32Bytes,
+    parts,
 };
 use std::alloc::{AllocError, Global};
 use std::borrow::{CowSlice, CowStr};
@@ -188,6 +190,9 @@ impl<'a> ComBinlogDumpGtid<'a> {
     /// block whose head's top byte is neither 0 nor 1, before any sid is read; and bytes of the
     /// block after the last sid.
     ///
+    /// It is strict on the block's layout alone: any two numbers are an interval, and intervals may stand in any order,
+    /// overlap and touch. [`is_as_servers_write`](Self::is_as_servers_write) tells whether MySQL takes them.
+    ///
     /// What it reads is what `parse` reads. After a refusal the buffer is as it was.
     pub fn parse_strict(buf: &mut ParseBuf<'a>) -> Result<Self, Fault>
         ensures value { Answers (counts_any ((sid_count true).reads buf.old)) result buf.new ((spec.gtid_dump.form true).reads buf.old) }
@@ -300,13 +305,32 @@ impl<'de> MyDeserialize<'de> for ComBinlogDumpGtid<'de> {
     ghost size_is = { λ _. spec.size-gtid_dump false };
 }
 
-impl Parts for ComBinlogDumpGtid<'_> {
-    ghost bytes = { spec.gtid_dump.bytes };
+/// A request as its parts.
+#[derive(Drop)]
+struct RequestParts<'b, 'a>(&'b ComBinlogDumpGtid<'a>);
+
+impl Parts for RequestParts<'_, '_> {
+    ghost bytes = { λ p. spec.gtid_dump.bytes p.0.now };
 
     #[inline(always)]
     fn put<S: Sink>(&self, sink: &mut S) {
-        let head = parts!(self.header, self.flags, self.server_id);
-        let sids = SidBlock(self.sids());
-        sink.part(&parts!(head, self.filename, self.pos, sids));
+        let it = self.0;
+        let head = parts!(it.header, it.flags, it.server_id);
+        let sids = SidBlock(it.sids());
+        sink.part(&parts!(head, it.filename, it.pos, sids));
+    }
+}
+
+impl MySerialize for ComBinlogDumpGtid<'_> {
+    ghost bytes = { spec.gtid_dump.bytes };
+
+    #[inline(always)]
+    fn defined_len(&self) -> usize {
+        RequestParts(self).defined_len()
+    }
+
+    #[inline(always)]
+    fn append(&self, out: &mut Vec<u8>) {
+        append_taken(&RequestParts(self), out);
     }
 }

@@ -17,8 +17,12 @@ ghost use Rattle.mysql_repl.specs.BinlogDumpGtid.{gtid_dump, GtidDumpFits, Tells
 ghost use Rattle.mysql_repl.specs.BinlogRequest as request_spec;
 ghost use Rattle.mysql_repl.specs.RegisterSlave.{register_slave, RegisterSlaveFits};
 ghost use Rattle.mysql_repl.specs.SemiSyncAck.{semi_sync_ack, SemiSyncAckFits};
-ghost use Rattle.mysql_repl.specs.Sid.{sid, tagged_sid, IsSid};
+ghost use Rattle.mysql_repl.specs.Sid.{sid, tagged_sid, intervals, IsSid};
+ghost use Rattle.mysql_repl.specs.MergedIntervals.{are_apart, NumbersFit};
 ghost use Rattle.mysql_repl.specs.ProperSid.{ProperSid};
+ghost use Rattle.mysql_repl.specs.ServerSids.{is_as_servers_write};
+ghost use Rattle.mysql_repl.specs.GtidSetText.{read_sids};
+ghost use Rattle.mysql_repl.specs.GtidSetWritten.{set_text, SidsInSet};
 ghost use Rattle.mysql_repl.specs.RequestBytes.{request_bytes};
 ghost use Rattle.mysql_repl.specs.SidGrammar.{SpellsSid};
 ghost use Rattle.mysql_repl.specs.SidText.{read_sid, sid_text};
@@ -106,6 +110,17 @@ pub fn sid_text_round_trips()
 #[tactic(auto, using(crate::proofs::SidTextRead::sid_reads_again))]
 pub fn read_sid_text_round_trips()
     ensures read { (text : List ℕ) (s : Sid) → IsUtf8 text → read_sid text ≡ Ok s → read_sid (sid_text s) ≡ Ok s }
+{}
+
+/// Intervals that are in order and apart are as servers write them, where their numbers are from 1 to 2^63 - 2.
+pub fn merged_intervals_are_as_servers_write()
+    ensures servers { (s : Sid) → are_apart (intervals s) ≡ true → NumbersFit (intervals s) → is_as_servers_write s ≡ true }
+{}
+
+/// The text that is written of sids is read as these sids, where each has at least one interval, and each interval is
+/// proper and ends below 2^63.
+pub fn gtid_set_text_round_trips()
+    ensures read { (sids : List Sid) → SidsInSet sids → read_sids (set_text sids) ≡ Ok sids }
 {}
 
 /// A text is a tag exactly where it has no fault of one.

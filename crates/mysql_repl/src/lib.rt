@@ -6,16 +6,22 @@ mod binlog_dump;
 mod binlog_dump_gtid;
 mod binlog_request;
 mod gno_interval;
+mod gtid_set_text;
+mod gtid_set_written;
+mod id;
+mod intervals;
 pub mod laws;
+mod merged_intervals;
 mod register_slave;
 mod semi_sync_ack;
+mod server_sids;
 mod sid;
 mod sid_block;
 mod sid_text;
 mod table_dump;
 mod tag;
 mod tag_field;
-mod varlen_bytes;
+mod taken;
 
 pub use binlog_dump::{ComBinlogDump, ComBinlogDumpHeader, InvalidComBinlogDumpHeader};
 pub use binlog_dump_gtid::{
@@ -23,6 +29,8 @@ pub use binlog_dump_gtid::{
 };
 pub use binlog_request::BinlogRequest;
 pub use gno_interval::{GnoInterval, InvalidGno};
+pub use gtid_set_text::sids_from_text;
+pub use gtid_set_written::GtidSetText;
 pub use mysql_wire::BinlogDumpFlags;
 pub use register_slave::{ComRegisterSlave, ComRegisterSlaveHeader, InvalidComRegisterSlaveHeader};
 pub use semi_sync_ack::{

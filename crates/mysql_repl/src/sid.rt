@@ -9,11 +9,12 @@ ghost use Rattle.mysql_repl.specs.Sid as spec;
 ghost use Rattle.mysql_repl.specs.TagString.{OptionalTag};
 
 use crate::gno_interval::GnoInterval;
+use crate::id::Id;
+use crate::intervals::{Intervals, read_intervals};
 use crate::tag::Tag;
 use crate::tag_field::{read_tag, tag_bytes};
-use crate::varlen_bytes::VarLenBytes;
 use mysql_wire::{
-    AnyWidth, FaultOf, LeU64, MyDeserialize, ParseBuf, Parts, RawBytes, Seq, Sink, parts,
+    AnyWidth, FaultOf, LeU64, MyDeserialize, ParseBuf, Parts, RawBytes, Seq, Sink, VarLen, parts,
 };
 use std::alloc::{AllocError, Global};
 use std::borrow::CowSlice;
@@ -133,11 +134,20 @@ impl<'de> MyDeserialize<'de> for Sid<'de> {
 
     ghost form = { spec.sid.form };
 
+    #[inline(always)]
+    #[tactic(auto, using(mysql_wire::proofs::Packets::packets, crate::proofs::Ids::ids), unfolding(crate::specs::Sid::sid))]
     fn deserialize<'s>(_ctx: (), buf: &mut ParseBuf<'de>) -> Result<Self, FaultOf<'s>> {
+        let mut rest = buf.rest();
+        if rest.len() < UUID_LEN {
+            return Err(FaultOf::UnexpectedEof);
+        }
+        let uuid = rest.eat_array();
+        let intervals = read_intervals(&mut rest)?;
+        *buf = rest;
         Ok(Sid {
-            uuid: buf.parse(())?,
+            uuid,
             tag: None,
-            intervals: buf.parse(())?,
+            intervals,
         })
     }
 
@@ -149,7 +159,7 @@ impl Parts for Sid<'_> {
 
     #[inline(always)]
     fn put<S: Sink>(&self, sink: &mut S) {
-        sink.part(&parts!(self.uuid, self.intervals));
+        sink.part(&parts!(Id(self.uuid), Intervals(self.intervals())));
     }
 }
 
@@ -160,11 +170,12 @@ fn read_tagged<'s, 'de>(buf: &mut ParseBuf<'de>) -> Result<Sid<'de>, FaultOf<'s>
     Ok(Sid {
         uuid: buf.parse(())?,
         tag: read_tag(buf)?,
-        intervals: buf.parse(())?,
+        intervals: read_intervals(buf)?,
     })
 }
 
 /// Reads a sid in the form with tags or in the other.
+#[inline(always)]
 pub(crate) fn read_sid<'s, 'de>(
     tagged: bool,
     buf: &mut ParseBuf<'de>,
@@ -174,7 +185,7 @@ pub(crate) fn read_sid<'s, 'de>(
     if tagged {
         read_tagged(buf)
     } else {
-        buf.parse(())
+        Sid::deserialize((), buf)
     }
 }
 
@@ -193,8 +204,8 @@ impl Parts for SidAs<'_, '_> {
         let sid = self.sid;
         if self.tagged {
             let tag = tag_bytes(&sid.tag);
-            let tag: RawBytes<'_, VarLenBytes> = RawBytes::new(CowSlice::Borrowed(tag));
-            sink.part(&parts!(sid.uuid, tag, sid.intervals));
+            let tag: RawBytes<'_, VarLen> = RawBytes::new(CowSlice::Borrowed(tag));
+            sink.part(&parts!(Id(sid.uuid), tag, Intervals(sid.intervals())));
         } else {
             sink.part(sid);
         }

@@ -1,7 +1,7 @@
 //! The sids of a dump by GTID set.
 #![tactic(auto, using(mysql_wire::proofs::Packets::packets))]
 
-ghost use Rattle.std.specs.Prelude.{false, true, ◌≡◌, ◌+◌, ◌++◌, ◌≤◌, length, vec_len, vec_capacity, OnErr, List, ℕ};
+ghost use Rattle.std.specs.Prelude.{false, true, ◌≡◌, ◌+◌, ◌++◌, ◌<◌, ◌≤◌, length, vec_len, vec_capacity, OnErr, List, ℕ};
 ghost use Rattle.std.specs.List.{flat_map};
 ghost use Rattle.mysql_wire.specs.Reading.{Answers, IsTail};
 ghost use Rattle.mysql_wire.specs.Seq.{items_of, counted, counts_any, is_any};
@@ -13,6 +13,7 @@ ghost use Rattle.mysql_repl.specs.SidBlock as spec;
 use crate::sid::{Sid, SidAs, read_sid};
 use mysql_wire::{BytesRepr, FaultOf, LeU32, LeU64, MySerialize, ParseBuf, RawInt, Seq, U32Bytes};
 use std::cmp::min;
+use std::mem;
 
 /// The layout that the head tells: its top byte.
 fn layout(head: u64) -> u64
@@ -32,8 +33,15 @@ fn count_of(head: u64) -> u64
     }
 }
 
-/// Reads so many sids, in the form with tags or in the other. Capacity is taken as they are read, and
-/// none for the count.
+/// How many bytes a sid takes at least: its identifier, the length of its tag where it has one, and its count.
+fn least_len(tagged: bool) -> usize
+    ensures some { 0 < result }
+{
+    if tagged { 25 } else { 24 }
+}
+
+/// Reads so many sids, in the form with tags or in the other. Capacity is taken for no more than the bytes can hold.
+#[inline(always)]
 fn read_counted<'s, 'de>(
     tagged: bool,
     count: u64,
@@ -41,12 +49,21 @@ fn read_counted<'s, 'de>(
 ) -> Result<Vec<Sid<'de>>, FaultOf<'s>>
     ensures value { Answers (is_any count) (items_of result) block.new ((counted count ((sid_as tagged).form tt)).reads block.old) }
 {
-    let mut sids = Vec::new(block.alloc());
+    let capacity = min(count as usize, block.len() / least_len(tagged));
+    let mut sids = Vec::with_capacity(block.alloc(), capacity)?;
     for _ in 0..count {
         let sid = read_sid(tagged, block)?;
         sids.push(sid)?;
     }
     Ok(sids)
+}
+
+/// Reads so many sids in the form with tags. It is a call, so that it costs the other form nothing.
+#[inline(never)]
+fn read_tagged<'s, 'de>(count: u64, block: &mut ParseBuf<'de>) -> Result<Vec<Sid<'de>>, FaultOf<'s>>
+    ensures value { Answers (is_any count) (items_of result) block.new ((counted count ((sid_as true).form tt)).reads block.old) }
+{
+    read_counted(true, count, block)
 }
 
 /// Reads the head, and so many sids. A strict reader knows the layouts 0 and 1 alone.
@@ -59,7 +76,12 @@ fn read_sids<'s, 'de>(strict: bool, block: &mut ParseBuf<'de>) -> Result<Vec<Sid
     if strict && layout(head) > 1 {
         return Err(FaultOf::InvalidData("Unknown sid block format"));
     }
-    read_counted(layout(head) == 1, count_of(head), block)
+    let count = count_of(head);
+    if layout(head) == 1 {
+        read_tagged(count, block)
+    } else {
+        read_counted(false, count, block)
+    }
 }
 
 /// Reads a block after its length, as a strict reader: no bytes stand after the last sid.
@@ -151,8 +173,35 @@ impl<'a> SidBlock<'_, 'a> {
         self.sids_len(tagged).saturating_add(8)
     }
 
-    /// Writes the sids to a buffer that has capacity for them.
+    /// Writes the sids to a buffer that has capacity for them. Sids with tags are written by a call, for which the buffer
+    /// is moved: what a call is passed does not stay in registers.
+    #[inline(always)]
     fn append_sids(&self, tagged: bool, out: &mut Vec<u8>)
+        requires { vec_len out.old + length (flat_map (sid_as tagged).bytes self.now.0.now) ≤ vec_capacity out.old }
+        ensures items { out.new.items ≡ out.old.items ++ flat_map (sid_as tagged).bytes self.now.0.now }
+        ensures capacity { vec_capacity out.old ≤ vec_capacity out.new }
+    {
+        if tagged {
+            let empty = Vec::new(*out.allocator());
+            let mut moved = mem::replace(out, empty);
+            self.append_apart(tagged, &mut moved);
+            *out = moved;
+        } else {
+            self.append_each(tagged, out);
+        }
+    }
+
+    #[inline(never)]
+    fn append_apart(&self, tagged: bool, out: &mut Vec<u8>)
+        requires { vec_len out.old + length (flat_map (sid_as tagged).bytes self.now.0.now) ≤ vec_capacity out.old }
+        ensures items { out.new.items ≡ out.old.items ++ flat_map (sid_as tagged).bytes self.now.0.now }
+        ensures capacity { vec_capacity out.old ≤ vec_capacity out.new }
+    {
+        self.append_each(tagged, out);
+    }
+
+    #[inline(always)]
+    fn append_each(&self, tagged: bool, out: &mut Vec<u8>)
         requires { vec_len out.old + length (flat_map (sid_as tagged).bytes self.now.0.now) ≤ vec_capacity out.old }
         ensures items { out.new.items ≡ out.old.items ++ flat_map (sid_as tagged).bytes self.now.0.now }
         ensures capacity { vec_capacity out.old ≤ vec_capacity out.new }
@@ -166,11 +215,13 @@ impl<'a> SidBlock<'_, 'a> {
 impl MySerialize for SidBlock<'_, '_> {
     ghost bytes = { λ b. spec.block_bytes b.0.now };
 
+    #[inline(always)]
     #[tactic(auto, using(mysql_wire::specs::Writing::lengths), unfolding(crate::specs::SidBlock::block_bytes, mysql_wire::specs::Writing::le_bytes, mysql_wire::specs::Writing::saturated))]
     fn defined_len(&self) -> usize {
         self.content_len(self.any_tag()).saturating_add(4)
     }
 
+    #[inline(always)]
     #[tactic(auto, using(mysql_wire::specs::Writing::lengths), unfolding(crate::specs::SidBlock::block_bytes, crate::specs::SidBlock::content, mysql_wire::specs::Writing::saturated))]
     fn append(&self, out: &mut Vec<u8>) {
         let tagged = self.any_tag();

@@ -17,7 +17,7 @@ use std::fmt;
 use thiserror::Error;
 use uuid::Uuid;
 
-/// Why a text is no sid: the first refusal from the left.
+/// Why a text is no sid, or no GTID set: the first refusal from the left.
 #[derive(Clone, Debug, PartialEq, Drop, Error)]
 pub enum InvalidSid {
     /// No colon follows the uuid.
@@ -26,22 +26,22 @@ pub enum InvalidSid {
     /// What stands before the first colon is no uuid.
     #[error("Uuid")]
     Uuid,
-    /// Nothing follows the first colon.
+    /// Nothing follows the first colon; in a GTID set, any colon.
     #[error("Empty")]
     Empty,
-    /// What stands between the uuid and the intervals is no tag.
+    /// What stands before intervals is no tag.
     #[error("{0}")]
     Tag(InvalidTag),
-    /// No colon follows the tag.
+    /// No colon follows the tag; in a GTID set, no interval follows it.
     #[error("NoIntervals")]
     NoIntervals,
     /// An interval has more than one hyphen.
     #[error("Parts")]
     Parts,
-    /// An interval has something else than digits after a plus or none, or a number past 64 bits.
+    /// An interval has something else than digits, or a number past 64 bits. In a GTID set a plus before them is refused.
     #[error("Number")]
     Number,
-    /// The last number of an interval is 2^64 - 1, after which there is none.
+    /// The last number of an interval is 2^64 - 1, after which there is none; in a GTID set, it is above 2^63 - 2.
     #[error("TooLarge")]
     TooLarge,
     /// The numbers of an interval are no interval of transactions.
@@ -94,7 +94,7 @@ impl<T: Drop> From<AllocFailed<T>> for InvalidSid {
 
 /// What stands before the first colon, and what after it.
 #[tactic(auto, using(crate::proofs::SidTexts::cuts))]
-fn cut_at_colon(text: &str) -> Option<(&str, &str)>
+pub(crate) fn cut_at_colon(text: &str) -> Option<(&str, &str)>
     ensures value { MatchOption result (spec.has spec.colon text.now ≡ false) (λ cut. (spec.has spec.colon text.now ≡ true) × (cut.0.now ≡ spec.before spec.colon text.now) × (cut.1.now ≡ spec.after spec.colon text.now)) }
 {
     text.split_once(':')
@@ -102,21 +102,29 @@ fn cut_at_colon(text: &str) -> Option<(&str, &str)>
 
 /// What stands before the first hyphen, and what after it.
 #[tactic(auto, using(crate::proofs::SidTexts::cuts))]
-fn cut_at_hyphen(text: &str) -> Option<(&str, &str)>
+pub(crate) fn cut_at_hyphen(text: &str) -> Option<(&str, &str)>
     ensures value { MatchOption result (spec.has spec.hyphen text.now ≡ false) (λ cut. (spec.has spec.hyphen text.now ≡ true) × (cut.0.now ≡ spec.before spec.hyphen text.now) × (cut.1.now ≡ spec.after spec.hyphen text.now)) }
 {
     text.split_once('-')
 }
 
+/// What stands before the first comma, and what after it.
+#[tactic(auto, using(crate::proofs::SidTexts::cuts))]
+pub(crate) fn cut_at_comma(text: &str) -> Option<(&str, &str)>
+    ensures value { MatchOption result (spec.has spec.comma text.now ≡ false) (λ cut. (spec.has spec.comma text.now ≡ true) × (cut.0.now ≡ spec.before spec.comma text.now) × (cut.1.now ≡ spec.after spec.comma text.now)) }
+{
+    text.split_once(',')
+}
+
 /// The number of 64 bits that digits write, after a plus or none.
-fn number_of(text: &str) -> Option<u64>
+pub(crate) fn number_of(text: &str) -> Option<u64>
     ensures { result ≡ spec.number_of text.now }
 {
     text.parse().ok()
 }
 
 /// The interval from the first number to the last.
-fn checked(first: u64, last: u64) -> Result<GnoInterval, InvalidSid>
+pub(crate) fn checked(first: u64, last: u64) -> Result<GnoInterval, InvalidSid>
     ensures value { result ≡ spec.checked first last }
 {
     let Some(end) = last.checked_add(1) else {
@@ -152,13 +160,13 @@ fn read_interval(text: &str) -> Result<GnoInterval, InvalidSid>
 
 /// A text up to its first colon, and what stands after that colon, if there is one.
 #[derive(Drop)]
-struct FirstPart<'a> {
-    part: &'a str,
-    left: Option<&'a str>,
+pub(crate) struct FirstPart<'a> {
+    pub(crate) part: &'a str,
+    pub(crate) left: Option<&'a str>,
 }
 
 #[tactic(auto, using(crate::proofs::SidTexts::first_parts))]
-fn first_part(text: &str) -> FirstPart<'_>
+pub(crate) fn first_part(text: &str) -> FirstPart<'_>
     ensures parts { spec.parts_of text.now ≡ result.part.now ∷ left_parts (option_map (λ t. t.now) result.left) }
     ensures shorter { left_len (option_map (λ t. t.now) result.left) < left_len (Some text.now) }
 {
@@ -221,6 +229,9 @@ impl Sid<'static> {
     /// below 2^64 - 1. A number is one or more digits, after a plus or none. Without a tag the
     /// intervals begin with a digit.
     ///
+    /// The text of a whole GTID set, with several uuids or several tags after one, is read by
+    /// [`sids_from_text`](crate::sids_from_text).
+    ///
     /// Another text is refused by its first fault. No memory is asked for before the uuid and the tag with its colon, or
     /// else the first interval, are read.
     #[tactic(auto, using(crate::proofs::SidTextRead::answers))]
@@ -251,7 +262,7 @@ fn read_sid(alloc: Global, text: &str) -> Result<Sid<'static>, InvalidSid>
 }
 
 /// The bytes of the uuid that a text writes, in any of its forms.
-fn uuid_of(text: &str) -> Option<[u8; 16]>
+pub(crate) fn uuid_of(text: &str) -> Option<[u8; 16]>
     ensures value { result ≡ parsed text.now }
 {
     match Uuid::parse_str(text) {
@@ -281,7 +292,7 @@ impl fmt::Display for ShownInterval<'_> {
 
 /// Intervals, each after its colon.
 #[derive(Drop)]
-struct ShownIntervals<'b>(&'b [GnoInterval]);
+pub(crate) struct ShownIntervals<'b>(pub(crate) &'b [GnoInterval]);
 
 impl fmt::Display for ShownIntervals<'_> {
     ghost output = { λ s. Some (flat_map spec.interval_text s.0.now) };
@@ -297,7 +308,7 @@ impl fmt::Display for ShownIntervals<'_> {
 
 /// A tag after its colon, or nothing.
 #[derive(Drop)]
-struct ShownTag<'b, 'a>(Option<&'b Tag<'a>>);
+pub(crate) struct ShownTag<'b, 'a>(pub(crate) Option<&'b Tag<'a>>);
 
 impl fmt::Display for ShownTag<'_, '_> {
     ghost output = { λ s. Some (spec.tag_text (option_map (λ t. t.now) s.0)) };

@@ -6,8 +6,7 @@ ghost use Rattle.mysql_wire.specs.Reading.{Answers};
 ghost use Rattle.mysql_repl.specs.TagString as spec;
 
 use crate::tag::Tag;
-use crate::varlen_bytes::VarLenBytes;
-use mysql_wire::{BytesRepr, FaultOf, ParseBuf};
+use mysql_wire::{BytesRepr, FaultOf, ParseBuf, VarLen};
 use std::borrow::CowStr;
 use std::str;
 
@@ -37,7 +36,7 @@ fn tag_of<'s, 'a>(bytes: &'a [u8]) -> Result<Option<Tag<'a>>, FaultOf<'s>>
 pub(crate) fn read_tag<'s, 'de>(buf: &mut ParseBuf<'de>) -> Result<Option<Tag<'de>>, FaultOf<'s>>
     ensures value { Answers false result buf.new (spec.tag_form.reads buf.old) }
 {
-    let mut content = <VarLenBytes as BytesRepr>::deserialize((), buf)?;
+    let mut content = <VarLen as BytesRepr>::deserialize((), buf)?;
     tag_of(content.eat_all())
 }
 

@@ -14,7 +14,7 @@ pub returns-in_err-sid : goal.returns-in_err-sid
 returns-in_err-sid c =
     let some = any-above c.loop.counter c.args.count c.loop-test.true in
     let f = (sid_as c.args.tagged).form tt in
-    let p = err_from_is_err_and c.from_residual.result c.from_residual.ensures.1 in
+    let p = err_from_is_err_and c.from_residual-in_err-sid.result c.from_residual-in_err-sid.ensures.1 in
     record { value = rw (some, p.1, p.2) (fails f _ c.loop.sids.items c.in_err-sid.field-0.0 c.args.count c.loop.counter c.loop.block _ c.loop-test.true c.in_err-sid.ensures.value c.loop.invariant) }
 
 pub loop-preserved : goal.loop-preserved

@@ -1,9 +1,6 @@
-use Rattle.std.proofs.Common.{◌≡◌}
-use Rattle.std.specs.Cmp.Lexicographic.{pointwise}
-use Rattle.std.specs.Prelude.{nat_eq}
-use Rattle.indexmap.specs.IndexMap.{insert_all}
-use Rattle.mysql_auth.specs.Attributes.{merged}
+use Rattle.std.proofs.Common.{◌≡◌, ◌++◌}
+use Rattle.std.specs.Vec.Iter.{into_iter_items}
 use Rattle.mysql_auth.proofs.attributes.Attributes.into_owned.Given as goal
 
-abbrev pub invariant-loop-key : goal.invariant-loop-key
-invariant-loop-key l = insert_all (pointwise nat_eq) l.map.entries l.key-iterator ≡ merged l.initial.key-iterator
+abbrev pub invariant-loop-attribute : goal.invariant-loop-attribute
+invariant-loop-attribute l = l.list.items ++ into_iter_items l.attribute-iterator ≡ into_iter_items l.initial.attribute-iterator

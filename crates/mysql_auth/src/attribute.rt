@@ -1,0 +1,117 @@
+//! One attribute of a connection.
+#![tactic(auto, using(mysql_wire::proofs::Packets::packets), unfolding(crate::specs::Attributes::attribute))]
+
+ghost use Rattle.std.specs.Prelude.{false, ◌≡◌, nat_eq, ℕ, List, IfOk};
+ghost use Rattle.std.specs.Cmp.Lexicographic.{pointwise};
+ghost use Rattle.std.specs.List.{list_any};
+ghost use Rattle.mysql_wire.specs.Reading.{Answers};
+ghost use Rattle.mysql_auth.specs.Attributes as spec;
+
+use mysql_wire::{FaultOf, LenEnc, ParseBuf, Parts, RawBytes, Sink, parts};
+use std::alloc::{AllocError, Global};
+use std::marker::Model;
+
+/// A key with its value.
+///
+/// In contracts it is the pair of their bytes.
+#[derive(Drop)]
+pub(crate) struct Attribute<'a> {
+    pub(crate) key: RawBytes<'a, LenEnc>,
+    pub(crate) value: RawBytes<'a, LenEnc>,
+}
+
+impl<'a> Model for Attribute<'a> {
+    ghost use Rattle.std.specs.Prelude.{ℕ, List};
+
+    ghost Value = { List ℕ × List ℕ };
+
+    ghost view = { λ p. (p.key, p.value) };
+}
+
+impl<'a> Attribute<'a> {
+    /// The attribute of this key and this value.
+    #[inline(always)]
+    pub(crate) fn new(key: RawBytes<'a, LenEnc>, value: RawBytes<'a, LenEnc>) -> Self
+        ensures value { result ≡ (key.entry, value.entry) }
+    {
+        Attribute { key, value }
+    }
+
+    /// Reads a key and its value.
+    #[inline(always)]
+    pub(crate) fn read<'s>(buf: &mut ParseBuf<'a>) -> Result<Attribute<'a>, FaultOf<'s>>
+        ensures value { Answers false result buf.new ((spec.attribute.form tt).reads buf.old) }
+    {
+        let key = buf.parse(())?;
+        let value = buf.parse(())?;
+        Ok(Attribute { key, value })
+    }
+
+    /// The same, on memory of its own.
+    pub(crate) fn into_owned(self, alloc: Global) -> Result<Attribute<'static>, AllocError>
+        ensures value { IfOk result (λ owned. owned ≡ self.entry) }
+    {
+        let key = self.key.into_owned(alloc)?;
+        let value = self.value.into_owned(alloc)?;
+        Ok(Attribute { key, value })
+    }
+
+    /// The key and the value as texts, with U+FFFD for what is not UTF-8.
+    pub(crate) fn texts(&self, alloc: Global) -> Result<(String, String), AllocError>
+        ensures value { IfOk result (λ texts. spec.text_pair texts ≡ spec.lossy_pair self.now) }
+    {
+        let key = self.key.as_str(alloc)?.into_owned(alloc)?;
+        let value = self.value.as_str(alloc)?.into_owned(alloc)?;
+        Ok((key, value))
+    }
+}
+
+/// Whether one of the attributes has the key.
+#[inline(always)]
+pub(crate) fn has_key(attributes: &[Attribute<'_>], key: &[u8]) -> bool
+    ensures value { result ≡ list_any (λ p. pointwise nat_eq key.now p.0) attributes.now }
+{
+    attributes
+        .iter()
+        .any(|attribute| key == attribute.key.as_bytes())
+}
+
+impl Clone for Attribute<'_> {
+    ghost is_clone = { λ a copy. copy ≡ a };
+
+    fn clone(&self) -> Result<Self, AllocError> {
+        Ok(Attribute {
+            key: self.key.clone()?,
+            value: self.value.clone()?,
+        })
+    }
+}
+
+impl PartialEq for Attribute<'_> {
+    ghost use Rattle.std.specs.Cmp.{and_per, on_per, partial_equiv_from_equiv};
+    ghost use Rattle.std.specs.Cmp.Lexicographic.{nat_list_eq_equiv};
+
+    ghost eq = { spec.attribute_eq };
+
+    ghost laws = { let texts = partial_equiv_from_equiv nat_list_eq_equiv in and_per (on_per (λ p. p.0) texts) (on_per (λ p. p.1) texts) };
+
+    fn eq(&self, other: &Self) -> bool {
+        self.key == other.key && self.value == other.value
+    }
+}
+
+impl Eq for Attribute<'_> {
+    ghost use Rattle.std.specs.Cmp.{and_equiv, on_equiv};
+    ghost use Rattle.std.specs.Cmp.Lexicographic.{nat_list_eq_equiv};
+
+    ghost laws = { and_equiv (on_equiv (λ p. p.0) nat_list_eq_equiv) (on_equiv (λ p. p.1) nat_list_eq_equiv) };
+}
+
+impl Parts for Attribute<'_> {
+    ghost bytes = { spec.attribute.bytes };
+
+    #[inline(always)]
+    fn put<S: Sink>(&self, sink: &mut S) {
+        sink.part(&parts!(self.key, self.value));
+    }
+}

@@ -1,0 +1,23 @@
+-- Sids whose intervals are as servers write them.
+use Rattle.std.specs.Prelude.{ℕ, ◌^◌, List, [], ◌∷◌, Bool, true, ◌&&◌, nat_lt}
+use Rattle.std.specs.List.{list_all}
+use Rattle.mysql_repl.specs.declared.gno_interval.GnoInterval.{GnoInterval}
+use Rattle.mysql_repl.specs.declared.sid.Sid.{Sid}
+use Rattle.mysql_repl.specs.GnoInterval.{start, end}
+use Rattle.mysql_repl.specs.Sid.{intervals}
+
+-- a transaction at least, after this number, and none from 2^63 - 1 on
+abbrev pub is_after : (last : ℕ) → GnoInterval → Bool
+is_after last i = nat_lt last (start i) && (nat_lt (start i) (end i) && nat_lt (end i) (2 ^ 63))
+
+-- each after the end of the one before, which it does not touch
+abbrev pub are_after : (last : ℕ) → List GnoInterval → Bool
+are_after last [] = true
+are_after last (i ∷ is) = is_after last i && are_after (end i) is
+
+-- the first begins at 1 or later
+abbrev pub is_as_servers_write : Sid → Bool
+is_as_servers_write s = are_after 0 (intervals s)
+
+abbrev pub are_as_servers_write : List Sid → Bool
+are_as_servers_write sids = list_all is_as_servers_write sids

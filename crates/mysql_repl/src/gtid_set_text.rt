@@ -1,0 +1,276 @@
+//! The text of a GTID set.
+
+ghost use Rattle.std.specs.Prelude.{◌≡◌, ◌++◌, ◌+◌, ◌<◌, ◌∷◌, Option, Some, Ok, option_map};
+ghost use Rattle.mysql_repl.specs.GtidSetText as spec;
+ghost use Rattle.mysql_repl.specs.GtidSetTextParts.{left_words, sids_read, with_front, Takes};
+ghost use Rattle.mysql_repl.specs.SidText.{Answered, colon, comma};
+ghost use Rattle.mysql_repl.specs.SidTextParts.{left_len};
+
+use crate::binlog_dump_gtid::ComBinlogDumpGtid;
+use crate::gno_interval::GnoInterval;
+use crate::sid::Sid;
+use crate::sid_text::{
+    InvalidSid, checked, cut_at_colon, cut_at_comma, cut_at_hyphen, first_part, number_of, uuid_of,
+};
+use crate::tag::Tag;
+use std::alloc::Global;
+use std::borrow::CowSlice;
+
+/// The greatest number of a transaction: 2^63 - 2.
+const LAST_GNO: u64 = (1 << 63) - 2;
+
+/// The text without ASCII white space at either end.
+#[tactic(auto, using(crate::proofs::GtidSetTexts::trims))]
+fn trimmed(text: &str) -> &str
+    ensures value { result.now ≡ spec.trimmed text.now }
+{
+    text.trim_ascii_start().trim_ascii_end()
+}
+
+/// The number of 64 bits that digits write.
+#[tactic(auto, unfolding(crate::specs::GtidSetText::plain_number))]
+fn plain_number(text: &str) -> Option<u64>
+    ensures value { result ≡ spec.plain_number text.now }
+{
+    let Some(first) = text.as_bytes().first() else {
+        return None;
+    };
+    if *first == b'+' {
+        return None;
+    }
+    number_of(text)
+}
+
+/// The interval from the first number to the last, where both are numbers of transactions.
+fn server_numbers(first: Option<u64>, last: Option<u64>) -> Result<GnoInterval, InvalidSid>
+    ensures value { result ≡ spec.server_numbers first last }
+{
+    let (Some(first), Some(last)) = (first, last) else {
+        return Err(InvalidSid::Number);
+    };
+    if last > LAST_GNO {
+        return Err(InvalidSid::TooLarge);
+    }
+    checked(first, last)
+}
+
+/// The interval that a word spells.
+#[tactic(auto, unfolding(crate::specs::GtidSetText::server_interval))]
+fn server_interval(word: &str) -> Result<GnoInterval, InvalidSid>
+    ensures value { result ≡ spec.server_interval word.now }
+{
+    let Some((first, last)) = cut_at_hyphen(word) else {
+        let number = plain_number(word);
+        return server_numbers(number, number);
+    };
+    if cut_at_hyphen(last).is_some() {
+        return Err(InvalidSid::Parts);
+    }
+    server_numbers(plain_number(trimmed(first)), plain_number(trimmed(last)))
+}
+
+/// A text up to its first separator, without white space at its ends, and what stands after that separator, if there is
+/// one.
+#[derive(Drop)]
+struct Word<'a> {
+    word: &'a str,
+    left: Option<&'a str>,
+}
+
+/// The word up to the first colon.
+#[tactic(auto, using(crate::proofs::GtidSetTexts::first_words))]
+fn first_word(text: &str) -> Word<'_>
+    ensures words { spec.words colon text.now ≡ result.word.now ∷ left_words colon (option_map (λ t. t.now) result.left) }
+    ensures shorter { left_len (option_map (λ t. t.now) result.left) < left_len (Some text.now) }
+{
+    let first = first_part(text);
+    Word {
+        word: trimmed(first.part),
+        left: first.left,
+    }
+}
+
+/// The word up to the first comma.
+#[tactic(auto, using(crate::proofs::GtidSetTexts::first_words))]
+fn first_piece(text: &str) -> Word<'_>
+    ensures words { spec.words comma text.now ≡ result.word.now ∷ left_words comma (option_map (λ t. t.now) result.left) }
+    ensures shorter { left_len (option_map (λ t. t.now) result.left) < left_len (Some text.now) }
+{
+    match cut_at_comma(text) {
+        Some((piece, left)) => Word {
+            word: trimmed(piece),
+            left: Some(left),
+        },
+        None => Word {
+            word: trimmed(text),
+            left: None,
+        },
+    }
+}
+
+/// Whether a word is an interval, and no tag.
+fn is_interval(word: &str) -> bool
+    ensures value { result ≡ spec.is_interval word.now }
+{
+    match word.as_bytes().first() {
+        Some(first) => first.is_ascii_digit(),
+        None => false,
+    }
+}
+
+/// Whether an interval comes next.
+fn interval_follows(left: Option<&str>) -> bool
+    ensures value { result ≡ spec.interval_follows (left_words colon (option_map (λ t. t.now) left.entry)) }
+{
+    let Some(text) = left else {
+        return false;
+    };
+    is_interval(first_word(text).word)
+}
+
+/// The tag that a word spells, in lower case.
+#[tactic(auto, unfolding(crate::specs::GtidSetText::server_tag))]
+fn server_tag(alloc: Global, word: &str, left: Option<&str>) -> Result<Tag<'static>, InvalidSid>
+    ensures value { Answered result (spec.server_tag word.now (left_words colon (option_map (λ t. t.now) left.entry))) }
+{
+    if word.is_empty() {
+        return Err(InvalidSid::Empty);
+    }
+    let mut text = String::from_str(alloc, word)?;
+    text.make_ascii_lowercase();
+    let tag = Tag::try_from(text)?;
+    if !interval_follows(left) {
+        return Err(InvalidSid::NoIntervals);
+    }
+    Ok(tag)
+}
+
+/// The sids with one more, where it has a tag or an interval.
+fn with_kept(
+    mut sids: Vec<Sid<'static>>,
+    sid: Sid<'static>,
+) -> Result<Vec<Sid<'static>>, InvalidSid>
+    ensures value { Answered (sids_read result) (Ok (sids.entry.items ++ spec.kept sid.entry)) }
+{
+    if sid.tag().is_some() || !sid.intervals().is_empty() {
+        sids.push(sid)?;
+    }
+    Ok(sids)
+}
+
+/// The sids that were read, and the one whose intervals are being read.
+#[derive(Drop)]
+struct Building {
+    sids: Vec<Sid<'static>>,
+    sid: Sid<'static>,
+}
+
+impl Building {
+    /// The same with a word more: an interval of the sid, or the tag of the next one.
+    #[tactic(auto, using(crate::proofs::GtidSetTexts::takes))]
+    fn with_word(
+        self,
+        alloc: Global,
+        uuid: [u8; 16],
+        first: &Word<'_>,
+    ) -> Result<Building, InvalidSid>
+        ensures value { Takes uuid self.sids.items self.sid result first.now.word.now (left_words colon (option_map (λ t. t.now) first.now.left)) }
+    {
+        if is_interval(first.word) {
+            let interval = server_interval(first.word)?;
+            return Ok(Building {
+                sids: self.sids,
+                sid: self.sid.with_interval(alloc, interval)?,
+            });
+        }
+        let tag = server_tag(alloc, first.word, first.left)?;
+        Ok(Building {
+            sids: with_kept(self.sids, self.sid)?,
+            sid: Sid::new(uuid).with_tag(tag),
+        })
+    }
+}
+
+/// The sids with those that the words after a uuid spell.
+#[tactic(auto, using(crate::proofs::GtidSetTexts::word_loops))]
+fn with_words(
+    alloc: Global,
+    sids: Vec<Sid<'static>>,
+    uuid: [u8; 16],
+    text: &str,
+) -> Result<Vec<Sid<'static>>, InvalidSid>
+    ensures value { Answered (sids_read result) (with_front sids.entry.items (spec.sids_found uuid (spec.found_in uuid (spec.words colon text.now)))) }
+{
+    let mut building = Building {
+        sids,
+        sid: Sid::new(uuid),
+    };
+    let mut left = Some(text);
+    while let Some(text) = left {
+        let first = first_word(text);
+        building = building.with_word(alloc, uuid, &first)?;
+        left = first.left;
+    }
+    with_kept(building.sids, building.sid)
+}
+
+/// The sids with those that a piece between commas spells.
+#[tactic(auto, unfolding(crate::specs::GtidSetText::read_piece))]
+fn with_piece(
+    alloc: Global,
+    sids: Vec<Sid<'static>>,
+    piece: &str,
+) -> Result<Vec<Sid<'static>>, InvalidSid>
+    ensures value { Answered (sids_read result) (with_front sids.entry.items (spec.read_piece piece.now)) }
+{
+    if piece.is_empty() {
+        return Ok(sids);
+    }
+    let Some((uuid, text)) = cut_at_colon(piece) else {
+        return Err(InvalidSid::NoColon);
+    };
+    let Some(uuid) = uuid_of(trimmed(uuid)) else {
+        return Err(InvalidSid::Uuid);
+    };
+    with_words(alloc, sids, uuid, text)
+}
+
+/// The sids that the text of a GTID set spells, as MySQL shows one in `@@gtid_executed`: pieces with commas between them,
+/// as `UUID:1-8:_x9:4-5:app:1-3:5-6, UUID:7`.
+///
+/// A piece is a uuid, in any form without a colon, and words, each after a colon. A word that begins with a digit is an
+/// interval: a number, or the first and the last number with a hyphen between them. Another word is a tag, in either
+/// case, and the intervals after it are those of the tag: each tag is a sid of its own, and so are the intervals before
+/// the first tag. A tag is read in lower case, and has at least one interval. The first number of an interval is at
+/// least 1 and at most the last, and the last is at most 2^63 - 2. White space of ASCII may stand around uuids, tags and
+/// numbers. A piece of white space alone spells no sid, so that an empty text is the empty set.
+///
+/// Sids and intervals come in the order of the text, as often as they stand there. Another text is refused by its first
+/// fault.
+#[tactic(auto, using(crate::proofs::GtidSetTexts::piece_loops), unfolding(crate::specs::GtidSetText::read_sids))]
+pub fn sids_from_text(alloc: Global, text: &str) -> Result<Vec<Sid<'static>>, InvalidSid>
+    ensures value { Answered (sids_read result) (spec.read_sids text.now) }
+{
+    let mut sids = Vec::new(alloc);
+    let mut left = Some(text);
+    while let Some(text) = left {
+        let first = first_piece(text);
+        sids = with_piece(alloc, sids, first.word)?;
+        left = first.left;
+    }
+    Ok(sids)
+}
+
+impl<'a> ComBinlogDumpGtid<'a> {
+    /// The request with the sids of the text of a GTID set, as MySQL shows one in `@@gtid_executed`, in place of its own:
+    /// those of [`sids_from_text`], in their order. The flag BINLOG_THROUGH_GTID is set exactly if there is a sid.
+    ///
+    /// A text that is refused there is refused here. The request is given up then.
+    #[tactic(auto, using(crate::proofs::GtidSetTexts::dumps))]
+    pub fn with_gtid_set(self, alloc: Global, text: &str) -> Result<Self, InvalidSid>
+        ensures value { Answered result (spec.with_read_sids (spec.read_sids text.now) self.entry) }
+    {
+        let sids = sids_from_text(alloc, text)?;
+        Ok(self.with_sids(CowSlice::Owned(sids)))
+    }
+}

@@ -1,0 +1,80 @@
+//! The intervals of a sid: a count of eight bytes, and so many intervals.
+#![tactic(auto, using(mysql_wire::proofs::Packets::packets))]
+
+ghost use Rattle.std.specs.Prelude.{true, ◌≡◌, ◌+◌, ◌++◌, ◌≤◌, length, vec_len, vec_capacity};
+ghost use Rattle.std.specs.List.{flat_map};
+ghost use Rattle.mysql_wire.specs.Int.{le_u64, number_of};
+ghost use Rattle.mysql_wire.specs.Reading.{Answers};
+ghost use Rattle.mysql_wire.specs.Seq.{counted, counts_any, items_of, seq};
+ghost use Rattle.mysql_repl.specs.GnoInterval.{interval};
+
+use crate::gno_interval::GnoInterval;
+use mysql_wire::{FaultOf, IntRepr, LeU64, MySerialize, ParseBuf, RawInt, Seq};
+use std::cmp::min;
+
+/// How many bytes an interval takes.
+const INTERVAL_LEN: usize = 16;
+
+/// Reads so many intervals. Capacity is taken for no more than the bytes can hold.
+#[inline(always)]
+fn read_counted<'s>(count: u64, buf: &mut ParseBuf<'_>) -> Result<Vec<GnoInterval>, FaultOf<'s>>
+    ensures value { Answers true (items_of result) buf.new ((counted count (interval.form tt)).reads buf.old) }
+{
+    let capacity = min(count as usize, buf.len() / INTERVAL_LEN);
+    let mut intervals = Vec::with_capacity(buf.alloc(), capacity)?;
+    for _ in 0..count {
+        let item = buf.parse(())?;
+        intervals.push_reserved(item);
+    }
+    Ok(intervals)
+}
+
+/// Reads a count, and so many intervals. For no interval no memory is taken.
+#[inline(always)]
+#[tactic(auto, using(mysql_wire::proofs::Packets::packets), unfolding(mysql_wire::specs::Seq::counted))]
+pub(crate) fn read_intervals<'s, 'de>(
+    buf: &mut ParseBuf<'de>,
+) -> Result<Seq<'de, GnoInterval, LeU64>, FaultOf<'s>>
+    ensures value { Answers (counts_any ((number_of le_u64).reads buf.old)) result buf.new ((seq (number_of le_u64) (interval.form tt)).reads buf.old) }
+{
+    let count: RawInt<LeU64> = buf.parse(())?;
+    if count.0 == 0 {
+        return Ok(Seq::borrowed(&[]));
+    }
+    Ok(Seq::owned(read_counted(count.0, buf)?))
+}
+
+/// Intervals that are written after their count.
+#[derive(Drop)]
+pub(crate) struct Intervals<'b>(pub(crate) &'b [GnoInterval]);
+
+/// Writes the intervals to the end of a buffer that has capacity for them.
+#[inline(always)]
+fn append_each(intervals: &[GnoInterval], out: &mut Vec<u8>)
+    requires { vec_len out.old + length (flat_map interval.bytes intervals.now) ≤ vec_capacity out.old }
+    ensures items { out.new.items ≡ out.old.items ++ flat_map interval.bytes intervals.now }
+    ensures capacity { vec_capacity out.old ≤ vec_capacity out.new }
+{
+    for numbers in intervals {
+        numbers.append(out);
+    }
+}
+
+impl MySerialize for Intervals<'_> {
+    ghost use Rattle.mysql_wire.specs.Seq.{seq_bytes};
+    ghost use Rattle.mysql_wire.specs.Writing.{le_bytes};
+
+    ghost bytes = { λ i. seq_bytes (le_bytes 8) interval.bytes i.0.now };
+
+    #[inline(always)]
+    #[tactic(auto, using(crate::proofs::IntervalLengths::interval_lengths), unfolding(mysql_wire::specs::Writing::saturated))]
+    fn defined_len(&self) -> usize {
+        self.0.len().saturating_mul(INTERVAL_LEN).saturating_add(8)
+    }
+
+    #[inline(always)]
+    fn append(&self, out: &mut Vec<u8>) {
+        <LeU64 as IntRepr>::append(self.0.len() as u64, out);
+        append_each(self.0, out);
+    }
+}

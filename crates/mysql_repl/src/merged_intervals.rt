@@ -1,0 +1,82 @@
+//! Intervals that are put in order.
+
+ghost use Rattle.std.specs.Prelude.{true, ◌≡◌, ℕ, IfOk, filter};
+ghost use Rattle.std.specs.List.Sorted.{IsNonDecreasingBy, IsPermutation};
+ghost use Rattle.mysql_repl.specs.MergedIntervals as spec;
+ghost use Rattle.mysql_repl.specs.GnoInterval as interval;
+ghost use Rattle.mysql_repl.specs.Sid.{uuid, tag, intervals};
+
+use crate::gno_interval::GnoInterval;
+use crate::sid::Sid;
+use std::alloc::{AllocError, Global};
+use std::cmp::max;
+
+/// The intervals that have a number.
+fn some_of(alloc: Global, intervals: &[GnoInterval]) -> Result<Vec<GnoInterval>, AllocError>
+    ensures value { IfOk result (λ some. some.items ≡ filter spec.has_any intervals.now) }
+{
+    let mut some = Vec::new(alloc);
+    for interval in intervals {
+        if interval.start() < interval.end() {
+            some.push(*interval)?;
+        }
+    }
+    Ok(some)
+}
+
+/// Puts intervals in the order of their starts.
+fn sort(intervals: &mut Vec<GnoInterval>)
+    ensures permutation { IsPermutation intervals.old.items intervals.new.items }
+    ensures sorted { IsNonDecreasingBy interval.start intervals.new.items }
+{
+    intervals.sort_unstable_by_key(|interval| interval.start());
+}
+
+/// Intervals in order, of which those that touch are one.
+fn merged(alloc: Global, sorted: &[GnoInterval]) -> Result<Vec<GnoInterval>, AllocError>
+    ensures value { IfOk result (λ merged. merged.items ≡ spec.merged sorted.now) }
+{
+    let mut merged = Vec::new(alloc);
+    let Some((first, more)) = sorted.split_first() else {
+        return Ok(merged);
+    };
+    let mut last = *first;
+    for interval in more {
+        if last.end() < interval.start() {
+            merged.push(last)?;
+            last = *interval;
+        } else {
+            last = GnoInterval::new(last.start(), max(last.end(), interval.end()));
+        }
+    }
+    merged.push(last)?;
+    Ok(merged)
+}
+
+/// The same numbers in intervals that are in order and apart.
+fn put_in_order(alloc: Global, intervals: &[GnoInterval]) -> Result<Vec<GnoInterval>, AllocError>
+    ensures in_order { IfOk result (λ merged. spec.are_apart merged.items ≡ true) }
+    ensures same { IfOk result (λ merged. (n : ℕ) → spec.any_has n merged.items ≡ spec.any_has n intervals.now) }
+{
+    let mut sorted = some_of(alloc, intervals)?;
+    sort(&mut sorted);
+    merged(alloc, sorted.as_slice())
+}
+
+impl<'a> Sid<'a> {
+    /// The same transactions, in intervals that are in order, each of one number at least, and apart: none touch, and
+    /// none overlap. So servers write them: [`is_as_servers_write`](Sid::is_as_servers_write) holds, where the numbers are
+    /// from 1 to 2^63 - 2.
+    ///
+    /// Any intervals may be handed in: an empty one, whose start is not below its end, is left out. Where memory runs out, the transactions are given up.
+    pub fn with_merged_intervals(self, alloc: Global) -> Result<Self, AllocError>
+        ensures uuid { IfOk result (λ s. uuid s ≡ uuid self.entry) }
+        ensures tag { IfOk result (λ s. tag s ≡ tag self.entry) }
+        ensures in_order { IfOk result (λ s. spec.are_apart (intervals s) ≡ true) }
+        // A number is in an interval exactly where it was in one before.
+        ensures same { IfOk result (λ s. (n : ℕ) → spec.any_has n (intervals s) ≡ spec.any_has n (intervals self.entry)) }
+    {
+        let merged = put_in_order(alloc, self.intervals())?;
+        Ok(self.with_intervals(merged))
+    }
+}
