@@ -8,5 +8,7 @@ pub mod Decimals
 pub mod Inputs
 pub mod Outputs
 pub mod Rows
+pub mod Types
 pub mod BulkAnswers
+pub mod BulkTypes
 pub mod Calls

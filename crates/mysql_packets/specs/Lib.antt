@@ -5,6 +5,7 @@ pub mod RowText
 pub mod Input
 pub mod Capabilities
 pub mod Named
+pub mod TypeWords
 pub mod BulkCall
 pub mod Lines
 pub mod Answer
@@ -19,6 +20,7 @@ pub mod Err
 pub mod Bulk
 pub mod Gtid
 pub mod SidLines
+pub mod GtidSetLines
 pub mod HandshakeLines
 pub mod Command
 pub mod Program
@@ -76,12 +78,11 @@ pub use Rattle.mysql_replies.specs.ColumnFields
 pub use Rattle.mysql_replies.specs.ColumnNames
 pub use Rattle.mysql_replies.specs.ErrPacket
 pub use Rattle.mysql_replies.specs.LocalInfile
-pub use Rattle.mysql_replies.specs.OkBody
-pub use Rattle.mysql_replies.specs.OkDeserializer
+pub use Rattle.mysql_replies.specs.OkKind as OkBody
 pub use Rattle.mysql_replies.specs.OkPacket
-pub use Rattle.mysql_replies.specs.OkTail
 pub use Rattle.mysql_replies.specs.ProgressReport
 pub use Rattle.mysql_replies.specs.ServerError
+pub use Rattle.mysql_replies.specs.SessionStateChanges
 pub use Rattle.mysql_replies.specs.SessionStateInfo
 pub use Rattle.mysql_replies.specs.SqlState
 pub use Rattle.mysql_stmt.specs.Bitmap
@@ -95,6 +96,7 @@ pub use Rattle.mysql_stmt.specs.RowForm
 pub use Rattle.mysql_stmt.specs.Stmt
 pub use Rattle.mysql_cuts.specs.Cut
 pub use Rattle.mysql_bulk.specs.Builder
+pub use Rattle.mysql_bulk.specs.ColumnTypes
 pub use Rattle.mysql_bulk.specs.DeclaredTypes
 pub use Rattle.mysql_bulk.specs.Head
 pub use Rattle.mysql_bulk.specs.HeadTypes

@@ -5,15 +5,15 @@ use Rattle.mysql_wire.specs.Flags.{CapabilityFlags}
 use Rattle.mysql_wire.specs.Form.{Form}
 use Rattle.mysql_wire.specs.Reading.{Reading, then_read}
 use Rattle.mysql_session.specs.declared.session_state_change.SessionStateChange.{SessionStateChange}
-use Rattle.mysql_replies.specs.declared.ok_body.OkPacketBody.{OkPacketBody}
+use Rattle.mysql_replies.specs.declared.ok_kind.OkPacketBody.{OkPacketBody}
 use Rattle.mysql_replies.specs.declared.ok_kind.CommonOkPacket.{CommonOkPacket}
 use Rattle.mysql_replies.specs.declared.ok_kind.ResultSetTerminator.{ResultSetTerminator}
 use Rattle.mysql_replies.specs.declared.ok_kind.OldEofPacket.{OldEofPacket}
 use Rattle.mysql_replies.specs.declared.ok_kind.NetworkStreamTerminator.{NetworkStreamTerminator}
 use Rattle.mysql_replies.specs.declared.ok_packet.OkPacket.{OkPacket}
 use Rattle.mysql_replies.specs.declared.session_state_info.SessionStateInfo.{SessionStateInfo}
-use Rattle.mysql_replies.specs.OkBody.{common_ok_body, terminator_body, old_eof_body}
-use Rattle.mysql_replies.specs.OkDeserializer.{ok_packet, packet}
+use Rattle.mysql_replies.specs.OkKind.{common_ok_body, terminator_body, old_eof_body}
+use Rattle.mysql_replies.specs.OkPacket.{ok_packet, packet}
 use Rattle.mysql_replies.specs.OkPacket.{affected_rows, last_insert_id, status_flags, warnings, info, session_state, state_bytes}
 use Rattle.mysql_replies.specs.SessionStateInfo.{state_string, decoded}
 use Rattle.mysql_packets.specs.declared.commands.ok.OkKind.{OkKind}

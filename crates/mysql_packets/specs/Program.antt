@@ -12,6 +12,7 @@ use Rattle.mysql_packets.specs.ColumnLines.{column_answer}
 use Rattle.mysql_packets.specs.HandshakeLines.{IsHandshakeAnswer}
 use Rattle.mysql_packets.specs.Gtid.{gtid_answer}
 use Rattle.mysql_packets.specs.SidLines.{sid_answer}
+use Rattle.mysql_packets.specs.GtidSetLines.{gtid_set_answer}
 use Rattle.mysql_packets.specs.Ok.{ok_answer}
 use Rattle.mysql_packets.specs.Err.{err_answer}
 use Rattle.mysql_packets.specs.Bulk.{IsBulkAnswer}
@@ -25,6 +26,7 @@ AnswersCommand (command.Handshake bytes) input answer = IsHandshakeAnswer bytes 
 AnswersCommand (command.Gtid bytes) input answer = answer ≡ gtid_answer false bytes
 AnswersCommand (command.GtidStrict bytes) input answer = answer ≡ gtid_answer true bytes
 AnswersCommand (command.Sid text) input answer = answer ≡ sid_answer text
+AnswersCommand (command.GtidSet text) input answer = answer ≡ gtid_set_answer text
 AnswersCommand (command.Ok kind capabilities bytes) input answer = answer ≡ ok_answer kind capabilities bytes
 AnswersCommand (command.Err capabilities bytes) input answer = answer ≡ err_answer capabilities bytes
 AnswersCommand (command.Bulk call) input answer = IsBulkAnswer call input answer

@@ -8,7 +8,7 @@ use crate::answer::Answer;
 use crate::bulk_call::BulkCall;
 use crate::capabilities::capabilities_of;
 use crate::commands::ok::OkKind;
-use crate::commands::{bulk, column, err, gtid, handshake, infile, ok, sid, stmt};
+use crate::commands::{bulk, column, err, gtid, gtid_set, handshake, infile, ok, sid, stmt};
 use crate::digits::HexDigits;
 use crate::word::Word;
 use mysql_wire::CapabilityFlags;
@@ -31,12 +31,14 @@ pub enum Command<'a> {
     GtidStrict(HexDigits<'a>),
     /// `sid TEXT`: the text of a server's transactions.
     Sid(Word<'a>),
+    /// `gtidset TEXT`: the text of a GTID set.
+    GtidSet(Word<'a>),
     /// `ok KIND CAPS HEX`: an OK packet.
     Ok(OkKind, CapabilityFlags, HexDigits<'a>),
     /// `err CAPS HEX`: an error packet.
     Err(CapabilityFlags, HexDigits<'a>),
-    /// `bulk STMT MAX [types] [rows=K]`: bulk requests for the rows of the input.
-    Bulk(BulkCall),
+    /// `bulk STMT MAX [types] [rows=K] [columns=TYPE,TYPE,..]`: bulk requests for the rows of the input.
+    Bulk(BulkCall<'a>),
 }
 
 impl<'a> Command<'a> {
@@ -45,6 +47,16 @@ impl<'a> Command<'a> {
     /// It takes no memory.
     pub fn of(words: &'a [String]) -> Option<Command<'a>>
         ensures value { result ≡ spec.command_of (map string_bytes words.now) }
+    {
+        match Command::longest_call(words) {
+            Some(command) => Some(command),
+            None => Command::call_to_five(words),
+        }
+    }
+
+    /// A call of two to five words.
+    fn call_to_five(words: &'a [String]) -> Option<Command<'a>>
+        ensures value { result ≡ spec.call_to_five (map string_bytes words.now) }
     {
         match Command::longer_call(words) {
             Some(command) => Some(command),
@@ -83,6 +95,21 @@ impl<'a> Command<'a> {
         }
     }
 
+    /// A call of six words.
+    #[tactic(auto, unfolding(crate::specs::Command::longest_call))]
+    fn longest_call(words: &'a [String]) -> Option<Command<'a>>
+        ensures value { result ≡ spec.longest_call (map string_bytes words.now) }
+    {
+        match words {
+            [name, first, second, third, fourth, fifth] => {
+                let (name, first, second) = (name.as_str(), first.as_str(), second.as_str());
+                let (third, fourth) = (third.as_str(), fourth.as_str());
+                Command::with_five(name, first, second, third, fourth, fifth.as_str())
+            }
+            _ => None,
+        }
+    }
+
     fn with_one(name: &str, word: &'a str) -> Option<Command<'a>>
         ensures value { result ≡ spec.with_one name.now word.now }
     {
@@ -94,6 +121,7 @@ impl<'a> Command<'a> {
             "gtid" => Some(Command::Gtid(HexDigits::new(word.as_bytes())?)),
             "gtidstrict" => Some(Command::GtidStrict(HexDigits::new(word.as_bytes())?)),
             "sid" => Some(Command::Sid(Word::new(word))),
+            "gtidset" => Some(Command::GtidSet(Word::new(word))),
             _ => None,
         }
     }
@@ -127,18 +155,38 @@ impl<'a> Command<'a> {
         }
     }
 
+    #[tactic(auto, unfolding(crate::specs::Command::with_four))]
     fn with_four(
         name: &str,
         first: &str,
         second: &str,
         third: &str,
-        fourth: &str,
+        fourth: &'a str,
     ) -> Option<Command<'a>>
         ensures value { result ≡ spec.with_four name.now first.now second.now third.now fourth.now }
     {
         match name {
             "bulk" => Some(Command::Bulk(BulkCall::with_two_options(
                 first, second, third, fourth,
+            )?)),
+            _ => None,
+        }
+    }
+
+    #[tactic(auto, unfolding(crate::specs::Command::with_five))]
+    fn with_five(
+        name: &str,
+        first: &str,
+        second: &str,
+        third: &str,
+        fourth: &str,
+        fifth: &'a str,
+    ) -> Option<Command<'a>>
+        ensures value { result ≡ spec.with_five name.now first.now second.now third.now fourth.now fifth.now }
+    {
+        match name {
+            "bulk" => Some(Command::Bulk(BulkCall::with_three_options(
+                first, second, third, fourth, fifth,
             )?)),
             _ => None,
         }
@@ -167,6 +215,7 @@ impl<'a> Command<'a> {
                 gtid::answer(alloc, true, digits.decode(alloc)?.as_slice())
             }
             Command::Sid(word) => sid::answer(alloc, word.as_str()),
+            Command::GtidSet(word) => gtid_set::answer(alloc, word.as_str()),
             Command::Ok(kind, capabilities, digits) => {
                 ok::answer(alloc, kind, capabilities, digits.decode(alloc)?.as_slice())
             }

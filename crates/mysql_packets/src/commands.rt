@@ -5,6 +5,7 @@ mod change;
 pub mod column;
 pub mod err;
 pub mod gtid;
+pub mod gtid_set;
 pub mod handshake;
 pub mod infile;
 pub mod ok;

@@ -1,5 +1,6 @@
 //! Flag words and codes.
 
+pub use mysql_auth::supported_capabilities;
 pub use mysql_wire::{
     BinlogDumpFlags, CapabilityFlags, ColumnFlags, ColumnType, CursorType, FlagNames, FlagWord,
     Flags, MariadbBulkIndicator, MariadbCapabilities, SessionStateType, StatusFlags,

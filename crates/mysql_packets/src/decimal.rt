@@ -42,6 +42,14 @@ pub fn u32_of(word: &[u8]) -> Option<u32>
     u32::try_from(u64_of(word)?).ok()
 }
 
+/// The same of a number of 8 bits.
+#[tactic(auto, using(crate::proofs::Decimals::narrower))]
+pub fn u8_of(word: &[u8]) -> Option<u8>
+    ensures value { result ≡ spec.number_below (2 ^ 8) word.now }
+{
+    u8::try_from(u64_of(word)?).ok()
+}
+
 /// The number of 64 bits with a sign that digits write, with a minus before them or none.
 #[tactic(auto, using(crate::proofs::Decimals::signed), unfolding(crate::specs::Decimal::i64_of))]
 pub fn i64_of(word: &[u8]) -> Option<i64>

@@ -24,6 +24,7 @@ mod program;
 pub mod proto;
 pub mod row;
 mod row_text;
+mod type_words;
 pub mod value;
 mod word;
 

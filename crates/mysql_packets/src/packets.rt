@@ -4,39 +4,115 @@ pub mod binlog_request;
 pub mod caching_sha2_password;
 pub mod session_state_change;
 
-pub use mysql_auth::{
-    AuthMoreData, AuthMoreDataHeader, AuthPlugin, AuthPluginData, AuthSwitchRequest,
-    AuthSwitchRequestHeader, ComChangeUser, ComChangeUserHeader, ComChangeUserMoreData,
-    HandshakePacket, HandshakeResponse, InvalidAuthMoreDataHeader, InvalidAuthSwitchRequestHeader,
-    InvalidComChangeUserHeader, InvalidPublicKeyResponse, OldAuthSwitchRequest, PublicKeyResponse,
-    PublicKeyResponseHeader, SslRequest, parse_parsec_salt,
-};
-pub use mysql_bulk::{
-    BulkExecuteRequestBuilderError, BulkExecuteRequestError, BulkParamsRequests, BulkRequests,
-    BulkRowRefusal, BulkRun, ComStmtBulkExecuteHeader, ComStmtBulkExecuteRequest,
-    ComStmtBulkExecuteRequestBuilder, InvalidComStmtBulkExecuteHeader, StmtBulkExecuteParamType,
-    StmtBulkExecuteParamValue, StmtBulkExecuteParamValues, bulk_row_size, read_bulk_rows,
-};
-pub use mysql_cuts::{BulkRule, cut_is_fewest};
-pub use mysql_repl::{
-    BinlogDumpFlags, ComBinlogDump, ComBinlogDumpGtid, ComBinlogDumpGtidHeader,
-    ComBinlogDumpHeader, ComRegisterSlave, ComRegisterSlaveHeader, ComTableDump,
-    ComTableDumpHeader, GnoInterval, InvalidComBinlogDumpGtidHeader, InvalidComBinlogDumpHeader,
-    InvalidComRegisterSlaveHeader, InvalidComTableDumpHeader, InvalidGno,
-    InvalidSemiSyncAckPacketPacketHeader, InvalidSid, InvalidTag, SemiSyncAckPacket,
-    SemiSyncAckPacketPacketHeader, Sid, Tag, UUID_LEN,
-};
-pub use mysql_replies::{
-    Catalog, Column, ColumnDefinitionCatalog, CommonOkPacket, ErrPacket, ErrPacketHeader,
-    FixedLengthFieldsLen, InvalidCatalog, InvalidErrPacketHeader, InvalidFixedLengthFieldsLen,
-    InvalidLocalInfileHeader, InvalidOkPacketHeader, InvalidSqlStateMarker, LocalInfileHeader,
-    LocalInfilePacket, NetworkStreamTerminator, OkPacket, OkPacketBody, OkPacketDeserializer,
-    OkPacketKind, OldEofPacket, ProgressReport, ResultSetTerminator, ServerError, SessionStateInfo,
-    SqlState, SqlStateMarker,
-};
-pub use mysql_stmt::{
-    ComStmtClose, ComStmtExecuteHeader, ComStmtExecuteRequest, ComStmtExecuteRequestBuilder,
-    ComStmtSendLongData, ComStmtSendLongDataHeader, InvalidComStmtExecuteHeader,
-    InvalidComStmtSendLongDataHeader, InvalidIterationCount, InvalidStmtPacketStatus,
-    IterationCount, NullBitmap, StmtPacket,
-};
+pub use mysql_auth::AuthMoreData;
+pub use mysql_auth::AuthMoreDataHeader;
+pub use mysql_auth::AuthPlugin;
+pub use mysql_auth::AuthPluginData;
+pub use mysql_auth::AuthSwitchRequest;
+pub use mysql_auth::AuthSwitchRequestHeader;
+pub use mysql_auth::ComChangeUser;
+pub use mysql_auth::ComChangeUserHeader;
+pub use mysql_auth::ComChangeUserMoreData;
+pub use mysql_auth::HandshakePacket;
+pub use mysql_auth::HandshakeResponse;
+pub use mysql_auth::InvalidAuthMoreDataHeader;
+pub use mysql_auth::InvalidAuthSwitchRequestHeader;
+pub use mysql_auth::InvalidComChangeUserHeader;
+pub use mysql_auth::InvalidPublicKeyResponse;
+pub use mysql_auth::OldAuthSwitchRequest;
+pub use mysql_auth::PublicKeyResponse;
+pub use mysql_auth::PublicKeyResponseHeader;
+pub use mysql_auth::SslRequest;
+pub use mysql_auth::parse_parsec_salt;
+pub use mysql_bulk::BulkColumnTypeError;
+pub use mysql_bulk::BulkExecuteRequestBuilderError;
+pub use mysql_bulk::BulkExecuteRequestError;
+pub use mysql_bulk::BulkParamsRequests;
+pub use mysql_bulk::BulkRequests;
+pub use mysql_bulk::BulkRowRefusal;
+pub use mysql_bulk::BulkRun;
+pub use mysql_bulk::ComStmtBulkExecuteHeader;
+pub use mysql_bulk::ComStmtBulkExecuteRequest;
+pub use mysql_bulk::ComStmtBulkExecuteRequestBuilder;
+pub use mysql_bulk::InvalidComStmtBulkExecuteHeader;
+pub use mysql_bulk::StmtBulkExecuteParamType;
+pub use mysql_bulk::StmtBulkExecuteParamValue;
+pub use mysql_bulk::StmtBulkExecuteParamValues;
+pub use mysql_bulk::bulk_row_size;
+pub use mysql_bulk::read_bulk_rows;
+pub use mysql_cuts::BulkRule;
+pub use mysql_cuts::cut_is_fewest;
+pub use mysql_repl::BinlogDumpFlags;
+pub use mysql_repl::ComBinlogDump;
+pub use mysql_repl::ComBinlogDumpGtid;
+pub use mysql_repl::ComBinlogDumpGtidHeader;
+pub use mysql_repl::ComBinlogDumpHeader;
+pub use mysql_repl::ComRegisterSlave;
+pub use mysql_repl::ComRegisterSlaveHeader;
+pub use mysql_repl::ComTableDump;
+pub use mysql_repl::ComTableDumpHeader;
+pub use mysql_repl::GnoInterval;
+pub use mysql_repl::GtidSetText;
+pub use mysql_repl::InvalidComBinlogDumpGtidHeader;
+pub use mysql_repl::InvalidComBinlogDumpHeader;
+pub use mysql_repl::InvalidComRegisterSlaveHeader;
+pub use mysql_repl::InvalidComTableDumpHeader;
+pub use mysql_repl::InvalidGno;
+pub use mysql_repl::InvalidSemiSyncAckPacketPacketHeader;
+pub use mysql_repl::InvalidSid;
+pub use mysql_repl::InvalidTag;
+pub use mysql_repl::SemiSyncAckPacket;
+pub use mysql_repl::SemiSyncAckPacketPacketHeader;
+pub use mysql_repl::Sid;
+pub use mysql_repl::Tag;
+pub use mysql_repl::UUID_LEN;
+pub use mysql_repl::sids_from_text;
+pub use mysql_replies::Catalog;
+pub use mysql_replies::Column;
+pub use mysql_replies::ColumnDefinitionCatalog;
+pub use mysql_replies::ColumnRef;
+pub use mysql_replies::CommonOkPacket;
+pub use mysql_replies::ErrPacket;
+pub use mysql_replies::ErrPacketHeader;
+pub use mysql_replies::FixedLengthFieldsLen;
+pub use mysql_replies::InvalidCatalog;
+pub use mysql_replies::InvalidErrPacketHeader;
+pub use mysql_replies::InvalidFixedLengthFieldsLen;
+pub use mysql_replies::InvalidLocalInfileHeader;
+pub use mysql_replies::InvalidOkPacketHeader;
+pub use mysql_replies::InvalidSqlStateMarker;
+pub use mysql_replies::LocalInfileHeader;
+pub use mysql_replies::LocalInfilePacket;
+pub use mysql_replies::NetworkStreamTerminator;
+pub use mysql_replies::OkPacket;
+pub use mysql_replies::OkPacketBody;
+pub use mysql_replies::OkPacketDeserializer;
+pub use mysql_replies::OkPacketKind;
+pub use mysql_replies::OldEofPacket;
+pub use mysql_replies::ProgressReport;
+pub use mysql_replies::ResultSetTerminator;
+pub use mysql_replies::ServerError;
+pub use mysql_replies::SessionStateChanges;
+pub use mysql_replies::SessionStateInfo;
+pub use mysql_replies::SqlState;
+pub use mysql_replies::SqlStateMarker;
+pub use mysql_stmt::AsExecuteParam;
+pub use mysql_stmt::ComStmtClose;
+pub use mysql_stmt::ComStmtExecuteHeader;
+pub use mysql_stmt::ComStmtExecuteOptionsBuilder;
+pub use mysql_stmt::ComStmtExecuteRequest;
+pub use mysql_stmt::ComStmtExecuteRequestBuilder;
+pub use mysql_stmt::ComStmtExecuteWithOptions;
+pub use mysql_stmt::ComStmtSendLongData;
+pub use mysql_stmt::ComStmtSendLongDataHeader;
+pub use mysql_stmt::Cursor;
+pub use mysql_stmt::ExecuteParam;
+pub use mysql_stmt::InvalidComStmtExecuteHeader;
+pub use mysql_stmt::InvalidComStmtSendLongDataHeader;
+pub use mysql_stmt::InvalidIterationCount;
+pub use mysql_stmt::InvalidStmtPacketStatus;
+pub use mysql_stmt::IterationCount;
+pub use mysql_stmt::NullBitmap;
+pub use mysql_stmt::QueryAttribute;
+pub use mysql_stmt::StmtPacket;
+pub use mysql_stmt::StmtPacketWithMetadata;

@@ -1,3 +1,6 @@
 //! Rows of results.
 
-pub use mysql_stmt::{ColumnIndex, Row, RowDeserializer, RowProtocol, new_row, new_row_raw};
+pub use mysql_stmt::{
+    BinaryRowView, ColumnIndex, Row, RowDeserializer, RowProtocol, TextRowView, TypedColumn,
+    new_row, new_row_raw,
+};

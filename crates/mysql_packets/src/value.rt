@@ -2,10 +2,10 @@
 
 pub use mysql_values::{
     BinValue, ClientSide, ParamType, SerializationSide, ServerSide, TextValue, Value,
-    ValueDeserializer, read_bin_cell,
+    ValueDeserializer, ValueRef, read_bin_cell, read_bin_ref, read_text_ref,
 };
 
 /// Conversions of values.
 pub mod convert {
-    pub use mysql_values::{FromValue, FromValueError};
+    pub use mysql_values::{FromValue, FromValueError, FromValueRef, FromValueRefError};
 }

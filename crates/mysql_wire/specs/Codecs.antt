@@ -1,7 +1,7 @@
 -- The codecs of the wire forms, and how a packet's codec is put together. What each packet's file names is passed on.
 pub use Rattle.mysql_wire.specs.Codec.{Codec, Fields}
 pub use Rattle.mysql_wire.specs.Int.{raw_int}
-use Rattle.std.specs.Prelude.{◌≡◌, ℕ, ◌+◌, ◌<◌, ◌≤◌, ◌^◌, List, [], ◌∷◌, length, replicate, take, Option, Bool, refl}
+use Rattle.std.specs.Prelude.{◌≡◌, ℕ, ◌+◌, ◌<◌, ◌≤◌, ◌^◌, List, [], ◌∷◌, length, replicate, take, Option, Bool, true, false, refl}
 use Rattle.std.proofs.Common.{◌⊎◌}
 use Rattle.std.specs.List.{flat_map}
 use Rattle.std.proofs.lemmas.List.{length-replicate}
@@ -141,6 +141,11 @@ when flag f = record {
   exact = λ c o rest h. law.option-exact f (flag c) c o rest h;
   again = λ c o rest h. law.option-again f (flag c) c o rest h;
 }
+
+-- the one codec or the other
+abbrev pub one_of : {C A : Type 0} → Bool → Codec C A → Codec C A → Codec C A
+one_of true left right = left
+one_of false left right = right
 
 -- a left part exactly where the test says so, else a right one
 abbrev pub either : {C P A B X : Type 0} (test : C → Bool) (part : P → A ⊎ B) (of_left : A → X) (l : Codec C A) (of_right : B → X) (r : Codec C B) → Fields C P X

@@ -5,7 +5,7 @@ use Rattle.std.proofs.lemmas.Bool.{ltb-false, le-ltb, lt-ltb}
 use Rattle.std.proofs.lemmas.List.{take_at, drop_at, take-append-drop, length-append, length-take, append-nil}
 use Rattle.mysql_wire.specs.declared.fault.FaultKind.TheVariants as kind
 use Rattle.mysql_wire.specs.Reading.{Reading, IsTail, IsTail-trans, IsSized, HasSize, then_read, then_read-ok, done-value, done-rest, done-both, guard_ok}
-use Rattle.mysql_wire.specs.Grammar.{Form, then_Spells, then_reads, bytes_Spells, bytes_reads, map_Spells, map_reads, looked_up, decode_Spells, decode_reads, ended, whole, within_Spells, within_reads}
+use Rattle.mysql_wire.specs.Grammar.{Form, then_Spells, then_reads, bytes_Spells, bytes_reads, map_Spells, map_reads, looked_up, decode_Spells, decode_reads, ended, whole, within_Spells, within_reads, beginning_Spells, beginning_reads}
 
 -- ---- a value that takes no bytes
 
@@ -152,6 +152,31 @@ within-sized (Some n) part reads h = record {
       rw (← b.1) (h.exact a.0 bytes a.1 a.2);
   short = λ bytes lt. rw (h.short bytes lt) refl;
 }
+
+-- ---- a value whose spelling is the beginning of a part
+
+module _ {A : Type 0} (part : Form (List ℕ)) (f : Form A) where
+  pub beginning-from : (v : A) (bytes rest : List ℕ) → beginning_reads part f bytes ≡ Ok (v, rest)
+      → (inside : List ℕ) × (ignored : List ℕ) × (part.reads bytes ≡ Ok (inside, rest)) × (f.reads inside ≡ Ok (v, ignored))
+  beginning-from v bytes rest e =
+      let a = then_read-ok (part.reads bytes) (λ inside mid. then_read (f.reads inside) (λ w ignored. Ok (w, mid))) (v, rest) e in
+      let b = then_read-ok (f.reads a.0) (λ w ignored. Ok (w, a.1)) (v, rest) a.3 in
+      let same : a.1 ≡ rest = done-rest b.0 v a.1 rest b.3 in
+      (a.0, b.1, a.2 ∙ done-both a.0 a.0 a.1 rest refl same, b.2 ∙ done-both b.0 v b.1 b.1 (done-value b.0 v a.1 rest b.3) refl)
+
+  pub beginning-found : (v : A) (bytes rest : List ℕ) → beginning_reads part f bytes ≡ Ok (v, rest) → beginning_Spells part f v bytes rest
+  beginning-found v bytes rest e =
+      let a = beginning-from v bytes rest e in (a.0, a.1, part.found a.0 bytes rest a.2, f.found v a.0 a.1 a.3)
+
+  pub beginning-only : (v : A) (bytes rest : List ℕ) → beginning_Spells part f v bytes rest → beginning_reads part f bytes ≡ Ok (v, rest)
+  beginning-only v bytes rest s = rw (part.only s.0 bytes rest s.2, f.only v s.0 s.1 s.3) refl
+
+  pub beginning-front : (v : A) (bytes rest : List ℕ) → beginning_reads part f bytes ≡ Ok (v, rest) → IsTail rest bytes
+  beginning-front v bytes rest e = let a = beginning-from v bytes rest e in part.front a.0 bytes rest a.2
+
+  -- what is the whole of a part is the beginning of it
+  pub whole-beginning : (v : A) (bytes rest : List ℕ) → within_Spells part f v bytes rest → beginning_Spells part f v bytes rest
+  whole-beginning v bytes rest s = (s.0, [], s.1, s.2)
 
 -- ---- all that is left
 

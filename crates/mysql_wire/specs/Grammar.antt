@@ -86,6 +86,16 @@ module _ {A : Type 0} (part : Form (List ℕ)) (f : Form A) where
   abbrev pub within_reads : List ℕ → Reading A
   within_reads bytes = then_read (part.reads bytes) (λ inside rest. whole (f.reads inside) rest)
 
+-- ---- a value whose spelling is the beginning of a part, whose other bytes are ignored
+
+module _ {A : Type 0} (part : Form (List ℕ)) (f : Form A) where
+  -- the bytes of a part whose content is a spelling of the value, and then any bytes
+  abbrev pub beginning_Spells : A → List ℕ → List ℕ → Type 0
+  beginning_Spells v bytes rest = (inside : List ℕ) × (ignored : List ℕ) × part.Spells inside bytes rest × f.Spells v inside ignored
+
+  abbrev pub beginning_reads : List ℕ → Reading A
+  beginning_reads bytes = then_read (part.reads bytes) (λ inside rest. then_read (f.reads inside) (λ v ignored. Ok (v, rest)))
+
 -- ---- numbers
 
 -- the sum of byte i times 256 ^ i

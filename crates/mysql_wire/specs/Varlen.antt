@@ -1,6 +1,6 @@
--- Numbers of varying length: the low ones of the first byte count the bytes that follow it.
-use Rattle.std.specs.Prelude.{◌≡◌, ℕ, zero, suc, ◌+◌, ◌-◌, ◌*◌, ◌^◌, List, ◌∷◌, None, nat_lt, ◌==◌, if◌then◌else◌, refl}
-use Rattle.mysql_wire.specs.Form.{Form}
+-- Numbers of varying length: the low ones of the first byte count the bytes that follow it. And strings after such a length.
+use Rattle.std.specs.Prelude.{◌≡◌, ℕ, zero, suc, ◌+◌, ◌-◌, ◌*◌, ◌^◌, List, ◌∷◌, ◌++◌, length, None, nat_lt, ◌==◌, if◌then◌else◌, refl}
+use Rattle.mysql_wire.specs.Form.{Form, ◌>>=◌, bytes}
 use Rattle.mysql_wire.specs.VarlenLaws as law
 use Rattle.mysql_wire.specs.Writing.{le_bytes}
 pub use Rattle.mysql_wire.specs.VarlenGrammar.{varlen_Spells, low_ones, above_ones, varlen_reads}
@@ -21,6 +21,16 @@ pub size-varlen : varlen.size ≡ None
 unfolding varlen
 size-varlen = refl
 
+-- the length, and that many bytes
+unfoldable pub varlen_string : Form (List ℕ)
+varlen_string = do
+  n ← varlen
+  bytes n
+
+pub size-varlen_string : varlen_string.size ≡ None
+unfolding varlen_string
+size-varlen_string = refl
+
 -- ---- what is written
 
 -- the fewest bytes that hold the number at seven bits each, from k + 1 on; or nine
@@ -36,3 +46,7 @@ unfoldable pub varlen_bytes : ℕ → List ℕ
 varlen_bytes n =
     if varlen_size n == 9 then 255 ∷ le_bytes 8 n
     else le_bytes (varlen_size n) (n * 2 ^ varlen_size n + (2 ^ (varlen_size n - 1) - 1))
+
+-- the content after the shortest spelling of its length
+abbrev pub varlen_string_bytes : List ℕ → List ℕ
+varlen_string_bytes content = varlen_bytes (length content) ++ content

@@ -1,10 +1,11 @@
--- What is written of a number of varying length is read again.
-use Rattle.std.specs.Prelude.{◌≡◌, ◌≢◌, ℕ, zero, suc, ◌+◌, ◌-◌, ◌*◌, ◌^◌, ◌<◌, ◌≤◌, ◌⊎◌, ◌∷◌, ◌++◌, ◌==◌, Bool, true, false, refl}
-use Rattle.std.proofs.Common.{arith, inl, inr}
+-- What is written of a number of varying length, and of a string after such a length, is read again.
+use Rattle.std.specs.Prelude.{◌≡◌, ◌≢◌, ℕ, zero, suc, ◌+◌, ◌-◌, ◌*◌, ◌^◌, ◌<◌, ◌≤◌, ◌⊎◌, List, ◌∷◌, ◌++◌, length, ◌==◌, Bool, true, false, refl}
+use Rattle.std.proofs.Common.{arith, append_assoc, inl, inr}
 use Rattle.std.proofs.lemmas.Bool.{cases_lt, lt-ltb, le-ltb, eqb-false}
+use Rattle.mysql_wire.specs.Form.{bytes}
 use Rattle.mysql_wire.specs.Writing.{le_bytes}
 use Rattle.mysql_wire.specs.Spelling.{IsSpelling, number-again}
-use Rattle.mysql_wire.specs.Varlen.{varlen, varlen_bytes, varlen_size, fewest_from}
+use Rattle.mysql_wire.specs.Varlen.{varlen, varlen_bytes, varlen_size, fewest_from, varlen_string, varlen_string_bytes}
 
 which : (b : Bool) → (b ≡ true) ⊎ (b ≡ false)
 which true = inl refl
@@ -55,3 +56,9 @@ varlen_round_trips n lt =
           let fits = size_fits n (eqb-false (varlen_size n) 9 fewer) in
           rw fewer (short-again (varlen_size n) n fits.0 fits.1 fits.2)
     ]
+
+pub varlen_string-again : (content : List ℕ) → length content < 2 ^ 64 → IsSpelling varlen_string content (varlen_string_bytes content)
+unfolding varlen_string bytes
+varlen_string-again content short rest =
+    let n = length content in
+    rw append_assoc (n, content ++ rest, varlen_round_trips n short (content ++ rest), (refl, refl))

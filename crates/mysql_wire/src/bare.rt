@@ -3,8 +3,7 @@
 ghost use Rattle.std.specs.Prelude.{◌≡◌, take, ◌≤◌, length, refl};
 
 use crate::buf::ParseBuf;
-use crate::bytes::BytesRepr;
-use crate::capacity::append_to_capacity;
+use crate::bytes::{BytesRepr, append_to_capacity};
 use crate::fault::FaultOf;
 use std::cmp::min;
 

@@ -4,8 +4,7 @@ ghost use Rattle.std.specs.Prelude.{take};
 
 use crate::bare::first_bytes;
 use crate::buf::ParseBuf;
-use crate::bytes::BytesRepr;
-use crate::capacity::append_to_capacity;
+use crate::bytes::{BytesRepr, append_to_capacity};
 use crate::fault::FaultOf;
 use crate::int::{IntRepr, RawInt};
 use crate::little_endian::LeU32;

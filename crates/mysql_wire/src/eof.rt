@@ -3,8 +3,7 @@
 ghost use Rattle.std.specs.Prelude.{refl};
 
 use crate::buf::ParseBuf;
-use crate::bytes::BytesRepr;
-use crate::capacity::append_to_capacity;
+use crate::bytes::{BytesRepr, append_to_capacity};
 use crate::fault::FaultOf;
 
 /// All the bytes that are left (`string<EOF>`). A content is written whole.

@@ -3,8 +3,7 @@
 ghost use Rattle.std.specs.Prelude.{None};
 
 use crate::buf::ParseBuf;
-use crate::bytes::BytesRepr;
-use crate::capacity::append_to_capacity;
+use crate::bytes::{BytesRepr, append_to_capacity};
 use crate::fault::FaultOf;
 use crate::int::{IntRepr, RawInt};
 use crate::little_endian::{LeU16, LeU24, LeU64};

@@ -4,8 +4,7 @@ ghost use Rattle.std.specs.Prelude.{false, ◌≡◌, ◌<◌, ◌≤◌, ⊤, l
 ghost use Rattle.mysql_wire.specs.Null.{HasNoZero};
 
 use crate::buf::ParseBuf;
-use crate::bytes::BytesRepr;
-use crate::capacity::append_to_capacity;
+use crate::bytes::{BytesRepr, append_to_capacity};
 use crate::fault::FaultOf;
 use memchr::memchr;
 

@@ -1,10 +1,11 @@
-//! Numbers of varying length.
+//! Numbers of varying length, and byte strings after such a length.
 
 ghost use Rattle.std.specs.Prelude.{false, ◌≡◌, ◌+◌, ◌-◌, ◌*◌, ◌^◌, ◌++◌, ◌<◌, ◌≤◌, length, None, OnOk, OnErr};
 ghost use Rattle.mysql_wire.specs.Reading.{Answers};
-ghost use Rattle.mysql_wire.specs.Varlen.{varlen, varlen_bytes, varlen_size, size-varlen};
+ghost use Rattle.mysql_wire.specs.Varlen.{varlen, varlen_bytes, varlen_size, size-varlen, varlen_string, varlen_string_bytes, size-varlen_string};
 
 use crate::buf::ParseBuf;
+use crate::bytes::{BytesRepr, append_to_capacity};
 use crate::fault::FaultOf;
 use crate::int::{IntRepr, RawInt};
 use crate::little_endian::LeU64;
@@ -13,6 +14,8 @@ use std::alloc::AllocError;
 
 /// A number of varying length: the low ones of the first byte count the bytes that follow it, and stand below a zero
 /// and the number. The byte `ff` stands before the eight bytes of a number, little-endian.
+///
+/// A byte string is the length of its content in this form, and then the content.
 #[derive(Clone, Copy, Debug)]
 pub struct VarLen;
 
@@ -49,6 +52,44 @@ impl IntRepr for VarLen {
     }
 
     ghost size_is = { size-varlen };
+}
+
+impl BytesRepr for VarLen {
+    type Ctx = ();
+
+    ghost form = { λ _. varlen_string };
+
+    #[tactic(auto, using(crate::proofs::Tails::tails), unfolding(crate::specs::Varlen::varlen_string))]
+    fn deserialize<'s, 'de>(
+        _ctx: (),
+        buf: &mut ParseBuf<'de>,
+    ) -> Result<ParseBuf<'de>, FaultOf<'s>> {
+        let mut rest = buf.rest();
+        let length = read_varlen_uint(&mut rest)?;
+        let content = rest.parse(length as usize)?;
+        *buf = rest;
+        Ok(content)
+    }
+
+    ghost kept = { λ content. content };
+
+    fn kept(content: &[u8]) -> &[u8] {
+        content
+    }
+
+    ghost written = { varlen_string_bytes };
+
+    #[tactic(auto, using(crate::specs::Writing::lengths), unfolding(crate::specs::Writing::saturated))]
+    fn written_len(content: &[u8]) -> usize {
+        varlen_uint_size(content.len() as u64).saturating_add(content.len())
+    }
+
+    fn append(content: &[u8], out: &mut Vec<u8>) {
+        <VarLen as IntRepr>::append(content.len() as u64, out);
+        append_to_capacity(content, out);
+    }
+
+    ghost size_is = { λ _. size-varlen_string };
 }
 
 /// The number above a zero, which stands above the ones that count the bytes after the first of so many.

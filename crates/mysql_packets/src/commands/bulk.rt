@@ -1,4 +1,4 @@
-//! `bulk STMT MAX [types] [rows=K]`: the rows of the input, cut into the fewest requests.
+//! `bulk STMT MAX [types] [rows=K] [columns=TYPE,TYPE,..]`: the rows of the input, cut into the fewest requests.
 
 ghost use Rattle.std.specs.Prelude.{◌≡◌, ◌++◌, IfOk, OnOk, map, string_bytes};
 ghost use Rattle.mysql_values.specs.Value.{contents_of};
@@ -14,8 +14,8 @@ use crate::lines::{Line, append_lines};
 use crate::row_text::read_rows;
 use mysql_bulk::laws::fewest_cut_is_named_by_its_ends;
 use mysql_bulk::{
-    BulkExecuteRequestBuilderError, BulkExecuteRequestError, BulkRun, ComStmtBulkExecuteRequest,
-    bulk_row_size,
+    BulkColumnTypeError, BulkExecuteRequestBuilderError, BulkExecuteRequestError, BulkRun,
+    ComStmtBulkExecuteRequest, ComStmtBulkExecuteRequestBuilder, bulk_row_size,
 };
 use mysql_cuts::cut_is_fewest;
 use mysql_values::Value;
@@ -23,22 +23,44 @@ use mysql_wire::MySerialize;
 use std::alloc::{AllocError, Global};
 
 /// The requests of the rows that the input spells.
-pub fn answer(alloc: Global, call: &BulkCall, input: &[u8]) -> Result<Answer, AllocError>
+pub fn answer(alloc: Global, call: &BulkCall<'_>, input: &[u8]) -> Result<Answer, AllocError>
     ensures value { IfOk result (λ answer. spec.IsBulkAnswer call.now input.now answer) }
 {
     match read_rows(alloc, input)? {
-        Some(rows) => send(alloc, call, rows),
+        Some(rows) => with_types(alloc, call, rows),
         None => Answer::usage(alloc),
     }
 }
 
+/// The requests of the rows, unless a type that may not be declared is refused.
+fn with_types(
+    alloc: Global,
+    call: &BulkCall<'_>,
+    rows: Vec<Vec<Value>>,
+) -> Result<Answer, AllocError>
+    ensures value { IfOk result (λ answer. spec.AnswersTypes (spec.refused_type call.now.columns) call.now (contents_of_rows rows.items) answer) }
+{
+    let types = call.types(alloc)?;
+    match call.builder(alloc, types.as_deref()) {
+        Ok(builder) => send(alloc, call, builder, rows),
+        Err(BulkColumnTypeError { .. }) => {
+            Answer::refused_by(alloc, String::new(alloc), "ColumnType")
+        }
+    }
+}
+
 /// The requests of the rows; with all of them sent, also that they are the fewest, which their sizes alone tell.
-fn send(alloc: Global, call: &BulkCall, rows: Vec<Vec<Value>>) -> Result<Answer, AllocError>
+fn send(
+    alloc: Global,
+    call: &BulkCall<'_>,
+    mut builder: ComStmtBulkExecuteRequestBuilder<'_>,
+    rows: Vec<Vec<Value>>,
+) -> Result<Answer, AllocError>
+    requires new { builder ≡ spec.builder_of call.now }
     ensures value { IfOk result (λ answer. spec.AnswersRows call.now (contents_of_rows rows.items) answer) }
 {
     let arity = first_length(rows.as_slice());
     let sizes = row_sizes(alloc, rows.as_slice())?;
-    let mut builder = call.builder(alloc);
     let BulkRun {
         requests,
         ends,
@@ -137,6 +159,7 @@ fn refusal_name(refusal: &BulkExecuteRequestBuilderError) -> &'static str
     match refusal {
         BulkExecuteRequestBuilderError::Request(error) => match error {
             BulkExecuteRequestError::MixedArity => "MixedArity",
+            BulkExecuteRequestError::MixedTypes(_) => "MixedTypes",
             BulkExecuteRequestError::RowTooLarge(_) => "RowTooLarge",
             BulkExecuteRequestError::MemoryRow(_) => "MemoryRow",
             BulkExecuteRequestError::NoParams => "NoParams",

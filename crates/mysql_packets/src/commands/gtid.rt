@@ -69,7 +69,7 @@ fn dump_text(alloc: Global, packet: &ComBinlogDumpGtid<'_>) -> Result<String, Al
 }
 
 /// Appends a line for each sid.
-fn append_sids(alloc: Global, out: &mut String, sids: &[Sid<'_>]) -> Result<(), AllocError>
+pub fn append_sids(alloc: Global, out: &mut String, sids: &[Sid<'_>]) -> Result<(), AllocError>
     ensures ok { OnOk result (string_bytes out.new ≡ string_bytes out.old ++ flat_map spec.sid_line sids.now) }
 {
     for sid in sids {

@@ -28,7 +28,7 @@ fn show(alloc: Global, sid: &Sid<'_>) -> Result<Answer, AllocError>
 }
 
 /// A refusal by its name. An allocation that failed gives no answer of its own, but the error.
-fn refused(alloc: Global, refusal: &InvalidSid) -> Result<Answer, AllocError>
+pub fn refused(alloc: Global, refusal: &InvalidSid) -> Result<Answer, AllocError>
     ensures value { IfOk result (spec.IsSidRefusal refusal.now) }
 {
     let name = match refusal {
