@@ -1,0 +1,91 @@
+//! Why a session ended.
+
+use mysql_packets::io::Fault;
+use mysql_packets::packets::{
+    BulkColumnTypeError, BulkExecuteRequestBuilderError, InvalidSid, ServerError,
+};
+use std::alloc::{AllocError, AllocFailed};
+use std::{fmt, io};
+
+/// Why a session ended, or a command came to nothing.
+#[derive(Debug, Drop)]
+pub enum Error {
+    /// The reader or the writer failed.
+    Io(io::Error),
+    /// An allocation failed.
+    Memory,
+    /// A packet is none of those that may stand there.
+    Fault(Fault),
+    /// The server answered with an error.
+    Server(ServerError<'static>),
+    /// A type may not be declared for a column of a bulk insert.
+    Types(BulkColumnTypeError),
+    /// Rows of a bulk insert were refused.
+    Rows(BulkExecuteRequestBuilderError),
+    /// The text is no GTID set.
+    Gtids(InvalidSid),
+    /// The recipe knows no more than this.
+    Unknown(&'static str),
+}
+
+/// What a recipe answers.
+pub type Result<T, E = Error> = std::result::Result<T, E>;
+
+impl fmt::Display for Error {
+    fn fmt<W: fmt::Write>(&self, f: &mut fmt::Formatter<W>) -> fmt::Result {
+        match self {
+            Error::Io(error) => write!(f, "io: {error}"),
+            Error::Memory => write!(f, "out of memory"),
+            Error::Fault(fault) => write!(f, "fault: {fault}"),
+            Error::Server(error) => write!(f, "{error}"),
+            Error::Types(error) => write!(f, "types: {error}"),
+            Error::Rows(error) => write!(f, "rows: {error}"),
+            Error::Gtids(error) => write!(f, "gtids: {error}"),
+            Error::Unknown(what) => write!(f, "unknown: {what}"),
+        }
+    }
+}
+
+impl std::error::Error for Error {}
+
+impl From<io::Error> for Error {
+    fn from(error: io::Error) -> Error {
+        Error::Io(error)
+    }
+}
+
+impl From<AllocError> for Error {
+    fn from(_: AllocError) -> Error {
+        Error::Memory
+    }
+}
+
+impl<T: Drop> From<AllocFailed<T>> for Error {
+    fn from(_: AllocFailed<T>) -> Error {
+        Error::Memory
+    }
+}
+
+impl From<Fault> for Error {
+    fn from(fault: Fault) -> Error {
+        Error::Fault(fault)
+    }
+}
+
+impl From<BulkColumnTypeError> for Error {
+    fn from(error: BulkColumnTypeError) -> Error {
+        Error::Types(error)
+    }
+}
+
+impl From<BulkExecuteRequestBuilderError> for Error {
+    fn from(error: BulkExecuteRequestBuilderError) -> Error {
+        Error::Rows(error)
+    }
+}
+
+impl From<InvalidSid> for Error {
+    fn from(error: InvalidSid) -> Error {
+        Error::Gtids(error)
+    }
+}

@@ -1,0 +1,35 @@
+//! An error in place of an answer, and the reports of progress before an answer.
+
+use crate::connection::Connection;
+use crate::error::{Error, Result};
+use mysql_packets::io::ParseBuf;
+use mysql_packets::packets::ErrPacket;
+use std::io::{Read, Write};
+
+/// The next packet that is neither an error nor a report of progress. Reports are kept, an error ends the wait.
+///
+/// In place of the greeting, as where there are too many connections, an error has no SQL state: there are no capabilities yet.
+pub fn answer<R: Read, W: Write>(connection: &mut Connection<R, W>) -> Result<Vec<u8>> {
+    for _ in 0..u64::MAX {
+        let payload = connection.receive()?;
+        if payload.first().copied() != Some(0xff) {
+            return Ok(payload);
+        }
+        report(connection, &payload)?;
+    }
+    Err(Error::Unknown("reports without an end"))
+}
+
+/// Keeps a report of progress, or fails with the server's error.
+fn report<R: Read, W: Write>(connection: &mut Connection<R, W>, payload: &[u8]) -> Result<()> {
+    let alloc = connection.alloc;
+    let mut buf = ParseBuf::new(alloc, payload);
+    let packet: ErrPacket<'_> = buf.parse(connection.capabilities)?;
+    match packet {
+        ErrPacket::Error(error) => Err(Error::Server(error.into_owned(alloc)?)),
+        ErrPacket::Progress(report) => {
+            connection.reports.push(report.into_owned(alloc)?)?;
+            Ok(())
+        }
+    }
+}

@@ -1,0 +1,70 @@
+//! A prepared statement, its executions with values, and their rows in binary.
+
+use crate::connection::Connection;
+use crate::error::Result;
+use crate::errors::answer;
+use crate::rows::{columns, rows};
+use mysql_packets::io::ParseBuf;
+use mysql_packets::packets::{
+    ComStmtClose, ComStmtExecuteRequestBuilder, ComStmtSendLongData, StmtPacket,
+};
+use mysql_packets::proto::Binary;
+use mysql_packets::row::Row;
+use mysql_packets::value::Value;
+use std::borrow::CowSlice;
+use std::io::{Read, Write};
+
+/// Prepares a statement. The definitions of its parameters and columns are read past.
+pub fn prepare<R: Read, W: Write>(
+    connection: &mut Connection<R, W>,
+    sql: &str,
+) -> Result<StmtPacket> {
+    let mut command = vec![in connection.alloc; 0x16u8]?;
+    command.extend_from_slice(sql.as_bytes())?;
+    connection.command(&command)?;
+    let payload = answer(connection)?;
+    let statement: StmtPacket = ParseBuf::new(connection.alloc, &payload).parse(())?;
+    columns(connection, u64::from(statement.num_params()))?;
+    columns(connection, u64::from(statement.num_columns()))?;
+    Ok(statement)
+}
+
+/// Executes a statement with a value for each parameter, and hands out its rows.
+pub fn execute<R: Read, W: Write>(
+    connection: &mut Connection<R, W>,
+    statement: &StmtPacket,
+    values: &[Value],
+) -> Result<Vec<Row>> {
+    let builder = ComStmtExecuteRequestBuilder::new(statement.statement_id());
+    let (request, as_long_data) = builder.build(connection.alloc, values)?;
+    if as_long_data {
+        send_ahead(connection, statement, values)?;
+    }
+    connection.command_packet(&request)?;
+    let payload = answer(connection)?;
+    rows::<Binary, R, W>(connection, &payload)
+}
+
+/// Sends byte strings ahead of an execution that is too large with them. The server answers nothing to that.
+fn send_ahead<R: Read, W: Write>(
+    connection: &mut Connection<R, W>,
+    statement: &StmtPacket,
+    values: &[Value],
+) -> Result<()> {
+    for (place, value) in (0..=u16::MAX).zip(values) {
+        if let Value::Bytes(bytes) = value {
+            let content = CowSlice::Borrowed(bytes.as_slice());
+            let part = ComStmtSendLongData::new(statement.statement_id(), place, content);
+            connection.command_packet(&part)?;
+        }
+    }
+    Ok(())
+}
+
+/// Closes a statement. The server answers nothing to that.
+pub fn close<R: Read, W: Write>(
+    connection: &mut Connection<R, W>,
+    statement: &StmtPacket,
+) -> Result<()> {
+    connection.command_packet(&ComStmtClose::new(statement.statement_id()))
+}

@@ -1,0 +1,51 @@
+//! A file of the client's, which the server asks for.
+
+use crate::connection::Connection;
+use crate::error::{Error, Result};
+use crate::errors::answer;
+use crate::query::send_query;
+use mysql_packets::io::ParseBuf;
+use mysql_packets::packets::{CommonOkPacket, LocalInfilePacket, OkPacketDeserializer};
+use std::io::{Read, Write};
+
+/// Runs `load data local infile 'NAME' ..`, and says how many rows came of it.
+///
+/// A server may ask for any file after any query. So only the one that the caller names is sent; another gets an empty
+/// answer, and is an error.
+pub fn load<R: Read, W: Write, F: Read>(
+    connection: &mut Connection<R, W>,
+    sql: &str,
+    name: &str,
+    content: &mut F,
+) -> Result<u64> {
+    let payload = send_query(connection, sql)?;
+    let asked: LocalInfilePacket<'_> = ParseBuf::new(connection.alloc, &payload).parse(())?;
+    let is_meant = asked.file_name_ref() == name.as_bytes();
+    if is_meant {
+        send_content(connection, content)?;
+    }
+    connection.send(&[])?;
+    let payload = answer(connection)?;
+    if !is_meant {
+        return Err(Error::Unknown("a file that was not meant"));
+    }
+    let mut buf = ParseBuf::new(connection.alloc, &payload);
+    let ok: OkPacketDeserializer<'_, CommonOkPacket> = buf.parse(connection.capabilities)?;
+    Ok(ok.into_inner().affected_rows())
+}
+
+/// Sends the content in packets of some thousand bytes. An empty packet, which follows, ends it.
+fn send_content<R: Read, W: Write, F: Read>(
+    connection: &mut Connection<R, W>,
+    content: &mut F,
+) -> Result<()> {
+    let mut part = [0u8; 8192];
+    for _ in 0..u64::MAX {
+        let count = content.read(&mut part)?;
+        if count == 0 {
+            break;
+        }
+        connection.send(&part[..count])?;
+    }
+    Ok(())
+}

@@ -1,0 +1,71 @@
+//! The login: the greeting and the response to it.
+
+use crate::authenticate::{Answers, authenticate};
+use crate::connection::Connection;
+use crate::error::Result;
+use crate::errors::answer;
+use mysql_packets::constants::{
+    CapabilityFlags, Flags, MariadbCapabilities, supported_capabilities,
+};
+use mysql_packets::io::ParseBuf;
+use mysql_packets::packets::{AuthPlugin, HandshakePacket, HandshakeResponse};
+use std::alloc::Global;
+use std::borrow::CowSlice;
+use std::io::{Read, Write};
+
+/// The plugin that a greeting names, else the one of servers that name none.
+fn plugin_of<'a>(greeting: &'a HandshakePacket<'_>) -> AuthPlugin<'a> {
+    greeting
+        .auth_plugin()
+        .unwrap_or(AuthPlugin::MysqlNativePassword)
+}
+
+/// The response to a greeting, with what is sent for the password. An empty name is no database.
+fn response_to<'a>(
+    alloc: Global,
+    greeting: &'a HandshakePacket<'_>,
+    sent: &'a [u8],
+    user: &'a str,
+    database: &'a str,
+) -> Result<HandshakeResponse<'a>> {
+    let database = if database.is_empty() {
+        None
+    } else {
+        Some(CowSlice::Borrowed(database.as_bytes()))
+    };
+    let response = HandshakeResponse::new(
+        alloc,
+        Some(CowSlice::Borrowed(sent)),
+        greeting.server_version_parsed().unwrap_or((0, 0, 0)),
+        Some(CowSlice::Borrowed(user.as_bytes())),
+        database,
+        Some(plugin_of(greeting)),
+        supported_capabilities() & greeting.capabilities(),
+        None,
+        1 << 24,
+    )?;
+    // Bulk executions, and reports of progress.
+    let wanted = MariadbCapabilities::MARIADB_CLIENT_STMT_BULK_OPERATIONS
+        | MariadbCapabilities::from_bits_retain(1);
+    Ok(response.with_mariadb_ext_capabilities(wanted & greeting.mariadb_ext_capabilities()))
+}
+
+/// Logs a user in, with a database where its name is not empty. `answers` has what is computed of the password.
+pub fn login<R: Read, W: Write, A: Answers>(
+    connection: &mut Connection<R, W>,
+    user: &str,
+    database: &str,
+    answers: &mut A,
+) -> Result<()> {
+    let alloc = connection.alloc;
+    let payload = answer(connection)?;
+    let mut buf = ParseBuf::new(alloc, &payload);
+    let greeting: HandshakePacket<'_> = buf.parse(())?;
+    let scramble = greeting.nonce(alloc)?;
+    let sent = answers.answer(&plugin_of(&greeting), &scramble)?;
+    let response = response_to(alloc, &greeting, &sent, user, database)?;
+    connection.send_packet(&response)?;
+    connection.capabilities = response.capabilities() | CapabilityFlags::CLIENT_PROGRESS_OBSOLETE;
+    connection.is_mariadb = greeting.maria_db_server_version_parsed().is_some();
+    authenticate(connection, scramble, answers)
+}

@@ -1,0 +1,74 @@
+//! Recipes of what a driver sends and reads, each over a reader and a writer of the caller's.
+//!
+//! `examples_driver RECIPE USER PASSWORD PATH DATABASE ARG ..` speaks with a server on its standard input and output, and writes what it
+//! read as lines of standard error. The file PATH has what is computed of the password elsewhere: see [`passwords`].
+#![tactic(auto)]
+
+mod authenticate;
+mod bulk;
+mod connection;
+mod error;
+mod errors;
+mod execute;
+mod infile;
+mod login;
+mod passwords;
+mod play;
+mod query;
+mod replica;
+mod rows;
+mod session_changes;
+mod words;
+
+use crate::connection::Connection;
+use crate::error::Result;
+use crate::login::login;
+use crate::passwords::Passwords;
+use crate::play::{Arguments, play};
+use std::process::ExitCode;
+use std::{env, io};
+
+/// The words of the command line, without the program's name.
+fn command_line(rt: &HostRuntime) -> Result<Vec<String>> {
+    let mut words = Vec::new(rt.alloc());
+    for word in env::args(rt)?.skip(1) {
+        words.push(word)?;
+    }
+    Ok(words)
+}
+
+/// The word at a place, or an empty one.
+fn word(words: &[String], place: usize) -> &str {
+    match words.get(place) {
+        Some(word) => word.as_str(),
+        None => "",
+    }
+}
+
+fn run(rt: &HostRuntime) -> Result<()> {
+    let words = command_line(rt)?;
+    let mut connection = Connection::new(rt.alloc(), rt.reader(), io::writer(rt));
+    let mut answers = Passwords {
+        rt,
+        password: word(&words, 2),
+        path: word(&words, 3),
+    };
+    login(
+        &mut connection,
+        word(&words, 1),
+        word(&words, 4),
+        &mut answers,
+    )?;
+    let arguments = Arguments(words.get(5..).unwrap_or(&[]));
+    play(rt, &mut connection, word(&words, 0), &arguments)
+}
+
+fn main(rt: HostRuntime) -> ExitCode {
+    match run(&rt) {
+        Ok(()) => ExitCode::SUCCESS,
+        Err(error) => {
+            let _ = eprintln!(rt; "error: {error}");
+            ExitCode::FAILURE
+        }
+    }
+}

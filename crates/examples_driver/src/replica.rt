@@ -1,0 +1,64 @@
+//! A replica: its registration, and the dump of a binary log by the text of a GTID set.
+
+use crate::connection::Connection;
+use crate::error::{Error, Result};
+use crate::errors::answer;
+use crate::query::query;
+use mysql_packets::constants::BinlogDumpFlags;
+use mysql_packets::packets::{ComBinlogDump, ComBinlogDumpGtid, ComRegisterSlave};
+use std::io::{Read, Write};
+
+/// The first position of a binary log. The server finds the file by the set.
+const FIRST: u32 = 4;
+
+/// Registers a replica of this number.
+pub fn register<R: Read, W: Write>(
+    connection: &mut Connection<R, W>,
+    server_id: u32,
+) -> Result<()> {
+    connection.command_packet(&ComRegisterSlave::new(server_id).with_port(3306))?;
+    answer(connection)?;
+    Ok(())
+}
+
+/// Asks for all events that are not in a GTID set. [`next_event`] hands them out.
+///
+/// MySQL takes the set in the command, as it shows one in `@@gtid_executed`. MariaDB takes it as a variable, as it shows
+/// one in `@@gtid_binlog_pos`, and a command without it.
+pub fn dump<R: Read, W: Write>(
+    connection: &mut Connection<R, W>,
+    server_id: u32,
+    flags: BinlogDumpFlags,
+    gtids: &str,
+) -> Result<()> {
+    let alloc = connection.alloc;
+    // A server whose events end in checksums sends them only where this is set.
+    query(
+        connection,
+        "set @master_binlog_checksum=@@global.binlog_checksum",
+    )?;
+    if connection.is_mariadb {
+        query(connection, "set @mariadb_slave_capability=4")?;
+        let set = format!(in alloc; "set @slave_connect_state='{gtids}'")?;
+        query(connection, set.as_str())?;
+        return connection.command_packet(
+            &ComBinlogDump::new(server_id)
+                .with_flags(flags)
+                .with_pos(FIRST),
+        );
+    }
+    let request = ComBinlogDumpGtid::new(server_id)
+        .with_flags(flags)
+        .with_pos(u64::from(FIRST));
+    connection.command_packet(&request.with_gtid_set(alloc, gtids)?)
+}
+
+/// The next event's bytes, and none where the dump ends.
+pub fn next_event<R: Read, W: Write>(connection: &mut Connection<R, W>) -> Result<Option<Vec<u8>>> {
+    let payload = answer(connection)?;
+    match payload.split_first() {
+        Some((0, event)) => Ok(Some(Vec::from_slice(connection.alloc, event)?)),
+        Some((0xfe, _)) => Ok(None),
+        _ => Err(Error::Unknown("a packet of a dump")),
+    }
+}

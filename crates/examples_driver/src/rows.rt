@@ -1,0 +1,56 @@
+//! The columns and the rows of a result, as text or in binary.
+
+use crate::connection::Connection;
+use crate::error::Result;
+use crate::errors::answer;
+use mysql_packets::constants::{CapabilityFlags, Flags};
+use mysql_packets::io::ParseBuf;
+use mysql_packets::misc::raw::{LenEnc, RawInt};
+use mysql_packets::packets::Column;
+use mysql_packets::row::{Row, RowDeserializer, RowProtocol};
+use mysql_packets::value::ServerSide;
+use std::io::{Read, Write};
+use std::rc::RcSlice;
+
+/// So many column definitions. Sides that don't both have CLIENT_DEPRECATE_EOF have a packet after them.
+pub fn columns<R: Read, W: Write>(
+    connection: &mut Connection<R, W>,
+    count: u64,
+) -> Result<RcSlice<Column>> {
+    let mut columns = Vec::new(connection.alloc);
+    for _ in 0..count {
+        let payload = answer(connection)?;
+        let mut buf = ParseBuf::new(connection.alloc, &payload);
+        let column: Column = buf.parse(())?;
+        columns.push(column)?;
+    }
+    let deprecates_eof = CapabilityFlags::from_bits_retain(1 << 24);
+    if count > 0 && !connection.capabilities.contains(deprecates_eof) {
+        answer(connection)?;
+    }
+    Ok(RcSlice::from_vec(columns)?)
+}
+
+/// The rows of a result whose first packet is the payload. An OK packet in its place has none.
+pub fn rows<P: RowProtocol, R: Read, W: Write>(
+    connection: &mut Connection<R, W>,
+    payload: &[u8],
+) -> Result<Vec<Row>> {
+    let mut rows = Vec::new(connection.alloc);
+    if payload.first().copied() == Some(0) {
+        return Ok(rows);
+    }
+    let count: RawInt<LenEnc> = ParseBuf::new(connection.alloc, payload).parse(())?;
+    let columns = columns(connection, count.0)?;
+    for _ in 0..u64::MAX {
+        let payload = answer(connection)?;
+        // A row may begin with fe too, where its first text is of 16 MiB. The packet that ends the rows is shorter.
+        if payload.first().copied() == Some(0xfe) && payload.len() < 0xff_ffff {
+            break;
+        }
+        let mut buf = ParseBuf::new(connection.alloc, &payload);
+        let row: RowDeserializer<ServerSide, P> = buf.parse(columns.clone()?)?;
+        rows.push(row.into_inner())?;
+    }
+    Ok(rows)
+}

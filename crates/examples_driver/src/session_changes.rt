@@ -1,0 +1,28 @@
+//! What a statement changes in the session.
+
+use crate::connection::Connection;
+use crate::error::Result;
+use crate::query::send_query;
+use mysql_packets::io::ParseBuf;
+use mysql_packets::packets::session_state_change::SessionStateChange;
+use mysql_packets::packets::{CommonOkPacket, OkPacketDeserializer};
+use std::io::{Read, Write};
+
+/// The changes of the session that come with the answer to a statement without rows, as `use other` or `set autocommit=0`.
+///
+/// The server says those that its `session_track_..` variables name.
+pub fn session_changes<R: Read, W: Write>(
+    connection: &mut Connection<R, W>,
+    sql: &str,
+) -> Result<Vec<SessionStateChange<'static>>> {
+    let alloc = connection.alloc;
+    let payload = send_query(connection, sql)?;
+    let mut buf = ParseBuf::new(alloc, &payload);
+    let ok: OkPacketDeserializer<'_, CommonOkPacket> = buf.parse(connection.capabilities)?;
+    let ok = ok.into_inner();
+    let mut changes = Vec::new(alloc);
+    for info in ok.session_state_info(alloc)? {
+        changes.push(info.decode_as_sent(alloc)?.into_owned(alloc)?)?;
+    }
+    Ok(changes)
+}

@@ -1,0 +1,125 @@
+//! Values as words of the command line and of the lines that are written: `N` for NULL, `i-5`, `u5`, `f` and `d` with the bits
+//! of a float, `x` and hexadecimal digits, `r3` for three letters r, `D2024-2-29-1-2-3-4`, `T1-1-2-3-4-5`.
+
+use crate::error::Result;
+use mysql_packets::constants::{ColumnType, Flags, StmtExecuteParamFlags};
+use mysql_packets::row::Row;
+use mysql_packets::value::{ParamType, Value};
+use std::alloc::Global;
+
+/// The value of a word. What spells none is NULL.
+pub fn value(alloc: Global, word: &str) -> Result<Value> {
+    let mut letters = word.chars();
+    let first = letters.next();
+    let rest = letters.as_str();
+    Ok(match first {
+        Some('i') => rest.parse::<i64>().map_or(Value::NULL, Value::Int),
+        Some('u') => rest.parse::<u64>().map_or(Value::NULL, Value::UInt),
+        Some('f') => rest.parse::<u32>().map_or(Value::NULL, Value::Float),
+        Some('d') => rest.parse::<u64>().map_or(Value::NULL, Value::Double),
+        Some('r') => Value::Bytes(vec![in alloc; b'r'; rest.parse::<usize>().unwrap_or(0)]?),
+        Some('x') => Value::Bytes(hex::decode(alloc, rest).unwrap_or(Vec::new(alloc))),
+        Some('D') => date(rest),
+        Some('T') => time(rest),
+        _ => Value::NULL,
+    })
+}
+
+/// The numbers of a word, with hyphens between them; 0 where there is none.
+fn number(word: &str, place: usize) -> u32 {
+    word.split('-')
+        .nth(place)
+        .and_then(|it| it.parse::<u32>().ok())
+        .unwrap_or(0)
+}
+
+fn small(word: &str, place: usize) -> u8 {
+    u8::try_from(number(word, place)).unwrap_or(0)
+}
+
+fn date(word: &str) -> Value {
+    let year = u16::try_from(number(word, 0)).unwrap_or(0);
+    let (month, day) = (small(word, 1), small(word, 2));
+    let (hour, minute, second) = (small(word, 3), small(word, 4), small(word, 5));
+    Value::Date(year, month, day, hour, minute, second, number(word, 6))
+}
+
+fn time(word: &str) -> Value {
+    let (hour, minute, second) = (small(word, 2), small(word, 3), small(word, 4));
+    Value::Time(
+        number(word, 0) == 1,
+        number(word, 1),
+        hour,
+        minute,
+        second,
+        number(word, 5),
+    )
+}
+
+/// The word of a byte string.
+fn bytes_word(alloc: Global, bytes: &[u8]) -> Result<String> {
+    if bytes.len() > 1000 && bytes.iter().all(|byte| *byte == b'r') {
+        let count = bytes.len();
+        return Ok(format!(in alloc; "r{count}")?);
+    }
+    let digits = hex::encode(alloc, bytes)?;
+    Ok(format!(in alloc; "x{digits}")?)
+}
+
+/// The word of a value.
+fn word(alloc: Global, value: &Value) -> Result<String> {
+    Ok(match value {
+        Value::NULL => format!(in alloc; "N")?,
+        Value::Bytes(bytes) => bytes_word(alloc, bytes.as_slice())?,
+        Value::Int(number) => format!(in alloc; "i{number}")?,
+        Value::UInt(number) => format!(in alloc; "u{number}")?,
+        Value::Float(bits) => format!(in alloc; "f{bits}")?,
+        Value::Double(bits) => format!(in alloc; "d{bits}")?,
+        Value::Date(year, month, day, hour, minute, second, micros) => {
+            format!(in alloc; "D{year}-{month}-{day}-{hour}-{minute}-{second}-{micros}")?
+        }
+        Value::Time(is_negative, days, hour, minute, second, micros) => {
+            let sign = u8::from(*is_negative);
+            format!(in alloc; "T{sign}-{days}-{hour}-{minute}-{second}-{micros}")?
+        }
+    })
+}
+
+/// The words of a row's values, with a space before each.
+pub fn row_words(alloc: Global, row: &Row) -> Result<String> {
+    let mut text = String::new(alloc);
+    for place in 0..row.len() {
+        text.push_str(" ")?;
+        if let Some(value) = row.as_ref(place) {
+            text.push_str(word(alloc, value)?.as_str())?;
+        }
+    }
+    Ok(text)
+}
+
+/// The values of words with spaces between them.
+pub fn values(alloc: Global, line: &str) -> Result<Vec<Value>> {
+    let mut values = Vec::new(alloc);
+    for word in line.split(' ') {
+        values.push(value(alloc, word)?)?;
+    }
+    Ok(values)
+}
+
+/// The types of codes with commas between them, and a `u` after the code of an unsigned one.
+pub fn types(alloc: Global, words: &str) -> Result<Vec<ParamType>> {
+    let mut types = Vec::new(alloc);
+    for word in words.split(',') {
+        let (digits, flags) = match word.strip_suffix('u') {
+            Some(digits) => (digits, StmtExecuteParamFlags::UNSIGNED),
+            None => (word, StmtExecuteParamFlags::from_bits_retain(0)),
+        };
+        let code = digits.parse::<u8>().unwrap_or(253);
+        let column_type = ColumnType::try_from(code);
+        types.push(ParamType::new(
+            column_type.unwrap_or(ColumnType::MYSQL_TYPE_VAR_STRING),
+            flags,
+        ))?;
+    }
+    Ok(types)
+}
