@@ -108,6 +108,16 @@ expect 'a byte after the last sid, read strictly' 1 $'refused: InvalidData\n' "$
 expect 'the text of a sid' 0 $'sid: 3e11fa47-71ca-11e1-9e33-c80aa9429562:domain_a:5\n' "$top/mypackets" \
     sid 3E11FA47-71CA-11E1-9E33-C80AA9429562:domain_a:5-5
 expect 'the text of no sid' 1 $'refused: Gno\n' "$top/mypackets" sid 3E11FA47-71CA-11E1-9E33-C80AA9429562:4-3
+expect 'the text of a GTID set' 0 'sid: 3e11fa47-71ca-11e1-9e33-c80aa9429562:1-8
+sid: 3e11fa47-71ca-11e1-9e33-c80aa9429562:app:4-5
+sid: a0b1c2d3-e4f5-6789-abcd-ef0123456789:7
+as_servers_write: yes
+' "$top/mypackets" gtidset $'3e11fa47-71ca-11e1-9e33-c80aa9429562:1-8:app:4-5,\na0b1c2d3-e4f5-6789-abcd-ef0123456789:7'
+expect 'a GTID set in another order' 0 'sid: a0b1c2d3-e4f5-6789-abcd-ef0123456789:7
+sid: 3e11fa47-71ca-11e1-9e33-c80aa9429562:1-8
+as_servers_write: no
+' "$top/mypackets" gtidset $'a0b1c2d3-e4f5-6789-abcd-ef0123456789:7,\n3e11fa47-71ca-11e1-9e33-c80aa9429562:1-8'
+expect 'the text of no GTID set' 1 $'refused: Uuid\n' "$top/mypackets" gtidset 3e11fa47-71ca-11e1-9e33-c80aa9429562:1,app:2
 fails_to_write 'a statement packet on a full device' "$top/mypackets" stmt 000100000001000200000000
 fails_to_write 'a bad call on a full device' "$top/mypackets"
 
@@ -149,6 +159,18 @@ bulk_on "i1
 b$(printf '%0200d' 0)
 " 'a row too large after another' 1 $'request: fa0100000080000800000100000000000000\nrefused: RowTooLarge\n' 1 31
 bulk_on $'N\ni5\n' 'a row too large with types' 1 $'request: fa010000008000060001\nrefused: RowTooLarge\n' 1 21 types
+bulk_on "$(printf 'N\n%.0s' {1..100})"$'\ni7\n' 'a column that begins with 100 NULLs, under a declared type' 0 "request: fa0100000080000800$(printf '01%.0s' {1..51})
+request: fa010000000000$(printf '01%.0s' {1..49})
+request: fa010000000000000700000000000000
+requests: 3
+rows: 101
+fewest: yes
+" 1 64 columns=8
+bulk_on $'i1\n\n' 'types always, two rows a request, and declared types that a row does not fit' 1 $'refused: MixedArity\n' \
+    1 31 types rows=2 columns=8u
+bulk_on $'u5\ni-1\n' 'an unsigned column with -1' 1 $'refused: MixedTypes\n' 1 31 columns=8u
+bulk_on $'i5\n' 'a type that may not be declared' 1 $'refused: ColumnType\n' 1 31 columns=3
+bulk_on $'i5\n' 'a word that is no type' 2 "$usage" 1 31 columns=LONGLONG
 bulk_on $'i1\nx\n' 'a line that is no row' 2 "$usage" 1 31
 bulk_on $'i1\n' 'a limit below 4' 2 "$usage" 1 3
 bulk_on $'i1\n' 'no row a request' 2 "$usage" 1 31 rows=0

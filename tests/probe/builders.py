@@ -19,7 +19,8 @@ from tried import tried
 SEQUENCES = 500
 
 TEXTS = {"MixedArity": "Mixed statement arity", "RowTooLarge": "Got row bigger than max payload length",
-         "TooLarge": "Got row bigger than max payload length", "NoParams": "No parameters values given for the bulk operation"}
+         "TooLarge": "Got row bigger than max payload length", "MixedTypes": "Value that its declared type does not spell",
+         "Refused": "Type that may not be declared", "NoParams": "No parameters values given for the bulk operation"}
 
 
 # rows: a value is a kind and what the kind has, as a request spells it
@@ -30,6 +31,8 @@ def value_of(word):
         return "x", b"a" * int(rest)
     if kind == "x":
         return "x", bytes.fromhex(rest)
+    if kind in "DT":
+        return kind, tuple(map(int, rest.split("-")))
     return (kind, int(rest)) if kind in "iufd" else (kind, None)
 
 
@@ -43,11 +46,19 @@ def rows_of(text):
 
 def shown_value(value):
     kind, held = value
+    if kind in "DT":
+        return kind + "-".join(map(str, held))
     return {"N": "N", "x": f"x{held.hex()}" if kind == "x" else ""}.get(kind, f"{kind}{held}")
 
 
 def shown(row):
     return ",".join(map(shown_value, row)) or "()"
+
+
+def sized(fields, *lengths):
+    """The fields after their length, without those at the end that are zero, at one of these lengths or whole."""
+    length = next((it for it in lengths if not any(fields[it:])), len(fields))
+    return bytes([length]) + fields[:length]
 
 
 def written(value):
@@ -56,10 +67,34 @@ def written(value):
     if kind == "x":
         assert len(held) < 251
         return bytes([len(held)]) + held
+    if kind == "D":
+        return sized(held[0].to_bytes(2, "little") + bytes(held[1:6]) + held[6].to_bytes(4, "little"), 0, 4, 7)
+    if kind == "T":
+        return sized(bytes(held[:1]) + held[1].to_bytes(4, "little") + bytes(held[2:5]) + held[5].to_bytes(4, "little"), 0, 8)
     return b"" if kind == "N" else held.to_bytes(4 if kind == "f" else 8, "little", signed=kind == "i")
 
 
-TYPES = {"N": 6, "i": 8, "u": 8, "f": 4, "d": 5, "x": 253}
+TYPES = {"N": 6, "i": 8, "u": 8, "f": 4, "d": 5, "x": 253, "D": 12, "T": 11}
+# the codes under which a value of each kind is spelled as it is under its own type
+SPELLED = {"i": {8}, "u": {8}, "f": {4}, "d": {5}, "x": {0, 15, *range(242, 243), *range(245, 256)}, "D": {7, 10, 12}, "T": {11}}
+
+
+def declared_types(words):
+    """Types that are declared: a code, and whether it is unsigned."""
+    types = [(int(word.rstrip("u")), word.endswith("u")) for word in words]
+    for place, (code, is_unsigned) in enumerate(types):
+        if not any(code in codes for codes in SPELLED.values()) or (is_unsigned and code != 8):
+            raise Refused(f"Refused={place}")
+    return types
+
+
+def spells(declared, value):
+    (code, is_unsigned), (kind, held) = declared, value
+    if kind == "N":
+        return True
+    if kind in "iu":
+        return code == 8 and (0 <= held < 2 ** 64 if is_unsigned else -2 ** 63 <= held < 2 ** 63)
+    return code in SPELLED[kind] and not (code == 10 and any(held[3:]))
 
 
 def type_of(column):
@@ -114,6 +149,17 @@ class Builder:
         self.most = next((int(word[5:]) or None for word in words if word.startswith("rows=")), None)
         self.names = names if "names=" in settings else None
         self.waiting, self.arity, self.types_due = [], None, True
+        declared = next((word[8:] for word in words if word.startswith("columns=")), None)
+        self.columns = declared if declared is None else declared_types([] if declared == "()" else declared.split("/"))
+        if self.columns is not None:
+            self.arity = len(self.columns)
+
+    def type_at(self, place, column):
+        """The type that is sent for a column: the declared one, if there is one."""
+        if self.columns is None:
+            return type_of(column)
+        code, is_unsigned = self.columns[place]
+        return bytes([code, 128 if is_unsigned else 0])
 
     def fits(self, rows):
         size = 7 + (2 * len(rows[0]) if self.types_due else 0)
@@ -124,6 +170,8 @@ class Builder:
         """The row given back, if it was."""
         if self.arity not in (None, len(row)):
             raise Refused("MixedArity")
+        if self.columns is not None and not all(map(spells, self.columns, row)):
+            raise Refused(f"MixedTypes={shown(row)}")
         if not self.fits(self.waiting + [row]):
             if self.waiting:
                 return row
@@ -140,7 +188,7 @@ class Builder:
         flags = (128 if sends_types else 0) | (64 if self.results else 0)
         request = b"\xfa\1\0\0\0" + flags.to_bytes(2, "little")
         if sends_types:
-            request += b"".join(type_of(column) for column in zip(*rows))
+            request += b"".join(map(self.type_at, range(len(rows[0])), zip(*rows)))
         request += b"".join((b"\1" if value[0] == "N" else b"\0") + written(value) for row in rows for value in row)
         return f"request=x{request.hex()}"
 
@@ -203,6 +251,8 @@ class Session:
             return "taken" if self.builder.add(row_of(argument)) is None else "kept"
         except Refused as refused:
             raise Refused(str(refused).partition("=")[0].removeprefix("Row")) from None
+
+    call_refs = call_slice
 
     def taken(self, text):
         return values_of(params_of(text), self.builder.names)
@@ -272,7 +322,10 @@ class Session:
 def modelled(request):
     """What the model answers to a request."""
     _, settings, *calls = request.split(" ")
-    session = Session(settings)
+    try:
+        session = Session(settings)
+    except Refused as refused:
+        return refused.answer
     return " ; ".join(session.answer(call) for call in calls)
 
 
@@ -322,9 +375,11 @@ def with_more(rng, request):
         settings += ",names=b/a"
         calls = [rng.choice(["put:a=i1,b=u5", "put:b=N,a=b9,c=i1", "put:a=i1", "params:2:a=i1,b=i2/b=b1,a=N/i1", "put:i1,i2"])
                  if it.startswith(("put", "params")) else it for it in calls]
+    if rng.random() < 0.3:
+        settings += ",columns=" + rng.choice(["8", "8u", "253", "8/8u", "8u/252", "8/8/254", "8/246", "()"])
     more = []
     for call in calls:
-        more.append(call.replace("add:", "slice:") if rng.random() < 0.4 else call)
+        more.append(call.replace("add:", rng.choice(["slice:", "refs:"])) if rng.random() < 0.6 else call)
         if rng.random() < 0.3:
             more.append(rng.choice(["clone", "equal", "equal", "swap", "rule", f"other:{settings}", "other:64"]))
     return " ".join([head, settings] + more)

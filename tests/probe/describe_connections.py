@@ -67,7 +67,7 @@ def describe_tls(record):
 
 def describe_switch(record):
     name, data = record
-    return [plugin(name), f"plugin_data={x(data[:-1] if data.endswith(bytes(1)) else data)}"]
+    return [plugin(name), f"plugin_data={x(data[:-1] if data.endswith(bytes(1)) else data)}", f"raw={x(data)}"]
 
 
 def describe_register(record):

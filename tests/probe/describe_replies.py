@@ -6,6 +6,9 @@ from reference_decoder import replies, values
 from reference_decoder.buf import Buf, Eof, Invalid, to_the_end
 
 
+FAULTS = {Eof: "UnexpectedEof", Invalid: "InvalidData"}
+
+
 def describe_column(record):
     names, (charset, length, kind, flags, decimals) = record
     keys = "schema table org_table name org_name".split()
@@ -33,11 +36,15 @@ def describe_err(record):
 def describe_infos(data):
     try:
         infos = to_the_end(Buf(data), READERS["SessionStateInfo"])
-    except Eof:
-        return ["changes=UnexpectedEof"]
-    except Invalid:
-        return ["changes=InvalidData"]
+    except (Eof, Invalid) as fault:
+        return [f"changes={FAULTS[type(fault)]}"] + [word for it in replies.changes_as_sent(data) for word in describe_sent(it)]
     return [f"changes={len(infos)}"] + [word for it in infos for word in describe_info(it)]
+
+
+def describe_sent(change):
+    if isinstance(change, tuple):
+        return ["sent=read"] + describe_change(*change)
+    return [f"sent={FAULTS[type(change)]}"]
 
 
 def describe_ok(record):
@@ -81,15 +88,19 @@ def describe_other_change(buf):
     return describe_text(text)
 
 
+def shown_change(name, kind, read):
+    try:
+        return [f"{name}=read"] + describe_change(kind, read())
+    except (Eof, Invalid) as fault:
+        return [f"{name}={FAULTS[type(fault)]}"]
+
+
 def describe_info(record):
     kind, data = record
     words = [f"data_type={kind}", f"data={x(data)}"]
-    try:
-        return words + ["change=read"] + describe_change(kind, replies.session_state_change(Buf(data), kind))
-    except Eof:
-        return words + ["change=UnexpectedEof"]
-    except Invalid:
-        return words + ["change=InvalidData"]
+    change = shown_change("change", kind, lambda: replies.session_state_change(Buf(data), kind))
+    sent = shown_change("sent", kind, lambda: replies.change_as_sent(kind, data))
+    return words + change + (sent if sent[1:] != change[1:] or len(sent) == 1 and sent[0][5:] != change[0][7:] else [])
 
 
 def ok_body(capabilities):
@@ -100,6 +111,11 @@ def ok_body(capabilities):
 def describe_stmt(record):
     (statement, columns, params), warnings = record
     return numbers(("statement_id", "num_columns", "num_params", "warning_count"), (statement, columns, params, warnings))
+
+
+def describe_stmt_with_metadata(record):
+    packet, metadata = record
+    return describe_stmt(packet) + [f"metadata={'none' if metadata is None else metadata}"]
 
 
 def binary_row(buf, columns, offset):
@@ -149,6 +165,7 @@ DESCRIBERS = {
     "variable": lambda: by("SystemVariable", describe_variable),
     "variables": lambda: by("SystemVariables", lambda it: describe_change(0, it)),
     "stmt": lambda: by("StmtPacket", describe_stmt),
+    "stmt_metadata": lambda caps: by("StmtPacketWithMetadata", describe_stmt_with_metadata, int(caps)),
     "row": lambda columns: lambda buf: binary_row(buf, columns_of(columns), 2),
     "row_client": lambda columns: lambda buf: binary_row(buf, columns_of(columns), 0),
     "row_text": lambda columns: lambda buf: text_row(buf, columns_of(columns)),

@@ -26,18 +26,22 @@ class Vector:
         return f"{self.file}:{self.line}: {self.request[:70]}"
 
 
-def vectors(probe):
-    """The vectors of a probe: a request, and the lines below it that begin with two spaces."""
+def vectors_of(path, name):
+    """The vectors of a file: a request, and the lines below it that begin with two spaces."""
     found = []
-    for path in sorted((VECTORS / probe).glob("*.txt")):
-        for number, line in enumerate(path.read_text().splitlines(), 1):
-            if line.startswith("  growths "):
-                found[-1].growths = line.strip()
-            elif line.startswith("  "):
-                found[-1].wanted += line.split()
-            elif line and not line.startswith("#"):
-                found.append(Vector(f"{probe}/{path.name}", number, line))
+    for number, line in enumerate(path.read_text().splitlines(), 1):
+        if line.startswith("  growths "):
+            found[-1].growths = line.strip()
+        elif line.startswith("  "):
+            found[-1].wanted += line.split()
+        elif line and not line.startswith("#"):
+            found.append(Vector(name, number, line))
     return found
+
+
+def vectors(probe):
+    """The vectors of a probe."""
+    return [it for path in sorted((VECTORS / probe).glob("*.txt")) for it in vectors_of(path, f"{probe}/{path.name}")]
 
 
 def built(probe):

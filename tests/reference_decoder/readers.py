@@ -52,6 +52,7 @@ READERS = {
     "OldEofPacket": replies.old_eof,
     "NetworkStreamTerminator": replies.old_eof,
     "StmtPacket": statements.stmt_packet,
+    "StmtPacketWithMetadata": statements.stmt_packet_with_metadata,
     "ClientBitmap": lambda b, n: b.take((n + 7) // 8),
     "ServerBitmap": lambda b, n: b.take((n + 7 + 2) // 8),
     "TextRow": lambda b: [values.text_value(b), values.text_value(b)],

@@ -1,5 +1,5 @@
 """What a server answers: changes of a session's state, columns, OK packets, errors."""
-from .buf import to_the_end
+from .buf import Buf, Eof, Invalid, to_the_end
 from .codes import COLUMN_TYPES, PROGRESS_OBSOLETE, PROTOCOL_41, SESSION_STATE_CHANGED, SESSION_TRACK
 
 
@@ -13,6 +13,47 @@ def session_state_change(buf, kind):
     if kind == 2:
         return buf.string() == b"1"
     return buf.all() if kind == 3 else buf.string()
+
+
+def change_as_sent(kind, data):
+    """A state change is sent as one byte, the truth value, or as a string."""
+    if kind == 2 and len(data) == 1:
+        return data == b"1"
+    return session_state_change(Buf(data), kind)
+
+
+def entry(buf):
+    return buf.code(range(6)), buf.string()
+
+
+def after_entry(data):
+    """What comes after an entry of any type: nothing, where it is cut."""
+    buf = Buf(data)
+    try:
+        buf.take(1)
+        buf.string()
+        return buf.data
+    except (Eof, Invalid):
+        return b""
+
+
+def changes_as_sent(data):
+    """The changes of a state string one after another, each with its type, or the fault in its place."""
+    changes = []
+    while data:
+        buf = Buf(data)
+        try:
+            kind, content = entry(buf)
+        except (Eof, Invalid) as fault:
+            changes.append(fault)
+            data = after_entry(data)
+            continue
+        data = buf.data
+        try:
+            changes.append((kind, change_as_sent(kind, content)))
+        except (Eof, Invalid) as fault:
+            changes.append(fault)
+    return changes
 
 
 def column(buf):

@@ -12,6 +12,13 @@ def stmt_packet(buf):
     return fields, block.number(2)
 
 
+OPTIONAL_RESULTSET_METADATA = 1 << 25
+
+
+def stmt_packet_with_metadata(buf, capabilities):
+    return stmt_packet(buf), buf.number(1) if capabilities & OPTIONAL_RESULTSET_METADATA else None
+
+
 COLUMNS = [(TYPE_CODES["LONGLONG"], 0), (TYPE_CODES["VAR_STRING"], 0), (TYPE_CODES["DATETIME"], 0)]
 
 

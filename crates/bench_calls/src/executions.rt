@@ -1,7 +1,7 @@
 //! Executions of prepared statements.
 
 use mysql_stmt::ComStmtExecuteRequestBuilder;
-use mysql_values::Value;
+use mysql_values::{Value, ValueRef};
 use mysql_wire::MySerialize;
 use std::alloc::{AllocError, Global};
 
@@ -48,6 +48,36 @@ pub extern "C" fn bench_executions_written(alloc: Global, batch: &[u8]) -> u64 {
     for bytes in batch.chunks_exact(SIZE) {
         put_numbers(&mut values, bytes);
         sum = sum.wrapping_add(written(alloc, &values, &mut out).unwrap_or(0));
+    }
+    sum
+}
+
+/// Writes the execution with these borrowed values to an empty buffer, and answers how many bytes it has.
+fn written_by_reference(
+    alloc: Global,
+    values: &[ValueRef<'_>],
+    out: &mut Vec<u8>,
+) -> Result<u64, AllocError> {
+    let (request, _) = ComStmtExecuteRequestBuilder::new(1).build_ref(alloc, values)?;
+    out.clear();
+    request.serialize(out)?;
+    Ok(out.len() as u64)
+}
+
+/// The same of borrowed values.
+#[unsafe(no_mangle)]
+pub extern "C" fn bench_executions_borrowed(alloc: Global, batch: &[u8]) -> u64 {
+    let text = [b'a'; 20];
+    let mut values = [ValueRef::Bytes(&text); 10];
+    let mut out = Vec::new(alloc);
+    let mut sum = 0u64;
+    for bytes in batch.chunks_exact(SIZE) {
+        for (value, number) in values.iter_mut().zip(bytes.chunks_exact(8)) {
+            if let Some(number) = number.first_chunk::<8>() {
+                *value = ValueRef::Int(i64::from_le_bytes(*number));
+            }
+        }
+        sum = sum.wrapping_add(written_by_reference(alloc, &values, &mut out).unwrap_or(0));
     }
     sum
 }

@@ -12,5 +12,6 @@ mod handshakes;
 mod ok_packets;
 mod packets;
 mod replication;
+mod row_views;
 mod rows;
 mod statements;

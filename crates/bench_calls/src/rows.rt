@@ -9,7 +9,7 @@ use std::alloc::{AllocError, Global};
 use std::rc::RcSlice;
 
 /// Columns of five numbers, and of five strings after them.
-fn ten_columns(alloc: Global) -> Result<RcSlice<Column>, AllocError> {
+pub(crate) fn ten_columns(alloc: Global) -> Result<RcSlice<Column>, AllocError> {
     let mut columns = Vec::with_capacity(alloc, 10)?;
     for _ in 0..5 {
         columns.push(Column::new(ColumnType::MYSQL_TYPE_LONGLONG))?;

@@ -4,7 +4,7 @@ use Rattle.mysql_packets.specs.Reading.{Reading}
 use Rattle.mysql_packets.specs.Flags.{CapabilityFlags}
 use Rattle.mysql_packets.specs.Form.{Form, ◌>>=◌, give, refuse}
 use Rattle.mysql_packets.specs.Int.{byte}
-use Rattle.mysql_replies.specs.declared.ok_body.OkPacketBody.{OkPacketBody}
+use Rattle.mysql_replies.specs.declared.ok_kind.OkPacketBody.{OkPacketBody}
 use Rattle.mysql_packets.specs.OkBody.{old_eof_body}
 
 -- a byte of any value, and the body of an old end

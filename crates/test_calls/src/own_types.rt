@@ -59,10 +59,8 @@ fn numbers(alloc: Global, first: i64, second: i64) -> Result<Row, Fail> {
     let mut columns = Vec::new(alloc);
     let mut values = Vec::new(alloc);
     for (name, number) in [("a", first), ("b", second)] {
-        columns.push(Column::new(ColumnType::MYSQL_TYPE_LONGLONG).with_name(
-            alloc,
-            name.as_bytes(),
-        )?)?;
+        let column = Column::new(ColumnType::MYSQL_TYPE_LONGLONG);
+        columns.push(column.with_name(alloc, name.as_bytes())?)?;
         values.push(Some(Value::Int(number)))?;
     }
     let columns = RcSlice::from_vec(columns)?;

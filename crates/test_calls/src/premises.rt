@@ -5,11 +5,7 @@ use mysql_packets::io::{FaultOf, ParseBuf};
 use mysql_packets::laws::replies::values as replies;
 use mysql_packets::laws::stmt::values as stmt;
 use mysql_packets::laws::{auth, repl};
-use mysql_packets::packets::{
-    Column, ComBinlogDump, ComBinlogDumpGtid, ComChangeUser, ComChangeUserMoreData,
-    ComRegisterSlave, ComTableDump, ErrPacket, HandshakePacket, HandshakeResponse,
-    LocalInfilePacket, SemiSyncAckPacket, SessionStateInfo, Sid, SslRequest, StmtPacket,
-};
+use mysql_packets::packets::*;
 use mysql_packets::proto::MyDeserialize;
 use std::alloc::Global;
 use std::test::Fail;
@@ -25,24 +21,24 @@ fn read<'a, T: MyDeserialize<'a> + Drop>(
     Ok(answer.ok().ok_or("the bytes are a packet")?)
 }
 
+/// Each packet is read of its bytes, and its law used on it.
+macro_rules! round_trip {
+    ($rt:expr; $($law:path: $type:ty, $bytes:expr $(, of $flags:expr)?;)+) => {{
+        $({
+            let packet: $type = read($rt.alloc(), $bytes, ($($flags)?))?;
+            $law($($flags,)? &packet);
+        })+
+    }};
+}
+
 #[test]
 fn replies_that_were_read_round_trip(rt: HostRuntime) -> Result<(), Fail> {
-    let column: Column = read(
-        rt.alloc(),
-        b"\x03def\x00\x00\x00\x00\x00\x0c?\x00\x0b\x00\x00\x00\x03\x01\x00\x02\x00\x00",
-        (),
-    )?;
-    replies::this_column_round_trips(&column);
-    let infile: LocalInfilePacket<'_> = read(rt.alloc(), b"\xfb", ())?;
-    replies::this_local_infile_round_trips(&infile);
-    let info: SessionStateInfo<'_> = read(rt.alloc(), b"\x02\x02\x011", ())?;
-    replies::this_session_state_info_round_trips(&info);
-    let statement: StmtPacket = read(
-        rt.alloc(),
-        b"\x00\x01\x00\x00\x00\x01\x00\x02\x00\x00\x00\x00",
-        (),
-    )?;
-    stmt::this_stmt_packet_round_trips(&statement);
+    round_trip!(rt;
+        replies::this_column_round_trips: Column,
+            b"\x03def\x00\x00\x00\x00\x00\x0c?\x00\x0b\x00\x00\x00\x03\x01\x00\x02\x00\x00";
+        replies::this_local_infile_round_trips: LocalInfilePacket<'_>, b"\xfb";
+        replies::this_session_state_info_round_trips: SessionStateInfo<'_>, b"\x02\x02\x011";
+        stmt::this_stmt_packet_round_trips: StmtPacket, b"\x00\x01\x00\x00\x00\x01\x00\x02\x00\x00\x00\x00";);
     Ok(())
 }
 
@@ -57,11 +53,8 @@ fn errors_that_were_read_round_trip(rt: HostRuntime) -> Result<(), Fail> {
         }
     }
     let flags = CapabilityFlags::CLIENT_PROGRESS_OBSOLETE;
-    let packet: ErrPacket<'_> = read(
-        rt.alloc(),
-        b"\xff\xff\xff\x01\x01\x0a\xcc[\x00\x0astage name",
-        flags,
-    )?;
+    let bytes = b"\xff\xff\xff\x01\x01\x0a\xcc[\x00\x0astage name";
+    let packet: ErrPacket<'_> = read(rt.alloc(), bytes, flags)?;
     if let ErrPacket::Progress(report) = &packet {
         replies::this_progress_report_round_trips(report);
     }
@@ -70,71 +63,38 @@ fn errors_that_were_read_round_trip(rt: HostRuntime) -> Result<(), Fail> {
 
 #[test]
 fn what_connects_and_was_read_round_trips(rt: HostRuntime) -> Result<(), Fail> {
-    let handshake: HandshakePacket<'_> = read(
-        rt.alloc(),
-        b"\x0a8\x00\x01\x00\x00\x00abcdefgh\x00\x00\x80\x08\x02\x00\x00\x00\x00\x00\x00\x00\x00\x00\x00\x00\x00\x00\x00\x07\x07\x07\x07\x07\x07\x07\x07\x07\x07\x07\x07\x07\x07\x07",
-        (),
-    )?;
-    auth::this_handshake_round_trips(&handshake);
-    let request: SslRequest = read(
-        rt.alloc(),
-        b"\x05\xa2\xae\x81\x00\x00\x00\x01-\x00\x00\x00\x00\x00\x00\x00\x00\x00\x00\x00\x00\x00\x00\x00\x00\x00\x00\x00\x14\x00\x00\x00",
-        (),
-    )?;
-    auth::this_ssl_request_round_trips(&request);
-    let response: HandshakeResponse<'_> = read(
-        rt.alloc(),
-        b"\x00\x00\x00\x00\x00\x00\x00\x01-\x00\x00\x00\x00\x00\x00\x00\x00\x00\x00\x00\x00\x00\x00\x00\x00\x00\x00\x00\x00\x00\x00\x00u\x00\x00",
-        (),
-    )?;
-    auth::this_handshake_response_round_trips(&response);
     let flags = CapabilityFlags::CLIENT_PROTOCOL_41;
-    let change: ComChangeUser<'_> = read(rt.alloc(), b"\x11root\x00\x00\x00-\x00\x00", flags)?;
-    auth::this_change_user_round_trips(flags, &change);
-    let more: ComChangeUserMoreData<'_> = read(rt.alloc(), b"-\x00", flags)?;
-    auth::this_more_data_round_trips(flags, &more);
+    round_trip!(rt;
+        auth::this_handshake_round_trips: HandshakePacket<'_>,
+            b"\x0a8\x00\x01\x00\x00\x00abcdefgh\x00\x00\x80\x08\x02\x00\x00\x00\x00\x00\x00\x00\x00\x00\x00\x00\x00\x00\x00\x07\x07\x07\x07\x07\x07\x07\x07\x07\x07\x07\x07\x07\x07\x07";
+        auth::this_ssl_request_round_trips: SslRequest,
+            b"\x05\xa2\xae\x81\x00\x00\x00\x01-\x00\x00\x00\x00\x00\x00\x00\x00\x00\x00\x00\x00\x00\x00\x00\x00\x00\x00\x00\x14\x00\x00\x00";
+        auth::this_handshake_response_round_trips: HandshakeResponse<'_>,
+            b"\x00\x00\x00\x00\x00\x00\x00\x01-\x00\x00\x00\x00\x00\x00\x00\x00\x00\x00\x00\x00\x00\x00\x00\x00\x00\x00\x00\x00\x00\x00\x00u\x00\x00";
+        auth::this_change_user_round_trips: ComChangeUser<'_>, b"\x11root\x00\x00\x00-\x00\x00", of flags;
+        auth::this_more_data_round_trips: ComChangeUserMoreData<'_>, b"-\x00", of flags;);
     Ok(())
 }
 
 #[test]
 fn commands_that_were_read_round_trip(rt: HostRuntime) -> Result<(), Fail> {
-    let registration: ComRegisterSlave<'_> = read(
-        rt.alloc(),
-        b"\x15\x07\x00\x00\x00\x01h\x00\x00\xea\x0c\x00\x00\x00\x00\x00\x00\x00\x00",
-        (),
-    )?;
-    repl::this_register_slave_round_trips(&registration);
-    let table: ComTableDump<'_> = read(rt.alloc(), b"\x13\x02db\x01t", ())?;
-    repl::this_table_dump_round_trips(&table);
-    let dump: ComBinlogDump<'_> = read(
-        rt.alloc(),
-        b"\x12\x05\x00\x00\x00\x01\x00\x07\x00\x00\x00b.1",
-        (),
-    )?;
-    repl::this_binlog_dump_round_trips(&dump);
-    let ack: SemiSyncAckPacket<'_> = read(
-        rt.alloc(),
-        b"\xef\x04\x00\x00\x00\x00\x00\x00\x00b.1",
-        (),
-    )?;
-    repl::this_semi_sync_ack_round_trips(&ack);
+    round_trip!(rt;
+        repl::this_register_slave_round_trips: ComRegisterSlave<'_>,
+            b"\x15\x07\x00\x00\x00\x01h\x00\x00\xea\x0c\x00\x00\x00\x00\x00\x00\x00\x00";
+        repl::this_table_dump_round_trips: ComTableDump<'_>, b"\x13\x02db\x01t";
+        repl::this_binlog_dump_round_trips: ComBinlogDump<'_>, b"\x12\x05\x00\x00\x00\x01\x00\x07\x00\x00\x00b.1";
+        repl::this_semi_sync_ack_round_trips: SemiSyncAckPacket<'_>, b"\xef\x04\x00\x00\x00\x00\x00\x00\x00b.1";);
     Ok(())
 }
 
 #[test]
 fn sids_that_were_read_round_trip(rt: HostRuntime) -> Result<(), Fail> {
-    let dump: ComBinlogDumpGtid<'_> = read(
-        rt.alloc(),
-        b"\x1e\x00\x00\x01\x00\x00\x00\x00\x00\x00\x00\x00\x00\x00\x00\x00\x00\x00\x00\x08\x00\x00\x00\x01\x00\x00\x00\x00\x00\x00\x01",
-        (),
-    )?;
-    repl::this_binlog_dump_gtid_round_trips(&dump);
-    let sid: Sid<'_> = read(
-        rt.alloc(),
-        b"\xa0\xb1\xc2\xd3\xe4\xf5g\x89\xab\xcd\xef\x01#Eg\x89\x00\x00\x00\x00\x00\x00\x00\x00",
-        (),
-    )?;
-    repl::this_sid_round_trips(&sid);
-    repl::this_sid_text_round_trips(&sid);
+    round_trip!(rt;
+        repl::this_binlog_dump_gtid_round_trips: ComBinlogDumpGtid<'_>,
+            b"\x1e\x00\x00\x01\x00\x00\x00\x00\x00\x00\x00\x00\x00\x00\x00\x00\x00\x00\x00\x08\x00\x00\x00\x01\x00\x00\x00\x00\x00\x00\x01";
+        repl::this_sid_round_trips: Sid<'_>,
+            b"\xa0\xb1\xc2\xd3\xe4\xf5g\x89\xab\xcd\xef\x01#Eg\x89\x00\x00\x00\x00\x00\x00\x00\x00";
+        repl::this_sid_text_round_trips: Sid<'_>,
+            b"\xa0\xb1\xc2\xd3\xe4\xf5g\x89\xab\xcd\xef\x01#Eg\x89\x00\x00\x00\x00\x00\x00\x00\x00";);
     Ok(())
 }

@@ -13,6 +13,39 @@ pub trait Answers {
     fn answer(out: &mut Out, request: &Request<'_>) -> Result<bool, AllocError>;
 }
 
+/// The answer to a name: the record that it stands for is read, of a context, and shown, and made anew where it does not
+/// stand after `read`; or a call answers. Else it is false.
+#[macro_export]
+macro_rules! answers {
+    ($shows:ty, $out:expr, $request:expr, $name:expr;
+        $(read $of:expr => $($read:literal: $read_type:ty,)*)*
+        $(with $context:expr => $($record:literal: $type:ty,)*)*
+        $(call $($called:literal: $call:path,)*)?) => {{
+        match $name {
+            $($($read => {
+                let _ = $crate::record::read::<$shows, $read_type>($out, $request.bytes.as_slice(), $of)?;
+            })*)*
+            $($($record => $crate::record::round_trip::<$shows, $type>($out, $request, $context, $context)?,)*)*
+            $($($called => $call($out, $request)?,)*)?
+            _ => return Ok(false),
+        }
+        Ok(true)
+    }};
+}
+
+/// Adds the text of the error that a name stands for, some of which are their own names; else the answer is false.
+#[macro_export]
+macro_rules! error_texts {
+    ($out:expr, $name:expr; $($plain:ident,)*; $($other:literal: $error:expr,)*) => {{
+        match $name {
+            $(name if name == stringify!($plain) => $out.text("text", &$plain)?,)*
+            $($other => $out.text("text", &$error)?,)*
+            _ => return Ok(false),
+        }
+        Ok(true)
+    }};
+}
+
 /// The answer to a line.
 fn line<A: Answers>(alloc: Global, line: &str) -> Result<String, AllocError> {
     let request = Request::of(alloc, line)?;

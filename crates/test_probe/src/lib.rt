@@ -10,5 +10,6 @@ pub mod marks;
 pub mod out;
 pub mod record;
 pub mod request;
+pub mod shown;
 
 pub use answering::{Answers, run};

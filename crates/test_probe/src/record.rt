@@ -3,16 +3,41 @@
 use crate::counted;
 use crate::out::Out;
 use crate::request::Request;
-use mysql_wire::{Fault, FaultOf, MyDeserialize, MySerialize, ParseBuf};
+use mysql_wire::{
+    ConstBytes, ConstU8, ConstU32, Fault, FaultOf, MyDeserialize, MySerialize, ParseBuf,
+};
 use std::alloc::{AllocError, Global};
 
 /// How a program shows a record in words, and makes it anew.
 pub trait Shows<T> {
     /// Adds its fields.
-    fn fields(record: &T, out: &mut Out) -> Result<(), AllocError>;
+    fn fields(_record: &T, _out: &mut Out) -> Result<(), AllocError> {
+        Ok(())
+    }
 
     /// Whether the record that is made of what its getters answer, copied and made owned, is the same.
-    fn is_made(record: &T, alloc: Global) -> Result<bool, AllocError>;
+    fn is_made(_record: &T, _alloc: Global) -> Result<bool, AllocError> {
+        Ok(true)
+    }
+}
+
+/// A constant field, which has no fields of its own.
+impl<P, E, const VALUE: u8> Shows<ConstU8<E, VALUE>> for P {
+    fn is_made(record: &ConstU8<E, VALUE>, _alloc: Global) -> Result<bool, AllocError> {
+        Ok(ConstU8::new() == *record && ConstU8::default() == *record)
+    }
+}
+
+impl<P, E, const VALUE: u32> Shows<ConstU32<E, VALUE>> for P {
+    fn is_made(record: &ConstU32<E, VALUE>, _alloc: Global) -> Result<bool, AllocError> {
+        Ok(ConstU32::new() == *record && ConstU32::default() == *record)
+    }
+}
+
+impl<P, E, const LEN: usize> Shows<ConstBytes<E, LEN>> for P {
+    fn is_made(record: &ConstBytes<E, LEN>, _alloc: Global) -> Result<bool, AllocError> {
+        Ok(ConstBytes::new() == *record && ConstBytes::default() == *record)
+    }
 }
 
 /// Reads a record, and shows it, and how many bytes are left; or the fault.
@@ -28,7 +53,7 @@ pub fn read<'a, P: Shows<T>, T: MyDeserialize<'a> + Drop>(
         Ok(record) => {
             out.word("read")?;
             P::fields(&record, out)?;
-            out.number("rest", buf.len() as u64)?;
+            out.show("rest", buf.len())?;
             let made = P::is_made(&record, alloc);
             out.same("made", made)?;
             Ok(Some(record))
@@ -55,17 +80,23 @@ pub fn write<T: MySerialize>(
             if bytes.starts_with(written) {
                 out.field("written", "same")?;
             } else {
-                out.bytes("written", written)?;
+                out.show("written", written)?;
             }
-            out.number("len", record.defined_len() as u64)?;
+            out.show("len", record.defined_len())?;
             Ok(Some(Vec::from_slice(alloc, written)?))
         }
         Err(AllocError) => {
             out.field("written", "Memory")?;
-            out.bytes("buffer", buffer.as_slice())?;
+            out.show("buffer", buffer.as_slice())?;
             Ok(None)
         }
     }
+}
+
+/// The same of a record that was made.
+pub fn write_made<T: MySerialize>(out: &mut Out, record: &T) -> Result<(), AllocError> {
+    let _ = write(out, record, b"")?;
+    Ok(())
 }
 
 /// Whether what was written of a record is read again as the same.
@@ -81,6 +112,39 @@ pub fn again<'a, T: MyDeserialize<'a> + PartialEq + Drop>(
         Ok(again) => out.same("again", Ok(buf.is_empty() && again == *record)),
         Err(_) => out.field("again", "refused"),
     }
+}
+
+/// Writes a record that was made, and reads what is written as the same.
+pub fn write_and_read<'a, T: MyDeserialize<'a> + MySerialize + PartialEq + Drop>(
+    out: &mut Out,
+    record: &T,
+    request: &'a Request<'_>,
+    ctx: T::Ctx,
+) -> Result<(), AllocError> {
+    match write(out, record, b"")? {
+        Some(written) => again(out, record, request.keep(written), ctx),
+        None => Ok(()),
+    }
+}
+
+/// Whether a clone of a record, of one that owns its memory, is the same as another.
+pub fn is_cloned<T: Clone + PartialEq + Drop>(
+    alloc: Global,
+    owned: &T,
+    record: &T,
+) -> Result<bool, AllocError> {
+    let copy = counted!(alloc; owned.clone())?;
+    Ok(copy == *record)
+}
+
+/// Whether what is made, copied, made owned, and copied again, is the same as a record.
+#[macro_export]
+macro_rules! is_owned {
+    ($alloc:expr; $made:expr, $record:expr) => {{
+        let copy = $crate::counted!($alloc; $made.clone())?;
+        let owned = $crate::counted!($alloc; copy.into_owned($alloc))?;
+        $crate::record::is_cloned($alloc, &owned, $record)
+    }};
 }
 
 /// Reads the record of a request's bytes and shows it as a program does, writes it, and reads it again.

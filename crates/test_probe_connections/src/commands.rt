@@ -1,118 +1,100 @@
-//! Registrations, requests for tables, dumps by position, acknowledgements.
+//! What a replica sends, dumps by GTID set left out, and requests for a binary log, in either command.
 //!
-//! `register_slave BYTES`, `table_dump BYTES`, `binlog_dump BYTES`, `semi_sync_ack BYTES`.
+//! `register_slave BYTES`, `table_dump BYTES`, `binlog_dump BYTES`, `semi_sync_ack BYTES`;
+//! `new_request SERVER`, `request position|gtid SERVER FLAGS POSITION FILENAME SIDS`.
 
-use crate::{Connections, words};
-use mysql_repl::{ComBinlogDump, ComRegisterSlave, ComTableDump, SemiSyncAckPacket};
-use mysql_wire::Flags;
-use std::alloc::{AllocError, Global};
-use std::borrow::CowSlice;
-use test_probe::counted;
-use test_probe::out::Out;
-use test_probe::record::{Shows, round_trip};
-use test_probe::request::Request;
-
-/// The answer, where the request is one of these.
-pub fn answer(out: &mut Out, request: &Request<'_>) -> Result<bool, AllocError> {
-    match request.word(0) {
-        "register_slave" => round_trip::<Connections, ComRegisterSlave<'_>>(out, request, (), ())?,
-        "table_dump" => round_trip::<Connections, ComTableDump<'_>>(out, request, (), ())?,
-        "binlog_dump" => round_trip::<Connections, ComBinlogDump<'_>>(out, request, (), ())?,
-        "semi_sync_ack" => round_trip::<Connections, SemiSyncAckPacket<'_>>(out, request, (), ())?,
-        _ => return Ok(false),
-    }
-    Ok(true)
-}
-
-/// The bytes, on memory of their own.
-fn owned(alloc: Global, bytes: &[u8]) -> Result<CowSlice<'static, u8>, AllocError> {
-    Ok(CowSlice::Owned(Vec::from_slice(alloc, bytes)?))
-}
+use crate::prelude::*;
+use crate::sids::made_sids;
+use mysql_repl::{BinlogRequest, ComBinlogDump, ComRegisterSlave, ComTableDump, SemiSyncAckPacket};
+use mysql_wire::BinlogDumpFlags;
 
 impl<'a> Shows<ComRegisterSlave<'a>> for Connections {
-    fn fields(record: &ComRegisterSlave<'a>, out: &mut Out) -> Result<(), AllocError> {
-        out.number("server_id", u64::from(record.server_id()))?;
-        out.bytes("hostname", record.hostname_raw())?;
-        out.bytes("user", record.user_raw())?;
-        out.bytes("password", record.password_raw())?;
-        out.number("port", u64::from(record.port()))?;
-        out.number("replication_rank", u64::from(record.replication_rank()))?;
-        out.number("master_id", u64::from(record.master_id()))?;
-        tell_register_texts(record, out)
+    fn fields(record: &ComRegisterSlave<'a>, out: &mut Out) -> Result {
+        fields!(out, record; server_id, hostname = hostname_raw, user = user_raw, password = password_raw, port,
+            replication_rank, master_id; texts hostname_str = hostname, user_str = user, password_str = password)
     }
 
-    fn is_made(record: &ComRegisterSlave<'a>, alloc: Global) -> Result<bool, AllocError> {
-        let hostname = owned(alloc, record.hostname_raw())?;
-        let user = owned(alloc, record.user_raw())?;
-        let password = owned(alloc, record.password_raw())?;
+    fn is_made(record: &ComRegisterSlave<'a>, alloc: Global) -> Result<bool> {
         let made = ComRegisterSlave::new(record.server_id())
-            .with_hostname(hostname)
-            .with_user(user)
-            .with_password(password)
+            .with_hostname(words::owned(alloc, record.hostname_raw())?)
+            .with_user(words::owned(alloc, record.user_raw())?)
+            .with_password(words::owned(alloc, record.password_raw())?)
             .with_port(record.port())
             .with_replication_rank(record.replication_rank())
             .with_master_id(record.master_id());
-        words::is_cloned(alloc, &made, record)
+        is_cloned(alloc, &made, record)
     }
-}
-
-fn tell_register_texts(packet: &ComRegisterSlave<'_>, out: &mut Out) -> Result<(), AllocError> {
-    let alloc = out.alloc();
-    out.text("hostname_str", counted!(alloc; packet.hostname(alloc)))?;
-    out.text("user_str", counted!(alloc; packet.user(alloc)))?;
-    out.text("password_str", counted!(alloc; packet.password(alloc)))
 }
 
 impl<'a> Shows<ComTableDump<'a>> for Connections {
-    fn fields(record: &ComTableDump<'a>, out: &mut Out) -> Result<(), AllocError> {
-        let alloc = out.alloc();
-        out.bytes("database", record.database_raw())?;
-        out.bytes("table", record.table_raw())?;
-        out.text("database_str", counted!(alloc; record.database(alloc)))?;
-        out.text("table_str", counted!(alloc; record.table(alloc)))
+    fn fields(record: &ComTableDump<'a>, out: &mut Out) -> Result {
+        fields!(out, record; database = database_raw, table = table_raw;
+            texts database_str = database, table_str = table)
     }
 
-    fn is_made(record: &ComTableDump<'a>, alloc: Global) -> Result<bool, AllocError> {
-        let database = owned(alloc, record.database_raw())?;
-        let table = owned(alloc, record.table_raw())?;
-        words::is_cloned(alloc, &ComTableDump::new(database, table), record)
+    fn is_made(record: &ComTableDump<'a>, alloc: Global) -> Result<bool> {
+        let database = words::owned(alloc, record.database_raw())?;
+        let table = words::owned(alloc, record.table_raw())?;
+        is_cloned(alloc, &ComTableDump::new(database, table), record)
     }
 }
 
 impl<'a> Shows<ComBinlogDump<'a>> for Connections {
-    fn fields(record: &ComBinlogDump<'a>, out: &mut Out) -> Result<(), AllocError> {
-        let alloc = out.alloc();
-        out.number("pos", u64::from(record.pos()))?;
-        out.number("flags", u64::from(record.flags().bits()))?;
-        out.number("server_id", u64::from(record.server_id()))?;
-        out.bytes("filename", record.filename_raw())?;
-        out.text("filename_str", counted!(alloc; record.filename(alloc)))
+    fn fields(record: &ComBinlogDump<'a>, out: &mut Out) -> Result {
+        fields!(out, record; pos, flags, server_id, filename = filename_raw; texts filename_str = filename)
     }
 
-    fn is_made(record: &ComBinlogDump<'a>, alloc: Global) -> Result<bool, AllocError> {
-        let filename = owned(alloc, record.filename_raw())?;
+    fn is_made(record: &ComBinlogDump<'a>, alloc: Global) -> Result<bool> {
+        let filename = words::owned(alloc, record.filename_raw())?;
         let made = ComBinlogDump::new(record.server_id())
             .with_pos(record.pos())
             .with_flags(record.flags())
             .with_filename(filename);
-        words::is_cloned(alloc, &made, record)
+        is_cloned(alloc, &made, record)
     }
 }
 
 impl<'a> Shows<SemiSyncAckPacket<'a>> for Connections {
-    fn fields(record: &SemiSyncAckPacket<'a>, out: &mut Out) -> Result<(), AllocError> {
-        let alloc = out.alloc();
-        out.number("position", record.position())?;
-        out.bytes("filename", record.filename_raw())?;
-        out.text("filename_str", counted!(alloc; record.filename(alloc)))
+    fn fields(record: &SemiSyncAckPacket<'a>, out: &mut Out) -> Result {
+        fields!(out, record; position, filename = filename_raw; texts filename_str = filename)
     }
 
     /// (it is never copied)
-    fn is_made(record: &SemiSyncAckPacket<'a>, alloc: Global) -> Result<bool, AllocError> {
-        let filename = owned(alloc, record.filename_raw())?;
+    fn is_made(record: &SemiSyncAckPacket<'a>, alloc: Global) -> Result<bool> {
+        let filename = words::owned(alloc, record.filename_raw())?;
         let made = SemiSyncAckPacket::new(0, CowSlice::Borrowed(b"a"))
             .with_position(record.position())
             .with_filename(filename);
         Ok(made == *record)
     }
+}
+
+/// Shows a request, its copy, and the command that it is sent as.
+fn show_request(out: &mut Out, request: &BinlogRequest<'_>) -> Result {
+    let alloc = out.alloc();
+    fields!(out, request; server_id, use_gtid, flags, filename = filename_raw, filename_again = filename, pos)?;
+    out.show("sids", request.sids().len())?;
+    out.same("copy", is_cloned(alloc, request, request))?;
+    let command = counted!(alloc; value request.as_cmd());
+    write_made(out, &command)
+}
+
+pub fn new_request(out: &mut Out, request: &Request<'_>) -> Result {
+    show_request(out, &BinlogRequest::new(request.number(1)))
+}
+
+/// The request that words tell of, whose file name and sids are on memory of its own.
+pub fn request(out: &mut Out, request: &Request<'_>) -> Result {
+    let alloc = out.alloc();
+    let name = words::bytes(request.word(5)).unwrap_or(b"");
+    let filename = words::owned(alloc, name)?;
+    let sids = made_sids(alloc, request.word(6))?;
+    let made = BinlogRequest::new(0)
+        .with_server_id(request.number(2))
+        .with_use_gtid(request.word(1) == "gtid")
+        .with_flags(BinlogDumpFlags::from_bits_retain(words::number(request.word(3))))
+        .with_pos(words::number(request.word(4)))
+        .with_filename(filename)
+        .with_sids(sids);
+    show_request(out, &made)
 }

@@ -1,149 +1,97 @@
-//! Wire forms: `form NAME BYTES`, with a count in front of the bytes where one is handed in.
+//! Wire forms, with a count in front of the bytes where one is handed in, codes, and lists that a number is pushed to.
+//!
+//! `form NAME BYTES`, `code NAME NUMBER`, `push_seq BYTES`.
 
-use crate::{Connections, flags, lists, words};
+use crate::prelude::*;
 use mysql_auth::EofName;
-use mysql_wire::{
-    BareBytes, BytesRepr, ConstBytes, ConstBytesValue, ConstFault, ConstU8, ConstU32, EofBytes,
-    Fault, IntRepr, LeU16, LeU24, LeU32, LeU64, LenEnc, NullBytes, ParseBuf, RawBytes, RawInt,
-    Skip, U8Bytes, U32Bytes, VarLen,
-};
-use std::alloc::{AllocError, Global};
-use std::borrow::CowSlice;
-use test_probe::counted;
-use test_probe::out::Out;
-use test_probe::record::{Shows, round_trip};
-use test_probe::request::Request;
+use mysql_wire::*;
+use std::fmt::Display;
+use test_probe::answers;
+use test_probe::record::read;
+
+type Numbers<'a> = Seq<'a, RawInt<LeU64>, LeU64>;
+
+type Bytes<'a> = Seq<'a, RawInt<u8>, Unknown>;
+
+type Strings<'a> = Seq<'a, RawBytes<'a, LenEnc>, LeU64>;
 
 /// The answer, where the request is a form.
-pub fn answer(out: &mut Out, request: &Request<'_>) -> Result<bool, AllocError> {
-    if request.word(0) != "form" {
-        return Ok(false);
-    }
-    let name = request.word(1);
+pub fn form(out: &mut Out, request: &Request<'_>) -> Result<bool> {
+    Ok(number_or_list(out, request)? || string(out, request)? || constant(out, request)?)
+}
+
+/// Numbers and lists.
+fn number_or_list(out: &mut Out, request: &Request<'_>) -> Result<bool> {
+    answers!(Connections, out, request, request.word(1);
+        with () => "u8": RawInt<u8>, "le_u16": RawInt<LeU16>, "le_u24": RawInt<LeU24>, "le_u32": RawInt<LeU32>,
+            "le_u64": RawInt<LeU64>, "lenenc": RawInt<LenEnc>, "varlen": RawInt<VarLen>, "seq": Numbers<'_>,
+            "seq_of_bytes": Strings<'_>,
+        with words::count(request) => "seq_of_count": Bytes<'_>,
+        call "all": all::<Connections, RawInt<LeU64>>,
+            "all_of_bytes": all::<InLists, RawBytes<'_, LenEnc>>,
+            "all_of_nothing": all::<Connections, Skip<0>>,)
+}
+
+/// Byte strings, and bytes that are skipped.
+fn string(out: &mut Out, request: &Request<'_>) -> Result<bool> {
+    answers!(Connections, out, request, request.word(1);
+        with () => "lenenc_bytes": RawBytes<'_, LenEnc>, "null_bytes": RawBytes<'_, NullBytes>,
+            "eof_bytes": RawBytes<'_, EofBytes>, "u8_bytes": RawBytes<'_, U8Bytes>,
+            "u32_bytes": RawBytes<'_, U32Bytes>, "eof_name": RawBytes<'_, EofName>,
+            "array": [u8; 8], "array_of_2": [u8; 2], "skip": Skip<6>,
+        with words::count(request) => "bare_bytes": RawBytes<'_, BareBytes<247>>,
+        call "block": block,)
+}
+
+/// Constants, coded bytes, and flag words.
+fn constant(out: &mut Out, request: &Request<'_>) -> Result<bool> {
+    answers!(Connections, out, request, request.word(1);
+        with () => "const_u8": ConstU8<Marker, 0>, "const_u32": ConstU32<Marker, 1>, "const_bytes": ConstBytes<Marker, 4>,
+            "column_type": Const<ColumnType, u8>, "bulk_indicator": Const<MariadbBulkIndicator, u8>,
+            "session_state_type": Const<SessionStateType, u8>, "cursor_type": Const<CursorType, u8>,
+            "status_flags": Const<StatusFlags, LeU16>, "capability_flags": Const<CapabilityFlags, LeU32>,
+            "mariadb_capabilities": Const<MariadbCapabilities, LeU32>, "column_flags": Const<ColumnFlags, LeU16>,
+            "dump_flags": Const<BinlogDumpFlags, LeU16>, "bulk_flags": Const<StmtBulkExecuteFlags, LeU16>,
+            "param_flags": Const<StmtExecuteParamFlags, u8>, "params_flags": Const<StmtExecuteParamsFlags, u8>,)
+}
+
+/// A block of so many bytes, which is no record: it is its bytes.
+fn block(out: &mut Out, request: &Request<'_>) -> Result {
     let bytes = request.bytes.as_slice();
-    let count = request.word(2).parse::<usize>().unwrap_or(0);
-    Ok(
-        number(out, name, request)?
-            || string(out, name, request)?
-            || string_of_count(out, name, request, count)?
-            || constant(out, name, request)?
-            || flags::code(out, name, request)?
-            || flags::word(out, name, request)?
-            || lists::list(out, name, request, count)?
-            || lists::to_the_end(out, name, bytes)?,
-    )
+    let _ = read::<Connections, ParseBuf<'_>>(out, bytes, words::count(request))?;
+    Ok(())
 }
 
-/// Numbers.
-fn number(out: &mut Out, name: &str, request: &Request<'_>) -> Result<bool, AllocError> {
-    match name {
-        "u8" => round_trip::<Connections, RawInt<u8>>(out, request, (), ())?,
-        "le_u16" => round_trip::<Connections, RawInt<LeU16>>(out, request, (), ())?,
-        "le_u24" => round_trip::<Connections, RawInt<LeU24>>(out, request, (), ())?,
-        "le_u32" => round_trip::<Connections, RawInt<LeU32>>(out, request, (), ())?,
-        "le_u64" => round_trip::<Connections, RawInt<LeU64>>(out, request, (), ())?,
-        "lenenc" => round_trip::<Connections, RawInt<LenEnc>>(out, request, (), ())?,
-        "varlen" => round_trip::<Connections, RawInt<VarLen>>(out, request, (), ())?,
-        _ => return Ok(false),
+impl<'a> Shows<ParseBuf<'a>> for Connections {
+    fn fields(record: &ParseBuf<'a>, out: &mut Out) -> Result {
+        out.show("content", record.rest().eat_all())
     }
-    Ok(true)
-}
-
-impl<R: IntRepr> Shows<RawInt<R>> for Connections {
-    fn fields(record: &RawInt<R>, out: &mut Out) -> Result<(), AllocError> {
-        let value = record.0;
-        let text = format!(in out.alloc(); "{value:?}")?;
-        out.field("value", text.as_str())
-    }
-
-    fn is_made(record: &RawInt<R>, alloc: Global) -> Result<bool, AllocError> {
-        words::is_cloned(alloc, &RawInt::<R>::new(record.0), record)
-    }
-}
-
-/// Byte strings.
-fn string(out: &mut Out, name: &str, request: &Request<'_>) -> Result<bool, AllocError> {
-    match name {
-        "lenenc_bytes" => round_trip::<Connections, RawBytes<'_, LenEnc>>(out, request, (), ())?,
-        "null_bytes" => round_trip::<Connections, RawBytes<'_, NullBytes>>(out, request, (), ())?,
-        "eof_bytes" => round_trip::<Connections, RawBytes<'_, EofBytes>>(out, request, (), ())?,
-        "u8_bytes" => round_trip::<Connections, RawBytes<'_, U8Bytes>>(out, request, (), ())?,
-        "u32_bytes" => round_trip::<Connections, RawBytes<'_, U32Bytes>>(out, request, (), ())?,
-        "eof_name" => round_trip::<Connections, RawBytes<'_, EofName>>(out, request, (), ())?,
-        _ => return Ok(false),
-    }
-    Ok(true)
 }
 
 impl<'a, R: BytesRepr> Shows<RawBytes<'a, R>> for Connections {
-    fn fields(record: &RawBytes<'a, R>, out: &mut Out) -> Result<(), AllocError> {
-        let alloc = out.alloc();
-        out.bytes("content", record.as_bytes())?;
-        out.text("content_str", counted!(alloc; record.as_str(alloc)))
+    fn fields(record: &RawBytes<'a, R>, out: &mut Out) -> Result {
+        fields!(out, record; content = as_bytes; texts content_str = as_str)
     }
 
-    fn is_made(record: &RawBytes<'a, R>, alloc: Global) -> Result<bool, AllocError> {
+    fn is_made(record: &RawBytes<'a, R>, alloc: Global) -> Result<bool> {
         let made: RawBytes<'_, R> = RawBytes::new(CowSlice::Borrowed(record.as_bytes()));
         let copy = counted!(alloc; made.clone())?;
         let owned = counted!(alloc; copy.into_owned(alloc))?;
         // (what owns its bytes keeps them)
         let kept = counted!(alloc; owned.into_owned(alloc))?;
-        words::is_cloned(alloc, &kept, record)
+        is_cloned(alloc, &kept, record)
     }
-}
-
-/// Byte strings whose count is handed in or known, and bytes that are skipped.
-fn string_of_count(
-    out: &mut Out,
-    name: &str,
-    request: &Request<'_>,
-    count: usize,
-) -> Result<bool, AllocError> {
-    match name {
-        "bare_bytes" => {
-            round_trip::<Connections, RawBytes<'_, BareBytes<247>>>(out, request, count, count)?
-        }
-        "array" => round_trip::<Connections, [u8; 8]>(out, request, (), ())?,
-        "array_of_2" => round_trip::<Connections, [u8; 2]>(out, request, (), ())?,
-        "skip" => round_trip::<Connections, Skip<6>>(out, request, (), ())?,
-        "block" => block(out, request.bytes.as_slice(), count)?,
-        _ => return Ok(false),
-    }
-    Ok(true)
 }
 
 impl<const N: usize> Shows<[u8; N]> for Connections {
-    fn fields(record: &[u8; N], out: &mut Out) -> Result<(), AllocError> {
-        out.bytes("content", record)
-    }
-
-    fn is_made(_record: &[u8; N], _alloc: Global) -> Result<bool, AllocError> {
-        Ok(true)
+    fn fields(record: &[u8; N], out: &mut Out) -> Result {
+        out.show("content", record.as_slice())
     }
 }
 
 impl<const N: usize> Shows<Skip<N>> for Connections {
-    fn fields(_record: &Skip<N>, _out: &mut Out) -> Result<(), AllocError> {
-        Ok(())
-    }
-
-    fn is_made(record: &Skip<N>, _alloc: Global) -> Result<bool, AllocError> {
+    fn is_made(record: &Skip<N>, _alloc: Global) -> Result<bool> {
         Ok(Skip::<N>::default() == *record)
-    }
-}
-
-/// A block of so many bytes, which is no record: it is its bytes.
-fn block(out: &mut Out, bytes: &[u8], count: usize) -> Result<(), AllocError> {
-    let alloc = out.alloc();
-    let mut buf = ParseBuf::new(alloc, bytes);
-    let answer: Result<ParseBuf<'_>, Fault> = counted!(alloc; buf.parse(count));
-    match answer {
-        Ok(mut block) => {
-            out.word("read")?;
-            out.bytes("content", block.eat_all())?;
-            out.number("rest", buf.len() as u64)
-        }
-        Err(fault) => out.refused(fault, buf.len() == bytes.len()),
     }
 }
 
@@ -167,43 +115,154 @@ impl ConstBytesValue<4> for Marker {
     ghost len_is = { refl };
 }
 
-/// Constants.
-fn constant(out: &mut Out, name: &str, request: &Request<'_>) -> Result<bool, AllocError> {
-    match name {
-        "const_u8" => round_trip::<Connections, ConstU8<Marker, 0>>(out, request, (), ())?,
-        "const_u32" => round_trip::<Connections, ConstU32<Marker, 1>>(out, request, (), ())?,
-        "const_bytes" => round_trip::<Connections, ConstBytes<Marker, 4>>(out, request, (), ())?,
-        _ => return Ok(false),
-    }
-    Ok(true)
-}
-
-impl<T, const VALUE: u8> Shows<ConstU8<T, VALUE>> for Connections {
-    fn fields(_record: &ConstU8<T, VALUE>, _out: &mut Out) -> Result<(), AllocError> {
-        Ok(())
+impl<R: IntRepr> Shows<RawInt<R>> for Connections {
+    fn fields(record: &RawInt<R>, out: &mut Out) -> Result {
+        let value = record.0;
+        let text = format!(in out.alloc(); "{value:?}")?;
+        out.field("value", text.as_str())
     }
 
-    fn is_made(record: &ConstU8<T, VALUE>, _alloc: Global) -> Result<bool, AllocError> {
-        Ok(ConstU8::new() == *record && ConstU8::default() == *record)
+    fn is_made(record: &RawInt<R>, alloc: Global) -> Result<bool> {
+        is_cloned(alloc, &RawInt::<R>::new(record.0), record)
     }
 }
 
-impl<T, const VALUE: u32> Shows<ConstU32<T, VALUE>> for Connections {
-    fn fields(_record: &ConstU32<T, VALUE>, _out: &mut Out) -> Result<(), AllocError> {
-        Ok(())
+impl<T: ConstValue<U::Primitive> + Copy + PartialEq, U: IntRepr> Shows<Const<T, U>>
+    for Connections {
+    fn fields(record: &Const<T, U>, out: &mut Out) -> Result {
+        let code = record.0.code();
+        let text = format!(in out.alloc(); "{code:?}")?;
+        out.field("code", text.as_str())
     }
 
-    fn is_made(record: &ConstU32<T, VALUE>, _alloc: Global) -> Result<bool, AllocError> {
-        Ok(ConstU32::new() == *record && ConstU32::default() == *record)
+    fn is_made(record: &Const<T, U>, _alloc: Global) -> Result<bool> {
+        Ok(Const::<T, U>::new(record.0) == *record)
     }
 }
 
-impl<T, const LEN: usize> Shows<ConstBytes<T, LEN>> for Connections {
-    fn fields(_record: &ConstBytes<T, LEN>, _out: &mut Out) -> Result<(), AllocError> {
-        Ok(())
+/// Adds the code of a value, or why there is none.
+fn coded<T: ConstValue<u8> + Drop, E: Display + Drop>(out: &mut Out, code: Result<T, E>) -> Result {
+    match code {
+        Ok(value) => out.show("code", value.code()),
+        Err(error) => out.error(&error),
+    }
+}
+
+/// What a number is the code of.
+pub fn code(out: &mut Out, request: &Request<'_>) -> Result {
+    let number: u8 = words::number(request.word(2));
+    match request.word(1) {
+        "column_type" => coded(out, ColumnType::try_from(number)),
+        "bulk_indicator" => coded(out, MariadbBulkIndicator::try_from(number)),
+        _ => coded(out, SessionStateType::try_from(number)),
+    }
+}
+
+/// Shows strings of a list.
+struct InLists;
+
+impl<'a> Shows<RawBytes<'a, LenEnc>> for InLists {
+    fn fields(record: &RawBytes<'a, LenEnc>, out: &mut Out) -> Result {
+        out.show("value", record.as_bytes())
+    }
+}
+
+/// Adds how many values there are, and each of them.
+fn show_items<P: Shows<T>, T>(out: &mut Out, items: &[T]) -> Result {
+    out.show("count", items.len())?;
+    for item in items {
+        P::fields(item, out)?;
+    }
+    Ok(())
+}
+
+/// Numbers of eight bytes, after their count, and bytes of a count that is passed.
+impl<'a> Shows<Numbers<'a>> for Connections {
+    fn fields(record: &Numbers<'a>, out: &mut Out) -> Result {
+        show_items::<Connections, RawInt<LeU64>>(out, record.as_slice())
     }
 
-    fn is_made(record: &ConstBytes<T, LEN>, _alloc: Global) -> Result<bool, AllocError> {
-        Ok(ConstBytes::new() == *record && ConstBytes::default() == *record)
+    fn is_made(record: &Numbers<'a>, alloc: Global) -> Result<bool> {
+        let copy = counted!(alloc; record.clone())?;
+        let values = copy.into_inner();
+        Ok(Seq::borrowed(values.as_slice()) == *record)
+    }
+}
+
+impl<'a> Shows<Bytes<'a>> for Connections {
+    fn fields(record: &Bytes<'a>, out: &mut Out) -> Result {
+        show_items::<Connections, RawInt<u8>>(out, record.as_slice())
+    }
+
+    fn is_made(record: &Bytes<'a>, alloc: Global) -> Result<bool> {
+        let copy = counted!(alloc; record.clone())?;
+        Ok(Seq::borrowed(copy.as_slice()) == *record)
+    }
+}
+
+impl<'a> Shows<Strings<'a>> for Connections {
+    fn fields(record: &Strings<'a>, out: &mut Out) -> Result {
+        show_items::<InLists, RawBytes<'_, LenEnc>>(out, record.as_slice())
+    }
+
+    fn is_made(record: &Strings<'a>, _alloc: Global) -> Result<bool> {
+        Ok(Seq::borrowed(record.as_slice()) == *record)
+    }
+}
+
+/// Values that are read to the end. There is no end of values without bytes.
+fn all<'a, P: Shows<T>, T: MyDeserialize<'a, Ctx = ()> + Drop>(
+    out: &mut Out,
+    request: &'a Request<'_>,
+) -> Result {
+    let alloc = out.alloc();
+    let bytes = request.bytes.as_slice();
+    let mut buf = ParseBuf::new(alloc, bytes);
+    let answer: Result<Vec<T>, Fault> = counted!(alloc; read_all(&mut buf));
+    match answer {
+        Ok(values) => {
+            out.word("read")?;
+            let list: Seq<'_, T, Unknown> = Seq::owned(values);
+            show_items::<P, T>(out, list.as_slice())?;
+            out.show("rest", buf.len())
+        }
+        Err(fault) => out.refused(fault, buf.len() == bytes.len()),
+    }
+}
+
+/// The list of the bytes, and one that borrows its numbers, once the number 7 is pushed to each.
+pub fn push(out: &mut Out, request: &Request<'_>) -> Result {
+    let alloc = out.alloc();
+    let mut buf = ParseBuf::new(alloc, request.bytes.as_slice());
+    let answer: Result<Numbers<'_>, Fault> = buf.parse(());
+    let Ok(mut list) = answer else {
+        return out.word("refused");
+    };
+    push_to_borrowed(out, &list)?;
+    let before = list.len();
+    let pushed = counted!(alloc; list.push(alloc, RawInt::new(7)));
+    show_push(out, "owned", pushed, &list, before)?;
+    out.show("default", Numbers::default().is_empty())
+}
+
+/// (the numbers are copied first, and the list that they stand in stays as it was)
+fn push_to_borrowed(out: &mut Out, list: &Numbers<'_>) -> Result {
+    let alloc = out.alloc();
+    let mut lent: Numbers<'_> = Seq::borrowed(list.as_slice());
+    let copy = counted!(alloc; lent.clone());
+    out.same("copy", copy.map(|copy| copy == lent))?;
+    let pushed = counted!(alloc; lent.push(alloc, RawInt::new(7)));
+    show_push(out, "borrowed", pushed, &lent, list.len())
+}
+
+/// Adds the numbers of a list that one was pushed to; or that memory ran out, and where it is not as it was, that too.
+fn show_push(out: &mut Out, name: &str, push: Result, list: &Numbers<'_>, before: usize) -> Result {
+    match push {
+        Ok(()) => {
+            out.field(name, "pushed")?;
+            show_items::<Connections, RawInt<LeU64>>(out, list.as_slice())
+        }
+        Err(AllocError) if list.len() == before => out.field(name, "Memory"),
+        Err(AllocError) => out.field(name, "CHANGED"),
     }
 }

@@ -1,109 +1,71 @@
 //! The initial handshake.
 //!
-//! `handshake BYTES`, `version TEXT`, `make_handshake CAPABILITIES VERSION SCRAMBLE PLUGIN`.
+//! `handshake BYTES`, `version TEXT`, `make_handshake CAPABILITIES VERSION SCRAMBLE PLUGIN`, `supported`.
 
-use crate::plugins::tell_plugin;
-use crate::{Connections, words};
-use mysql_auth::HandshakePacket;
-use mysql_wire::{CapabilityFlags, Flags, StatusFlags};
-use std::alloc::{AllocError, Global};
-use std::borrow::CowSlice;
-use test_probe::counted;
-use test_probe::out::Out;
-use test_probe::record::{Shows, round_trip, write};
-use test_probe::request::Request;
+use crate::plugins::show_plugin;
+use crate::prelude::*;
+use mysql_auth::{HandshakePacket, supported_capabilities};
+use mysql_wire::StatusFlags;
 
-/// The answer, where the request is one of these.
-pub fn answer(out: &mut Out, request: &Request<'_>) -> Result<bool, AllocError> {
-    match request.word(0) {
-        "handshake" => round_trip::<Connections, HandshakePacket<'_>>(out, request, (), ())?,
-        "version" => version(out, request)?,
-        "make_handshake" => make(out, request)?,
-        _ => return Ok(false),
-    }
-    Ok(true)
+/// The versions that a server's version says.
+pub fn version(out: &mut Out, request: &Request<'_>) -> Result {
+    let given = [request.word(1), "none", "none"];
+    show_versions(&made(given, CapabilityFlags::empty()), out)
+}
+
+/// The flags that may be agreed to.
+pub fn supported(out: &mut Out, _request: &Request<'_>) -> Result {
+    out.show("flags", supported_capabilities())
+}
+
+/// A handshake that is made of words, as it is written.
+pub fn make(out: &mut Out, request: &Request<'_>) -> Result {
+    let given = [request.word(2), request.word(3), request.word(4)];
+    write_made(out, &made(given, request.capabilities()))
 }
 
 impl<'a> Shows<HandshakePacket<'a>> for Connections {
-    fn fields(record: &HandshakePacket<'a>, out: &mut Out) -> Result<(), AllocError> {
-        out.number("protocol_version", u64::from(record.protocol_version()))?;
-        out.bytes("server_version", record.server_version_ref())?;
-        out.number("connection_id", u64::from(record.connection_id()))?;
-        out.bytes("scramble_1", record.scramble_1_ref())?;
-        out.maybe_bytes("scramble_2", record.scramble_2_ref())?;
-        out.number("capabilities", u64::from(record.capabilities().bits()))?;
-        out.number("default_collation", u64::from(record.default_collation()))?;
-        out.number("status_flags", u64::from(record.status_flags().bits()))?;
-        out.number(
-            "mariadb",
-            u64::from(record.mariadb_ext_capabilities().bits()),
-        )?;
-        out.maybe_bytes("auth_plugin_name", record.auth_plugin_name_ref())?;
-        tell_versions(record, out)?;
-        tell_handshake_texts(record, out)
-    }
-
-    fn is_made(record: &HandshakePacket<'a>, alloc: Global) -> Result<bool, AllocError> {
-        let made = made_handshake(record);
-        let copy = counted!(alloc; made.clone())?;
-        let owned = counted!(alloc; copy.into_owned(alloc))?;
-        words::is_cloned(alloc, &owned, record)
-    }
-}
-
-fn tell_version(
-    name: &str,
-    version: Option<(u16, u16, u16)>,
-    out: &mut Out,
-) -> Result<(), AllocError> {
-    match version {
-        Some((major, minor, patch)) => {
-            out.number(name, u64::from(major))?;
-            out.number("minor", u64::from(minor))?;
-            out.number("patch", u64::from(patch))
+    fn fields(record: &HandshakePacket<'a>, out: &mut Out) -> Result {
+        fields!(out, record; protocol_version, server_version = server_version_ref, connection_id,
+            scramble_1 = scramble_1_ref, scramble_2 = scramble_2_ref, capabilities, default_collation, status_flags,
+            mariadb = mariadb_ext_capabilities, auth_plugin_name = auth_plugin_name_ref)?;
+        show_versions(record, out)?;
+        fields!(out, record; ; texts server_version_str = server_version_str, auth_plugin_name_str = auth_plugin_name_str)?;
+        show_plugin(record.auth_plugin().as_ref(), out)?;
+        let alloc = out.alloc();
+        match counted!(alloc; record.nonce(alloc)) {
+            Ok(nonce) => out.show("nonce", nonce.as_slice()),
+            Err(AllocError) => out.field("nonce", "Memory"),
         }
-        None => out.field(name, "none"),
+    }
+
+    fn is_made(record: &HandshakePacket<'a>, alloc: Global) -> Result<bool> {
+        is_owned!(alloc; made_again(record), record)
     }
 }
 
-fn tell_versions(packet: &HandshakePacket<'_>, out: &mut Out) -> Result<(), AllocError> {
-    tell_version("version", packet.server_version_parsed(), out)?;
-    tell_version("maria_db", packet.maria_db_server_version_parsed(), out)
+fn show_version(name: &str, version: Option<(u16, u16, u16)>, out: &mut Out) -> Result {
+    let Some((major, minor, patch)) = version else {
+        return out.field(name, "none");
+    };
+    out.show(name, major)?;
+    out.show("minor", minor)?;
+    out.show("patch", patch)
 }
 
-fn tell_handshake_texts(packet: &HandshakePacket<'_>, out: &mut Out) -> Result<(), AllocError> {
-    let alloc = out.alloc();
-    out.text(
-        "server_version_str",
-        counted!(alloc; packet.server_version_str(alloc)),
-    )?;
-    match counted!(alloc; packet.auth_plugin_name_str(alloc)) {
-        Ok(Some(text)) => out.text("auth_plugin_name_str", Ok(text))?,
-        Ok(None) => out.field("auth_plugin_name_str", "none")?,
-        Err(AllocError) => out.field("auth_plugin_name_str", "Memory")?,
-    }
-    match packet.auth_plugin() {
-        Some(plugin) => tell_plugin(&plugin, out)?,
-        None => out.field("plugin", "none")?,
-    }
-    match counted!(alloc; packet.nonce(alloc)) {
-        Ok(nonce) => out.bytes("nonce", nonce.as_slice()),
-        Err(AllocError) => out.field("nonce", "Memory"),
-    }
-}
-
-/// A scramble of the same bytes, where there are 8.
-fn scramble_of(bytes: &[u8]) -> [u8; 8] {
-    bytes.first_chunk::<8>().copied().unwrap_or([0; 8])
+fn show_versions(packet: &HandshakePacket<'_>, out: &mut Out) -> Result {
+    show_version("version", packet.server_version_parsed(), out)?;
+    show_version("maria_db", packet.maria_db_server_version_parsed(), out)
 }
 
 /// The packet of what a packet's getters answer.
-fn made_handshake<'b>(packet: &'b HandshakePacket<'_>) -> HandshakePacket<'b> {
+fn made_again<'b>(packet: &'b HandshakePacket<'_>) -> HandshakePacket<'b> {
+    let scramble = packet.scramble_1_ref().first_chunk::<8>();
     let made = HandshakePacket::new(
         packet.protocol_version(),
         CowSlice::Borrowed(packet.server_version_ref()),
         packet.connection_id(),
-        scramble_of(packet.scramble_1_ref()),
+        scramble.copied().unwrap_or([0; 8]),
         words::lent(packet.scramble_2_ref()),
         packet.capabilities(),
         packet.default_collation(),
@@ -113,36 +75,18 @@ fn made_handshake<'b>(packet: &'b HandshakePacket<'_>) -> HandshakePacket<'b> {
     made.with_mariadb_ext_capabilities(packet.mariadb_ext_capabilities())
 }
 
-/// The versions that a text says.
-fn version(out: &mut Out, request: &Request<'_>) -> Result<(), AllocError> {
-    let text = words::bytes(request.word(1)).unwrap_or(b"");
-    let packet = HandshakePacket::new(
+/// A handshake that is made of words.
+fn made<'a>(given: [&'a str; 3], capabilities: CapabilityFlags) -> HandshakePacket<'a> {
+    let [version, scramble, plugin] = given;
+    HandshakePacket::new(
         10,
-        CowSlice::Borrowed(text),
+        words::name(version),
         1,
         [0; 8],
-        None,
-        CapabilityFlags::empty(),
+        words::borrowed(scramble),
+        capabilities,
         8,
         StatusFlags::empty(),
-        None,
-    );
-    tell_versions(&packet, out)
-}
-
-/// A handshake that is made of words, as it is written.
-fn make(out: &mut Out, request: &Request<'_>) -> Result<(), AllocError> {
-    let packet = HandshakePacket::new(
-        10,
-        CowSlice::Borrowed(words::bytes(request.word(2)).unwrap_or(b"")),
-        1,
-        [0; 8],
-        words::borrowed(request.word(3)),
-        request.capabilities(),
-        8,
-        StatusFlags::empty(),
-        words::borrowed(request.word(4)),
-    );
-    let _ = write(out, &packet, b"")?;
-    Ok(())
+        words::borrowed(plugin),
+    )
 }

@@ -1,66 +1,64 @@
 //! Answers rows of authentication, replication and wire forms: a line for each line of its input.
 #![tactic(auto)]
 
-mod change_user;
+mod buffers;
+mod client;
 mod commands;
-mod flags;
+mod dumps;
 mod forms;
-mod gtid_dumps;
 mod handshake;
-mod lists;
-mod parts;
 mod plugins;
-mod requests;
-mod response;
+mod prelude;
 mod sids;
-mod switches;
-mod tags;
 mod texts;
 mod words;
 
-use std::alloc::AllocError;
+use crate::prelude::{Out, Request, Result};
+use mysql_auth::*;
+use mysql_repl::*;
 use std::io;
-use test_probe::out::Out;
-use test_probe::request::Request;
-use test_probe::{Answers, run};
+use test_probe::{Answers, answers, run};
 
 struct Connections;
 
 /// The requests of authentication.
-fn of_authentication(out: &mut Out, request: &Request<'_>) -> Result<bool, AllocError> {
-    Ok(
-        handshake::answer(out, request)?
-            || response::answer(out, request)?
-            || change_user::answer(out, request)?
-            || switches::answer(out, request)?
-            || plugins::answer(out, request)?,
-    )
+fn of_authentication(out: &mut Out, request: &Request<'_>) -> Result<bool> {
+    answers!(Connections, out, request, request.word(0);
+        with () => "handshake": HandshakePacket<'_>, "response": HandshakeResponse<'_>,
+            "auth_switch": AuthSwitchRequest<'_>, "old_switch": OldAuthSwitchRequest, "auth_more_data": AuthMoreData<'_>,
+            "key_request": PublicKeyRequest, "key": PublicKeyResponse<'_>, "tls": SslRequest, "plugin": AuthPlugin<'_>,
+        with request.capabilities() => "change_user": ComChangeUser<'_>, "more_data": ComChangeUserMoreData<'_>,
+        call "version": handshake::version, "make_handshake": handshake::make, "make_response": client::make_response,
+            "make_change_user": client::make_change_user, "make_switch": plugins::make_switch,
+            "make_tls": plugins::make_tls, "tls_of": client::tls_of, "supported": handshake::supported, "add_data": plugins::add_data, "parsec": plugins::parsec,
+            "plugin_data": plugins::plugin_data,)
 }
 
 /// The requests of replication.
-fn of_replication(out: &mut Out, request: &Request<'_>) -> Result<bool, AllocError> {
-    Ok(
-        commands::answer(out, request)?
-            || gtid_dumps::answer(out, request)?
-            || sids::answer(out, request)?
-            || tags::answer(out, request)?
-            || requests::answer(out, request)?,
-    )
+fn of_replication(out: &mut Out, request: &Request<'_>) -> Result<bool> {
+    answers!(Connections, out, request, request.word(0);
+        with () => "register_slave": ComRegisterSlave<'_>, "table_dump": ComTableDump<'_>,
+            "binlog_dump": ComBinlogDump<'_>, "semi_sync_ack": SemiSyncAckPacket<'_>, "gtid": ComBinlogDumpGtid<'_>,
+            "sid_bytes": Sid<'_>, "interval": GnoInterval,
+        call "gtid_strict": dumps::strict, "gtid_with_sid": dumps::with_sid, "make_gtid": dumps::make,
+            "gtid_of": dumps::of_count, "gtid_of_set": dumps::of_set, "gtid_set": sids::of_set,
+            "new_request": commands::new_request, "request": commands::request,
+            "sid": sids::of_text, "make_sid": sids::make, "merge_sid": sids::merge, "check_interval": sids::check_interval, "tag": sids::tag,)
 }
 
-/// The requests of wire forms, and of texts.
-fn of_wire_forms(out: &mut Out, request: &Request<'_>) -> Result<bool, AllocError> {
-    Ok(
-        forms::answer(out, request)?
-            || parts::answer(out, request)?
-            || lists::answer(out, request)?
-            || flags::answer(out, request)?
-            || texts::answer(out, request)?,
-    )
+/// The requests of wire forms, of buffers, and of texts.
+fn of_wire_forms(out: &mut Out, request: &Request<'_>) -> Result<bool> {
+    match request.word(0) {
+        "form" => forms::form(out, request),
+        "text" => texts::text(out, request.word(1)),
+        word => answers!(Connections, out, request, word;
+            call "buf": buffers::calls, "content": buffers::content, "varlen": buffers::varlen, "code": forms::code,
+                "push_seq": forms::push,),
+    }
 }
 
 impl Answers for Connections {
-    fn answer(out: &mut Out, request: &Request<'_>) -> Result<bool, AllocError> {
+    fn answer(out: &mut Out, request: &Request<'_>) -> Result<bool> {
         Ok(
             of_authentication(out, request)?
                 || of_replication(out, request)?

@@ -1,93 +1,65 @@
-//! Authentication plugins, and what they are sent and answer.
+//! Authentication plugins, what they are sent and answer, switches to another, keys, and SSLRequest.
 //!
-//! `plugin BYTES`, `add_data PLUGIN BYTES`, `parsec BYTES`, `plugin_data KIND BYTES`.
+//! `plugin BYTES`, `add_data PLUGIN BYTES`, `parsec BYTES`, `plugin_data KIND BYTES`; `auth_switch BYTES`,
+//! `old_switch BYTES`, `auth_more_data BYTES`, `key_request BYTES`, `key BYTES`, `tls BYTES`, `make_switch PLUGIN DATA`,
+//! `make_tls CAPABILITIES SIZE CHARACTER_SET MARIADB`.
 
-use crate::{Connections, words};
-use mysql_auth::{AuthPlugin, AuthPluginData, parse_parsec_salt};
-use mysql_wire::RawBytes;
-use std::alloc::{AllocError, Global};
-use std::borrow::CowSlice;
-use test_probe::counted;
-use test_probe::out::Out;
-use test_probe::record::{Shows, round_trip, write};
-use test_probe::request::Request;
+use crate::prelude::*;
+use mysql_auth::*;
+use mysql_wire::{MariadbCapabilities, RawBytes};
+use test_probe::shown::Variant;
 
-/// The answer, where the request is one of these.
-pub fn answer(out: &mut Out, request: &Request<'_>) -> Result<bool, AllocError> {
-    match request.word(0) {
-        "plugin" => round_trip::<Connections, AuthPlugin<'_>>(out, request, (), ())?,
-        "add_data" => add_data(out, request)?,
-        "parsec" => parsec(out, request)?,
-        "plugin_data" => plugin_data(out, request)?,
-        _ => return Ok(false),
-    }
-    Ok(true)
-}
-
-/// Adds a plugin's name, and whether it is one that the client knows.
-pub fn tell_plugin(plugin: &AuthPlugin<'_>, out: &mut Out) -> Result<(), AllocError> {
+/// Adds a plugin's name, where there is one, and whether it is one that the client knows.
+pub fn show_plugin(plugin: Option<&AuthPlugin<'_>>, out: &mut Out) -> Result {
     match plugin {
-        AuthPlugin::Other(name) => out.bytes("other_plugin", name.as_bytes()),
-        _ => out.bytes("plugin", plugin.as_bytes()),
-    }
-}
-
-/// The plugin's own name in the library.
-fn variant_of(plugin: &AuthPlugin<'_>) -> &'static str {
-    match plugin {
-        AuthPlugin::MysqlOldPassword => "MysqlOldPassword",
-        AuthPlugin::MysqlClearPassword => "MysqlClearPassword",
-        AuthPlugin::MysqlNativePassword => "MysqlNativePassword",
-        AuthPlugin::CachingSha2Password => "CachingSha2Password",
-        AuthPlugin::Ed25519 => "Ed25519",
-        AuthPlugin::MariadbParsec { .. } => "MariadbParsec",
-        AuthPlugin::Other(_) => "Other",
+        Some(AuthPlugin::Other(name)) => out.show("other_plugin", name.as_bytes()),
+        Some(plugin) => out.show("plugin", plugin.as_bytes()),
+        None => out.field("plugin", "none"),
     }
 }
 
 /// Adds the rounds and the salt of `parsec`.
-fn tell_rounds(plugin: &AuthPlugin<'_>, out: &mut Out) -> Result<(), AllocError> {
-    match plugin {
-        AuthPlugin::MariadbParsec {
-            iterations,
-            ext_salt,
-        } => {
-            out.number("iterations", u64::from(*iterations))?;
-            out.bytes("salt", ext_salt)
-        }
-        _ => Ok(()),
+fn show_rounds(plugin: &AuthPlugin<'_>, out: &mut Out) -> Result {
+    if let AuthPlugin::MariadbParsec {
+        iterations,
+        ext_salt,
+    } = plugin
+    {
+        out.show("iterations", *iterations)?;
+        out.show("salt", ext_salt.as_slice())?;
     }
+    Ok(())
 }
 
 impl<'a> Shows<AuthPlugin<'a>> for Connections {
-    fn fields(record: &AuthPlugin<'a>, out: &mut Out) -> Result<(), AllocError> {
-        tell_plugin(record, out)?;
-        out.field("variant", variant_of(record))?;
-        tell_rounds(record, out)
+    fn fields(record: &AuthPlugin<'a>, out: &mut Out) -> Result {
+        show_plugin(Some(record), out)?;
+        out.show("variant", Variant(record))?;
+        show_rounds(record, out)
     }
 
-    fn is_made(record: &AuthPlugin<'a>, alloc: Global) -> Result<bool, AllocError> {
+    fn is_made(record: &AuthPlugin<'a>, alloc: Global) -> Result<bool> {
         let lent = record.borrow();
         let copy = counted!(alloc; lent.clone())?;
         let owned = counted!(alloc; copy.into_owned(alloc))?;
-        Ok(words::is_cloned(alloc, &owned, record)? && owned.borrow() == *record)
+        Ok(is_cloned(alloc, &owned, record)? && owned.borrow() == *record)
     }
 }
 
 /// Hands a plugin what a server tells beside the scramble.
-fn add_data(out: &mut Out, request: &Request<'_>) -> Result<(), AllocError> {
+pub fn add_data(out: &mut Out, request: &Request<'_>) -> Result {
     let mut plugin = AuthPlugin::from_bytes(request.word(1).as_bytes());
     let is_taken = plugin.read_add_data(request.bytes.as_slice()).is_some();
-    words::yes(out, "taken", is_taken)?;
-    tell_plugin(&plugin, out)?;
-    tell_rounds(&plugin, out)
+    out.show("taken", is_taken)?;
+    show_plugin(Some(&plugin), out)?;
+    show_rounds(&plugin, out)
 }
 
-fn parsec(out: &mut Out, request: &Request<'_>) -> Result<(), AllocError> {
+pub fn parsec(out: &mut Out, request: &Request<'_>) -> Result {
     match parse_parsec_salt(request.bytes.as_slice()) {
         Some((rounds, salt)) => {
-            out.number("rounds", u64::from(rounds))?;
-            out.bytes("salt", salt)
+            out.show("rounds", rounds)?;
+            out.show("salt", salt.as_slice())
         }
         None => out.word("none"),
     }
@@ -110,18 +82,97 @@ fn answer_of<'a>(kind: &str, bytes: &'a [u8]) -> AuthPluginData<'a> {
     }
 }
 
-/// Whether an answer's copy, made owned, is the same.
-fn is_answer_made(answer: &AuthPluginData<'_>, alloc: Global) -> Result<bool, AllocError> {
-    let copy = counted!(alloc; answer.clone())?;
-    let owned = counted!(alloc; copy.into_owned(alloc))?;
-    words::is_cloned(alloc, &owned, answer)
+fn is_answer_made(answer: &AuthPluginData<'_>, alloc: Global) -> Result<bool> {
+    is_owned!(alloc; answer, answer)
 }
 
-fn plugin_data(out: &mut Out, request: &Request<'_>) -> Result<(), AllocError> {
+pub fn plugin_data(out: &mut Out, request: &Request<'_>) -> Result {
     let answer = answer_of(request.word(1), request.bytes.as_slice());
-    out.bytes("bytes", answer.as_bytes())?;
-    let made = is_answer_made(&answer, out.alloc());
-    out.same("made", made)?;
-    let _ = write(out, &answer, b"")?;
-    Ok(())
+    out.show("bytes", answer.as_bytes())?;
+    out.same("made", is_answer_made(&answer, request.alloc))?;
+    write_made(out, &answer)
+}
+
+impl<'a> Shows<AuthSwitchRequest<'a>> for Connections {
+    fn fields(record: &AuthSwitchRequest<'a>, out: &mut Out) -> Result {
+        show_plugin(Some(&record.auth_plugin()), out)?;
+        out.show("plugin_data", record.plugin_data())?;
+        out.show("raw", record.plugin_data_raw())
+    }
+
+    fn is_made(record: &AuthSwitchRequest<'a>, alloc: Global) -> Result<bool> {
+        is_owned!(alloc; record, record)
+    }
+}
+
+/// A switch that is made of words, as it is written and read again.
+pub fn make_switch(out: &mut Out, request: &Request<'_>) -> Result {
+    let packet = AuthSwitchRequest::new(words::name(request.word(1)), words::name(request.word(2)));
+    out.word("made")?;
+    write_and_read(out, &packet, request, ())
+}
+
+impl Shows<OldAuthSwitchRequest> for Connections {
+    fn fields(record: &OldAuthSwitchRequest, out: &mut Out) -> Result {
+        show_plugin(Some(&record.auth_plugin()), out)
+    }
+
+    fn is_made(record: &OldAuthSwitchRequest, alloc: Global) -> Result<bool> {
+        is_cloned(alloc, &OldAuthSwitchRequest::new(), record)
+    }
+}
+
+impl<'a> Shows<AuthMoreData<'a>> for Connections {
+    fn fields(record: &AuthMoreData<'a>, out: &mut Out) -> Result {
+        out.show("data", record.data())
+    }
+
+    fn is_made(record: &AuthMoreData<'a>, alloc: Global) -> Result<bool> {
+        let made = AuthMoreData::new(CowSlice::Borrowed(record.data()));
+        is_owned!(alloc; made, record)
+    }
+}
+
+impl Shows<PublicKeyRequest> for Connections {
+    fn is_made(record: &PublicKeyRequest, alloc: Global) -> Result<bool> {
+        is_cloned(alloc, &PublicKeyRequest::new(), record)
+    }
+}
+
+/// The key is shown as text alone: there is no other way to it.
+impl<'a> Shows<PublicKeyResponse<'a>> for Connections {
+    fn fields(record: &PublicKeyResponse<'a>, out: &mut Out) -> Result {
+        fields!(out, record; ; texts rsa_key = rsa_key)
+    }
+
+    /// (the one of the text has the same text, on memory of its own)
+    fn is_made(record: &PublicKeyResponse<'a>, alloc: Global) -> Result<bool> {
+        let text = record.rsa_key(alloc)?;
+        let made = PublicKeyResponse::new(words::owned(alloc, text.as_str().as_bytes())?);
+        Ok(
+            made.rsa_key(alloc)?.as_str() == text.as_str()
+                && is_cloned(alloc, &made, &made)?
+                && is_cloned(alloc, record, record)?,
+        )
+    }
+}
+
+impl Shows<SslRequest> for Connections {
+    fn fields(record: &SslRequest, out: &mut Out) -> Result {
+        fields!(out, record; capabilities, max_packet_size, character_set)
+    }
+
+    /// (there is no getter for MariaDB's capabilities)
+    fn is_made(record: &SslRequest, alloc: Global) -> Result<bool> {
+        is_cloned(alloc, record, record)
+    }
+}
+
+/// A request for TLS that is made of words, as it is written and read again.
+pub fn make_tls(out: &mut Out, request: &Request<'_>) -> Result {
+    let character_set = words::number(request.word(3));
+    let packet = SslRequest::new(request.capabilities(), request.number(2), character_set);
+    let flags = MariadbCapabilities::from_bits_retain(request.number(4));
+    out.word("made")?;
+    write_and_read(out, &packet.with_mariadb_capabilities(flags), request, ())
 }

@@ -1,101 +1,109 @@
-//! Sids and intervals.
+//! Sids, their intervals and their tags.
 //!
-//! `sid TEXT`, `sid_bytes BYTES`, `make_sid TAG INTERVALS`, `interval BYTES`, `check_interval START END`.
+//! `sid TEXT`, `gtid_set TEXT`, `sid_bytes BYTES`, `make_sid TAG INTERVALS`, `merge_sid TAG INTERVALS`, `interval BYTES`, `check_interval START END`, `tag TEXT`.
 
-use crate::{Connections, words};
-use mysql_repl::{GnoInterval, InvalidGno, InvalidSid, Sid, Tag};
-use std::alloc::{AllocError, Global};
-use test_probe::counted;
-use test_probe::out::Out;
-use test_probe::record::{Shows, round_trip, write};
-use test_probe::request::Request;
+use crate::prelude::*;
+use mysql_repl::*;
+use std::borrow::CowStr;
+use std::str;
 
-/// The answer, where the request is one of these.
-pub fn answer(out: &mut Out, request: &Request<'_>) -> Result<bool, AllocError> {
-    match request.word(0) {
-        "sid" => sid_text(out, request)?,
-        "sid_bytes" => round_trip::<Connections, Sid<'_>>(out, request, (), ())?,
-        "make_sid" => make_sid(out, request)?,
-        "interval" => round_trip::<Connections, GnoInterval>(out, request, (), ())?,
-        "check_interval" => check_interval(out, request)?,
-        _ => return Ok(false),
-    }
-    Ok(true)
-}
-
-/// Adds a sid.
-pub fn tell_sid(sid: &Sid<'_>, out: &mut Out) -> Result<(), AllocError> {
-    out.bytes("uuid", &sid.uuid())?;
-    match sid.tag() {
-        Some(tag) => out.field("tag", tag.as_str())?,
-        None => out.field("tag", "none")?,
-    }
-    out.number("intervals", sid.intervals().len() as u64)?;
+/// Adds a sid, but for its text.
+pub fn show_sid(sid: &Sid<'_>, out: &mut Out) -> Result {
+    out.show("uuid", sid.uuid().as_slice())?;
+    out.show("tag", sid.tag().map(|tag| tag.as_str()))?;
+    out.show("intervals", sid.intervals().len())?;
     for interval in sid.intervals() {
-        out.number("start", interval.start())?;
-        out.number("end", interval.end())?;
+        fields!(out, interval; start, end)?;
     }
     Ok(())
 }
 
+impl<'a> Shows<Sid<'a>> for Connections {
+    fn fields(record: &Sid<'a>, out: &mut Out) -> Result {
+        show_sid(record, out)?;
+        out.text("shown", record)
+    }
+
+    /// (in the form without tags)
+    fn is_made(record: &Sid<'a>, alloc: Global) -> Result<bool> {
+        let mut intervals = Vec::with_capacity(alloc, record.intervals().len())?;
+        for interval in record.intervals() {
+            intervals.push(*interval)?;
+        }
+        let made = Sid::new(record.uuid()).with_intervals(intervals);
+        is_cloned(alloc, &made, record)
+    }
+}
+
 /// A sid of a text, and its text again.
-fn sid_text(out: &mut Out, request: &Request<'_>) -> Result<(), AllocError> {
+pub fn of_text(out: &mut Out, request: &Request<'_>) -> Result {
     let alloc = out.alloc();
     let answer: Result<Sid<'static>, InvalidSid> =
         counted!(alloc; Sid::from_str(alloc, request.word(1)));
     match answer {
         Ok(sid) => {
             out.word("read")?;
-            tell_sid(&sid, out)?;
-            let text = format!(in alloc; "{sid}")?;
-            out.field("shown", text.as_str())?;
-            let _ = write(out, &sid, b"")?;
-            Ok(())
+            Connections::fields(&sid, out)?;
+            write_made(out, &sid)
         }
-        Err(fault) => {
-            out.word("refused")?;
-            let text = format!(in alloc; "{fault}")?;
-            out.field("text", text.as_str())
+        Err(fault) => out.error(&fault),
+    }
+}
+
+/// The text of a request after its first word, or that of its bytes: `()` stands for no text.
+pub fn text_of<'b>(request: &'b Request<'_>) -> &'b str {
+    let text = str::from_utf8(request.bytes.as_slice());
+    match (request.line.split_once(' '), text) {
+        (Some((_, "()")), _) => "",
+        (Some((_, text)), Ok("")) => text,
+        (_, text) => text.unwrap_or(""),
+    }
+}
+
+/// Whether a text is read as these sids.
+fn is_read_as(alloc: Global, text: &str, sids: &[Sid<'static>]) -> Result<bool> {
+    let Ok(again) = sids_from_text(alloc, text) else {
+        return Ok(false);
+    };
+    let dump = ComBinlogDumpGtid::new(0).with_sids(CowSlice::Borrowed(sids));
+    Ok(dump == ComBinlogDumpGtid::new(0).with_sids(CowSlice::Owned(again)))
+}
+
+/// Adds the text of sids, and whether it is read as the same.
+fn show_set(out: &mut Out, sids: &[Sid<'static>]) -> Result {
+    let set = GtidSetText(sids);
+    let text = format!(in out.alloc(); "{set}")?;
+    out.show("text", text.as_str().as_bytes())?;
+    let again = is_read_as(out.alloc(), text.as_str(), sids);
+    out.same("again", again)
+}
+
+/// The sids of a text, each with its own text, and whether its intervals are as servers write them.
+pub fn of_set(out: &mut Out, request: &Request<'_>) -> Result {
+    let alloc = out.alloc();
+    let answer: Result<Vec<Sid<'static>>, InvalidSid> =
+        counted!(alloc; sids_from_text(alloc, text_of(request)));
+    match answer {
+        Ok(sids) => {
+            out.word("read")?;
+            for sid in &sids {
+                out.text("sid", sid)?;
+                out.show("as_servers", sid.is_as_servers_write())?;
+            }
+            show_set(out, sids.as_slice())
         }
+        Err(fault) => out.error(&fault),
     }
 }
 
-/// The intervals, on memory of their own.
-fn copied(alloc: Global, intervals: &[GnoInterval]) -> Result<Vec<GnoInterval>, AllocError> {
-    let mut copies = Vec::with_capacity(alloc, intervals.len())?;
-    for interval in intervals {
-        copies.push(*interval)?;
-    }
-    Ok(copies)
-}
-
-impl<'a> Shows<Sid<'a>> for Connections {
-    fn fields(record: &Sid<'a>, out: &mut Out) -> Result<(), AllocError> {
-        tell_sid(record, out)?;
-        let text = format!(in out.alloc(); "{record}")?;
-        out.field("shown", text.as_str())
-    }
-
-    /// (in the form without tags)
-    fn is_made(record: &Sid<'a>, alloc: Global) -> Result<bool, AllocError> {
-        let intervals = copied(alloc, record.intervals())?;
-        let made = Sid::new(record.uuid()).with_intervals(intervals);
-        words::is_cloned(alloc, &made, record)
-    }
-}
-
-/// The interval of a word, as `1-6`: of the number after the last.
-fn interval_of(word: &str) -> GnoInterval {
-    let (start, end) = word.split_once('-').unwrap_or((word, ""));
-    GnoInterval::new(words::number(start), words::number(end))
-}
-
-/// The sid with the intervals of a word, as `1-6,8-9`, one after another.
-fn with_intervals<'a>(alloc: Global, sid: Sid<'a>, word: &str) -> Result<Sid<'a>, AllocError> {
+/// The sid with the intervals of a word, as `1-6,8-9`, one after another: each of the number after the last.
+fn with_intervals<'a>(alloc: Global, sid: Sid<'a>, word: &str) -> Result<Sid<'a>> {
     let mut sid = sid;
     if word != "()" {
         for interval in word.split(',') {
-            sid = sid.with_interval(alloc, interval_of(interval))?;
+            let (start, end) = interval.split_once('-').unwrap_or((interval, ""));
+            let interval = GnoInterval::new(words::number(start), words::number(end));
+            sid = sid.with_interval(alloc, interval)?;
         }
     }
     Ok(sid)
@@ -109,105 +117,118 @@ fn with_tag<'a>(sid: Sid<'a>, word: &'a str) -> Sid<'a> {
     }
 }
 
-/// A sid that is made of words, as it is shown and written.
-fn make_sid(out: &mut Out, request: &Request<'_>) -> Result<(), AllocError> {
+/// A sid that is made of words, as it is shown, written and read again: it is the same where it has no tag.
+pub fn make(out: &mut Out, request: &Request<'_>) -> Result {
     let alloc = out.alloc();
     let sid = Sid::new([0x11; 16]);
-    match counted!(alloc; with_intervals(alloc, sid, request.word(2))) {
-        Ok(sid) => tell_made(out, with_tag(sid, request.word(1))),
-        Err(AllocError) => words::refused(out),
-    }
+    let Ok(sid) = counted!(alloc; with_intervals(alloc, sid, request.word(2))) else {
+        return out.error(&"Memory");
+    };
+    let sid = with_tag(sid, request.word(1));
+    out.word("made")?;
+    Connections::fields(&sid, out)?;
+    out.same("copy", is_cloned(alloc, &sid, &sid))?;
+    write_and_read(out, &sid, request, ())
 }
 
-fn tell_made(out: &mut Out, sid: Sid<'_>) -> Result<(), AllocError> {
-    out.word("made")?;
-    <Connections as Shows<Sid<'_>>>::fields(&sid, out)?;
-    let copy = words::is_cloned(out.alloc(), &sid, &sid);
-    out.same("copy", copy)?;
-    match write(out, &sid, b"")? {
-        // (it is the same where it has no tag)
-        Some(written) => words::read_as::<Sid<'_>>(out, &sid, &written, ()),
-        None => Ok(()),
-    }
+/// A sid that is made of words, with its intervals merged.
+pub fn merge(out: &mut Out, request: &Request<'_>) -> Result {
+    let alloc = out.alloc();
+    let sid = with_intervals(alloc, Sid::new([0x11; 16]), request.word(2))?;
+    let sid = with_tag(sid, request.word(1));
+    let Ok(sid) = counted!(alloc; sid.with_merged_intervals(alloc)) else {
+        return out.error(&"Memory");
+    };
+    out.text("merged", &sid)?;
+    out.show("as_servers", sid.is_as_servers_write())
 }
 
 /// A sid with the interval of the transactions 1 to 5.
-pub fn one_sid(alloc: Global) -> Result<Sid<'static>, AllocError> {
+pub fn one_sid(alloc: Global) -> Result<Sid<'static>> {
     Sid::new([0x11; 16]).with_interval(alloc, GnoInterval::new(1, 6))
 }
 
-/// The sid of a word, as `tag/1-6,8-9`: its tag, which may be empty, and its intervals.
-fn made_sid<'a>(alloc: Global, number: u8, word: &'a str) -> Result<Sid<'a>, AllocError> {
-    let (tag, intervals) = word.split_once('/').unwrap_or(("", word));
-    let sid = with_intervals(alloc, Sid::new([number; 16]), intervals)?;
-    Ok(with_tag(sid, tag))
-}
-
-/// The sids of a word, with `;` between each two: the first has a uuid of ones, and so on.
-pub fn made_sids<'a>(alloc: Global, word: &'a str) -> Result<Vec<Sid<'a>>, AllocError> {
+/// The sids of a word, as `tag/1-6,8-9;..`, each of its tag, which may be empty, and its intervals: the first has a uuid of ones.
+pub fn made_sids<'a>(alloc: Global, word: &'a str) -> Result<Vec<Sid<'a>>> {
     let mut sids = Vec::new(alloc);
     if word != "()" {
         let mut number: u8 = 0;
         for sid in word.split(';') {
             number = number.wrapping_add(1);
-            sids.push(made_sid(alloc, number, sid)?)?;
+            let (tag, intervals) = sid.split_once('/').unwrap_or(("", sid));
+            let sid = with_intervals(alloc, Sid::new([number; 16]), intervals)?;
+            sids.push(with_tag(sid, tag))?;
         }
     }
     Ok(sids)
 }
 
-/// The sid of that number, with as many intervals.
-fn of_intervals(alloc: Global, number: u8) -> Result<Sid<'static>, AllocError> {
-    let mut sid = Sid::new([number; 16]);
-    for j in 0..number {
-        sid = sid.with_interval(alloc, GnoInterval::new(u64::from(number), u64::from(j)))?;
-    }
-    Ok(sid)
-}
-
 /// Sids of the shape of the original's own cases: the i-th has i intervals, every other one the tag.
-pub fn numbered_sids<'a>(
-    alloc: Global,
-    count: u8,
-    tag: &'a str,
-) -> Result<Vec<Sid<'a>>, AllocError> {
+pub fn numbered_sids<'a>(alloc: Global, count: u8, tag: &'a str) -> Result<Vec<Sid<'a>>> {
     let mut sids = Vec::new(alloc);
     for number in 0..count {
-        let sid = of_intervals(alloc, number)?;
-        if number % 2 == 0 {
-            sids.push(with_tag(sid, tag))?;
-        } else {
-            sids.push(sid)?;
+        let mut sid = Sid::new([number; 16]);
+        for j in 0..number {
+            sid = sid.with_interval(alloc, GnoInterval::new(u64::from(number), u64::from(j)))?;
         }
+        sids.push(with_tag(sid, if number % 2 == 0 { tag } else { "" }))?;
     }
     Ok(sids)
 }
 
 impl Shows<GnoInterval> for Connections {
-    fn fields(record: &GnoInterval, out: &mut Out) -> Result<(), AllocError> {
-        out.number("start", record.start())?;
-        out.number("end", record.end())
+    fn fields(record: &GnoInterval, out: &mut Out) -> Result {
+        fields!(out, record; start, end)
     }
 
-    fn is_made(record: &GnoInterval, _alloc: Global) -> Result<bool, AllocError> {
+    fn is_made(record: &GnoInterval, _alloc: Global) -> Result<bool> {
         Ok(GnoInterval::new(record.start(), record.end()) == *record)
     }
 }
 
 /// An interval of two numbers, if they are one.
-fn check_interval(out: &mut Out, request: &Request<'_>) -> Result<(), AllocError> {
-    let start = words::number(request.word(1));
-    let end = words::number(request.word(2));
-    let answer: Result<GnoInterval, InvalidGno> = GnoInterval::check_and_new(start, end);
-    match answer {
+pub fn check_interval(out: &mut Out, request: &Request<'_>) -> Result {
+    let start: u64 = words::number(request.word(1));
+    match GnoInterval::check_and_new(start, words::number(request.word(2))) {
         Ok(interval) => {
             out.word("made")?;
-            <Connections as Shows<GnoInterval>>::fields(&interval, out)
+            Connections::fields(&interval, out)
         }
-        Err(fault) => {
-            out.word("refused")?;
-            let text = format!(in out.alloc(); "{fault}")?;
-            out.field("text", text.as_str())
-        }
+        Err(fault) => out.error(&fault),
     }
+}
+
+/// The tag of a text, if it is one: `()` stands for no text.
+pub fn tag(out: &mut Out, request: &Request<'_>) -> Result {
+    let alloc = out.alloc();
+    let word = request.word(1);
+    let text = if word == "()" { "" } else { word };
+    let answer: Result<Tag<'_>, InvalidTag> = counted!(alloc; Tag::new(CowStr::Borrowed(text)));
+    match answer {
+        Ok(tag) => {
+            out.word("read")?;
+            out.field("text", tag.as_str())?;
+            out.text("shown", &tag)?;
+            out.same("made", is_tag_made(alloc, &tag))?;
+            out.same("of_text", is_of_text(alloc, &tag))
+        }
+        Err(fault) => out.error(&fault),
+    }
+}
+
+/// Whether copies of a tag are the same: one of a borrowed text, made owned; one of that; and one that owns its text.
+fn is_tag_made(alloc: Global, tag: &Tag<'_>) -> Result<bool> {
+    let copy = counted!(alloc; tag.clone())?;
+    let owned = counted!(alloc; copy.into_owned(alloc))?;
+    Ok(is_cloned(alloc, &owned, tag)? && owned == *tag)
+}
+
+/// Whether the tag of a text on memory of its own is the same, and made owned keeps it.
+fn is_of_text(alloc: Global, tag: &Tag<'_>) -> Result<bool> {
+    let text = String::from_str(alloc, tag.as_str())?;
+    let Ok(other) = Tag::try_from(text) else {
+        return Ok(false);
+    };
+    let owned = counted!(alloc; other.into_owned(alloc))?;
+    Ok(owned == *tag)
 }

@@ -1,11 +1,8 @@
-//! Words of requests that stand for bytes, numbers and attributes, and words of answers.
+//! Words of requests that stand for bytes, numbers and attributes.
 
+use crate::prelude::*;
 use indexmap::IndexMap;
-use mysql_wire::{FaultOf, MyDeserialize, ParseBuf};
-use std::alloc::{AllocError, Global};
-use std::borrow::CowSlice;
-use test_probe::counted;
-use test_probe::out::Out;
+use std::str::FromStr;
 
 /// The bytes of a word: `none` stands for none, `()` for no byte.
 pub fn bytes<'a>(word: &'a str) -> Option<&'a [u8]> {
@@ -21,79 +18,46 @@ pub fn borrowed<'a>(word: &'a str) -> Option<CowSlice<'a, u8>> {
     lent(bytes(word))
 }
 
+/// The same, with no byte in place of none.
+pub fn name<'a>(word: &'a str) -> CowSlice<'a, u8> {
+    CowSlice::Borrowed(bytes(word).unwrap_or(b""))
+}
+
 /// The bytes, borrowed, where there are some.
 pub fn lent<'b>(bytes: Option<&'b [u8]>) -> Option<CowSlice<'b, u8>> {
-    match bytes {
-        Some(bytes) => Some(CowSlice::Borrowed(bytes)),
-        None => None,
-    }
+    bytes.map(|bytes| CowSlice::Borrowed(bytes))
+}
+
+/// The bytes, on memory of their own.
+pub fn owned(alloc: Global, bytes: &[u8]) -> Result<CowSlice<'static, u8>> {
+    Ok(CowSlice::Owned(Vec::from_slice(alloc, bytes)?))
 }
 
 /// The number that a word spells, or 0.
-pub fn number(word: &str) -> u64 {
-    word.parse::<u64>().unwrap_or(0)
+pub fn number<T: FromStr + Default + Drop>(word: &str) -> T
+where
+    T::Err: Drop,
+{
+    word.parse::<T>().unwrap_or_default()
 }
 
-/// Puts one `key=value` among some texts.
-fn insert(
-    alloc: Global,
-    texts: &mut IndexMap<String, String>,
-    word: &str,
-) -> Result<(), AllocError> {
-    let (key, value) = word.split_once('=').unwrap_or((word, ""));
-    let key = String::from_str(alloc, key)?;
-    let value = String::from_str(alloc, value)?;
-    texts.insert(key, value)?;
-    Ok(())
+/// The count in front of the bytes of a request.
+pub fn count(request: &Request<'_>) -> usize {
+    number(request.word(2))
 }
 
 /// The attributes of a word, as `k=v,l=w`: `none` stands for no list of them, `()` for an empty one.
-pub fn attributes(
-    alloc: Global,
-    word: &str,
-) -> Result<Option<IndexMap<String, String>>, AllocError> {
+pub fn attributes(alloc: Global, word: &str) -> Result<Option<IndexMap<String, String>>> {
     if word == "none" {
         return Ok(None);
     }
     let mut texts = IndexMap::new(alloc);
     if word != "()" {
         for pair in word.split(',') {
-            insert(alloc, &mut texts, pair)?;
+            let (key, value) = pair.split_once('=').unwrap_or((pair, ""));
+            let key = String::from_str(alloc, key)?;
+            texts.insert(key, String::from_str(alloc, value)?)?;
         }
     }
     Ok(Some(texts))
-}
-
-/// Adds a field that says `yes` or `no`.
-pub fn yes(out: &mut Out, name: &str, is: bool) -> Result<(), AllocError> {
-    out.field(name, if is { "yes" } else { "no" })
-}
-
-/// Says that memory ran out where a record was to be made.
-pub fn refused(out: &mut Out) -> Result<(), AllocError> {
-    out.word("refused")?;
-    out.field("text", "Memory")
-}
-
-/// Whether a clone of a record, of one that owns its memory, is the same as another.
-pub fn is_cloned<T: Clone + PartialEq + Drop>(
-    alloc: Global,
-    owned: &T,
-    record: &T,
-) -> Result<bool, AllocError> {
-    let copy = counted!(alloc; owned.clone())?;
-    Ok(copy == *record)
-}
-
-/// Adds whether bytes are read as a record, all of them.
-pub fn read_as<'a, T: MyDeserialize<'a> + PartialEq + Drop>(
-    out: &mut Out,
-    record: &T,
-    bytes: &'a [u8],
-    ctx: T::Ctx,
-) -> Result<(), AllocError> {
-    let mut buf = ParseBuf::new(out.alloc(), bytes);
-    let answer: Result<T, FaultOf<'_>> = buf.parse(ctx);
-    let is_same = buf.is_empty() && answer.is_ok_and(|again| again == *record);
-    out.same("again", Ok(is_same))
 }

@@ -1,8 +1,8 @@
 //! Answers rows of the program `mypackets`: a line for each line of its input.
 //!
 //! A request is the program's words, and after ` < ` its input, in which `/` stands for a line feed; after ` <x ` the
-//! input stands in hexadecimal digits. A word `""` is empty, and `(none)` stands for no words. The answer is `status N` and the lines that are written, with
-//! `; ` in front of each.
+//! input stands in hexadecimal digits. A word `""` is empty, in a word `\` stands for a line feed, and `(none)` stands for
+//! no words. The answer is `status N` and the lines that are written, with `; ` in front of each.
 #![tactic(auto)]
 
 use mysql_packets::run;
@@ -45,12 +45,20 @@ fn call_and_input<'a>(request: &Request<'a>) -> Result<(&'a str, Vec<u8>), Alloc
     Ok((call, input))
 }
 
+/// A word of a call.
+fn word(alloc: Global, shown: &str) -> Result<String, AllocError> {
+    let mut word = String::new(alloc);
+    for character in shown.chars().filter(|_| shown != "\"\"") {
+        word.push(if character == '\\' { '\n' } else { character })?;
+    }
+    Ok(word)
+}
+
 /// The words of a call.
 fn words(alloc: Global, call: &str) -> Result<Vec<String>, AllocError> {
     let mut words = Vec::new(alloc);
-    for word in call.split(' ').filter(|word| *word != "(none)") {
-        let word = if word == "\"\"" { "" } else { word };
-        words.push(String::from_str(alloc, word)?)?;
+    for shown in call.split(' ').filter(|word| *word != "(none)") {
+        words.push(word(alloc, shown)?)?;
     }
     Ok(words)
 }

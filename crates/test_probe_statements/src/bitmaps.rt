@@ -1,58 +1,57 @@
 //! Bitmaps of NULLs.
 //!
-//! `bitmap SIDE COUNT BYTES` reads one of so many values; its places that are NULL are passed below 64.
+//! `bitmap SIDE COUNT BYTES` reads one of so many values, and shows which of its first 64 places are NULL.
 //!
 //! `bits SIDE MAKING CALL ..` makes one, by `new:COUNT`, `from:BYTES` (which it borrows) or `read:COUNT:BYTES` (which
 //! it copies), and calls `set:PLACE`, `clear:PLACE`, `is:PLACE`, `len:COUNT` (`bitmap_len`). The sides are `client` and
-//! `server`.
+//! `server`. `bit_offsets` says where their bitmaps have the first value's bit.
 
 ghost use Rattle.std.specs.Prelude.{true, ◌≡◌, ◌+◌, ◌*◌, ◌<◌, length, IsTrue};
 
-use crate::Statements;
+use crate::prelude::*;
 use mysql_stmt::NullBitmap;
 use mysql_values::{ClientSide, SerializationSide, ServerSide};
-use std::alloc::{AllocError, Global};
-use std::borrow::CowSlice;
-use test_probe::counted;
-use test_probe::out::Out;
-use test_probe::record::{Shows, round_trip};
-use test_probe::request::Request;
 
-/// The answer, where the request is one of these.
-pub fn answer(out: &mut Out, request: &Request<'_>) -> Result<bool, AllocError> {
-    match (request.word(0), request.word(1)) {
-        ("bitmap", "client") => bitmap::<ClientSide>(out, request)?,
-        ("bitmap", "server") => bitmap::<ServerSide>(out, request)?,
-        ("bits", "client") => bits::<ClientSide>(out, request)?,
-        ("bits", "server") => bits::<ServerSide>(out, request)?,
-        _ => return Ok(false),
+pub fn bitmap(out: &mut Out, request: &Request<'_>) -> Result {
+    let count = request.word(2).parse::<usize>().unwrap_or(0);
+    match request.word(1) {
+        "client" => round_trip::<Statements, NullBitmap<'_, ClientSide>>(
+            out, request, count, count,
+        ),
+        _ => round_trip::<Statements, NullBitmap<'_, ServerSide>>(out, request, count, count),
     }
-    Ok(true)
 }
 
-fn bitmap<S: SerializationSide>(out: &mut Out, request: &Request<'_>) -> Result<(), AllocError> {
-    let count = request.word(2).parse::<usize>().unwrap_or(0);
-    round_trip::<Statements, NullBitmap<'_, S>>(out, request, count, count)
+pub fn bits(out: &mut Out, request: &Request<'_>) -> Result {
+    match request.word(1) {
+        "client" => bits_of::<ClientSide>(out, request),
+        _ => bits_of::<ServerSide>(out, request),
+    }
+}
+
+/// Where a bitmap of NULLs has the first value's bit, on either side.
+pub fn bit_offsets(out: &mut Out, _request: &Request<'_>) -> Result {
+    out.show("client", ClientSide::BIT_OFFSET)?;
+    out.show("server", ServerSide::BIT_OFFSET)
 }
 
 impl<'a, S: SerializationSide> Shows<NullBitmap<'a, S>> for Statements {
-    fn fields(record: &NullBitmap<'a, S>, out: &mut Out) -> Result<(), AllocError> {
-        out.bytes("bytes", record.as_bytes())?;
+    fn fields(record: &NullBitmap<'a, S>, out: &mut Out) -> Result {
+        out.show("bytes", record.as_bytes())?;
         for place in 0..64 {
             if is_there(record, place) && record.is_null(place) {
-                out.number("null", place as u64)?;
+                out.show("null", place)?;
             }
         }
         Ok(())
     }
 
-    fn is_made(record: &NullBitmap<'a, S>, alloc: Global) -> Result<bool, AllocError> {
+    fn is_made(record: &NullBitmap<'a, S>, alloc: Global) -> Result<bool> {
         let borrowed = NullBitmap::<'_, S>::from_bytes(CowSlice::Borrowed(record.as_bytes()));
         let copy = counted!(alloc; borrowed.clone())?;
         let bytes = Vec::from_slice(alloc, copy.as_bytes())?;
         let owned = NullBitmap::<'_, S>::from_bytes(CowSlice::Owned(bytes));
-        let again = counted!(alloc; owned.clone())?;
-        Ok(again == *record)
+        is_cloned(alloc, &owned, record)
     }
 }
 
@@ -69,71 +68,62 @@ fn count(digits: &str) -> usize {
     digits.parse::<usize>().unwrap_or(0).min(1_000_000)
 }
 
-fn bits<S: SerializationSide>(out: &mut Out, request: &Request<'_>) -> Result<(), AllocError> {
-    let (making, argument) = request.word(2).split_once(':').unwrap_or(("", ""));
-    match making {
-        "new" => made::<S>(out, request, count(argument)),
-        "from" => {
-            let bytes = hex::decode(request.alloc, argument).unwrap_or(Vec::new(request.alloc));
-            let bitmap = NullBitmap::<'_, S>::from_bytes(CowSlice::Borrowed(bytes.as_slice()));
-            answer_calls(out, bitmap, request)?;
-            out.bytes("borrowed", bytes.as_slice())
-        }
-        "read" => copied::<S>(out, request, argument),
-        _ => out.word("?"),
-    }
-}
-
-fn made<S: SerializationSide>(
-    out: &mut Out,
-    request: &Request<'_>,
-    count: usize,
-) -> Result<(), AllocError> {
-    if S::BIT_OFFSET > 8 || count > 1_000_000 {
-        return out.word("?");
-    }
-    let answer = counted!(request.alloc; NullBitmap::<'static, S>::new(request.alloc, count));
-    match answer {
-        Ok(bitmap) => answer_calls(out, bitmap, request),
-        Err(AllocError) => out.field("bytes", "Memory"),
-    }
-}
-
-fn copied<S: SerializationSide>(
-    out: &mut Out,
-    request: &Request<'_>,
-    argument: &str,
-) -> Result<(), AllocError> {
+fn bits_of<S: SerializationSide>(out: &mut Out, request: &Request<'_>) -> Result {
     let alloc = request.alloc;
-    let (digits, bytes) = argument.split_once(':').unwrap_or(("", ""));
-    let bytes = hex::decode(alloc, bytes).unwrap_or(Vec::new(alloc));
+    let (making, argument) = request.word(2).split_once(':').unwrap_or(("", ""));
+    let (digits, spelled) = argument.split_once(':').unwrap_or((argument, argument));
+    let bytes = hex::decode(alloc, spelled).unwrap_or(Vec::new(alloc));
     let count = count(digits);
     if S::BIT_OFFSET > 8 || count > 1_000_000 {
         return out.word("?");
     }
-    let mut input = bytes.as_slice();
-    if NullBitmap::<'static, S>::bitmap_len(count) > input.len() {
+    match making {
+        "new" => match counted!(alloc; NullBitmap::<'static, S>::new(alloc, count)) {
+            Ok(bitmap) => answer_calls(out, bitmap, request),
+            Err(AllocError) => out.field("bytes", "Memory"),
+        },
+        "from" => {
+            let bitmap = NullBitmap::<'_, S>::from_bytes(CowSlice::Borrowed(bytes.as_slice()));
+            answer_calls(out, bitmap, request)?;
+            out.show("borrowed", bytes.as_slice())
+        }
+        _ => copied::<S>(out, request, bytes.as_slice(), count),
+    }
+}
+
+/// The bitmap of the front of some bytes.
+fn copied<S: SerializationSide>(
+    out: &mut Out,
+    request: &Request<'_>,
+    bytes: &[u8],
+    count: usize,
+) -> Result {
+    let mut input = bytes;
+    if S::BIT_OFFSET > 8
+        || count > 1_000_000
+        || NullBitmap::<'static, S>::bitmap_len(count) > input.len()
+    {
         return out.word("?");
     }
-    match counted!(alloc; NullBitmap::<'static, S>::read(alloc, &mut input, count)) {
+    match counted!(request.alloc; NullBitmap::<'static, S>::read(request.alloc, &mut input, count))
+    {
         Ok(bitmap) => {
-            let left = input.len();
             answer_calls(out, bitmap, request)?;
-            out.number("left", left as u64)
+            out.show("left", input.len())
         }
         Err(AllocError) if input.len() == bytes.len() => out.field("bytes", "Memory"),
         Err(AllocError) => out.field("bytes", "TAKEN"),
     }
 }
 
-/// Tells the bytes, and answers the calls that stand from the fourth word on.
+/// Shows the bytes, and answers the calls that stand from the fourth word on.
 fn answer_calls<S: SerializationSide>(
     out: &mut Out,
     bitmap: NullBitmap<'_, S>,
     request: &Request<'_>,
-) -> Result<(), AllocError> {
+) -> Result {
     let mut bitmap = bitmap;
-    out.bytes("bytes", bitmap.as_bytes())?;
+    out.show("bytes", bitmap.as_bytes())?;
     for word in request.line.split(' ').skip(3) {
         let (name, digits) = word.split_once(':').unwrap_or((word, ""));
         call(out, &mut bitmap, name, count(digits))?;
@@ -146,40 +136,29 @@ fn call<S: SerializationSide>(
     bitmap: &mut NullBitmap<'_, S>,
     name: &str,
     place: usize,
-) -> Result<(), AllocError> {
-    if name == "len" {
-        return len::<S>(out, place);
-    }
-    if !is_there(bitmap, place) {
-        return out.word("?");
-    }
+) -> Result {
     match name {
-        "is" => out.field("is", if bitmap.is_null(place) { "yes" } else { "no" }),
-        "set" => set(out, bitmap, place, true),
-        "clear" => set(out, bitmap, place, false),
+        "len" if S::BIT_OFFSET <= 8 && place <= 1_000_000 => {
+            out.show("len", NullBitmap::<'static, S>::bitmap_len(place))
+        }
+        "is" if is_there(bitmap, place) => out.show("is", bitmap.is_null(place)),
+        "set" | "clear" if is_there(bitmap, place) => set(out, bitmap, place, name == "set"),
         _ => out.word("?"),
     }
 }
 
-fn len<S: SerializationSide>(out: &mut Out, count: usize) -> Result<(), AllocError> {
-    if S::BIT_OFFSET > 8 || count > 1_000_000 {
-        return out.word("?");
-    }
-    out.number("len", NullBitmap::<'static, S>::bitmap_len(count) as u64)
-}
-
-/// Says whether a value is NULL, and tells the bytes then. Where memory runs out, they are as before.
+/// Says whether a value is NULL, and shows the bytes then. Where memory runs out, they are as before.
 fn set<S: SerializationSide>(
     out: &mut Out,
     bitmap: &mut NullBitmap<'_, S>,
     place: usize,
     is_null: bool,
-) -> Result<(), AllocError>
+) -> Result
     requires { place + S.BIT_OFFSET < 8 * length bitmap.old.bytes }
 {
     let before = Vec::from_slice(out.alloc(), bitmap.as_bytes())?;
     match counted!(out.alloc(); bitmap.set(out.alloc(), place, is_null)) {
-        Ok(()) => out.bytes("now", bitmap.as_bytes()),
+        Ok(()) => out.show("now", bitmap.as_bytes()),
         Err(AllocError) if bitmap.as_bytes() == before.as_slice() => out.field("now", "Memory"),
         Err(AllocError) => out.field("now", "CHANGED"),
     }

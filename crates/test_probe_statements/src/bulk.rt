@@ -1,123 +1,80 @@
-//! Bulk executions that are read.
+//! Bulk executions.
 //!
 //! `bulk COLUMNS BYTES` reads a request of one row, `bulk_rows COLUMNS BYTES` the rows of a request, `bulk_type BYTES` a
-//! type, `bulk_value COLUMN BYTES` a value after its indicator, `bulk_values COLUMNS BYTES` a row of them. The calls that
-//! take no bytes stand in [`bulk_calls`](crate::bulk_calls).
+//! type, `bulk_value COLUMN BYTES` a value after its indicator, `bulk_values COLUMNS BYTES` a row of them.
+//!
+//! `bulk_new FLAGS ROWS` makes the request of some rows and reads it again by the types of its first row,
+//! `bulk_value_new VALUE` and `bulk_values_new ROW` make a value and a row of them, `bulk_same COLUMNS BYTES BYTES`
+//! compares two requests, and `bulk_error NAME ROW` copies an error that holds a row.
+//!
+//! `fewest LIMIT COLUMNS SIZES ENDS` says whether a cut of rows into requests is one of the fewest. LIMIT is the most bytes
+//! of a request, with `types` and `rows=K` after commas. SIZES are the bytes of the rows, and ENDS the rows that requests
+//! end with, with commas between them, or `()`. `row_size ROW` says the bytes of a row.
 
-use crate::value_forms::{column, tell_type};
-use crate::values::{tell_row, tell_value};
-use crate::{Statements, bulk_calls};
-use mysql_bulk::{
-    ComStmtBulkExecuteRequest, StmtBulkExecuteParamType, StmtBulkExecuteParamValue,
-    StmtBulkExecuteParamValues, read_bulk_rows,
-};
-use mysql_values::Value;
-use mysql_wire::{Fault, Flags, MariadbBulkIndicator, ParseBuf};
-use std::alloc::{AllocError, Global};
+use crate::builder::answers::show_error;
+use crate::builder::settings::setting;
+use crate::prelude::*;
+use crate::values::rows;
+use mysql_bulk::*;
+use mysql_stmt::{BulkRule, cut_is_fewest};
+use mysql_wire::{ColumnFlags, ColumnType, FaultOf, StmtBulkExecuteFlags, StmtExecuteParamFlags};
 use std::convert::AsSlice;
-use test_probe::counted;
-use test_probe::out::Out;
-use test_probe::record::{Shows, round_trip};
-use test_probe::request::Request;
 
-/// The answer, where the request is one of these.
-pub fn answer(out: &mut Out, request: &Request<'_>) -> Result<bool, AllocError> {
-    match request.word(0) {
-        "bulk" => round_trip::<Statements, ComStmtBulkExecuteRequest>(
-            out,
-            request,
-            request.columns()?,
-            request.columns()?,
-        )?,
-        "bulk_rows" => bulk_rows(out, request)?,
-        "bulk_type" => round_trip::<Statements, StmtBulkExecuteParamType>(out, request, (), ())?,
-        "bulk_value" => round_trip::<Statements, StmtBulkExecuteParamValue>(
-            out,
-            request,
-            column(request)?,
-            column(request)?,
-        )?,
-        "bulk_values" => round_trip::<Statements, StmtBulkExecuteParamValues>(
-            out,
-            request,
-            request.columns()?,
-            request.columns()?,
-        )?,
-        _ => return bulk_calls::answer(out, request),
-    }
-    Ok(true)
-}
-
-/// The code of an indicator.
-pub fn indicator_code(indicator: MariadbBulkIndicator) -> u64 {
-    u64::from(u8::from(indicator))
-}
-
+/// The types, the values, and the indicators before them, up to the place that has none.
 impl Shows<ComStmtBulkExecuteRequest> for Statements {
-    fn fields(record: &ComStmtBulkExecuteRequest, out: &mut Out) -> Result<(), AllocError> {
-        tell_request(record, out)
-    }
-
-    fn is_made(record: &ComStmtBulkExecuteRequest, alloc: Global) -> Result<bool, AllocError> {
-        let copy = counted!(alloc; record.clone())?;
-        Ok(counted!(alloc; value copy == *record))
-    }
-}
-
-/// Adds what a request has: its types, its values, and the indicators before them.
-pub fn tell_request(record: &ComStmtBulkExecuteRequest, out: &mut Out) -> Result<(), AllocError> {
-    out.number("stmt_id", u64::from(record.stmt_id()))?;
-    out.number("bulk_flags", u64::from(record.bulk_flags().bits()))?;
-    for column in record.types() {
-        tell_type(column, out)?;
-    }
-    tell_row(out, "values", record.values())?;
-    tell_indicators(record, out)
-}
-
-/// Adds the indicators in turn, up to the place that has none.
-fn tell_indicators(record: &ComStmtBulkExecuteRequest, out: &mut Out) -> Result<(), AllocError> {
-    let mut codes = String::new(out.alloc());
-    for place in 0..record.values().len().saturating_add(1) {
-        match counted!(out.alloc(); value record.indicator(place)) {
-            Some(indicator) => {
-                let code = indicator_code(indicator);
-                codes.push_str(format!(in out.alloc(); "{code}")?.as_str())?;
-            }
-            None => codes.push_str(".")?,
+    fn fields(record: &ComStmtBulkExecuteRequest, out: &mut Out) -> Result {
+        fields!(out, record; stmt_id, bulk_flags)?;
+        for column in record.types() {
+            Statements::fields(column, out)?;
         }
-    }
-    out.field("indicators", codes.as_str())
-}
-
-impl Shows<StmtBulkExecuteParamValue> for Statements {
-    fn fields(record: &StmtBulkExecuteParamValue, out: &mut Out) -> Result<(), AllocError> {
-        out.number("indicator", indicator_code(record.indicator()))?;
-        tell_value(out, "value", record.value())
-    }
-
-    fn is_made(record: &StmtBulkExecuteParamValue, alloc: Global) -> Result<bool, AllocError> {
-        let copy = counted!(alloc; record.clone())?;
-        Ok(counted!(alloc; value copy == *record))
-    }
-}
-
-impl Shows<StmtBulkExecuteParamValues> for Statements {
-    fn fields(record: &StmtBulkExecuteParamValues, out: &mut Out) -> Result<(), AllocError> {
-        for value in record.as_slice() {
-            out.number("indicator", indicator_code(value.indicator()))?;
-            tell_value(out, "value", value.value())?;
+        out.show("values", SpelledRow(record.values()))?;
+        out.field("indicators", "")?;
+        for place in 0..record.values().len().saturating_add(1) {
+            match counted!(out.alloc(); value record.indicator(place)) {
+                Some(indicator) => u8::from(indicator).shown(out)?,
+                None => out.push(".")?,
+            }
         }
         Ok(())
     }
 
-    fn is_made(record: &StmtBulkExecuteParamValues, alloc: Global) -> Result<bool, AllocError> {
-        let copy = counted!(alloc; record.clone())?;
-        Ok(counted!(alloc; value copy == *record))
+    fn is_made(record: &ComStmtBulkExecuteRequest, alloc: Global) -> Result<bool> {
+        is_cloned(alloc, record, record)
     }
 }
 
-fn bulk_rows(out: &mut Out, request: &Request<'_>) -> Result<(), AllocError> {
+impl Shows<StmtBulkExecuteParamValue> for Statements {
+    fn fields(record: &StmtBulkExecuteParamValue, out: &mut Out) -> Result {
+        out.show("indicator", u8::from(record.indicator()))?;
+        out.show("value", Spelled(record.value().as_ref()))
+    }
+
+    fn is_made(record: &StmtBulkExecuteParamValue, alloc: Global) -> Result<bool> {
+        is_cloned(alloc, record, record)
+    }
+}
+
+impl Shows<StmtBulkExecuteParamValues> for Statements {
+    fn fields(record: &StmtBulkExecuteParamValues, out: &mut Out) -> Result {
+        for value in record.as_slice() {
+            Statements::fields(value, out)?;
+        }
+        Ok(())
+    }
+
+    fn is_made(record: &StmtBulkExecuteParamValues, alloc: Global) -> Result<bool> {
+        is_cloned(alloc, record, record)
+    }
+}
+
+/// Shows a record that was made as one that is read, and writes it. The answer is what is written.
+fn show_made<P: Shows<T>, T: MySerialize>(out: &mut Out, made: &T) -> Result<Option<Vec<u8>>> {
+    P::fields(made, out)?;
+    out.same("made", P::is_made(made, out.alloc()))?;
+    write(out, made, b"")
+}
+
+pub fn bulk_rows(out: &mut Out, request: &Request<'_>) -> Result {
     let alloc = out.alloc();
     let bytes = request.bytes.as_slice();
     let columns = request.columns()?;
@@ -128,10 +85,148 @@ fn bulk_rows(out: &mut Out, request: &Request<'_>) -> Result<(), AllocError> {
         Ok(rows) => {
             out.word("read")?;
             for row in rows.as_slice() {
-                tell_row(out, "values", row.as_slice())?;
+                out.show("values", SpelledRow(row.as_slice()))?;
             }
-            out.number("rest", buf.len() as u64)
+            out.show("rest", buf.len())
         }
         Err(fault) => out.refused(fault, buf.len() == bytes.len()),
     }
+}
+
+/// The request of rows, or why there is none.
+pub fn bulk_new(out: &mut Out, request: &Request<'_>) -> Result {
+    let alloc = out.alloc();
+    let flags = StmtBulkExecuteFlags::from_bits_retain((request.number(1) & 0xffff) as u16);
+    let handed = rows(alloc, request.word(2))?;
+    match counted!(alloc; ComStmtBulkExecuteRequest::new(alloc, 1, flags, handed)) {
+        Ok(made) => show_written(out, &made, request.word(2)),
+        Err(BulkExecuteRequestError::Memory) => out.word("Memory"),
+        Err(error) => show_error(out, &error),
+    }
+}
+
+/// Shows a request of rows, and whether what is written is read as the same rows, and as the same request.
+fn show_written(out: &mut Out, made: &ComStmtBulkExecuteRequest, text: &str) -> Result {
+    let alloc = out.alloc();
+    let Some(written) = show_made::<Statements, _>(out, made)? else {
+        return Ok(());
+    };
+    let handed = rows(alloc, text)?;
+    let columns = columns_of(alloc, handed.as_slice())?;
+    let mut buf = ParseBuf::new(alloc, written.as_slice());
+    let again: Result<Vec<Vec<Value>>, Fault> = read_bulk_rows(columns.as_slice(), &mut buf);
+    let are_again = again.is_ok_and(|again| again.as_slice() == handed.as_slice());
+    out.same("rows_again", Ok(are_again))?;
+    let mut buf = ParseBuf::new(alloc, written.as_slice());
+    let again = read_one(&mut buf, columns);
+    out.same("again", Ok(again.is_some_and(|again| again == *made)))?;
+    out.show("left", buf.len())
+}
+
+/// The columns of the types of the first row.
+fn columns_of(alloc: Global, rows: &[Vec<Value>]) -> Result<Vec<(ColumnType, ColumnFlags)>> {
+    let mut columns = Vec::new(alloc);
+    if let Some(row) = rows.first() {
+        for value in row {
+            let sent = StmtBulkExecuteParamType::from_value(value);
+            let flags = if sent.flags() == StmtExecuteParamFlags::UNSIGNED {
+                ColumnFlags::UNSIGNED_FLAG
+            } else {
+                ColumnFlags::empty()
+            };
+            columns.push((sent.column_type(), flags))?;
+        }
+    }
+    Ok(columns)
+}
+
+/// The request of one row that bytes begin with, if they do.
+fn read_one(
+    buf: &mut ParseBuf<'_>,
+    columns: Vec<(ColumnType, ColumnFlags)>,
+) -> Option<ComStmtBulkExecuteRequest> {
+    let answer: Result<ComStmtBulkExecuteRequest, FaultOf<'_>> = buf.parse(columns);
+    answer.ok()
+}
+
+/// Whether both are read, and as the same request.
+pub fn are_same(out: &mut Out, request: &Request<'_>) -> Result {
+    let alloc = out.alloc();
+    let first = hex::decode(alloc, request.word(2)).unwrap_or(Vec::new(alloc));
+    let mut buf = ParseBuf::new(alloc, first.as_slice());
+    let one = read_one(&mut buf, request.columns()?);
+    let mut buf = ParseBuf::new(alloc, request.bytes.as_slice());
+    let other = read_one(&mut buf, request.columns()?);
+    match (one, other) {
+        (Some(one), Some(other)) => {
+            let are_same = counted!(alloc; value one == other);
+            out.word(if are_same { "same" } else { "other" })
+        }
+        _ => out.word("refused"),
+    }
+}
+
+/// Copies an error of a builder that hands a row back.
+pub fn bulk_error(out: &mut Out, request: &Request<'_>) -> Result {
+    let row = Vec::<Value>::from_word(out.alloc(), request.word(2))?;
+    let error = BulkExecuteRequestBuilderError::from(match request.word(1) {
+        "RowTooLarge" => BulkExecuteRequestError::RowTooLarge(row),
+        "MixedTypes" => BulkExecuteRequestError::MixedTypes(row),
+        _ => BulkExecuteRequestError::MemoryRow(row),
+    });
+    out.same("copy", is_cloned(out.alloc(), &error, &error))?;
+    out.text("text", &error)
+}
+
+pub fn value_new(out: &mut Out, request: &Request<'_>) -> Result {
+    let value = Value::from_word(out.alloc(), request.word(1))?;
+    let made = counted!(out.alloc(); value StmtBulkExecuteParamValue::new(value));
+    let _ = show_made::<Statements, _>(out, &made)?;
+    Ok(())
+}
+
+pub fn values_new(out: &mut Out, request: &Request<'_>) -> Result {
+    let alloc = out.alloc();
+    let values = Vec::<Value>::from_word(alloc, request.word(1))?;
+    match counted!(alloc; StmtBulkExecuteParamValues::new(alloc, values)) {
+        Ok(made) => drop(show_made::<Statements, _>(out, &made)?),
+        Err(AllocError) => out.word("Memory")?,
+    }
+    Ok(())
+}
+
+pub fn row_size(out: &mut Out, request: &Request<'_>) -> Result {
+    let row = Vec::<Value>::from_word(out.alloc(), request.word(1))?;
+    let size = counted!(out.alloc(); value bulk_row_size(row.as_slice()));
+    out.show("bytes", size)
+}
+
+impl FromWord for u64 {
+    fn from_word(_alloc: Global, word: &str) -> Result<Self> {
+        Ok(word.parse::<u64>().unwrap_or(0))
+    }
+}
+
+impl FromWord for usize {
+    fn from_word(_alloc: Global, word: &str) -> Result<Self> {
+        Ok(word.parse::<usize>().unwrap_or(0))
+    }
+}
+
+/// Whether a cut of rows into requests is one of the fewest.
+pub fn fewest(out: &mut Out, request: &Request<'_>) -> Result {
+    let alloc = out.alloc();
+    let settings = request.word(1);
+    let most = setting(settings, "rows=").and_then(|digits| digits.parse::<usize>().ok());
+    let rule = BulkRule {
+        types_always: setting(settings, "types").is_some(),
+        max_rows: most,
+    };
+    let limit = u64::from_word(alloc, setting(settings, "").unwrap_or(""))?;
+    let arity = usize::from_word(alloc, request.word(2))?;
+    let sizes = list::<u64>(alloc, request.word(3), "()", ',')?;
+    let ends = list::<usize>(alloc, request.word(4), "()", ',')?;
+    let is_fewest =
+        counted!(alloc; value cut_is_fewest(rule, limit, arity, sizes.as_slice(), ends.as_slice()));
+    out.item(is_fewest)
 }

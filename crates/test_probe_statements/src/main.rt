@@ -2,41 +2,90 @@
 #![tactic(auto)]
 
 mod bitmaps;
+mod borrowed;
 mod builder;
 mod bulk;
-mod bulk_calls;
-mod conversions;
-mod cuts;
-mod markers;
+mod execute_with;
+mod forms;
 mod params;
+mod prelude;
 mod replies;
 mod rows;
 mod session;
 mod stmt;
 mod texts;
-mod value_forms;
 mod values;
 
-use std::alloc::AllocError;
+use crate::prelude::{Out, Request, Result, answers};
+use crate::rows::views;
+use mysql_bulk::*;
+use mysql_replies::*;
+use mysql_session::*;
+use mysql_stmt::*;
+use mysql_values::*;
 use std::io;
-use test_probe::out::Out;
-use test_probe::request::Request;
 use test_probe::{Answers, run};
 
 struct Statements;
 
+fn of_replies(out: &mut Out, request: &Request<'_>) -> Result<bool> {
+    answers!(Statements, out, request, request.word(0);
+        read request.capabilities() => "ok": OkPacketDeserializer<'_, CommonOkPacket>,
+            "ok_end": OkPacketDeserializer<'_, ResultSetTerminator>, "ok_eof": OkPacketDeserializer<'_, OldEofPacket>,
+            "ok_stream": OkPacketDeserializer<'_, NetworkStreamTerminator>,
+        with () => "local_infile": LocalInfilePacket<'_>, "sql_state": SqlState,
+            "progress": ProgressReport<'_>, "session_info": SessionStateInfo<'_>,
+        with request.capabilities() => "err": ErrPacket<'_>,
+        with replies::of_error(request) => "server_error": ServerError<'_>,
+        call "ok_body": replies::ok_body, "column": replies::column,)
+}
+
+fn of_session(out: &mut Out, request: &Request<'_>) -> Result<bool> {
+    answers!(Statements, out, request, request.word(0);
+        with () => "schema": Schema<'_>, "gtids": Gtids<'_>, "characteristics": TransactionCharacteristics<'_>,
+            "state": TransactionState<'_>, "unsupported": Unsupported<'_>, "variable": SystemVariable<'_>,
+            "variables": SystemVariables<'_>,
+        call "change": session::change,)
+}
+
+fn of_statements(out: &mut Out, request: &Request<'_>) -> Result<bool> {
+    answers!(Statements, out, request, request.word(0);
+        with () => "stmt": StmtPacket,
+        with request.capabilities() => "stmt_metadata": StmtPacketWithMetadata,
+        call "row_text": views::text::<ServerSide>, "row": views::binary::<ServerSide>,
+            "row_text_client": views::text::<ClientSide>, "row_client": views::binary::<ClientSide>,
+            "execute": stmt::execute, "execute_many": stmt::execute_many,
+            "execute_with": execute_with::execute_with, "long_data": stmt::long_data,
+            "close": stmt::close, "bitmap": bitmaps::bitmap, "bits": bitmaps::bits, "row_equal": rows::row_equal,
+            "new_row": rows::made_row, "new_row_raw": rows::made_row_raw, "unwrap": rows::unwrap,)
+}
+
+fn of_values(out: &mut Out, request: &Request<'_>) -> Result<bool> {
+    answers!(Statements, out, request, request.word(0);
+        with () => "param_type": ParamType,
+        call "value_text": borrowed::value_text, "value": borrowed::value, "cell": forms::cell, "bin": forms::bin, "bin_len": forms::bin_len, "bit_offsets": bitmaps::bit_offsets,
+            "from_value": forms::from_value, "params": params::into_values, "params_same": params::are_same,)
+}
+
+fn of_bulk(out: &mut Out, request: &Request<'_>) -> Result<bool> {
+    answers!(Statements, out, request, request.word(0);
+        with () => "bulk_type": StmtBulkExecuteParamType,
+        with forms::column(request)? => "bulk_value": StmtBulkExecuteParamValue,
+        with request.columns()? => "bulk": ComStmtBulkExecuteRequest, "bulk_values": StmtBulkExecuteParamValues,
+        call "bulk_rows": bulk::bulk_rows, "bulk_new": bulk::bulk_new, "bulk_value_new": bulk::value_new,
+            "bulk_values_new": bulk::values_new, "bulk_same": bulk::are_same, "bulk_error": bulk::bulk_error,
+            "fewest": bulk::fewest, "row_size": bulk::row_size, "builder": builder::builder,)
+}
+
 impl Answers for Statements {
-    fn answer(out: &mut Out, request: &Request<'_>) -> Result<bool, AllocError> {
+    fn answer(out: &mut Out, request: &Request<'_>) -> Result<bool> {
         Ok(
-            replies::answer(out, request)?
-                || session::answer(out, request)?
-                || stmt::answer(out, request)?
-                || rows::answer(out, request)?
-                || bitmaps::answer(out, request)?
-                || markers::answer(out, request)?
-                || bulk::answer(out, request)?
-                || builder::answer(out, request)?
-                || value_forms::answer(out, request)?,
+            of_replies(out, request)?
+                || of_session(out, request)?
+                || of_statements(out, request)?
+                || of_values(out, request)?
+                || of_bulk(out, request)?
+                || texts::answer(out, request)?,
         )
     }
 }

@@ -1,148 +1,98 @@
 //! Prepared statements, and what is sent for one.
 //!
-//! `stmt BYTES`, `execute ID VALUES`, `execute_many ID COUNT VALUE` (of so many of one value, shown without its bytes),
+//! `stmt BYTES`, `stmt_metadata CAPABILITIES BYTES`, `execute ID VALUES`, `execute_many ID COUNT VALUE` (of so many of one value, with its sizes alone),
 //! `long_data ID PARAMETER BYTES`, `close ID`.
 
-use crate::Statements;
-use crate::values::row;
-use mysql_stmt::{
-    ComStmtClose, ComStmtExecuteRequest, ComStmtExecuteRequestBuilder, ComStmtSendLongData,
-    StmtPacket,
-};
-use mysql_values::Value;
-use mysql_wire::{Flags, MySerialize};
-use std::alloc::{AllocError, Global};
-use std::borrow::CowSlice;
-use test_probe::counted;
-use test_probe::out::Out;
-use test_probe::record::{Shows, round_trip, write};
-use test_probe::request::Request;
-
-/// The answer, where the request is one of these.
-pub fn answer(out: &mut Out, request: &Request<'_>) -> Result<bool, AllocError> {
-    match request.word(0) {
-        "stmt" => round_trip::<Statements, StmtPacket>(out, request, (), ())?,
-        "execute" => execute(out, request)?,
-        "execute_many" => execute_many(out, request)?,
-        "long_data" => long_data(out, request)?,
-        "close" => close(out, request)?,
-        _ => return Ok(false),
-    }
-    Ok(true)
-}
+use crate::prelude::*;
+use mysql_stmt::*;
 
 impl Shows<StmtPacket> for Statements {
-    fn fields(record: &StmtPacket, out: &mut Out) -> Result<(), AllocError> {
-        out.number("statement_id", u64::from(record.statement_id()))?;
-        out.number("num_columns", u64::from(record.num_columns()))?;
-        out.number("num_params", u64::from(record.num_params()))?;
-        out.number("warning_count", u64::from(record.warning_count()))
+    fn fields(record: &StmtPacket, out: &mut Out) -> Result {
+        fields!(out, record; statement_id, num_columns, num_params, warning_count)
     }
 
-    fn is_made(record: &StmtPacket, alloc: Global) -> Result<bool, AllocError> {
-        let copy = counted!(alloc; record.clone())?;
-        Ok(copy == *record)
+    fn is_made(record: &StmtPacket, alloc: Global) -> Result<bool> {
+        is_cloned(alloc, record, record)
     }
 }
 
-/// An execution with values, by a copy of its builder.
+impl Shows<StmtPacketWithMetadata> for Statements {
+    fn fields(record: &StmtPacketWithMetadata, out: &mut Out) -> Result {
+        Self::fields(record.packet(), out)?;
+        fields!(out, record; metadata)
+    }
+
+    fn is_made(record: &StmtPacketWithMetadata, alloc: Global) -> Result<bool> {
+        is_cloned(alloc, record, record)
+    }
+}
+
+/// An execution with values, by a copy of its builder, with its fields.
 fn built<'a>(
-    alloc: Global,
+    out: &mut Out,
     stmt_id: u32,
     values: &'a [Value],
-) -> Result<(ComStmtExecuteRequest<'a>, bool), AllocError> {
+) -> Result<ComStmtExecuteRequest<'a>> {
+    let alloc = out.alloc();
     let builder = ComStmtExecuteRequestBuilder::new(stmt_id);
     let copy = counted!(alloc; builder.clone())?;
-    counted!(alloc; copy.build(alloc, values))
+    let (execution, as_long_data) = counted!(alloc; copy.build(alloc, values))?;
+    fields!(out, execution; stmt_id, flags, params_flags)?;
+    out.show("params", execution.params().len())?;
+    fields!(out, execution; as_long_data)?;
+    let is_said = as_long_data == execution.as_long_data();
+    out.same("as_long_data_said", Ok(is_said))?;
+    Ok(execution)
 }
 
-fn execute(out: &mut Out, request: &Request<'_>) -> Result<(), AllocError> {
+pub fn execute(out: &mut Out, request: &Request<'_>) -> Result {
     let alloc = out.alloc();
-    let values = row(alloc, request.word(2))?;
-    match built(alloc, request.number(1), values.as_slice()) {
-        Ok((execution, as_long_data)) => {
-            tell_execution(&execution, as_long_data, out)?;
-            out.bytes("bitmap", execution.bitmap())?;
-            let made = is_execution_made(&execution, alloc);
-            out.same("made", made)?;
-            let _ = write(out, &execution, b"")?;
-            Ok(())
+    let values = Vec::<Value>::from_word(alloc, request.word(2))?;
+    match built(out, request.number(1), values.as_slice()) {
+        Ok(execution) => {
+            fields!(out, execution; bitmap)?;
+            out.same("made", is_cloned(alloc, &execution, &execution))?;
+            write_made(out, &execution)
         }
         Err(AllocError) => out.word("Memory"),
     }
-}
-
-fn is_execution_made(
-    execution: &ComStmtExecuteRequest<'_>,
-    alloc: Global,
-) -> Result<bool, AllocError> {
-    let copy = counted!(alloc; execution.clone())?;
-    Ok(copy == *execution)
-}
-
-fn tell_execution(
-    execution: &ComStmtExecuteRequest<'_>,
-    as_long_data: bool,
-    out: &mut Out,
-) -> Result<(), AllocError> {
-    out.number("stmt_id", u64::from(execution.stmt_id()))?;
-    out.number("flags", u64::from(execution.flags().bits()))?;
-    out.number("params_flags", u64::from(execution.params_flags().bits()))?;
-    out.number("params", execution.params().len() as u64)?;
-    let word = if execution.as_long_data() {
-        "yes"
-    } else {
-        "no"
-    };
-    out.field("as_long_data", word)?;
-    out.same(
-        "as_long_data_said",
-        Ok(as_long_data == execution.as_long_data()),
-    )
 }
 
 /// An execution with so many of one value: its sizes alone.
-fn execute_many(out: &mut Out, request: &Request<'_>) -> Result<(), AllocError> {
+pub fn execute_many(out: &mut Out, request: &Request<'_>) -> Result {
     let alloc = out.alloc();
     let mut values = Vec::new(alloc);
     for _ in 0..request.number(2) {
-        values.push(row(alloc, request.word(3))?.pop().unwrap_or(Value::NULL))?;
+        values.push(Value::from_word(alloc, request.word(3))?)?;
     }
-    match built(alloc, request.number(1), values.as_slice()) {
-        Ok((execution, as_long_data)) => {
-            tell_execution(&execution, as_long_data, out)?;
-            let place = ComStmtExecuteRequestBuilder::NULL_BITMAP_OFFSET;
-            out.number("bitmap_at", place as u64)?;
-            out.number("bitmap_len", execution.bitmap().len() as u64)?;
-            out.number("len", execution.defined_len() as u64)?;
+    match built(out, request.number(1), values.as_slice()) {
+        Ok(execution) => {
+            let offset = ComStmtExecuteRequestBuilder::NULL_BITMAP_OFFSET;
+            out.show("bitmap_at", offset)?;
+            out.show("bitmap_len", execution.bitmap().len())?;
+            out.show("len", execution.defined_len())?;
             let mut written = Vec::new(alloc);
             execution.serialize(&mut written)?;
-            out.number("written_len", written.len() as u64)
+            out.show("written_len", written.len())
         }
         Err(AllocError) => out.word("Memory"),
     }
 }
 
-fn long_data(out: &mut Out, request: &Request<'_>) -> Result<(), AllocError> {
+pub fn long_data(out: &mut Out, request: &Request<'_>) -> Result {
     let data = CowSlice::Borrowed(request.bytes.as_slice());
     let parameter = (request.number(2) & 0xffff) as u16;
     let packet = ComStmtSendLongData::new(request.number(1), parameter, data);
-    let made = is_long_data_made(&packet, out.alloc());
-    out.same("made", made)?;
-    let _ = write(out, &packet, b"")?;
-    Ok(())
+    out.same("made", is_long_data_made(&packet, request.alloc))?;
+    write_made(out, &packet)
 }
 
-fn is_long_data_made(packet: &ComStmtSendLongData<'_>, alloc: Global) -> Result<bool, AllocError> {
-    let copy = counted!(alloc; packet.clone())?;
-    let owned = counted!(alloc; copy.into_owned(alloc))?;
-    let again = counted!(alloc; owned.clone())?;
-    Ok(again == *packet)
+fn is_long_data_made(packet: &ComStmtSendLongData<'_>, alloc: Global) -> Result<bool> {
+    is_owned!(alloc; packet, packet)
 }
 
-fn close(out: &mut Out, request: &Request<'_>) -> Result<(), AllocError> {
+pub fn close(out: &mut Out, request: &Request<'_>) -> Result {
     let packet = ComStmtClose::new(request.number(1));
-    out.number("stmt_id", u64::from(packet.stmt_id))?;
-    let _ = write(out, &packet, b"")?;
-    Ok(())
+    out.show("stmt_id", packet.stmt_id)?;
+    write_made(out, &packet)
 }

@@ -1,90 +1,52 @@
-//! The texts of errors: `text NAME`.
+//! Constant fields of replies and statements: `marker NAME BYTES`, and the texts of errors: `text NAME`.
 
-use mysql_bulk::{
-    BulkExecuteRequestBuilderError, BulkExecuteRequestError, BulkRowRefusal,
-    InvalidComStmtBulkExecuteHeader,
-};
-use mysql_values::{FromValueError, ParamsError, Value};
-use std::alloc::AllocError;
-use std::fmt::Display;
-use test_probe::out::Out;
-use test_probe::request::Request;
+use crate::prelude::*;
+use mysql_bulk::*;
+use mysql_replies::*;
+use mysql_stmt::*;
+use mysql_values::{FromValueError, ParamsError};
+use test_probe::error_texts;
 
 /// The answer, where the request is one of these.
-pub fn answer(out: &mut Out, request: &Request<'_>) -> Result<bool, AllocError> {
-    if request.word(0) != "text" {
-        return Ok(false);
-    }
-    let name = request.word(1);
-    match name.split_once("::") {
-        Some(("ParamsError", name)) => of_params(out, name),
-        Some(("BulkExecuteRequestError", name)) => of_requests(out, name),
-        Some(("BulkExecuteRequestBuilderError", name)) => of_builders(out, name),
-        Some(("BulkRowRefusal", name)) => of_rows(out, name),
-        _ => of_others(out, name),
-    }
-}
-
-/// Adds the text of an error.
-fn tell<E: Display + Drop>(out: &mut Out, error: E) -> Result<bool, AllocError> {
-    let text = format!(in out.alloc(); "{error}")?;
-    out.field("text", text.as_str())?;
-    Ok(true)
-}
-
-fn of_params(out: &mut Out, name: &str) -> Result<bool, AllocError> {
-    match name {
-        "Missing" => {
-            let error = ParamsError::Missing(Vec::new(out.alloc()));
-            tell(out, error)
-        }
-        "NamedForPositional" => tell(out, ParamsError::NamedForPositional),
-        "PositionalForNamed" => tell(out, ParamsError::PositionalForNamed),
-        "Memory" => tell(out, ParamsError::Memory),
+pub fn answer(out: &mut Out, request: &Request<'_>) -> Result<bool> {
+    match request.word(0) {
+        "marker" => marker(out, request),
+        "text" => text(out, request.word(1)),
         _ => Ok(false),
     }
 }
 
-fn of_requests(out: &mut Out, name: &str) -> Result<bool, AllocError> {
-    let row: Vec<Value> = Vec::new(out.alloc());
-    match name {
-        "MixedArity" => tell(out, BulkExecuteRequestError::MixedArity),
-        "RowTooLarge" => tell(out, BulkExecuteRequestError::RowTooLarge(row)),
-        "MemoryRow" => tell(out, BulkExecuteRequestError::MemoryRow(row)),
-        "NoParams" => tell(out, BulkExecuteRequestError::NoParams),
-        "Memory" => tell(out, BulkExecuteRequestError::Memory),
-        _ => Ok(false),
-    }
+fn marker(out: &mut Out, request: &Request<'_>) -> Result<bool> {
+    answers!(Statements, out, request, request.word(1);
+        with () => "ColumnDefinitionCatalog": ColumnDefinitionCatalog, "FixedLengthFieldsLen": FixedLengthFieldsLen,
+            "ErrPacketHeader": ErrPacketHeader, "SqlStateMarker": SqlStateMarker, "LocalInfileHeader": LocalInfileHeader,
+            "ComStmtExecuteHeader": ComStmtExecuteHeader, "IterationCount": IterationCount,
+            "ComStmtSendLongDataHeader": ComStmtSendLongDataHeader,)
 }
 
 /// A builder's refusal has the text of what it holds.
-fn of_builders(out: &mut Out, name: &str) -> Result<bool, AllocError> {
-    match name {
-        "Request" => {
-            let error = BulkExecuteRequestError::NoParams;
-            tell(out, BulkExecuteRequestBuilderError::from(error))
-        }
-        "Params" => {
-            let error = ParamsError::NamedForPositional;
-            tell(out, BulkExecuteRequestBuilderError::from(error))
-        }
-        _ => Ok(false),
-    }
-}
-
-fn of_rows(out: &mut Out, name: &str) -> Result<bool, AllocError> {
-    match name {
-        "MixedArity" => tell(out, BulkRowRefusal::MixedArity),
-        "TooLarge" => tell(out, BulkRowRefusal::TooLarge),
-        "Memory" => tell(out, BulkRowRefusal::Memory),
-        _ => Ok(false),
-    }
-}
-
-fn of_others(out: &mut Out, name: &str) -> Result<bool, AllocError> {
-    match name {
-        "FromValueError" => tell(out, FromValueError(Value::NULL)),
-        "InvalidComStmtBulkExecuteHeader" => tell(out, InvalidComStmtBulkExecuteHeader),
-        _ => Ok(false),
-    }
+fn text(out: &mut Out, name: &str) -> Result<bool> {
+    let alloc = out.alloc();
+    error_texts!(out, name;
+        InvalidCatalog, InvalidFixedLengthFieldsLen, InvalidOkPacketHeader, InvalidErrPacketHeader, InvalidSqlStateMarker,
+        InvalidLocalInfileHeader, InvalidStmtPacketStatus, InvalidIterationCount, InvalidComStmtExecuteHeader,
+        InvalidComStmtSendLongDataHeader, InvalidComStmtBulkExecuteHeader,;
+        "FromValueError": FromValueError(Value::NULL),
+        "ParamsError::Missing": ParamsError::Missing(Vec::new(alloc)),
+        "ParamsError::NamedForPositional": ParamsError::NamedForPositional,
+        "ParamsError::PositionalForNamed": ParamsError::PositionalForNamed,
+        "ParamsError::Memory": ParamsError::Memory,
+        "BulkExecuteRequestError::MixedArity": BulkExecuteRequestError::MixedArity,
+        "BulkExecuteRequestError::MixedTypes": BulkExecuteRequestError::MixedTypes(Vec::new(alloc)),
+        "BulkExecuteRequestError::RowTooLarge": BulkExecuteRequestError::RowTooLarge(Vec::new(alloc)),
+        "BulkExecuteRequestError::MemoryRow": BulkExecuteRequestError::MemoryRow(Vec::new(alloc)),
+        "BulkExecuteRequestError::NoParams": BulkExecuteRequestError::NoParams,
+        "BulkExecuteRequestError::Memory": BulkExecuteRequestError::Memory,
+        "BulkExecuteRequestBuilderError::Request":
+            BulkExecuteRequestBuilderError::from(BulkExecuteRequestError::NoParams),
+        "BulkExecuteRequestBuilderError::Params":
+            BulkExecuteRequestBuilderError::from(ParamsError::NamedForPositional),
+        "BulkRowRefusal::MixedArity": BulkRowRefusal::MixedArity, "BulkRowRefusal::TooLarge": BulkRowRefusal::TooLarge,
+        "BulkRowRefusal::MixedTypes": BulkRowRefusal::MixedTypes, "BulkColumnTypeError": BulkColumnTypeError { place: 0 },
+        "BulkRowRefusal::Memory": BulkRowRefusal::Memory,)
 }

@@ -8,84 +8,36 @@ use std::process::Abort;
 /// The words after the program's name, parted by spaces; its input; and the status, where nothing fails.
 pub type Call = (&'static str, &'static [u8], u8);
 
+/// Calls, by their status, and what stands at their input.
+macro_rules! calls {
+    ($($status:literal: $($call:literal $(< $input:literal)?),+;)+) => {
+        &[$($(($call, calls!(@input $($input)?), $status)),+),+]
+    };
+    (@input) => { b"" };
+    (@input $input:literal) => { $input };
+}
+
 /// Each command, as it is done and as it is refused; and bad calls, which read nothing.
-pub const CALLS: &[Call] = &[
-    ("stmt 000100000001000200000000", b"", 0),
-    ("stmt 00", b"", 1),
-    ("infile fb66696c655f6e616d65", b"", 0),
-    (
+pub const CALLS: &[Call] = calls!(
+    0: "stmt 000100000001000200000000", "infile fb66696c655f6e616d65",
         "column 0364656606736368656d61057461626c65096f72675f7461626c65046e616d65086f72675f6e616d650c21000f000000000100080000",
-        b"",
-        0,
-    ),
-    (
-        "ok common 800000 000000024000000011000f0a6175746f636f6d6d6974034f4646",
-        b"",
-        0,
-    ),
-    ("ok common 800000 0000000240000000020600", b"", 1),
-    ("ok eof 0 fe00000200", b"", 0),
-    (
+        "ok common 800000 000000024000000011000f0a6175746f636f6d6d6974034f4646", "ok eof 0 fe00000200",
         "err 200 ff48042348593030304e6f207461626c65732075736564",
-        b"",
-        0,
-    ),
-    (
         "err 20000000 ffffff01010acc5b000a7374616765206e616d65",
-        b"",
-        0,
-    ),
-    (
         "handshake 0a352e352e352d31302e302e31372d4d6172696144422d6c6f67000b00000064764840492d434a00fff7080200000000000000000000000000002a34647c635a776b345e5d3a00",
-        b"",
-        0,
-    ),
-    ("handshake 0a3800", b"", 1),
-    (
         "gtid 1e000001000000000000000400000000000000300000000100000000000000a0b1c2d3e4f56789abcdef0123456789010000000000000001000000000000003200000000000000",
-        b"",
-        0,
-    ),
-    (
         "gtidstrict 1e000001000000000000000400000000000000300000000100000000000000a0b1c2d3e4f56789abcdef0123456789010000000000000001000000000000003200000000000000",
-        b"",
-        0,
-    ),
-    (
+        "sid 3e11fa47-71ca-11e1-9e33-c80aa9429562:app:1-5:10", "bulk 1 31" < b"i1\ni2\ni3\ni4\ni5\n",
+        "bulk 1 31 types rows=1" < b"N\nu2";
+    1: "stmt 00", "ok common 800000 0000000240000000020600", "handshake 0a3800",
         "gtidstrict 1e01000700000003000000622e310500000001000000080000000000000000000002",
-        b"",
-        1,
-    ),
-    (
-        "sid 3e11fa47-71ca-11e1-9e33-c80aa9429562:app:1-5:10",
-        b"",
-        0,
-    ),
-    ("sid 3e11fa47-71ca-11e1-9e33-c80aa9429562:4-3", b"", 1),
-    ("bulk 1 31", b"i1\ni2\ni3\ni4\ni5\n", 0),
-    ("bulk 1 31 types rows=1", b"N\nu2", 0),
-    ("bulk 1 31", b"i1\ni1 i2\n", 1),
-    ("bulk 1 31", b"i1\nx\n", 2),
-    ("bulk 1 3", b"i1\ni2\n", 2),
-    ("", b"", 2),
-    ("bulk", b"", 2),
-    ("bulk 1", b"", 2),
-    ("bulk x 31", b"", 2),
-    ("bulk +1 31", b"", 2),
-    ("bulk -1 31", b"", 2),
-    ("bulk 4294967296 31", b"", 2),
-    ("bulk 1 +31", b"", 2),
-    ("bulk 1 18446744073709551616", b"", 2),
-    ("bulk 1 31 Types", b"", 2),
-    ("bulk 1 31 rows", b"", 2),
-    ("bulk 1 31 rows=", b"", 2),
-    ("bulk 1 31 rows=0", b"", 2),
-    ("bulk 1 31 rows=+1", b"", 2),
-    ("bulk 1 31 rows=18446744073709551616", b"", 2),
-    ("bulk 1 31 types types", b"", 2),
-    ("bulk 1 31 rows=1 types", b"", 2),
-    ("bulk 1 31 types rows=1 rows=1", b"", 2),
-];
+        "sid 3e11fa47-71ca-11e1-9e33-c80aa9429562:4-3", "bulk 1 31" < b"i1\ni1 i2\n";
+    2: "bulk 1 31" < b"i1\nx\n", "bulk 1 3" < b"i1\ni2\n", "", "bulk", "bulk 1", "bulk x 31", "bulk +1 31",
+        "bulk -1 31", "bulk 4294967296 31", "bulk 1 +31", "bulk 1 18446744073709551616", "bulk 1 31 Types",
+        "bulk 1 31 rows", "bulk 1 31 rows=", "bulk 1 31 rows=0", "bulk 1 31 rows=+1",
+        "bulk 1 31 rows=18446744073709551616", "bulk 1 31 types types", "bulk 1 31 rows=1 types",
+        "bulk 1 31 types rows=1 rows=1";
+);
 
 /// The words of a call.
 fn words(alloc: Global, call: &str) -> Result<Vec<String>, AllocError> {

@@ -13,129 +13,84 @@
 //!
 //! An index is a place where it is digits, and else a name.
 
-use crate::rows::words::{Word, cells, push_cells};
-use crate::values::row;
+use crate::borrowed::Converted;
+use crate::prelude::*;
+use crate::rows::Cell;
 use mysql_stmt::{ColumnIndex, Row, new_row_raw};
-use mysql_values::{FromValue, FromValueError, Value};
-use std::alloc::AllocError;
-use test_probe::counted;
-use test_probe::out::Out;
+use mysql_values::{FromValue, FromValueError};
 
 /// Makes a call, and adds what it answered.
-pub fn call(out: &mut Out, row: &mut Row, word: &str) -> Result<(), AllocError> {
+pub fn call(out: &mut Out, row: &mut Row, word: &str) -> Result {
+    let alloc = out.alloc();
     let (name, argument) = word.split_once(':').unwrap_or((word, ""));
+    let (index, kind) = argument.split_once(':').unwrap_or((argument, ""));
+    let place = index.parse::<usize>();
     match name {
-        "len" => out.number("len", row.len() as u64),
-        "is_empty" => out.field("is_empty", if row.is_empty() { "yes" } else { "no" }),
-        "columns_ref" => out.number("columns_ref", row.columns_ref().len() as u64),
-        "columns" => columns(out, row),
-        "ref" => tell(
-            out,
-            "ref",
-            row.as_ref(argument.parse::<usize>().unwrap_or(0)),
-        ),
-        "clone" => clone(out, row),
+        "len" => out.show("len", row.len()),
+        "is_empty" => out.show("is_empty", row.is_empty()),
+        "columns_ref" => out.show("columns_ref", row.columns_ref().len()),
+        "columns" => {
+            let columns = counted!(alloc; row.columns());
+            out.show("columns", columns.map(|columns| columns.len()))
+        }
+        "ref" => {
+            let value = row.as_ref(place.unwrap_or(0));
+            out.show("ref", value.map(Value::as_ref).map(Spelled))
+        }
+        "clone" => out.same("clone", is_cloned(alloc, row, row)),
         "equal" => equal(out, row, argument),
-        "cells" => cells_of(out, row),
-        "place" => place(out, row, argument),
-        _ => match argument.split_once(':').unwrap_or((argument, "")) {
-            (index, kind) => match index.parse::<usize>() {
-                Ok(place) => by_place(out, row, name, place, kind),
-                Err(_) => by_name(out, row, name, index, kind),
-            },
+        "cells" => cells(out, row),
+        "place" => put(out, row, place.unwrap_or(usize::MAX), kind),
+        _ => match place {
+            Ok(place) if name == "at" => at_place(out, row, place),
+            Ok(place) => by_index(out, row, name, place, kind),
+            Err(_) if name == "at" => at_name(out, row, index),
+            Err(_) => by_index(out, row, name, index, kind),
         },
     }
 }
 
-/// Adds a value, or that there is none.
-fn tell(out: &mut Out, name: &str, value: Option<&Value>) -> Result<(), AllocError> {
-    let mut text = String::new(out.alloc());
-    match value {
-        Some(value) => value.push_word(&mut text, out.alloc())?,
-        None => text.push_str("none")?,
-    }
-    out.field(name, text.as_str())
-}
-
-fn columns(out: &mut Out, row: &Row) -> Result<(), AllocError> {
-    match counted!(out.alloc(); row.columns()) {
-        Ok(columns) => out.number("columns", columns.len() as u64),
-        Err(AllocError) => out.field("columns", "Memory"),
-    }
-}
-
-fn clone(out: &mut Out, row: &Row) -> Result<(), AllocError> {
-    match counted!(out.alloc(); row.clone()) {
-        Ok(copy) => out.same("clone", Ok(copy == *row)),
-        Err(AllocError) => out.field("clone", "Memory"),
-    }
-}
-
 /// Whether the row of these values, in the same columns, is equal.
-fn equal(out: &mut Out, row: &Row, values: &str) -> Result<(), AllocError> {
+fn equal(out: &mut Out, row: &Row, values: &str) -> Result {
     let columns = row.columns()?;
-    let values = cells(out.alloc(), values)?;
+    let values = list::<Option<Value>>(out.alloc(), values, "()", ',')?;
     if values.len() != columns.len() {
         return out.word("?");
     }
     out.same("equal", Ok(new_row_raw(values, columns) == *row))
 }
 
-fn cells_of(out: &mut Out, row: &Row) -> Result<(), AllocError> {
+fn cells(out: &mut Out, row: &Row) -> Result {
     let cells = row.clone()?.unwrap_raw();
-    let mut text = String::new(out.alloc());
-    let mut mark = "";
-    for cell in cells.as_slice() {
-        text.push_str(mark)?;
-        mark = ",";
-        push_cells(&mut text, out.alloc(), &[cell.as_ref()])?;
+    out.field("cells", "")?;
+    for (place, cell) in cells.as_slice().iter().enumerate() {
+        out.push(if place > 0 { "," } else { "" })?;
+        Cell(cell.as_ref()).shown(out)?;
     }
-    out.field("cells", text.as_str())
+    Ok(())
 }
 
-fn place(out: &mut Out, row_of_calls: &mut Row, argument: &str) -> Result<(), AllocError> {
-    let (digits, word) = argument.split_once(':').unwrap_or((argument, ""));
-    let place = digits.parse::<usize>().unwrap_or(usize::MAX);
-    let value = row(out.alloc(), word)?.pop().unwrap_or(Value::NULL);
-    if place >= row_of_calls.len() {
+fn put(out: &mut Out, row: &mut Row, place: usize, word: &str) -> Result {
+    let value = Value::from_word(out.alloc(), word)?;
+    if place >= row.len() {
         return out.word("?");
     }
-    row_of_calls.place(place, value);
+    row.place(place, value);
     out.word("placed")
 }
 
-fn by_place(
-    out: &mut Out,
-    row: &mut Row,
-    name: &str,
-    place: usize,
-    kind: &str,
-) -> Result<(), AllocError> {
-    match name {
-        "at" => {
-            if row.as_ref(place).is_some() {
-                tell(out, "at", Some(&row[place]))
-            } else {
-                tell(out, "at", None)
-            }
-        }
-        _ => by_index(out, row, name, place, kind),
+fn at_place(out: &mut Out, row: &Row, place: usize) -> Result {
+    if row.as_ref(place).is_some() {
+        out.show("at", Spelled(row[place].as_ref()))
+    } else {
+        out.field("at", "none")
     }
 }
 
-fn by_name(
-    out: &mut Out,
-    row: &mut Row,
-    name: &str,
-    index: &str,
-    kind: &str,
-) -> Result<(), AllocError> {
-    match name {
-        "at" => match index.idx(row.columns_ref()) {
-            Some(place) if row.as_ref(place).is_some() => tell(out, "at", Some(&row[index])),
-            _ => tell(out, "at", None),
-        },
-        _ => by_index(out, row, name, index, kind),
+fn at_name(out: &mut Out, row: &Row, name: &str) -> Result {
+    match name.idx(row.columns_ref()) {
+        Some(place) if row.as_ref(place).is_some() => out.show("at", Spelled(row[name].as_ref())),
+        _ => out.field("at", "none"),
     }
 }
 
@@ -145,80 +100,46 @@ fn by_index<I: ColumnIndex + Drop>(
     name: &str,
     index: I,
     kind: &str,
-) -> Result<(), AllocError> {
-    match name {
-        "idx" => match index.idx(row.columns_ref()) {
-            Some(place) => out.number("idx", place as u64),
-            None => out.field("idx", "none"),
+) -> Result {
+    match (name, kind) {
+        ("idx", _) => out.show("idx", index.idx(row.columns_ref())),
+        ("get", _) => match counted!(out.alloc(); row.get::<Value, _>(index)) {
+            Ok(value) => out.show("get", value.as_ref().map(Value::as_ref).map(Spelled)),
+            Err(AllocError) => out.field("get", "Memory"),
         },
-        "get" => get(out, row, index),
-        "take" => {
+        ("take", _) => {
             let taken = counted!(out.alloc(); value row.take::<Value, _>(index));
-            tell(out, "take", taken.as_ref())
+            out.show("take", taken.as_ref().map(Value::as_ref).map(Spelled))
         }
-        _ => opt(out, row, name, index, kind),
-    }
-}
-
-fn get<I: ColumnIndex + Drop>(out: &mut Out, row: &Row, index: I) -> Result<(), AllocError> {
-    match counted!(out.alloc(); row.get::<Value, _>(index)) {
-        Ok(value) => tell(out, "get", value.as_ref()),
-        Err(AllocError) => out.field("get", "Memory"),
-    }
-}
-
-/// The conversion to a type.
-fn opt<I: ColumnIndex + Drop>(
-    out: &mut Out,
-    row: &mut Row,
-    name: &str,
-    index: I,
-    kind: &str,
-) -> Result<(), AllocError> {
-    match kind {
-        "i64" => converted::<i64, I>(out, row, name, index),
-        "u64" => converted::<u64, I>(out, row, name, index),
-        "text" => converted::<String, I>(out, row, name, index),
-        "bytes" => converted::<Vec<u8>, I>(out, row, name, index),
-        "maybe" => converted::<Option<i64>, I>(out, row, name, index),
-        "value" => converted::<Value, I>(out, row, name, index),
+        (_, "i64") => converted::<i64, I>(out, row, name, index),
+        (_, "u64") => converted::<u64, I>(out, row, name, index),
+        (_, "text") => converted::<String, I>(out, row, name, index),
+        (_, "bytes") => converted::<Vec<u8>, I>(out, row, name, index),
+        (_, "maybe") => converted::<Option<i64>, I>(out, row, name, index),
+        (_, "value") => converted::<Value, I>(out, row, name, index),
         _ => out.word("?"),
     }
 }
 
-fn converted<T: FromValue + Word + Drop, I: ColumnIndex + Drop>(
+/// The value that is converted to a type, or the one that does not convert, after `refused:`.
+fn converted<T: FromValue + Converted + Drop, I: ColumnIndex + Drop>(
     out: &mut Out,
     row: &mut Row,
     name: &str,
     index: I,
-) -> Result<(), AllocError> {
-    match name {
-        "get_opt" => match counted!(out.alloc(); row.get_opt::<T, _>(index)) {
-            Ok(answer) => tell_converted(out, name, answer),
-            Err(AllocError) => out.field(name, "Memory"),
-        },
-        "take_opt" => {
-            let answer = counted!(out.alloc(); value row.take_opt::<T, _>(index));
-            tell_converted(out, name, answer)
+) -> Result {
+    let answer = if name == "get_opt" {
+        counted!(out.alloc(); row.get_opt::<T, _>(index))
+    } else {
+        Ok(counted!(out.alloc(); value row.take_opt::<T, _>(index)))
+    };
+    match answer {
+        Ok(Some(Ok(value))) => out.show(name, Spelled(value.converted())),
+        Ok(Some(Err(FromValueError(value)))) => {
+            out.field(name, "refused:")?;
+            Spelled(value.as_ref()).shown(out)
         }
-        _ => out.word("?"),
+        Ok(None) => out.field(name, "none"),
+        Err(AllocError) => out.field(name, "Memory"),
     }
-}
-
-/// Adds what a value is converted to, or the value that does not convert after `refused:`.
-fn tell_converted<T: Word + Drop>(
-    out: &mut Out,
-    name: &str,
-    answer: Option<Result<T, FromValueError>>,
-) -> Result<(), AllocError> {
-    let mut text = String::new(out.alloc());
-    match &answer {
-        Some(Ok(value)) => value.push_word(&mut text, out.alloc())?,
-        Some(Err(FromValueError(value))) => {
-            text.push_str("refused:")?;
-            value.push_word(&mut text, out.alloc())?;
-        }
-        None => text.push_str("none")?,
-    }
-    out.field(name, text.as_str())
 }

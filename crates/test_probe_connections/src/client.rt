@@ -1,0 +1,149 @@
+//! What a client says of itself: its answer to a handshake, and the change of a session's user.
+//!
+//! `response BYTES`, `tls_of BYTES`, and `make_response VERSION CAPABILITIES MARIADB SIZE SCRAMBLE USER DATABASE PLUGIN ATTRIBUTES`;
+//! `change_user CAPABILITIES BYTES`, `more_data CAPABILITIES BYTES`, and
+//! `make_change_user CAPABILITIES USER DATA DATABASE CHARACTER_SET PLUGIN ATTRIBUTES`: its capabilities are for its reading.
+
+use crate::plugins::show_plugin;
+use crate::prelude::*;
+use indexmap::IndexMap;
+use mysql_auth::{AuthPlugin, ComChangeUser, ComChangeUserMoreData, HandshakeResponse, SslRequest};
+use mysql_wire::MariadbCapabilities;
+
+impl<'a> Shows<HandshakeResponse<'a>> for Connections {
+    fn fields(record: &HandshakeResponse<'a>, out: &mut Out) -> Result {
+        fields!(out, record; capabilities, collation, mariadb = mariadb_ext_capabilities, user, scramble_buf, db_name)?;
+        show_plugin(record.auth_plugin(), out)?;
+        show_attributes(record, out)
+    }
+
+    fn is_made(record: &HandshakeResponse<'a>, alloc: Global) -> Result<bool> {
+        let made = counted!(alloc; response_again(record, alloc))?;
+        // (a made one has attributes as texts, a collation by the server's version, and flags by its fields)
+        Ok(
+            made.user() == record.user()
+                && made.db_name() == record.db_name()
+                && is_cloned(alloc, &made, &made)?
+                && is_cloned(alloc, record, record)?,
+        )
+    }
+}
+
+fn show_attributes(packet: &HandshakeResponse<'_>, out: &mut Out) -> Result {
+    let alloc = out.alloc();
+    match counted!(alloc; packet.connect_attributes(alloc)) {
+        Ok(Some(attributes)) => {
+            out.show("attributes", attributes.len())?;
+            for (key, value) in attributes.iter() {
+                out.show("key", key.as_str().as_bytes())?;
+                out.show("value", value.as_str().as_bytes())?;
+            }
+            Ok(())
+        }
+        Ok(None) => out.field("attributes", "none"),
+        Err(AllocError) => out.field("attributes", "Memory"),
+    }
+}
+
+/// The response of what a response's getters answer.
+fn response_again<'b>(
+    packet: &'b HandshakeResponse<'_>,
+    alloc: Global,
+) -> Result<HandshakeResponse<'b>> {
+    HandshakeResponse::new(
+        alloc,
+        Some(CowSlice::Borrowed(packet.scramble_buf())),
+        (8, 0, 35),
+        Some(CowSlice::Borrowed(packet.user())),
+        words::lent(packet.db_name()),
+        packet.auth_plugin().map(|plugin| plugin.borrow()),
+        packet.capabilities(),
+        packet.connect_attributes(alloc)?,
+        0,
+    )
+}
+
+/// A response that is made of words, with MariaDB's flags, as it is shown, written and read again.
+pub fn make_response(out: &mut Out, request: &Request<'_>) -> Result {
+    let alloc = out.alloc();
+    let part = |place: usize| words::number(request.word(1).split('.').nth(place).unwrap_or(""));
+    let version: (u16, u16, u16) = (part(0), part(1), part(2));
+    let plugin = words::bytes(request.word(8)).map(|name| AuthPlugin::from_bytes(name));
+    let attributes = words::attributes(alloc, request.word(9))?;
+    let made = counted!(alloc; HandshakeResponse::new(
+        alloc,
+        words::borrowed(request.word(5)),
+        version,
+        words::borrowed(request.word(6)),
+        words::borrowed(request.word(7)),
+        plugin,
+        CapabilityFlags::from_bits_retain(request.number(2)),
+        attributes,
+        request.number(4),
+    ));
+    let Ok(packet) = made else {
+        return out.error(&"Memory");
+    };
+    let flags = MariadbCapabilities::from_bits_retain(request.number(3));
+    let packet = packet.with_mariadb_ext_capabilities(flags);
+    out.word("made")?;
+    Connections::fields(&packet, out)?;
+    write_and_read(out, &packet, request, ())
+}
+
+/// The request for TLS that goes before a response, as it is shown, written and read again.
+pub fn tls_of(out: &mut Out, request: &Request<'_>) -> Result {
+    let mut buf = ParseBuf::new(out.alloc(), request.bytes.as_slice());
+    let answer: Result<HandshakeResponse<'_>, Fault> = buf.parse(());
+    let Ok(response) = answer else {
+        return out.word("refused");
+    };
+    let packet = response.ssl_request();
+    out.word("made")?;
+    Connections::fields(&packet, out)?;
+    write_and_read(out, &packet, request, ())
+}
+
+/// It has no getters: what is written of it says what it is.
+impl<'a> Shows<ComChangeUser<'a>> for Connections {
+    fn is_made(record: &ComChangeUser<'a>, alloc: Global) -> Result<bool> {
+        is_owned!(alloc; record, record)
+    }
+}
+
+/// They have no getters either.
+impl<'a> Shows<ComChangeUserMoreData<'a>> for Connections {
+    fn is_made(record: &ComChangeUserMoreData<'a>, alloc: Global) -> Result<bool> {
+        is_owned!(alloc; record, record)
+    }
+}
+
+/// More data with the attributes, and with the plugin of a word; or none, where there is no character set.
+fn more_of_words<'a>(
+    alloc: Global,
+    request: &Request<'a>,
+    attributes: Option<IndexMap<String, String>>,
+) -> Result<Option<ComChangeUserMoreData<'a>>> {
+    if request.word(5) == "none" {
+        return Ok(None);
+    }
+    let plugin = words::bytes(request.word(6)).map(|name| AuthPlugin::from_bytes(name));
+    let more = ComChangeUserMoreData::new(words::number(request.word(5))).with_auth_plugin(plugin);
+    Ok(Some(more.with_connect_attributes(alloc, attributes)?))
+}
+
+/// A change of user that is made of words, as it is written and read again.
+pub fn make_change_user(out: &mut Out, request: &Request<'_>) -> Result {
+    let alloc = out.alloc();
+    let attributes = words::attributes(alloc, request.word(7))?;
+    let Ok(more) = counted!(alloc; more_of_words(alloc, request, attributes)) else {
+        return out.error(&"Memory");
+    };
+    let change = ComChangeUser::new()
+        .with_user(words::borrowed(request.word(2)))
+        .with_auth_plugin_data(words::borrowed(request.word(3)))
+        .with_database(words::borrowed(request.word(4)))
+        .with_more_data(more);
+    out.word("made")?;
+    write_and_read(out, &change, request, request.capabilities())
+}

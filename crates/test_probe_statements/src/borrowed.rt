@@ -1,0 +1,150 @@
+//! Values that stay where they are, as `ValueRef`: where they give something else than the values themselves, an answer says
+//! `ref=other`.
+//!
+//! `value_text BYTES` and `value COLUMN BYTES` read a value as text and in its binary form.
+
+use crate::forms::column;
+use crate::prelude::*;
+use mysql_values::*;
+use mysql_wire::ColumnFlags;
+use std::fmt::Display;
+
+/// Whether a borrowed value is sent, written and copied as the value itself.
+pub fn is_alike(alloc: Global, value: &Value) -> Result<bool> {
+    let borrowed = counted!(alloc; value value.as_ref());
+    let copy = counted!(alloc; borrowed.to_value(alloc))?;
+    let (mut written, mut wanted) = (Vec::new(alloc), Vec::new(alloc));
+    borrowed.serialize(&mut written)?;
+    value.serialize(&mut wanted)?;
+    let mut is_alike = copy == *value && borrowed == copy.as_ref() && written == wanted;
+    is_alike = is_alike && borrowed.defined_len() == written.len();
+    is_alike = is_alike && borrowed.bin_len() == value.bin_len();
+    is_alike = is_alike && borrowed.sent_type() == value.sent_type();
+    is_alike = is_alike && borrowed.is_uint() == value.is_uint();
+    Ok(is_alike && ParamType::from_value_ref(&borrowed) == ParamType::from_value(value))
+}
+
+/// Adds a word where what was read or made in another way is something else.
+pub fn or_other(out: &mut Out, name: &str, is_same: bool) -> Result {
+    if is_same {
+        return Ok(());
+    }
+    out.field(name, "other")
+}
+
+/// Adds a word unless a reader that borrows gave what the other did, and left as much.
+fn compare<T>(
+    out: &mut Out,
+    owned: Result<ValueDeserializer<T>, Fault>,
+    borrowed: Result<ValueRef<'_>, Fault>,
+    is_rest_same: bool,
+) -> Result {
+    let is_same = match (owned, borrowed) {
+        (Ok(owned), Ok(borrowed)) => is_rest_same && owned.0.as_ref() == borrowed,
+        (Err(owned), Err(borrowed)) => owned == borrowed,
+        _ => false,
+    };
+    or_other(out, "ref", is_same)
+}
+
+pub fn value_text(out: &mut Out, request: &Request<'_>) -> Result {
+    let (alloc, bytes) = (request.alloc, request.bytes.as_slice());
+    let _ = read::<Statements, ValueDeserializer<TextValue>>(out, bytes, ())?;
+    let (mut buf, mut place) = (ParseBuf::new(alloc, bytes), ParseBuf::new(alloc, bytes));
+    let owned: Result<ValueDeserializer<TextValue>, Fault> = buf.parse(());
+    let borrowed = counted!(alloc; read_text_ref(&mut place));
+    compare(out, owned, borrowed, buf.len() == place.len())
+}
+
+pub fn value(out: &mut Out, request: &Request<'_>) -> Result {
+    let (alloc, bytes) = (request.alloc, request.bytes.as_slice());
+    let (column_type, flags) = column(request)?;
+    let _ = read::<Statements, ValueDeserializer<BinValue>>(out, bytes, (column_type, flags))?;
+    let (mut buf, mut place) = (ParseBuf::new(alloc, bytes), ParseBuf::new(alloc, bytes));
+    let owned: Result<ValueDeserializer<BinValue>, Fault> = buf.parse((column_type, flags));
+    let is_unsigned = flags.contains(ColumnFlags::UNSIGNED_FLAG);
+    let borrowed = counted!(alloc; read_bin_ref(column_type, is_unsigned, &mut place));
+    compare(out, owned, borrowed, buf.len() == place.len())
+}
+
+/// What a value is converted to, owned or borrowed.
+pub trait Converted {
+    /// The value that converts to it.
+    fn converted(&self) -> ValueRef<'_>;
+}
+
+impl Converted for Value {
+    fn converted(&self) -> ValueRef<'_> {
+        self.as_ref()
+    }
+}
+
+impl Converted for ValueRef<'_> {
+    fn converted(&self) -> ValueRef<'_> {
+        *self
+    }
+}
+
+impl Converted for i64 {
+    fn converted(&self) -> ValueRef<'_> {
+        ValueRef::Int(*self)
+    }
+}
+
+impl Converted for u64 {
+    fn converted(&self) -> ValueRef<'_> {
+        ValueRef::UInt(*self)
+    }
+}
+
+impl Converted for Vec<u8> {
+    fn converted(&self) -> ValueRef<'_> {
+        ValueRef::Bytes(self.as_slice())
+    }
+}
+
+impl Converted for &[u8] {
+    fn converted(&self) -> ValueRef<'_> {
+        ValueRef::Bytes(self)
+    }
+}
+
+impl Converted for String {
+    fn converted(&self) -> ValueRef<'_> {
+        ValueRef::Bytes(self.as_bytes())
+    }
+}
+
+impl Converted for &str {
+    fn converted(&self) -> ValueRef<'_> {
+        ValueRef::Bytes(self.as_bytes())
+    }
+}
+
+impl<T: Converted> Converted for Option<T> {
+    fn converted(&self) -> ValueRef<'_> {
+        match self {
+            Some(some) => some.converted(),
+            None => ValueRef::NULL,
+        }
+    }
+}
+
+/// Adds a word unless a borrowed value converts to this, or is handed back by an error with this text.
+pub fn converts<'a, T: FromValueRef<'a> + Converted + Drop, D: Display>(
+    out: &mut Out,
+    value: &'a Value,
+    wanted: Result<ValueRef<'_>, &D>,
+) -> Result {
+    let alloc = out.alloc();
+    let answer = counted!(alloc; T::from_value_ref_opt(value.as_ref()));
+    let is_same = match (answer, wanted) {
+        (Ok(converted), Ok(wanted)) => converted.converted() == wanted,
+        (Err(refusal), Err(text)) => {
+            let one = format!(in alloc; "{refusal}")?;
+            refusal.0 == value.as_ref() && one == format!(in alloc; "{text}")?
+        }
+        _ => false,
+    };
+    or_other(out, "ref", is_same)
+}
