@@ -16,7 +16,9 @@
 typedef uint64_t call(const uint8_t *bytes, size_t len);
 
 call bench_statements_read, bench_statements_written, bench_columns_read, bench_columns_written,
+    bench_columns_borrowed, bench_executions_borrowed,
     bench_ok_packets_read, bench_errors_read, bench_errors_written, bench_rows_read, bench_rows_counted,
+    bench_rows_viewed, bench_rows_placed, bench_text_rows_viewed, bench_text_rows_placed,
     bench_executions_written, bench_bulk_rows_made, bench_bulk_rows_written, bench_bulk_rows_offered,
     bench_handshakes_read, bench_handshakes_written, bench_responses_written, bench_registrations_written, bench_gtid_dumps_read,
     bench_gtid_dumps_written;
@@ -185,6 +187,24 @@ static void put_row(struct batch *batch)
     put_framed(batch, fill_row);
 }
 
+/* a text row: five numbers as decimal digits, and five strings */
+static void fill_text_row(struct batch *batch)
+{
+    for (int i = 0; i < 5; i++) {
+        char digits[24];
+        int len = snprintf(digits, sizeof digits, "%" PRId64, (int64_t)varied());
+        put_number(batch, (uint64_t)len, 1);
+        put(batch, digits, (size_t)len);
+    }
+    for (int i = 0; i < 5; i++)
+        put_string(batch, 20);
+}
+
+static void put_text_row(struct batch *batch)
+{
+    put_framed(batch, fill_text_row);
+}
+
 /* a number of 8 bytes, and 20 bytes of text */
 static void put_bulk_row(struct batch *batch)
 {
@@ -350,13 +370,19 @@ static const struct operation {
     { "statements_read", 10000, "statement packet, read", put_statement, bench_statements_read },
     { "statements_written", 10000, "statement packet, read and written", put_statement, bench_statements_written },
     { "columns_read", 10000, "column, read", put_column, bench_columns_read },
+    { "columns_borrowed", 10000, "column, read where it lies", put_column, bench_columns_borrowed },
     { "columns_written", 10000, "column, read and written", put_column, bench_columns_written },
     { "ok_packets_read", 10000, "OK packet, read with its session changes", put_ok_packet, bench_ok_packets_read },
     { "errors_read", 10000, "error, read", put_error, bench_errors_read },
     { "errors_written", 10000, "error, read and written", put_error, bench_errors_written },
     { "rows_read", 10000, "binary row of 10 columns, read", put_row, bench_rows_read },
     { "rows_counted", 10000, "binary row of 10 columns, read in a second place", put_row, bench_rows_counted },
+    { "rows_viewed", 10000, "binary row of 10 columns, viewed value by value", put_row, bench_rows_viewed },
+    { "rows_placed", 10000, "binary row of 10 columns, read into borrowed values", put_row, bench_rows_placed },
+    { "text_rows_viewed", 10000, "text row of 10 columns, viewed value by value", put_text_row, bench_text_rows_viewed },
+    { "text_rows_placed", 10000, "text row of 10 columns, read into borrowed values", put_text_row, bench_text_rows_placed },
     { "executions_written", 10000, "execution of 10 values, built and written", put_numbers, bench_executions_written },
+    { "executions_borrowed", 10000, "execution of 10 borrowed values, built and written", put_numbers, bench_executions_borrowed },
     { "bulk_rows_made", 1000000, "bulk row, made and dropped", put_bulk_row, bench_bulk_rows_made },
     { "bulk_rows_written", 1000000, "bulk row, made, built into requests and written", put_bulk_row, bench_bulk_rows_written },
     /* (so many that they go into one request: of several, glibc puts the blocks of one together while the next is made) */
