@@ -48,9 +48,9 @@ const NONCE_LEN: usize = 20;
 /// as its context, and refuses it under `CLIENT_PROTOCOL_41`.
 #[derive(Clone, Debug, PartialEq, Eq, Hash, Drop)]
 pub struct HandshakePacket<'a> {
-    head: HandshakeHead<'a>,
-    scramble_2: Option<RawBytes<'a, BareBytes<247>>>,
-    auth_plugin_name: Option<RawBytes<'a, EofName>>,
+    pub(crate) head: HandshakeHead<'a>,
+    pub(crate) scramble_2: Option<RawBytes<'a, BareBytes<247>>>,
+    pub(crate) auth_plugin_name: Option<RawBytes<'a, EofName>>,
 }
 
 /// The 20 bytes of both scrambles.

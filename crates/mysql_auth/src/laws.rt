@@ -82,6 +82,11 @@ pub fn handshake_round_trips()
     ensures spelled { (p : HandshakePacket) (rest : List ℕ) → HandshakeFits p rest → (handshake.form tt).Spells p (handshake.bytes p ++ rest) rest }
 {}
 
+/// A handshake that stays in its packet is read of the same bytes as a handshake, and is that handshake.
+pub fn borrowed_handshakes_read_handshakes()
+    ensures read { (bytes : List ℕ) → (⟦<crate::handshake_ref::HandshakePacketRef<'static> as MyDeserialize<'static>>⟧.form tt).reads bytes ≡ (handshake.form tt).reads bytes }
+{}
+
 /// What is written of a response to a handshake is read again.
 pub fn handshake_response_round_trips()
     ensures spelled { (p : HandshakeResponse) (rest : List ℕ) → HandshakeResponseFits p → (handshake_response.form tt).Spells p (handshake_response.bytes p ++ rest) rest }

@@ -13,6 +13,8 @@ mod com_change_user_more_data;
 mod eof_name;
 mod handshake;
 mod handshake_head;
+mod handshake_head_ref;
+mod handshake_ref;
 mod handshake_response;
 pub mod laws;
 mod merged;
@@ -35,6 +37,7 @@ pub use com_change_user::{ComChangeUser, ComChangeUserHeader, InvalidComChangeUs
 pub use com_change_user_more_data::ComChangeUserMoreData;
 pub use eof_name::EofName;
 pub use handshake::HandshakePacket;
+pub use handshake_ref::HandshakePacketRef;
 pub use handshake_response::HandshakeResponse;
 pub use old_auth_switch_request::OldAuthSwitchRequest;
 pub use parsec::parse_parsec_salt;

@@ -2,7 +2,11 @@ pub mod EqualColumns
 pub mod EqualReplies
 pub mod ErrPacketFits
 pub mod NamesAfter
+pub mod OkPacketAgain
 pub mod PlainFits
 pub mod Same
+pub mod SentChangeAgain
 pub mod AsSent
 pub mod StateString
+pub mod BytesExact
+pub mod AsSentRef

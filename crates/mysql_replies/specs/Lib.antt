@@ -3,10 +3,15 @@ pub mod SqlState
 pub mod ServerError
 pub mod ProgressReport
 pub mod ErrPacket
+pub mod ErrPacketRef
 pub mod SessionStateInfo
 pub mod SessionStateChanges
+pub mod SentChange
+pub mod SessionStateChangesRef
 pub mod OkKind
 pub mod OkPacket
+pub mod OkTailSent
+pub mod OkPacketSent
 pub mod ColumnNames
 pub mod ColumnFields
 pub mod Column

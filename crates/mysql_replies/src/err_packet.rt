@@ -28,7 +28,7 @@ impl ConstFault for InvalidErrPacketHeader {
 pub type ErrPacketHeader = ConstU8<InvalidErrPacketHeader, 0xff>;
 
 /// The code of a packet that may be a progress report.
-const PROGRESS_CODE: u16 = 0xffff;
+pub(crate) const PROGRESS_CODE: u16 = 0xffff;
 
 /// An error or a progress report (`Protocol::ERR_Packet`): the byte `ff`, a code of two bytes (the
 /// little-endian), then what it is the code of.

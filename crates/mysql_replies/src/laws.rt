@@ -3,7 +3,7 @@
 //! Each law is a function with nothing in it, whose contract holds for all values.
 #![tactic(auto, using(mysql_wire::proofs::Packets::packets))]
 
-ghost use Rattle.std.specs.Prelude.{◌≡◌, ◌++◌, ◌<◌, ◌^◌, ◌↔◌, [], List, ℕ, length, Bool, None, Some, Ok, IsTrue};
+ghost use Rattle.std.specs.Prelude.{◌≡◌, ◌++◌, ◌<◌, ◌^◌, ◌↔◌, [], List, ℕ, length, Bool, None, Some, Ok, IfSome, IsTrue};
 ghost use Rattle.mysql_wire.specs.Flags.{CapabilityFlags};
 ghost use Rattle.mysql_replies.specs.declared.column.Column.{Column};
 ghost use Rattle.mysql_replies.specs.declared.err_packet.ErrPacket.{ErrPacket};
@@ -16,13 +16,22 @@ ghost use Rattle.mysql_replies.specs.declared.sql_state.SqlState.{SqlState};
 ghost use Rattle.mysql_replies.specs.Column.{column, ColumnFits};
 ghost use Rattle.mysql_replies.specs.ErrPacket.{err_packet, ErrPacketFits};
 ghost use Rattle.mysql_replies.specs.LocalInfile.{local_infile};
+ghost use Rattle.mysql_replies.specs.OkKind.{common_ok_body, terminator_body, old_eof_body};
+ghost use Rattle.mysql_replies.specs.OkPacket.{ok_packet};
+ghost use Rattle.mysql_replies.specs.OkPacketSent.{common_bytes, terminator_bytes, eof_bytes, deserializer_of, OkPacketFits, TerminatorFits, OldEofFits};
+ghost use Rattle.mysql_replies.specs.declared.ok_kind.CommonOkPacket.{CommonOkPacket};
+ghost use Rattle.mysql_replies.specs.declared.ok_kind.ResultSetTerminator.{ResultSetTerminator};
+ghost use Rattle.mysql_replies.specs.declared.ok_kind.OldEofPacket.{OldEofPacket};
 ghost use Rattle.mysql_replies.specs.ProgressReport.{progress_report, ProgressReportFits};
 ghost use Rattle.mysql_replies.specs.ServerError.{server_error, error_code, sql_state_of, StateFits};
 ghost use Rattle.mysql_replies.specs.SessionStateInfo.{session_state_info, data_bytes, decoded, state_string};
 ghost use Rattle.mysql_replies.specs.SessionStateChanges.{decoded_as_sent};
+ghost use Rattle.mysql_replies.specs.SentChange.{sent_info};
+ghost use Rattle.mysql_session.specs.SessionStateChange.{ChangeIsShort};
 ghost use Rattle.mysql_session.specs.declared.session_state_change.SessionStateChange.{SessionStateChange};
 ghost use Rattle.mysql_replies.specs.SqlState.{sql_state, state_bytes};
 
+pub mod borrowed;
 pub mod values;
 
 use mysql_wire::MyDeserialize;
@@ -84,6 +93,19 @@ pub fn session_state_info_round_trips()
 #[tactic(auto, using(crate::proofs::AsSent::as_sent))]
 pub fn session_state_change_as_sent()
     ensures value { (i : SessionStateInfo) (change : SessionStateChange) → decoded i ≡ Ok (change, []) → decoded_as_sent i ≡ Ok (change, []) }
+{}
+
+/// What is sent of an OK packet is read again as its kind, under the same flags, where nothing follows.
+pub fn ok_packet_round_trips()
+    ensures common { (c : CapabilityFlags) (p : OkPacket) → OkPacketFits c p → (ok_packet {T = CommonOkPacket} 0 (common_ok_body c)).Spells (deserializer_of p) (common_bytes c p) [] }
+    ensures terminator { (c : CapabilityFlags) (p : OkPacket) → TerminatorFits c p → (ok_packet {T = ResultSetTerminator} 0xfe (terminator_body c)).Spells (deserializer_of p) (terminator_bytes c p) [] }
+    ensures old_eof { (c : CapabilityFlags) (p : OkPacket) → OldEofFits p → (ok_packet {T = OldEofPacket} 0xfe (old_eof_body c)).Spells (deserializer_of p) (eof_bytes p) [] }
+{}
+
+/// What is sent of a change is decoded again.
+#[tactic(auto, using(crate::proofs::SentChangeAgain::sent_changes))]
+pub fn sent_change_round_trips()
+    ensures decoded { (c : SessionStateChange) → ChangeIsShort c → IfSome (sent_info c) (λ i. decoded_as_sent i ≡ Ok (c, [])) }
 {}
 
 /// A state string spells at most one list of entries.

@@ -7,28 +7,47 @@ mod column_fields;
 mod column_names;
 mod column_ref;
 mod err_packet;
+mod err_packet_ref;
 pub mod laws;
 mod local_infile;
 mod ok_kind;
+mod ok_kind_ref;
 mod ok_packet;
+mod ok_packet_ref;
+mod ok_packet_serializer;
 mod progress_report;
+mod progress_report_ref;
+mod sent_change;
 mod server_error;
+mod server_error_ref;
 mod session_state_changes;
+mod session_state_changes_ref;
 mod session_state_info;
+mod session_state_info_ref;
 mod sql_state;
+mod sql_state_ref;
 
 pub use column::{Catalog, Column, ColumnDefinitionCatalog, InvalidCatalog};
 pub use column_fields::{FixedLengthFieldsLen, InvalidFixedLengthFieldsLen};
 pub use column_ref::ColumnRef;
 pub use err_packet::{ErrPacket, ErrPacketHeader, InvalidErrPacketHeader};
+pub use err_packet_ref::ErrPacketRef;
 pub use local_infile::{InvalidLocalInfileHeader, LocalInfileHeader, LocalInfilePacket};
 pub use ok_kind::{
     CommonOkPacket, NetworkStreamTerminator, OkPacketBody, OkPacketKind, OldEofPacket,
     ResultSetTerminator,
 };
+pub use ok_kind_ref::{OkPacketBodyRef, OkPacketRefKind};
 pub use ok_packet::{InvalidOkPacketHeader, OkPacket, OkPacketDeserializer};
+pub use ok_packet_ref::{OkPacketRef, OkPacketRefDeserializer};
+pub use ok_packet_serializer::{OkPacketLayout, OkPacketSerializer};
 pub use progress_report::ProgressReport;
+pub use progress_report_ref::ProgressReportRef;
 pub use server_error::ServerError;
+pub use server_error_ref::ServerErrorRef;
 pub use session_state_changes::SessionStateChanges;
+pub use session_state_changes_ref::SessionStateChangesRef;
 pub use session_state_info::SessionStateInfo;
+pub use session_state_info_ref::SessionStateInfoRef;
 pub use sql_state::{InvalidSqlStateMarker, SqlState, SqlStateMarker};
+pub use sql_state_ref::SqlStateRef;

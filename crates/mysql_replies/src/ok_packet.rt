@@ -1,10 +1,11 @@
 //! OK packets, of each kind.
 
 ghost use Rattle.std.specs.Prelude.{true, false, ◌≡◌, ℕ, List, [], Option, Some, None, Ok, IfOk, option_map};
-ghost use Rattle.std.specs.Cow.{cow_str_bytes};
+ghost use Rattle.std.specs.Cow.{cow_slice_items, cow_str_bytes};
 ghost use Rattle.mysql_wire.specs.Reading.{Answers};
 ghost use Rattle.mysql_wire.specs.Seq.{items_of};
 ghost use Rattle.mysql_wire.specs.Text.{lossy_text, OptionBorrowsUtf8};
+ghost use Rattle.mysql_replies.specs.OkKind.{body_of};
 ghost use Rattle.mysql_replies.specs.OkPacket as spec;
 ghost use Rattle.mysql_replies.specs.SessionStateInfo.{state_string};
 
@@ -16,7 +17,7 @@ use mysql_wire::{
     RawBytes, RawInt, StatusFlags, read_all,
 };
 use std::alloc::{AllocError, Global};
-use std::borrow::CowStr;
+use std::borrow::{CowSlice, CowStr};
 use std::marker::PhantomData;
 use thiserror::Error;
 
@@ -27,7 +28,7 @@ pub struct OkPacket<'a> {
     last_insert_id: Option<u64>,
     status_flags: StatusFlags,
     warnings: u16,
-    info: Option<RawBytes<'a, LenEnc>>,
+    pub(crate) info: Option<RawBytes<'a, LenEnc>>,
     session_state_info: Option<RawBytes<'a, LenEnc>>,
 }
 
@@ -56,6 +57,50 @@ fn owned<'a>(
 }
 
 impl<'a> OkPacket<'a> {
+    /// The packet with these numbers, without info and state. An insert id of 0 is absent.
+    pub fn new(
+        affected_rows: u64,
+        last_insert_id: u64,
+        status_flags: StatusFlags,
+        warnings: u16,
+    ) -> Self
+        ensures value { result ≡ spec.packet_of (body_of affected_rows last_insert_id status_flags warnings [] []) }
+    {
+        OkPacket {
+            affected_rows,
+            last_insert_id: if last_insert_id == 0 {
+                None
+            } else {
+                Some(last_insert_id)
+            },
+            status_flags,
+            warnings,
+            info: None,
+            session_state_info: None,
+        }
+    }
+
+    /// The same packet with this info, a text for people. An empty one is absent.
+    pub fn with_info(self, info: CowSlice<'a, u8>) -> Self
+        ensures value { result ≡ record self.entry { info = spec.unless_empty (cow_slice_items info.entry) } }
+    {
+        let mut packet = self;
+        packet.info = unless_empty(RawBytes::new(info));
+        packet
+    }
+
+    /// The same packet with this state string: entries ([`SessionStateInfo`]), written one after another. An empty one is
+    /// absent.
+    ///
+    /// It is sent where changes are tracked (`CLIENT_SESSION_TRACK`), and the status has `SERVER_SESSION_STATE_CHANGED`.
+    pub fn with_session_state_info(self, state: CowSlice<'a, u8>) -> Self
+        ensures value { result ≡ record self.entry { session_state_info = spec.unless_empty (cow_slice_items state.entry) } }
+    {
+        let mut packet = self;
+        packet.session_state_info = unless_empty(RawBytes::new(state));
+        packet
+    }
+
     /// The packet with this body.
     pub(crate) fn from_body(body: OkPacketBody<'a>) -> Self
         ensures value { result ≡ spec.packet_of body.entry }

@@ -14,9 +14,9 @@ use std::marker::Model;
 /// An entry of a state string whose data is read where it lies. In a clause it is a
 /// [`SessionStateInfo`](crate::SessionStateInfo).
 #[derive(Drop)]
-struct Entry<'a> {
-    data_type: Const<SessionStateType, u8>,
-    content: ParseBuf<'a>,
+pub(crate) struct Entry<'a> {
+    pub(crate) data_type: Const<SessionStateType, u8>,
+    pub(crate) content: ParseBuf<'a>,
 }
 
 impl<'a> Model for Entry<'a> {
@@ -29,7 +29,7 @@ impl<'a> Model for Entry<'a> {
 
 /// Reads the entry that the bytes begin with. After a fault they are as they were.
 #[tactic(auto, using(mysql_wire::proofs::Packets::packets, crate::proofs::AsSent::string_shorter), unfolding(crate::specs::SessionStateInfo::session_state_info))]
-fn read_entry<'a>(buf: &mut ParseBuf<'a>) -> Result<Entry<'a>, Fault>
+pub(crate) fn read_entry<'a>(buf: &mut ParseBuf<'a>) -> Result<Entry<'a>, Fault>
     ensures value { Answers false result buf.new ((session_state_info.form tt).reads buf.old) }
     ensures shorter { OnOk result (length buf.new < length buf.old) }
     ensures err { OnErr result (buf.new ≡ buf.old) }
@@ -44,7 +44,7 @@ fn read_entry<'a>(buf: &mut ParseBuf<'a>) -> Result<Entry<'a>, Fault>
 /// Drops the entry that the bytes begin with, whatever its type: one byte, and a length-encoded string. Where that is cut,
 /// all bytes go.
 #[tactic(auto, using(crate::proofs::AsSent::string_shorter))]
-fn skip_entry(buf: &mut ParseBuf<'_>)
+pub(crate) fn skip_entry(buf: &mut ParseBuf<'_>)
     ensures value { buf.new ≡ spec.after_entry buf.old }
     ensures shorter { buf.old ≢ [] → length buf.new < length buf.old }
 {

@@ -2,10 +2,12 @@
 #![tactic(auto, using(mysql_wire::proofs::Packets::packets), unfolding(crate::specs::SessionStateInfo::session_state_info))]
 
 ghost use Rattle.std.specs.Prelude.{true, ◌≡◌, [], List, ℕ, None, refl, IfOk};
+ghost use Rattle.std.specs.Cow.{cow_slice_items};
 ghost use Rattle.mysql_wire.specs.Reading.{Answers};
 ghost use Rattle.mysql_session.specs.SessionStateChange.{session_state_change, lists_variables};
 ghost use Rattle.mysql_replies.specs.SessionStateInfo as spec;
 ghost use Rattle.mysql_replies.specs.SessionStateChanges as changes;
+ghost use Rattle.mysql_replies.specs.SentChange.{info_of};
 
 use mysql_session::SessionStateChange;
 use mysql_wire::{
@@ -13,6 +15,7 @@ use mysql_wire::{
     SessionStateType, Sink, parts,
 };
 use std::alloc::{AllocError, Global};
+use std::borrow::CowSlice;
 
 /// One change of a session's state, as an OK packet carries it: its type in one byte, and its data,
 /// length-encoded.
@@ -20,11 +23,21 @@ use std::alloc::{AllocError, Global};
 /// A byte that is no [`SessionStateType`] is `InvalidData`.
 #[derive(Clone, Debug, PartialEq, Eq, Drop)]
 pub struct SessionStateInfo<'a> {
-    data_type: Const<SessionStateType, u8>,
-    content: RawBytes<'a, LenEnc>,
+    pub(crate) data_type: Const<SessionStateType, u8>,
+    pub(crate) content: RawBytes<'a, LenEnc>,
 }
 
 impl<'a> SessionStateInfo<'a> {
+    /// An entry of that type, with that data.
+    pub fn new(data_type: SessionStateType, content: CowSlice<'a, u8>) -> Self
+        ensures value { result ≡ info_of data_type (cow_slice_items content.entry) }
+    {
+        SessionStateInfo {
+            data_type: Const::new(data_type),
+            content: RawBytes::new(content),
+        }
+    }
+
     /// What has changed.
     #[inline]
     pub fn data_type(&self) -> SessionStateType
@@ -78,7 +91,7 @@ impl<'a> SessionStateInfo<'a> {
 }
 
 /// Whether it is a state change, which has two layouts.
-fn is_state_change(data_type: SessionStateType) -> bool
+pub(crate) fn is_state_change(data_type: SessionStateType) -> bool
     ensures value { result ≡ changes.is_state_change data_type }
 {
     matches!(data_type, SessionStateType::SESSION_TRACK_STATE_CHANGE)

@@ -56,6 +56,13 @@ pub fn session_state_change_round_trips()
     ensures plain { (kind : SessionStateType) (c : SessionStateChange) → IsOfKind kind c → ChangeIsShort c → (session_state_change kind).Spells c (session_state_change_bytes c) [] }
 {}
 
+/// What stays in its packet is read of the same bytes as what can leave it, and is that value.
+pub fn borrowed_changes_read_changes()
+    ensures change { (kind : SessionStateType) (bytes : List ℕ) → (⟦<crate::session_state_change_ref::SessionStateChangeRef<'static> as MyDeserialize<'static>>⟧.form kind).reads bytes ≡ (session_state_change kind).reads bytes }
+    ensures variable { (bytes : List ℕ) → (⟦<crate::system_variable_ref::SystemVariableRef<'static> as MyDeserialize<'static>>⟧.form tt).reads bytes ≡ (system_variable.form tt).reads bytes }
+    ensures variables { (bytes : List ℕ) → (⟦<crate::system_variables_ref::SystemVariablesRef<'static> as MyDeserialize<'static>>⟧.form tt).reads bytes ≡ (system_variables.form tt).reads bytes }
+{}
+
 /// No bytes are read as a change of another kind.
 #[tactic(auto, unfolding(crate::specs::SessionStateChange::session_state_change))]
 pub fn no_change_is_unsupported()

@@ -1,0 +1,174 @@
+//! What every handshake has, where it lies.
+#![tactic(auto, using(mysql_wire::proofs::Packets::packets), unfolding(crate::specs::Handshake::handshake_head, crate::specs::Handshake::handshake_block))]
+
+ghost use Rattle.std.specs.Prelude.{false, ◌+◌, ◌≡◌, length, OnOk, Some};
+ghost use Rattle.mysql_wire.specs.Reading.{Answers};
+ghost use Rattle.mysql_auth.specs.Handshake as spec;
+
+use crate::handshake_head::HandshakeHead;
+use bitflags::Flags;
+use mysql_wire::{
+    BytesRepr, CapabilityFlags, Const, FaultOf, Fixed, LeU16, LeU32, MariadbCapabilities,
+    MyDeserialize, NullBytes, ParseBuf, RawBytes, RawInt, Skip, StatusFlags,
+};
+use std::borrow::CowSlice;
+use std::marker::Model;
+
+/// The first scramble, where it lies. In a clause it is its eight bytes.
+#[derive(Drop)]
+pub(crate) struct FirstScramble<'a> {
+    pub(crate) bytes: &'a [u8; 8],
+}
+
+impl<'a> Model for FirstScramble<'a> {
+    ghost use Rattle.std.specs.Prelude.{ℕ, List};
+
+    ghost Value = { List ℕ };
+
+    ghost view = { λ s. s.bytes.now };
+}
+
+impl<'de> MyDeserialize<'de> for FirstScramble<'de> {
+    const SIZE: Option<usize> = Some(8);
+
+    type Size = Fixed<8>;
+
+    type Ctx = ();
+
+    ghost use Rattle.mysql_wire.specs.Form.{bytes, size-bytes};
+
+    ghost form = { λ _. bytes 8 };
+
+    #[inline]
+    #[tactic(auto, using(mysql_wire::proofs::Arrays::arrays))]
+    fn deserialize<'s>(_ctx: (), buf: &mut ParseBuf<'de>) -> Result<Self, FaultOf<'s>> {
+        Ok(FirstScramble {
+            bytes: <&[u8; 8]>::try_from(buf.eat(8)).unwrap(),
+        })
+    }
+
+    ghost size_is = { λ _. size-bytes 8 };
+}
+
+/// What every handshake has, where it lies: the versions, and 31 bytes. In a clause it is a
+/// [`HandshakeHead`].
+#[derive(Drop)]
+pub(crate) struct HandshakeHeadRef<'a> {
+    pub(crate) protocol_version: RawInt<u8>,
+    pub(crate) server_version: ParseBuf<'a>,
+    pub(crate) connection_id: RawInt<LeU32>,
+    pub(crate) scramble_1: FirstScramble<'a>,
+    pub(crate) filler: Skip<1>,
+    pub(crate) capabilities_low: RawInt<LeU16>,
+    pub(crate) default_collation: RawInt<u8>,
+    pub(crate) status_flags: Const<StatusFlags, LeU16>,
+    pub(crate) capabilities_high: RawInt<LeU16>,
+    pub(crate) reserved: Skip<6>,
+    pub(crate) mariadb_capabilities: Const<MariadbCapabilities, LeU32>,
+}
+
+impl<'a> Model for HandshakeHeadRef<'a> {
+    ghost use Rattle.mysql_auth.specs.declared.handshake_head.HandshakeHead.{HandshakeHead};
+
+    ghost Value = { HandshakeHead };
+
+    ghost view = { λ h. record {
+      protocol_version = h.protocol_version;
+      server_version = h.server_version;
+      connection_id = h.connection_id;
+      scramble_1 = h.scramble_1;
+      filler = h.filler;
+      capabilities_low = h.capabilities_low;
+      default_collation = h.default_collation;
+      status_flags = h.status_flags;
+      capabilities_high = h.capabilities_high;
+      reserved = h.reserved;
+      mariadb_capabilities = h.mariadb_capabilities;
+    } };
+}
+
+/// The bytes of a place.
+#[inline(always)]
+pub(crate) fn bytes_of<'a>(place: &ParseBuf<'a>) -> &'a [u8]
+    ensures value { result.now ≡ place.now }
+{
+    let mut rest = place.rest();
+    rest.eat_all()
+}
+
+impl<'a> HandshakeHeadRef<'a> {
+    /// What the server can do, from both halves.
+    #[inline]
+    pub(crate) fn capabilities(&self) -> CapabilityFlags
+        ensures value { result.0 ≡ spec.capabilities_of self.now }
+        ensures halves { spec.HalvesFitIn self.now }
+    {
+        let low = u32::from(self.capabilities_low.0);
+        let high = u32::from(self.capabilities_high.0);
+        CapabilityFlags::from_bits_retain(low + high * 0x1_0000)
+    }
+
+    /// The head in its other form, which borrows the version still.
+    pub(crate) fn to_head(&self) -> HandshakeHead<'a>
+        ensures value { result ≡ self.now }
+    {
+        HandshakeHead {
+            protocol_version: RawInt::new(self.protocol_version.0),
+            server_version: RawBytes::new(CowSlice::Borrowed(bytes_of(&self.server_version))),
+            connection_id: RawInt::new(self.connection_id.0),
+            scramble_1: *self.scramble_1.bytes,
+            filler: Skip,
+            capabilities_low: RawInt::new(self.capabilities_low.0),
+            default_collation: RawInt::new(self.default_collation.0),
+            status_flags: Const::new(self.status_flags.0),
+            capabilities_high: RawInt::new(self.capabilities_high.0),
+            reserved: Skip,
+            mariadb_capabilities: Const::new(self.mariadb_capabilities.0),
+        }
+    }
+
+    /// The head with these versions, and the length of both scrambles.
+    fn read_block<'s>(
+        protocol_version: RawInt<u8>,
+        server_version: &'a [u8],
+        fixed: &mut ParseBuf<'a>,
+    ) -> Result<(HandshakeHeadRef<'a>, u8), FaultOf<'s>>
+        ensures value { Answers false result fixed.new (((spec.handshake_block protocol_version server_version.now).form tt).reads fixed.old) }
+        ensures exact { OnOk result (length fixed.old ≡ 31 + length fixed.new) }
+    {
+        let connection_id = fixed.parse(())?;
+        let scramble_1 = fixed.parse(())?;
+        let filler = fixed.parse(())?;
+        let capabilities_low = fixed.parse(())?;
+        let default_collation = fixed.parse(())?;
+        let status_flags = fixed.parse(())?;
+        let capabilities_high = fixed.parse(())?;
+        let data_length: RawInt<u8> = fixed.parse(())?;
+        let head = HandshakeHeadRef {
+            protocol_version,
+            server_version: ParseBuf::new(fixed.alloc(), server_version),
+            connection_id,
+            scramble_1,
+            filler,
+            capabilities_low,
+            default_collation,
+            status_flags,
+            capabilities_high,
+            reserved: fixed.parse(())?,
+            mariadb_capabilities: fixed.parse(())?,
+        };
+        Ok((head, data_length.0))
+    }
+
+    /// The head, and the length of both scrambles.
+    pub(crate) fn read<'s>(
+        buf: &mut ParseBuf<'a>,
+    ) -> Result<(HandshakeHeadRef<'a>, u8), FaultOf<'s>>
+        ensures value { Answers false result buf.new ((spec.handshake_head.form tt).reads buf.old) }
+    {
+        let protocol_version = buf.parse(())?;
+        let server_version = <NullBytes as BytesRepr>::deserialize((), buf)?.eat_all();
+        let mut fixed: ParseBuf<'a> = buf.parse(31)?;
+        HandshakeHeadRef::read_block(protocol_version, server_version, &mut fixed)
+    }
+}

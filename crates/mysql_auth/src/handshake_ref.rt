@@ -1,0 +1,191 @@
+//! The initial handshake, where it lies.
+#![tactic(auto, using(mysql_wire::proofs::Packets::packets), unfolding(crate::specs::Handshake::handshake, crate::specs::Handshake::handshake_head, crate::specs::Handshake::handshake_block))]
+
+ghost use Rattle.std.specs.Prelude.{◌≡◌, length, option_map};
+ghost use Rattle.mysql_auth.specs.Handshake as spec;
+
+use crate::auth_plugin::AuthPlugin;
+use crate::eof_name::{EofName, without_last_zero};
+use crate::handshake::HandshakePacket;
+use crate::handshake_head::scramble_length;
+use crate::handshake_head_ref::{HandshakeHeadRef, bytes_of};
+use bitflags::Flags;
+use mysql_wire::{
+    AnyWidth, BareBytes, BytesRepr, CapabilityFlags, FaultOf, MariadbCapabilities, MyDeserialize,
+    ParseBuf, RawBytes, StatusFlags,
+};
+use std::borrow::CowSlice;
+use std::marker::Model;
+
+/// The initial handshake, whose texts and scrambles stay in the packet: a [`HandshakePacket`] for as long as the packet
+/// lives.
+///
+/// It is read of the same bytes with the same faults, and in a clause it is that handshake.
+#[derive(Drop)]
+pub struct HandshakePacketRef<'a> {
+    head: HandshakeHeadRef<'a>,
+    scramble_2: Option<ParseBuf<'a>>,
+    auth_plugin_name: Option<ParseBuf<'a>>,
+}
+
+impl<'a> Model for HandshakePacketRef<'a> {
+    ghost use Rattle.mysql_auth.specs.declared.handshake.HandshakePacket.{HandshakePacket};
+
+    ghost Value = { HandshakePacket };
+
+    ghost view = { λ p. record { head = p.head; scramble_2 = p.scramble_2; auth_plugin_name = p.auth_plugin_name } };
+}
+
+impl<'a> HandshakePacketRef<'a> {
+    /// The protocol's version.
+    #[inline]
+    pub fn protocol_version(&self) -> u8
+        ensures value { result ≡ spec.protocol_version self.now }
+    {
+        self.head.protocol_version.0
+    }
+
+    /// The bytes of the server's version.
+    #[inline]
+    pub fn server_version(&self) -> &'a [u8]
+        ensures value { result.now ≡ spec.server_version self.now }
+    {
+        bytes_of(&self.head.server_version)
+    }
+
+    /// The connection's number.
+    #[inline]
+    pub fn connection_id(&self) -> u32
+        ensures value { result ≡ spec.connection_id self.now }
+    {
+        self.head.connection_id.0
+    }
+
+    /// The first scramble, of eight bytes.
+    #[inline]
+    pub fn scramble_1(&self) -> &'a [u8]
+        ensures value { result.now ≡ spec.scramble_1 self.now }
+        ensures eight { length (spec.scramble_1 self.now) ≡ 8 }
+    {
+        let scramble = self.head.scramble_1.bytes;
+        scramble
+    }
+
+    /// What the server can do.
+    #[inline]
+    pub fn capabilities(&self) -> CapabilityFlags
+        ensures value { result.0 ≡ spec.capabilities self.now }
+        ensures halves { spec.HalvesFit self.now }
+    {
+        self.head.capabilities()
+    }
+
+    /// The server's collation.
+    #[inline]
+    pub fn default_collation(&self) -> u8
+        ensures value { result ≡ spec.default_collation self.now }
+    {
+        self.head.default_collation.0
+    }
+
+    /// The session's state.
+    #[inline]
+    pub fn status_flags(&self) -> StatusFlags
+        ensures value { result ≡ spec.status_flags self.now }
+    {
+        self.head.status_flags.0
+    }
+
+    /// What a MariaDB server can do besides.
+    #[inline]
+    pub fn mariadb_ext_capabilities(&self) -> MariadbCapabilities
+        ensures value { result ≡ spec.mariadb_ext_capabilities self.now }
+    {
+        self.head.mariadb_capabilities.0
+    }
+
+    /// The second scramble, where one was sent.
+    #[inline]
+    pub fn scramble_2(&self) -> Option<&'a [u8]>
+        ensures value { option_map (λ s. s.now) result ≡ spec.scramble_2 self.now }
+    {
+        match &self.scramble_2 {
+            Some(scramble) => Some(bytes_of(scramble)),
+            None => None,
+        }
+    }
+
+    /// The plugin's name, where one was sent.
+    #[inline]
+    pub fn auth_plugin_name(&self) -> Option<&'a [u8]>
+        ensures value { option_map (λ s. s.now) result ≡ spec.auth_plugin_name self.now }
+    {
+        match &self.auth_plugin_name {
+            Some(name) => Some(bytes_of(name)),
+            None => None,
+        }
+    }
+
+    /// The plugin, where one was named. One zero at the end of the name is taken off.
+    pub fn auth_plugin(&self) -> Option<AuthPlugin<'a>>
+        ensures value { result ≡ spec.auth_plugin self.now }
+    {
+        match &self.auth_plugin_name {
+            Some(name) => Some(AuthPlugin::from_bytes(without_last_zero(bytes_of(name)))),
+            None => None,
+        }
+    }
+
+    /// The handshake in its other form, which borrows the texts still. It takes no memory.
+    pub fn to_packet(&self) -> HandshakePacket<'a>
+        ensures value { result ≡ self.now }
+    {
+        HandshakePacket {
+            head: self.head.to_head(),
+            scramble_2: match &self.scramble_2 {
+                Some(scramble) => Some(RawBytes::new(CowSlice::Borrowed(bytes_of(scramble)))),
+                None => None,
+            },
+            auth_plugin_name: match &self.auth_plugin_name {
+                Some(name) => Some(RawBytes::new(CowSlice::Borrowed(bytes_of(name)))),
+                None => None,
+            },
+        }
+    }
+}
+
+/// As a [`HandshakePacket`].
+impl<'de> MyDeserialize<'de> for HandshakePacketRef<'de> {
+    const SIZE: Option<usize> = None;
+
+    type Size = AnyWidth;
+
+    type Ctx = ();
+
+    ghost form = { spec.handshake.form };
+
+    fn deserialize<'s>(_ctx: (), buf: &mut ParseBuf<'de>) -> Result<Self, FaultOf<'s>> {
+        let mut rest = buf.rest();
+        let (head, data_length) = HandshakeHeadRef::read(&mut rest)?;
+        let capabilities = head.capabilities();
+        let scramble_2 = if capabilities.contains(CapabilityFlags::CLIENT_SECURE_CONNECTION) {
+            let length = scramble_length(data_length);
+            Some(<BareBytes<247> as BytesRepr>::deserialize(length, &mut rest)?)
+        } else {
+            None
+        };
+        let auth_plugin_name = if capabilities.contains(CapabilityFlags::CLIENT_PLUGIN_AUTH) {
+            Some(<EofName as BytesRepr>::deserialize((), &mut rest)?)
+        } else {
+            None
+        };
+        *buf = rest;
+        Ok(HandshakePacketRef {
+            head,
+            scramble_2,
+            auth_plugin_name,
+        })
+    }
+
+    ghost size_is = { λ _. spec.size-handshake };
+}

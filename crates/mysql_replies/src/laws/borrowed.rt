@@ -1,0 +1,32 @@
+//! What stays in its packet is read of the same bytes as what can leave it, and is that value.
+#![tactic(auto, using(mysql_wire::proofs::Packets::packets))]
+
+ghost use Rattle.std.specs.Prelude.{◌≡◌, List, ℕ, Bool};
+ghost use Rattle.mysql_wire.specs.Flags.{CapabilityFlags};
+ghost use Rattle.mysql_replies.specs.ErrPacket.{err_packet};
+ghost use Rattle.mysql_replies.specs.OkPacket.{ok_packet};
+ghost use Rattle.mysql_replies.specs.ProgressReport.{progress_report};
+ghost use Rattle.mysql_replies.specs.ServerError.{server_error};
+ghost use Rattle.mysql_replies.specs.SessionStateInfo.{session_state_info};
+ghost use Rattle.mysql_replies.specs.SqlState.{sql_state};
+
+use crate::ok_kind_ref::OkPacketRefKind;
+use mysql_wire::MyDeserialize;
+
+/// Errors and progress reports that stay in their packet are read as the others are.
+pub fn borrowed_errors_read_errors()
+    ensures packet { (capabilities : CapabilityFlags) (bytes : List ℕ) → (⟦<crate::err_packet_ref::ErrPacketRef<'static> as MyDeserialize<'static>>⟧.form capabilities).reads bytes ≡ (err_packet.form capabilities).reads bytes }
+    ensures error { (context : ℕ × Bool) (bytes : List ℕ) → (⟦<crate::server_error_ref::ServerErrorRef<'static> as MyDeserialize<'static>>⟧.form context).reads bytes ≡ (server_error.form context).reads bytes }
+    ensures state { (bytes : List ℕ) → (⟦<crate::sql_state_ref::SqlStateRef<'static> as MyDeserialize<'static>>⟧.form tt).reads bytes ≡ (sql_state.form tt).reads bytes }
+    ensures report { (bytes : List ℕ) → (⟦<crate::progress_report_ref::ProgressReportRef<'static> as MyDeserialize<'static>>⟧.form tt).reads bytes ≡ (progress_report.form tt).reads bytes }
+{}
+
+/// OK packets of any kind that stay in their packet are read as the others are.
+pub fn borrowed_ok_packets_read_ok_packets<T: OkPacketRefKind>()
+    ensures read { (capabilities : CapabilityFlags) (bytes : List ℕ) → (⟦<crate::ok_packet_ref::OkPacketRefDeserializer<'static, T> as MyDeserialize<'static>>⟧.form capabilities).reads bytes ≡ (ok_packet T.HEADER (T.body capabilities)).reads bytes }
+{}
+
+/// Entries of a state string that stay in their packet are read as the others are.
+pub fn borrowed_session_state_infos_read_session_state_infos()
+    ensures read { (bytes : List ℕ) → (⟦<crate::session_state_info_ref::SessionStateInfoRef<'static> as MyDeserialize<'static>>⟧.form tt).reads bytes ≡ (session_state_info.form tt).reads bytes }
+{}

@@ -1,0 +1,163 @@
+//! OK packets, of each kind, whose texts stay in the packet.
+
+ghost use Rattle.std.specs.Prelude.{◌≡◌, option_map};
+ghost use Rattle.mysql_replies.specs.OkPacket as spec;
+
+use crate::ok_kind_ref::{OkPacketBodyRef, OkPacketRefKind};
+use crate::ok_packet::{InvalidOkPacketHeader, OkPacket};
+use crate::session_state_changes_ref::SessionStateChangesRef;
+use mysql_wire::{
+    AnyWidth, CapabilityFlags, ConstFault, FaultOf, MyDeserialize, ParseBuf, RawInt, StatusFlags,
+};
+use std::marker::{Model, PhantomData};
+
+/// An OK packet of any kind whose texts stay in the packet: an [`OkPacket`] for as long as the packet lives.
+///
+/// An insert id of 0, an empty info and an empty state are absent. In a clause it is that packet.
+#[derive(Drop)]
+pub struct OkPacketRef<'a> {
+    body: OkPacketBodyRef<'a>,
+}
+
+impl<'a> Model for OkPacketRef<'a> {
+    ghost use Rattle.mysql_replies.specs.declared.ok_packet.OkPacket.{OkPacket};
+    ghost use Rattle.mysql_replies.specs.OkPacket.{packet_of};
+
+    ghost Value = { OkPacket };
+
+    ghost view = { λ p. packet_of p.body };
+}
+
+/// The bytes, where there are any.
+#[inline]
+fn unless_empty<'a>(content: &ParseBuf<'a>) -> Option<&'a [u8]>
+    ensures value { option_map (λ bytes. bytes.now) result ≡ spec.unless_empty content.now }
+{
+    let mut rest = content.rest();
+    let bytes = rest.eat_all();
+    if bytes.is_empty() { None } else { Some(bytes) }
+}
+
+impl<'a> OkPacketRef<'a> {
+    /// How many rows the statement changed.
+    #[inline]
+    pub fn affected_rows(&self) -> u64
+        ensures value { result ≡ spec.affected_rows self.now }
+    {
+        self.body.affected_rows
+    }
+
+    /// The number that the last inserted row got, where it got one.
+    #[inline]
+    pub fn last_insert_id(&self) -> Option<u64>
+        ensures value { result ≡ spec.last_insert_id self.now }
+    {
+        if self.body.last_insert_id == 0 {
+            None
+        } else {
+            Some(self.body.last_insert_id)
+        }
+    }
+
+    /// The state of the server.
+    #[inline]
+    pub fn status_flags(&self) -> StatusFlags
+        ensures value { result ≡ spec.status_flags self.now }
+    {
+        self.body.status_flags
+    }
+
+    /// How many warnings there are.
+    #[inline]
+    pub fn warnings(&self) -> u16
+        ensures value { result ≡ spec.warnings self.now }
+    {
+        self.body.warnings
+    }
+
+    /// The bytes of the info, where there is one.
+    #[inline]
+    pub fn info(&self) -> Option<&'a [u8]>
+        ensures value { option_map (λ bytes. bytes.now) result ≡ spec.info self.now }
+    {
+        unless_empty(&self.body.info)
+    }
+
+    /// The bytes of the state string, where there is one.
+    #[inline]
+    pub fn session_state_info(&self) -> Option<&'a [u8]>
+        ensures value { option_map (λ bytes. bytes.now) result ≡ spec.session_state self.now }
+    {
+        unless_empty(&self.body.session_state_info)
+    }
+
+    /// The changes that the state string spells, one after another, in the layouts that servers send; none where there is
+    /// no state. Each borrows for as long as the packet lives, and none takes memory.
+    #[inline]
+    pub fn session_state_changes(&self) -> SessionStateChangesRef<'a>
+        ensures value { result ≡ spec.state_bytes self.now }
+    {
+        SessionStateChangesRef::new(self.body.session_state_info.rest())
+    }
+}
+
+/// An OK packet of the kind `T` whose texts stay in the packet: the header of `T`, and its body.
+///
+/// It is read of the same bytes as an [`OkPacketDeserializer`](crate::OkPacketDeserializer), with the same faults, and in a
+/// clause it is that one.
+#[derive(Drop)]
+pub struct OkPacketRefDeserializer<'de, T> {
+    packet: OkPacketRef<'de>,
+    kind: PhantomData<T>,
+}
+
+impl<'de, T> Model for OkPacketRefDeserializer<'de, T> {
+    ghost use Rattle.mysql_replies.specs.declared.ok_packet.OkPacketDeserializer.{OkPacketDeserializer};
+
+    ghost Value = { OkPacketDeserializer T };
+
+    ghost view = { λ d. record { 0 = d.packet; 1 = record {} } };
+}
+
+impl<'de, T> OkPacketRefDeserializer<'de, T> {
+    /// The packet.
+    #[inline]
+    pub fn into_inner(self) -> OkPacketRef<'de>
+        ensures value { result ≡ spec.packet self.entry }
+    {
+        self.packet
+    }
+}
+
+impl<'de, T: OkPacketRefKind> MyDeserialize<'de> for OkPacketRefDeserializer<'de, T> {
+    const SIZE: Option<usize> = None;
+
+    type Size = AnyWidth;
+
+    /// What both sides can do.
+    type Ctx = CapabilityFlags;
+
+    ghost form = { λ capabilities. spec.ok_packet T.HEADER (T.body capabilities) };
+
+    #[inline]
+    #[tactic(auto, unfolding(crate::specs::OkPacket::ok_packet))]
+    fn deserialize<'s>(
+        capabilities: CapabilityFlags,
+        buf: &mut ParseBuf<'de>,
+    ) -> Result<Self, FaultOf<'s>> {
+        let mut rest = buf.rest();
+        let header: RawInt<u8> = rest.parse(())?;
+        if header.0 != T::HEADER {
+            return Err(FaultOf::InvalidData(InvalidOkPacketHeader::MESSAGE));
+        }
+        let body = T::parse_body_ref(capabilities, &mut rest)?;
+        *buf = rest;
+        let packet = OkPacketRef { body };
+        Ok(OkPacketRefDeserializer {
+            packet,
+            kind: PhantomData,
+        })
+    }
+
+    ghost size_is = { λ capabilities. spec.size-ok_packet _ T.HEADER (T.body capabilities) };
+}

@@ -1,0 +1,186 @@
+//! OK packets that are written, as a server sends them.
+
+ghost use Rattle.std.specs.Prelude.{◌≡◌, length, option_map};
+ghost use Rattle.mysql_replies.specs.OkPacket.{bytes_or_none};
+ghost use Rattle.mysql_replies.specs.OkPacketSent as sent;
+
+use crate::ok_kind::{CommonOkPacket, NetworkStreamTerminator, OldEofPacket, ResultSetTerminator};
+use crate::ok_packet::OkPacket;
+use bitflags::Flags;
+use mysql_wire::{
+    CapabilityFlags, Const, ConstU8, LeU16, LenEnc, Parts, RawBytes, RawInt, Sink, StatusFlags,
+    parts,
+};
+use std::borrow::CowSlice;
+use std::marker::{Model, PhantomData};
+
+/// How a kind of OK packet is written. It is open, as [`OkPacketKind`](crate::OkPacketKind) is.
+pub trait OkPacketLayout {
+    ghost use Rattle.std.specs.Prelude.{◌≡◌, length, List, ℕ};
+    ghost use Rattle.mysql_wire.specs.Flags as flags;
+    ghost use Rattle.mysql_replies.specs.declared.ok_packet.OkPacket as declared;
+
+    /// The defined bytes, by what both sides can do.
+    ghost bytes: { flags.CapabilityFlags → declared.OkPacket → List ℕ };
+
+    /// Hands the parts over.
+    fn put<S: Sink>(capabilities: CapabilityFlags, packet: &OkPacket<'_>, sink: &mut S)
+        requires { S.capacity sink.old (length (bytes capabilities packet.now)) }
+        ensures value { S.took sink.old (bytes capabilities packet.now) sink.new };
+}
+
+/// An OK packet that is written as a packet of the kind `T`, for what both sides can do: the other direction of
+/// [`OkPacketDeserializer`](crate::OkPacketDeserializer).
+///
+/// | Bytes | Field, but for the old end |
+/// |---|---|
+/// | 1 | the header of the kind: `00`, or `fe` at the end of a result set |
+/// | length-encoded | affected rows; 0 at the end of a result set |
+/// | length-encoded | insert id, 0 where there is none; 0 at the end of a result set |
+/// | 2 | status flags, little-endian |
+/// | 2 | warnings, little-endian |
+/// | length-encoded | the info: where there is one, or the state follows |
+/// | length-encoded | the state: where `CLIENT_SESSION_TRACK` is agreed and the status has `SERVER_SESSION_STATE_CHANGED` |
+///
+/// The old end (`Protocol::EOF_Packet`) is `fe`, the warnings and the status. What a kind or the flags leave no place for is
+/// not written. Each flag word and each packet is written.
+#[derive(Drop)]
+pub struct OkPacketSerializer<'p, 'a, T> {
+    packet: &'p OkPacket<'a>,
+    capabilities: CapabilityFlags,
+    kind: PhantomData<T>,
+}
+
+impl<'p, 'a, T> Model for OkPacketSerializer<'p, 'a, T> {
+    ghost use Rattle.mysql_replies.specs.OkPacketSent.{Sent};
+
+    ghost Value = { Sent };
+
+    ghost view = { λ s. (s.packet.now, s.capabilities) };
+}
+
+impl<'p, 'a, T> OkPacketSerializer<'p, 'a, T> {
+    /// The packet, for what both sides can do.
+    #[inline]
+    pub fn new(packet: &'p OkPacket<'a>, capabilities: CapabilityFlags) -> Self
+        ensures value { result ≡ (packet.now, capabilities) }
+    {
+        OkPacketSerializer {
+            packet,
+            capabilities,
+            kind: PhantomData,
+        }
+    }
+}
+
+impl<T: OkPacketLayout> Parts for OkPacketSerializer<'_, '_, T> {
+    ghost bytes = { λ s. T.bytes s.1 s.0 };
+
+    #[inline(always)]
+    fn put<S: Sink>(&self, sink: &mut S) {
+        T::put(self.capabilities, self.packet, sink);
+    }
+}
+
+/// The content that is there, or an empty one.
+#[inline(always)]
+fn content_or_empty<'a>(content: Option<&'a [u8]>) -> RawBytes<'a, LenEnc>
+    ensures value { result ≡ bytes_or_none (option_map (λ bytes. bytes.now) content.entry) }
+{
+    match content {
+        Some(bytes) => RawBytes::new(CowSlice::Borrowed(bytes)),
+        None => RawBytes::default(),
+    }
+}
+
+/// The insert id, or 0.
+#[inline(always)]
+fn id_or_zero(id: Option<u64>) -> u64
+    ensures value { result ≡ sent.id_or_zero id }
+{
+    match id {
+        Some(id) => id,
+        None => 0,
+    }
+}
+
+/// A header, these rows and this insert id, and all else of the packet.
+#[inline(always)]
+fn put_all<S: Sink, const HEADER: u8>(
+    capabilities: CapabilityFlags,
+    affected_rows: u64,
+    last_insert_id: u64,
+    packet: &OkPacket<'_>,
+    sink: &mut S,
+)
+    requires { S.capacity sink.old (length (sent.sent_bytes HEADER affected_rows last_insert_id capabilities packet.now)) }
+    ensures value { S.took sink.old (sent.sent_bytes HEADER affected_rows last_insert_id capabilities packet.now) sink.new }
+{
+    let header: ConstU8<(), HEADER> = ConstU8::new();
+    let affected_rows: RawInt<LenEnc> = RawInt::new(affected_rows);
+    let last_insert_id: RawInt<LenEnc> = RawInt::new(last_insert_id);
+    let status: Const<StatusFlags, LeU16> = Const::new(packet.status_flags());
+    let warnings: RawInt<LeU16> = RawInt::new(packet.warnings());
+    let numbers = parts!(status, warnings);
+    let tracks = capabilities.contains(CapabilityFlags::CLIENT_SESSION_TRACK);
+    let status_flags = packet.status_flags();
+    if tracks && status_flags.contains(StatusFlags::SERVER_SESSION_STATE_CHANGED) {
+        let info = content_or_empty(packet.info_ref());
+        let state = content_or_empty(packet.session_state_info_ref());
+        let tail = parts!(info, state);
+        sink.part(&parts!(header, affected_rows, last_insert_id, numbers, tail));
+    } else {
+        sink.part(&parts!(header, affected_rows, last_insert_id, numbers, packet.info));
+    }
+}
+
+/// The warnings and the status after the header.
+#[inline(always)]
+fn put_old_eof<S: Sink>(packet: &OkPacket<'_>, sink: &mut S)
+    requires { S.capacity sink.old (length (sent.eof_bytes packet.now)) }
+    ensures value { S.took sink.old (sent.eof_bytes packet.now) sink.new }
+{
+    let header: ConstU8<(), 0xfe> = ConstU8::new();
+    let warnings: RawInt<LeU16> = RawInt::new(packet.warnings());
+    let status: Const<StatusFlags, LeU16> = Const::new(packet.status_flags());
+    sink.part(&parts!(header, warnings, status));
+}
+
+impl OkPacketLayout for CommonOkPacket {
+    ghost bytes = { sent.common_bytes };
+
+    #[inline(always)]
+    #[tactic(auto, unfolding(crate::specs::OkPacketSent::common_bytes))]
+    fn put<S: Sink>(capabilities: CapabilityFlags, packet: &OkPacket<'_>, sink: &mut S) {
+        let id = id_or_zero(packet.last_insert_id());
+        put_all::<S, 0>(capabilities, packet.affected_rows(), id, packet, sink);
+    }
+}
+
+impl OkPacketLayout for ResultSetTerminator {
+    ghost bytes = { sent.terminator_bytes };
+
+    #[inline(always)]
+    #[tactic(auto, unfolding(crate::specs::OkPacketSent::terminator_bytes))]
+    fn put<S: Sink>(capabilities: CapabilityFlags, packet: &OkPacket<'_>, sink: &mut S) {
+        put_all::<S, 0xfe>(capabilities, 0, 0, packet, sink);
+    }
+}
+
+impl OkPacketLayout for OldEofPacket {
+    ghost bytes = { λ capabilities p. sent.eof_bytes p };
+
+    #[inline(always)]
+    fn put<S: Sink>(_capabilities: CapabilityFlags, packet: &OkPacket<'_>, sink: &mut S) {
+        put_old_eof(packet, sink);
+    }
+}
+
+impl OkPacketLayout for NetworkStreamTerminator {
+    ghost bytes = { λ capabilities p. sent.eof_bytes p };
+
+    #[inline(always)]
+    fn put<S: Sink>(_capabilities: CapabilityFlags, packet: &OkPacket<'_>, sink: &mut S) {
+        put_old_eof(packet, sink);
+    }
+}

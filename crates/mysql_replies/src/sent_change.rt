@@ -1,0 +1,71 @@
+//! Entries of a state string that are put together of changes, as a server sends them.
+#![tactic(auto, unfolding(mysql_session::specs::SessionStateChange::session_state_change_bytes))]
+
+ghost use Rattle.std.specs.Prelude.{◌≡◌, IfOk};
+ghost use Rattle.std.specs.Cow.{cow_slice_items};
+ghost use Rattle.mysql_replies.specs.SentChange as spec;
+
+use crate::session_state_info::SessionStateInfo;
+use mysql_session::SessionStateChange;
+use mysql_wire::{MySerialize, SessionStateType};
+use std::alloc::{AllocError, Global};
+use std::borrow::CowSlice;
+
+/// The type of a change, none of one of another kind.
+fn type_of(change: &SessionStateChange<'_>) -> Option<SessionStateType>
+    ensures value { result ≡ spec.type_of change.now }
+{
+    match change {
+        SessionStateChange::IsTracked(_) => Some(SessionStateType::SESSION_TRACK_STATE_CHANGE),
+        SessionStateChange::Schema(_) => Some(SessionStateType::SESSION_TRACK_SCHEMA),
+        SessionStateChange::SystemVariables(_) => {
+            Some(SessionStateType::SESSION_TRACK_SYSTEM_VARIABLES)
+        }
+        SessionStateChange::Gtids(_) => Some(SessionStateType::SESSION_TRACK_GTIDS),
+        SessionStateChange::TransactionCharacteristics(_) => {
+            Some(SessionStateType::SESSION_TRACK_TRANSACTION_CHARACTERISTICS)
+        }
+        SessionStateChange::TransactionState(_) => {
+            Some(SessionStateType::SESSION_TRACK_TRANSACTION_STATE)
+        }
+        SessionStateChange::Unsupported(_) => None,
+    }
+}
+
+/// The data of a change.
+fn data_of(
+    alloc: Global,
+    change: &SessionStateChange<'_>,
+) -> Result<CowSlice<'static, u8>, AllocError>
+    ensures value { IfOk result (λ content. cow_slice_items content ≡ spec.sent_data change.now) }
+{
+    match change {
+        SessionStateChange::IsTracked(true) => Ok(CowSlice::Borrowed(b"1")),
+        SessionStateChange::IsTracked(false) => Ok(CowSlice::Borrowed(b"0")),
+        _ => {
+            let mut content = Vec::new(alloc);
+            change.serialize(&mut content)?;
+            Ok(CowSlice::Owned(content))
+        }
+    }
+}
+
+impl SessionStateInfo<'static> {
+    /// The entry of a change, on memory of its own; none of [`Unsupported`](SessionStateChange::Unsupported), which has no
+    /// type.
+    ///
+    /// Whether changes are tracked is sent as one byte, `1` or `0`, as servers do;
+    /// [`decode_as_sent`](Self::decode_as_sent) reads it.
+    pub fn from_change(
+        alloc: Global,
+        change: &SessionStateChange<'_>,
+    ) -> Result<Option<SessionStateInfo<'static>>, AllocError>
+        ensures value { IfOk result (λ info. info ≡ spec.sent_info change.now) }
+    {
+        let Some(data_type) = type_of(change) else {
+            return Ok(None);
+        };
+        let content = data_of(alloc, change)?;
+        Ok(Some(SessionStateInfo::new(data_type, content)))
+    }
+}

@@ -1,0 +1,65 @@
+//! The session's changes that an OK packet carries, one after another, where they lie.
+#![tactic(auto, using(mysql_wire::proofs::Packets::packets), unfolding(crate::specs::SessionStateInfo::session_state_info))]
+
+ghost use Rattle.std.specs.Prelude.{◌≡◌};
+ghost use Rattle.mysql_replies.specs.SessionStateChangesRef as spec;
+
+use crate::session_state_changes::{read_entry, skip_entry};
+use crate::session_state_info_ref::read_as_sent_ref;
+use mysql_session::SessionStateChangeRef;
+use mysql_wire::{Fault, ParseBuf};
+use std::marker::Model;
+
+/// The changes of a state string, where they lie: each is the change as
+/// [`SessionStateInfoRef::decode_as_sent`](crate::SessionStateInfoRef::decode_as_sent) reads it, or its own fault. The next
+/// ones are given after a fault too, unless the state string is cut. They take no memory.
+///
+/// In a clause it is the list of the bytes that are left.
+#[derive(Drop)]
+pub struct SessionStateChangesRef<'a> {
+    entries: ParseBuf<'a>,
+}
+
+impl<'a> Model for SessionStateChangesRef<'a> {
+    ghost use Rattle.std.specs.Prelude.{ℕ, List};
+
+    ghost Value = { List ℕ };
+
+    ghost view = { λ c. c.entries };
+}
+
+impl<'a> SessionStateChangesRef<'a> {
+    /// The changes of these entries.
+    pub(crate) fn new(entries: ParseBuf<'a>) -> Self
+        ensures { result ≡ entries.entry }
+    {
+        SessionStateChangesRef { entries }
+    }
+}
+
+impl<'a> Iterator for SessionStateChangesRef<'a> {
+    type Item = Result<SessionStateChangeRef<'a>, Fault>;
+
+    ghost use Rattle.std.specs.Prelude.{length, ⊤};
+    ghost use Rattle.std.specs.Iterator.{at_most};
+
+    ghost can_next = { λ _. ⊤ };
+
+    ghost next_gives = { spec.NextChangeRef };
+
+    ghost remaining = { λ left. at_most (length left) };
+
+    #[tactic(auto, using(crate::proofs::AsSentRef::next_changes))]
+    fn next(&mut self) -> Option<Result<SessionStateChangeRef<'a>, Fault>> {
+        if self.entries.is_empty() {
+            return None;
+        }
+        match read_entry(&mut self.entries) {
+            Ok(entry) => Some(read_as_sent_ref(entry.data_type.0, entry.content)),
+            Err(fault) => {
+                skip_entry(&mut self.entries);
+                Some(Err(fault))
+            }
+        }
+    }
+}

@@ -1,0 +1,123 @@
+//! An entry of the state string of an OK packet, where it lies.
+#![tactic(auto, using(mysql_wire::proofs::Packets::packets), unfolding(crate::specs::SessionStateInfo::session_state_info))]
+
+ghost use Rattle.std.specs.Prelude.{false, ◌≡◌, [], List, ℕ, None, refl, IfOk};
+ghost use Rattle.mysql_wire.specs.Reading.{Answers};
+ghost use Rattle.mysql_session.specs.SessionStateChange.{session_state_change};
+ghost use Rattle.mysql_replies.specs.SessionStateInfo as spec;
+ghost use Rattle.mysql_replies.specs.SessionStateChanges as changes;
+
+use crate::session_state_info::{SessionStateInfo, is_state_change};
+use mysql_session::{ChangeRef, SessionStateChangeRef};
+use mysql_wire::{
+    AnyWidth, BytesRepr, Const, Fault, FaultOf, LenEnc, MyDeserialize, ParseBuf, RawBytes,
+    SessionStateType,
+};
+use std::borrow::CowSlice;
+use std::marker::Model;
+
+/// One change of a session's state, as an OK packet carries it, where it lies: a [`SessionStateInfo`] for as long as the
+/// packet lives, without memory.
+///
+/// It is read of the same bytes with the same faults, and in a clause it is that entry.
+#[derive(Drop)]
+pub struct SessionStateInfoRef<'a> {
+    data_type: Const<SessionStateType, u8>,
+    content: ParseBuf<'a>,
+}
+
+impl<'a> Model for SessionStateInfoRef<'a> {
+    ghost use Rattle.mysql_replies.specs.declared.session_state_info.SessionStateInfo.{SessionStateInfo};
+
+    ghost Value = { SessionStateInfo };
+
+    ghost view = { λ i. record { data_type = i.data_type; content = i.content } };
+}
+
+impl<'a> SessionStateInfoRef<'a> {
+    /// What has changed.
+    #[inline]
+    pub fn data_type(&self) -> SessionStateType
+        ensures value { result ≡ spec.data_type self.now }
+    {
+        self.data_type.0
+    }
+
+    /// The bytes of the data.
+    #[inline]
+    pub fn data_bytes(&self) -> &'a [u8]
+        ensures value { result.now ≡ spec.data_bytes self.now }
+    {
+        let mut data_bytes = self.content.rest();
+        data_bytes.eat_all()
+    }
+
+    /// The change that the data begins with; bytes after it are dropped. It takes no memory.
+    ///
+    /// The fault is that of reading the data as a change of this type. Servers send a state change in another layout:
+    /// [`decode_as_sent`](Self::decode_as_sent) reads both.
+    pub fn decode(&self) -> Result<SessionStateChangeRef<'a>, Fault>
+        ensures value { Answers false result [] (spec.decoded self.now) }
+        ensures spelled { IfOk result (λ change. (rest : List ℕ) × (session_state_change (spec.data_type self.now)).Spells change (spec.data_bytes self.now) rest) }
+    {
+        let mut bytes = self.content.rest();
+        bytes.parse(self.data_type.0)
+    }
+
+    /// The change, in either layout of a state change (`SESSION_TRACK_STATE_CHANGE`). It takes no memory.
+    ///
+    /// Servers send its data as one byte, the truth value itself: `1` where changes are tracked. All else is as
+    /// [`decode`](Self::decode) reads it, with the same faults.
+    pub fn decode_as_sent(&self) -> Result<SessionStateChangeRef<'a>, Fault>
+        ensures value { Answers false result [] (changes.decoded_as_sent self.now) }
+    {
+        read_as_sent_ref(self.data_type.0, self.content.rest())
+    }
+
+    /// The entry in its other form, which borrows the data still. It takes no memory.
+    pub fn to_info(&self) -> SessionStateInfo<'a>
+        ensures value { result ≡ self.now }
+    {
+        SessionStateInfo {
+            data_type: self.data_type,
+            content: RawBytes::new(CowSlice::Borrowed(self.data_bytes())),
+        }
+    }
+}
+
+/// The change that data of this type spells, in the layouts that servers send.
+pub(crate) fn read_as_sent_ref<'a>(
+    data_type: SessionStateType,
+    data_bytes: ParseBuf<'a>,
+) -> Result<SessionStateChangeRef<'a>, Fault>
+    ensures value { Answers false result [] (changes.change_as_sent data_type data_bytes.entry) }
+{
+    let mut bytes = data_bytes;
+    let change: Result<SessionStateChangeRef<'a>, Fault> = bytes.parse(data_type);
+    if change.is_err() && is_state_change(data_type) && bytes.len() == 1 {
+        let is_tracked = bytes.eat_all() == b"1".as_slice();
+        return Ok(SessionStateChangeRef::new(ChangeRef::IsTracked(is_tracked)));
+    }
+    change
+}
+
+/// As a [`SessionStateInfo`].
+impl<'de> MyDeserialize<'de> for SessionStateInfoRef<'de> {
+    const SIZE: Option<usize> = None;
+
+    type Size = AnyWidth;
+
+    type Ctx = ();
+
+    ghost form = { spec.session_state_info.form };
+
+    #[inline]
+    fn deserialize<'s>(_ctx: (), buf: &mut ParseBuf<'de>) -> Result<Self, FaultOf<'s>> {
+        Ok(SessionStateInfoRef {
+            data_type: buf.parse(())?,
+            content: <LenEnc as BytesRepr>::deserialize((), buf)?,
+        })
+    }
+
+    ghost size_is = { λ _. unfold spec.session_state_info in refl };
+}

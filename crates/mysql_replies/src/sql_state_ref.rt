@@ -1,0 +1,69 @@
+//! The SQL state of an error that stays in its packet.
+#![tactic(auto, using(mysql_wire::proofs::Packets::packets, crate::proofs::BytesExact::exact_bytes), unfolding(crate::specs::SqlState::sql_state))]
+
+ghost use Rattle.std.specs.Prelude.{◌≡◌, Some};
+ghost use Rattle.mysql_wire.specs.Form.{size-block};
+ghost use Rattle.mysql_replies.specs.SqlState as spec;
+
+use crate::sql_state::{SqlState, SqlStateMarker};
+use mysql_wire::{FaultOf, Fixed, MyDeserialize, ParseBuf};
+use std::marker::Model;
+
+/// An SQL state that stays in its packet: a [`SqlState`] whose five bytes are borrowed.
+///
+/// It is read of the same bytes with the same faults, and in a clause it is that state.
+#[derive(Drop)]
+pub struct SqlStateRef<'a> {
+    state: &'a [u8; 5],
+}
+
+impl<'a> Model for SqlStateRef<'a> {
+    ghost use Rattle.mysql_replies.specs.declared.sql_state.SqlState.{SqlState};
+    ghost use Rattle.mysql_replies.specs.SqlState.{state_of};
+
+    ghost Value = { SqlState };
+
+    ghost view = { λ s. state_of s.state.now };
+}
+
+impl<'a> SqlStateRef<'a> {
+    /// The five bytes, without the marker.
+    #[inline]
+    pub fn as_bytes(&self) -> &'a [u8]
+        ensures value { result.now ≡ spec.state_bytes self.now }
+    {
+        let state = self.state;
+        state
+    }
+
+    /// The state itself.
+    #[inline]
+    pub fn to_state(&self) -> SqlState
+        ensures value { result ≡ self.now }
+    {
+        SqlState::new(*self.state)
+    }
+}
+
+/// As a [`SqlState`].
+impl<'de> MyDeserialize<'de> for SqlStateRef<'de> {
+    const SIZE: Option<usize> = Some(6);
+
+    type Size = Fixed<6>;
+
+    type Ctx = ();
+
+    ghost form = { spec.sql_state.form };
+
+    #[inline]
+    fn deserialize<'s>(_ctx: (), buf: &mut ParseBuf<'de>) -> Result<Self, FaultOf<'s>> {
+        let mut fields: ParseBuf<'de> = buf.parse(6)?;
+        let _marker: SqlStateMarker = fields.parse_unchecked(())?;
+        let mut state: ParseBuf<'de> = fields.parse(5)?;
+        Ok(SqlStateRef {
+            state: <&[u8; 5]>::try_from(state.eat_all()).unwrap(),
+        })
+    }
+
+    ghost size_is = { λ _. unfold spec.sql_state in size-block 6 (spec.sql_state_fields.form tt) };
+}

@@ -1,0 +1,16 @@
+-- A change of a session's state where it lies.
+use Rattle.std.specs.Prelude.{ℕ, List}
+use Rattle.mysql_session.specs.SessionText.{text_of}
+use Rattle.mysql_session.specs.declared.session_state_change.SessionStateChange.{SessionStateChange}
+use Rattle.mysql_session.specs.declared.session_state_change.SessionStateChange.TheVariants as change
+use Rattle.mysql_session.specs.declared.session_state_change_ref.ChangeRef.{ChangeRef}
+use Rattle.mysql_session.specs.declared.session_state_change_ref.ChangeRef.TheVariants as place
+
+-- the change that lies there
+abbrev pub change_of : ChangeRef → SessionStateChange
+change_of (place.IsTracked is_tracked) = change.IsTracked is_tracked
+change_of (place.Schema schema) = change.Schema (text_of schema.now)
+change_of (place.SystemVariables variables) = change.SystemVariables variables
+change_of (place.Gtids gtids) = change.Gtids (text_of gtids.now)
+change_of (place.TransactionCharacteristics characteristics) = change.TransactionCharacteristics (text_of characteristics.now)
+change_of (place.TransactionState state) = change.TransactionState (text_of state.now)

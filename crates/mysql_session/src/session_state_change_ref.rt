@@ -1,0 +1,117 @@
+//! A change of a session's state, where it lies.
+#![tactic(auto, using(mysql_wire::proofs::Packets::packets), unfolding(crate::specs::SessionStateChange::session_state_change, crate::specs::SessionText::lenenc_text, crate::specs::SessionText::gtids))]
+
+ghost use Rattle.std.specs.Prelude.{false, ◌≡◌, OnErr};
+ghost use Rattle.mysql_wire.specs.LenEnc.{lenenc_string};
+ghost use Rattle.mysql_wire.specs.Reading.{Answers, IsTail};
+ghost use Rattle.mysql_session.specs.SessionStateChange as spec;
+ghost use Rattle.mysql_session.specs.SessionStateChangeRef.{change_of};
+
+use crate::system_variables_ref::SystemVariablesRef;
+use mysql_wire::{
+    AnyWidth, BytesRepr, FaultOf, LenEnc, MyDeserialize, ParseBuf, SessionStateType as Kind,
+};
+use std::marker::Model;
+
+/// What a [`SessionStateChangeRef`] tells, where it lies in the packet.
+#[derive(Drop)]
+pub enum ChangeRef<'a> {
+    /// Whether changes are tracked (`SESSION_TRACK_STATE_CHANGE`).
+    IsTracked(bool),
+    /// The bytes of the default schema's name (`SESSION_TRACK_SCHEMA`).
+    Schema(&'a [u8]),
+    /// System variables (`SESSION_TRACK_SYSTEM_VARIABLES`).
+    SystemVariables(SystemVariablesRef<'a>),
+    /// GTIDs, in the server's text form (`SESSION_TRACK_GTIDS`).
+    Gtids(&'a [u8]),
+    /// The statements that would start the transaction again (`SESSION_TRACK_TRANSACTION_CHARACTERISTICS`).
+    TransactionCharacteristics(&'a [u8]),
+    /// The state of the transaction, a character for each thing that it tells (`SESSION_TRACK_TRANSACTION_STATE`).
+    TransactionState(&'a [u8]),
+}
+
+/// A change of a session's state that stays in its packet: a [`SessionStateChange`](crate::SessionStateChange) for as long
+/// as the packet lives, without memory.
+///
+/// It is read of the same bytes with the same faults but for `Memory`, and in a clause it is that change. Reading is passed
+/// the entry's [`SessionStateType`](mysql_wire::SessionStateType).
+#[derive(Drop)]
+pub struct SessionStateChangeRef<'a> {
+    change: ChangeRef<'a>,
+}
+
+impl<'a> Model for SessionStateChangeRef<'a> {
+    ghost use Rattle.mysql_session.specs.declared.session_state_change.SessionStateChange.{SessionStateChange};
+    ghost use Rattle.mysql_session.specs.SessionStateChangeRef.{change_of};
+
+    ghost Value = { SessionStateChange };
+
+    ghost view = { λ c. change_of c.change };
+}
+
+impl<'a> SessionStateChangeRef<'a> {
+    /// The change of this.
+    #[inline]
+    pub fn new(change: ChangeRef<'a>) -> Self
+        ensures value { result ≡ change_of change.entry }
+    {
+        SessionStateChangeRef { change }
+    }
+
+    /// What it tells.
+    #[inline]
+    pub fn change(&self) -> &ChangeRef<'a>
+        ensures value { change_of result.now ≡ self.now }
+    {
+        &self.change
+    }
+
+    /// What it tells.
+    #[inline]
+    pub fn into_change(self) -> ChangeRef<'a>
+        ensures value { change_of result ≡ self.entry }
+    {
+        self.change
+    }
+}
+
+/// Reads a length-encoded string.
+#[inline]
+fn text<'s, 'de>(buf: &mut ParseBuf<'de>) -> Result<ParseBuf<'de>, FaultOf<'s>>
+    ensures value { Answers false result buf.new (lenenc_string.reads buf.old) }
+    ensures tail { OnErr result (IsTail buf.new buf.old) }
+{
+    <LenEnc as BytesRepr>::deserialize((), buf)
+}
+
+/// As a [`SessionStateChange`](crate::SessionStateChange), but for `Memory`: none is taken.
+impl<'de> MyDeserialize<'de> for SessionStateChangeRef<'de> {
+    const SIZE: Option<usize> = None;
+
+    type Size = AnyWidth;
+
+    /// What of the session's state has changed.
+    type Ctx = Kind;
+
+    ghost form = { spec.session_state_change };
+
+    fn deserialize<'s>(kind: Kind, buf: &mut ParseBuf<'de>) -> Result<Self, FaultOf<'s>> {
+        let change = match kind {
+            Kind::SESSION_TRACK_SYSTEM_VARIABLES => ChangeRef::SystemVariables(buf.parse(())?),
+            Kind::SESSION_TRACK_SCHEMA => ChangeRef::Schema(text(buf)?.eat_all()),
+            Kind::SESSION_TRACK_STATE_CHANGE => {
+                ChangeRef::IsTracked(text(buf)?.eat_all() == b"1".as_slice())
+            }
+            Kind::SESSION_TRACK_GTIDS => ChangeRef::Gtids(buf.eat_all()),
+            Kind::SESSION_TRACK_TRANSACTION_CHARACTERISTICS => {
+                ChangeRef::TransactionCharacteristics(text(buf)?.eat_all())
+            }
+            Kind::SESSION_TRACK_TRANSACTION_STATE => {
+                ChangeRef::TransactionState(text(buf)?.eat_all())
+            }
+        };
+        Ok(SessionStateChangeRef { change })
+    }
+
+    ghost size_is = { spec.size-session_state_change };
+}

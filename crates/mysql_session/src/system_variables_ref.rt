@@ -1,0 +1,115 @@
+//! System variables and their values, where they lie.
+
+ghost use Rattle.std.specs.Prelude.{◌≡◌, List, false, refl, IfErr, OnOk, Ok};
+ghost use Rattle.mysql_wire.specs.Many.{size-many};
+ghost use Rattle.mysql_wire.specs.Reading.{Faults};
+ghost use Rattle.mysql_session.specs.declared.system_variable.SystemVariable.{SystemVariable};
+ghost use Rattle.mysql_session.specs.SystemVariables as spec;
+ghost use Rattle.mysql_session.specs.SystemVariablesRef.{AreVariables, NextVariable, variables_in};
+
+use crate::system_variable_ref::SystemVariableRef;
+use mysql_wire::{AnyWidth, Fault, FaultOf, MyDeserialize, ParseBuf};
+use std::marker::Model;
+
+/// The system variables that were assigned values (`SESSION_TRACK_SYSTEM_VARIABLES`), where they lie: a
+/// [`SystemVariables`](crate::SystemVariables) for as long as the packet lives, without memory.
+///
+/// It gives one variable after another. All of them were read before the first one is given, so none is refused. In a
+/// clause it is the list of the variables that are left.
+#[derive(Drop)]
+pub struct SystemVariablesRef<'a> {
+    variables: ParseBuf<'a>,
+}
+
+impl<'a> Model for SystemVariablesRef<'a> {
+    ghost use Rattle.std.specs.Prelude.{List};
+    ghost use Rattle.mysql_session.specs.declared.system_variable.SystemVariable.{SystemVariable};
+    ghost use Rattle.mysql_session.specs.SystemVariablesRef.{variables_in, AreVariables};
+
+    ghost Value = { List SystemVariable };
+
+    ghost view = { λ v. variables_in v.variables };
+
+    ghost invariant = { λ v. AreVariables v.variables };
+}
+
+/// Reads variables to the end, and keeps none.
+#[tactic(auto, using(crate::proofs::VariablesRead::reads_variables))]
+fn read_variables<'s>(variables: ParseBuf<'_>) -> Result<(), FaultOf<'s>>
+    ensures ok { OnOk result (AreVariables variables.entry) }
+    ensures err { IfErr result (λ e. Faults {A = List SystemVariable} false e ((spec.system_variables.form tt).reads variables.entry)) }
+{
+    let mut rest = variables;
+    while !rest.is_empty() {
+        let before = rest.len();
+        let _variable: SystemVariableRef<'_> = rest.parse(())?;
+        if rest.len() == before {
+            return Err(FaultOf::InvalidData("Empty value in a list"));
+        }
+    }
+    Ok(())
+}
+
+/// Takes the first variable off the front, where one is left.
+#[tactic(auto, using(crate::proofs::VariablesRead::next_variables))]
+fn next_variable<'a>(variables: &mut ParseBuf<'a>) -> Option<SystemVariableRef<'a>>
+    requires { AreVariables variables.old }
+    ensures next { NextVariable (variables_in variables.old) result (variables_in variables.new) }
+    ensures others { AreVariables variables.new }
+{
+    if variables.is_empty() {
+        return None;
+    }
+    let variable: Result<SystemVariableRef<'a>, Fault> = variables.parse(());
+    variable.ok()
+}
+
+impl<'a> SystemVariablesRef<'a> {
+    /// The same variables once more.
+    #[inline]
+    pub fn iter(&self) -> SystemVariablesRef<'a>
+        ensures value { result ≡ self.now }
+    {
+        SystemVariablesRef {
+            variables: self.variables.rest(),
+        }
+    }
+}
+
+impl<'a> Iterator for SystemVariablesRef<'a> {
+    type Item = SystemVariableRef<'a>;
+
+    ghost use Rattle.std.specs.Prelude.{length, ⊤};
+    ghost use Rattle.std.specs.Iterator.{at_most};
+
+    ghost can_next = { λ _. ⊤ };
+
+    ghost next_gives = { NextVariable };
+
+    ghost remaining = { λ left. at_most (length left) };
+
+    fn next(&mut self) -> Option<SystemVariableRef<'a>> {
+        next_variable(&mut self.variables)
+    }
+}
+
+/// As [`SystemVariables`](crate::SystemVariables), but for `Memory`: none is taken.
+impl<'de> MyDeserialize<'de> for SystemVariablesRef<'de> {
+    const SIZE: Option<usize> = None;
+
+    type Size = AnyWidth;
+
+    type Ctx = ();
+
+    ghost form = { spec.system_variables.form };
+
+    #[tactic(auto, using(mysql_wire::proofs::Packets::packets))]
+    fn deserialize<'s>(_ctx: (), buf: &mut ParseBuf<'de>) -> Result<Self, FaultOf<'s>> {
+        read_variables(buf.rest())?;
+        let variables = buf.rest();
+        buf.eat_all();
+        Ok(SystemVariablesRef { variables })
+    }
+
+    ghost size_is = { λ _. unfold spec.system_variables in size-many _ };
+}
