@@ -17,3 +17,5 @@ pub mod BuilderEq
 pub mod HeadTypes
 pub mod Memory
 pub mod NoColumns
+pub mod RequestWriter
+pub mod StreamedRows

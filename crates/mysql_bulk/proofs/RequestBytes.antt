@@ -44,7 +44,7 @@ length-values_alone (v ∷ values) =
       sum_by-append param_size (content_of v ∷ []) (contents_of values),
     )
 
-length-head : (h : BulkHead) → length (head.bytes h) ≡ 7 + 2 * length h.types
+pub length-head : (h : BulkHead) → length (head.bytes h) ≡ 7 + 2 * length h.types
 unfolding head le_bytes
 length-head h = omega (arith, length-types h.types, length-append (types_bytes h.types) [])
 

@@ -21,3 +21,5 @@ pub mod ReadingBack
 pub mod ParamValueEq
 pub mod RequestEq
 pub mod BuilderEq
+pub mod RequestWriter
+pub mod StreamedRows

@@ -3,7 +3,7 @@
 //! Types that are declared for the columns stand in `builder/columns.rt`, rows that are borrowed in `builder/borrowed.rt`,
 //! runs over rows and over parameters in `run.rt` and `params_run.rt`, and a whole run in `whole_run.rt`.
 
-ghost use Rattle.std.specs.Prelude.{◌≡◌, ◌≢◌, ◌+◌, ◌≤◌, ◌-◌, ◌↔◌, ◌++◌, ◌∷◌, [], length, map, IsTrue, MatchOption, Some, None, true, false, sum_by, List, ℕ};
+ghost use Rattle.std.specs.Prelude.{◌≡◌, ◌≢◌, ◌+◌, ◌≤◌, ◌-◌, ◌↔◌, ◌++◌, ◌∷◌, [], length, map, IsTrue, MatchOption, IfSome, Some, None, true, false, sum_by, List, ℕ};
 ghost use Rattle.std.specs.Option.{option_copied};
 ghost use Rattle.mysql_cuts.specs.Cut.{PartFits};
 ghost use Rattle.mysql_values.specs.Value.{Content};
@@ -141,7 +141,7 @@ impl<'a> PartialEq for ComStmtBulkExecuteRequestBuilder<'a> {
 }
 
 /// The bytes of so many waiting rows with one more, if these may be one request.
-fn size_with<V: RowValue>(
+pub(crate) fn size_with<V: RowValue>(
     rule: BulkRule,
     limit: u64,
     types: bool,
@@ -149,7 +149,8 @@ fn size_with<V: RowValue>(
     size: u64,
     row: &[V],
 ) -> Option<u64>
-    ensures { (rows : List (List Content)) → length rows ≡ count → size ≡ sum_by row_size rows →
+    ensures size { IfSome result (λ n. n ≡ size + row_size (map V.content row.now)) }
+    ensures fits { (rows : List (List Content)) → length rows ≡ count → size ≡ sum_by row_size rows →
         MatchOption result (PartFits (rows_packing rule limit (length row.now)) types (rows ++ map V.content row.now ∷ []) → ⊥)
         (λ n. PartFits (rows_packing rule limit (length row.now)) types (rows ++ map V.content row.now ∷ []) × (n ≡ sum_by row_size (rows ++ map V.content row.now ∷ []))) }
 {
@@ -165,7 +166,7 @@ fn size_with<V: RowValue>(
 }
 
 /// The flags of a request.
-fn flags_of(types: bool, results: bool) -> StmtBulkExecuteFlags
+pub(crate) fn flags_of(types: bool, results: bool) -> StmtBulkExecuteFlags
     ensures { result ≡ request_flags types results }
 {
     match (types, results) {

@@ -1,6 +1,6 @@
 //! Laws over requests and runs of the builder, each a function that does nothing.
 
-ghost use Rattle.std.specs.Prelude.{◌≡◌, ◌++◌, ℕ, List, [], Ok, Some, None, length, map};
+ghost use Rattle.std.specs.Prelude.{◌≡◌, ◌≢◌, ◌++◌, ◌∷◌, ℕ, true, List, [], Ok, Some, None, length, map};
 ghost use Rattle.std.specs.List.{AllZip};
 ghost use Rattle.mysql_cuts.specs.declared.rule.BulkRule.{BulkRule};
 ghost use Rattle.mysql_cuts.specs.Cut.{IsFewest, ends_after, request_size};
@@ -23,6 +23,8 @@ ghost use Rattle.mysql_bulk.specs.Head.{column_of_type};
 ghost use Rattle.mysql_bulk.specs.ReadingBack.{ParamValueAgrees, RequestFits, RowsFit, PartAgrees, row_under, IsDeclaredPart};
 ghost use Rattle.mysql_bulk.specs.Request.{BulkRequest, request_bytes, written_size};
 ghost use Rattle.mysql_bulk.specs.RequestForm.{bulk_request};
+ghost use Rattle.mysql_bulk.specs.RequestWriter.{WriterState, Holds};
+ghost use Rattle.mysql_bulk.specs.StreamedRows.{Streams, AreFewest};
 ghost use Rattle.mysql_bulk.specs.Row.{first_length, row_size, rows_packing};
 ghost use Rattle.mysql_bulk.specs.Run.{RunState, NextRequest};
 ghost use Rattle.mysql_bulk.specs.WholeRun.{IsNew};
@@ -89,6 +91,13 @@ pub fn params_loop_that_refuses_a_row<I: Iterator<Item = Params>>()
 pub fn params_loop_that_refuses_params<I: Iterator<Item = Params>>()
     ensures { (names : Names) (s u : RunState I) (requests : List BulkRequest) (e : ParamsError) →
         WholeLoop (NextRequestOfParams I.next_gives names) s requests (Some (refused.Params e)) u → RefusedParams I.next_gives names s requests e u }
+{}
+
+/// Rows that are streamed through a new writer, where each request is let go once a row does not fit with those that wait, are
+/// sent in the fewest requests: the last one is that of the rows that wait at the end.
+pub fn streamed_rows_are_sent_in_the_fewest_requests()
+    ensures { (w u : WriterState) (rows : List (List Content)) (requests : List (List ℕ)) →
+        Holds w [] → w.types_due ≡ true → Streams w rows requests u → rows ≢ [] → AreFewest w rows (requests ++ u.bytes ∷ []) }
 {}
 
 // ---- what is written is read again

@@ -17,4 +17,4 @@ returns g c =
     (λ m. PartFits (rows_packing c.self.inside.rule c.self.inside.limit n) c.self.inside.types_due (rows ++ row ∷ []) × (m ≡ sum_by row_size (rows ++ row ∷ []))) in
     rw (← c.self.view_is)
     (subst P (sym (length-map c.args.row.now g.V.RowValue.content))
-    (c.size_with.ensures rows (length-rows_of (unwrap_or c.self.inside.arity 0) c.self.inside.count (contents_of c.self.inside.values.items)) c.self.invariant.flat.size_is))
+    (c.size_with.ensures.fits rows (length-rows_of (unwrap_or c.self.inside.arity 0) c.self.inside.count (contents_of c.self.inside.values.items)) c.self.invariant.flat.size_is))

@@ -1,0 +1,219 @@
+-- What a writer of requests has written, and the builder that it stands for.
+use Rattle.std.proofs.Common.{◌≡◌, ◌≢◌, ℕ, ◌+◌, ◌*◌, Bool, true, false, if◌then◌else◌, List, [], ◌∷◌, ◌++◌, length, map, Option, Some, None, Ok, Err, IsTrue, refl, sym, ◌∙◌, ap, subst, arith, append_assoc, length-append, sum_by}
+use Rattle.std.specs.Prelude.{All, MatchOption, IfSome}
+use Rattle.std.proofs.lemmas.Grind.{flat_map-append}
+use Rattle.std.proofs.lemmas.List.{append-nil, length-map, map-append}
+use Rattle.std.proofs.lemmas.List.Elements.{All-nil, All-head, All-push}
+use Rattle.std.proofs.lemmas.List.Sums.{sum_by-append}
+use Rattle.mysql_cuts.specs.Cut.{PartFits, rows_in}
+use Rattle.mysql_values.specs.declared.param_type.ParamType.{ParamType}
+use Rattle.mysql_values.specs.declared.value_ref.ValueRef.{ValueRef}
+use Rattle.mysql_values.specs.Value.{Content}
+use Rattle.mysql_values.specs.ValueRef.{ref_content}
+use Rattle.mysql_bulk.specs.declared.error.BulkRowRefusal.TheVariants as refused
+use Rattle.mysql_bulk.specs.declared.error.BulkExecuteRequestError.TheVariants as request_refused
+use Rattle.mysql_bulk.specs.Builder.{BuilderState, packing, TakesRow, RowFits, after_row, IsRequest, BuildsRequest, after_request}
+use Rattle.mysql_bulk.specs.ColumnTypes.{TakesTypes, spell_row}
+use Rattle.mysql_bulk.specs.ParamValue.{with_indicator, param_value_bytes, values_bytes}
+use Rattle.mysql_bulk.specs.Request.{request_flags, request_bytes}
+use Rattle.mysql_bulk.specs.RequestWriter.{WriterState, as_builder, request_of, bytes_so_far, Holds, IsBuilt, AddsAsBuilder, FinishesAsBuilder, cell_bytes, cells_bytes, head_bytes, with_row}
+use Rattle.mysql_bulk.specs.Row.{row_size, rows_packing, first_length}
+use Rattle.mysql_bulk.proofs.ColumnTypes.{spelled_long}
+use Rattle.mysql_bulk.proofs.RequestBytes.{length-values, length-head, contents_indicators, size_of_rows}
+
+-- ---- the bytes of a row
+
+-- those of its values, each after its indicator
+pub cells_of : (row : List ValueRef) → cells_bytes row ≡ values_bytes (map with_indicator (map ref_content row))
+cells_of [] = refl
+cells_of (v ∷ row) = ap (λ (l : List ℕ). cell_bytes v ++ l) (cells_of row)
+
+pub length-cells : (row : List ValueRef) → length (cells_bytes row) ≡ row_size (map ref_content row)
+length-cells row =
+    ap length (cells_of row)
+    ∙ length-values (map with_indicator (map ref_content row))
+    ∙ ap row_size (contents_indicators (map ref_content row))
+
+pub length-sent : (due : Bool) (types : List ParamType) → 2 * length (if due then types else []) ≡ (if due then 2 * length types else 0)
+length-sent true types = refl
+length-sent false types = refl
+
+pub length-head_bytes : (w : WriterState) → length (head_bytes w) ≡ 7 + (if w.types_due then 2 * length w.types else 0)
+length-head_bytes w = omega (arith, length-head (record { stmt_id = w.stmt_id; bulk_flags = request_flags w.types_due w.results; types = if w.types_due then w.types else [] }), length-sent w.types_due w.types)
+
+-- ---- the bytes of a request, and of one row more
+
+values_more : (rows : List (List Content)) (row : List Content) → map with_indicator (rows_in (rows ++ row ∷ [])) ≡ map with_indicator (rows_in rows) ++ map with_indicator row
+values_more [] row = ap (map with_indicator) (append-nil row)
+values_more (r ∷ rows) row =
+    map-append with_indicator r (rows_in (rows ++ row ∷ []))
+    ∙ ap (λ l. map with_indicator r ++ l) (values_more rows row)
+    ∙ sym (append_assoc (map with_indicator r) (map with_indicator (rows_in rows)) (map with_indicator row))
+    ∙ ap (λ l. l ++ map with_indicator row) (sym (map-append with_indicator r (rows_in rows)))
+
+pub first_bytes : (w : WriterState) (row : List ValueRef) → bytes_so_far (as_builder w (map ref_content row ∷ [])) (map ref_content row ∷ []) ≡ head_bytes w ++ cells_bytes row
+first_bytes w row =
+    let values = map ref_content row in
+    ap (λ (l : List ℕ). head_bytes w ++ l)
+    (append-nil (values_bytes (map with_indicator (values ++ [])))
+    ∙ ap (λ (l : List Content). values_bytes (map with_indicator l)) (append-nil values)
+    ∙ sym (cells_of row))
+
+pub further_bytes : (w : WriterState) (rows : List (List Content)) (row : List ValueRef) → rows ≢ []
+    → bytes_so_far (as_builder w (rows ++ map ref_content row ∷ [])) (rows ++ map ref_content row ∷ []) ≡ bytes_so_far (as_builder w rows) rows ++ cells_bytes row
+further_bytes w [] row some = absurd (some refl)
+further_bytes w (r ∷ rows) row some =
+    let values = map with_indicator (map ref_content row) in
+    let before = map with_indicator (rows_in (r ∷ rows)) in
+    ap (λ l. head_bytes w ++ (values_bytes l ++ [])) (values_more (r ∷ rows) (map ref_content row))
+    ∙ ap (λ (l : List ℕ). head_bytes w ++ l)
+    (append-nil (values_bytes (before ++ values))
+    ∙ flat_map-append param_value_bytes before values
+    ∙ ap (λ (l : List ℕ). values_bytes before ++ l) (sym (cells_of row)))
+    ∙ sym (append_assoc (head_bytes w) (values_bytes before) (cells_bytes row))
+    ∙ ap (λ (l : List ℕ). (head_bytes w ++ l) ++ cells_bytes row) (sym (append-nil (values_bytes before)))
+
+-- ---- a row is offered
+
+-- whether it fits is the same for all rows that may wait
+pub fits_after : (w : WriterState) (row : List Content) (n : ℕ) (r : Option ℕ) → n ≡ length row
+    → ((rows : List (List Content)) → length rows ≡ w.count → w.size ≡ sum_by row_size rows →
+    MatchOption r (PartFits (rows_packing w.rule w.limit n) w.types_due (rows ++ row ∷ []) → ⊥)
+    (λ m. PartFits (rows_packing w.rule w.limit n) w.types_due (rows ++ row ∷ []) × (m ≡ sum_by row_size (rows ++ row ∷ []))))
+    → IfSome r (λ m. m ≡ w.size + row_size row)
+    → MatchOption r ((rows : List (List Content)) → Holds w rows → RowFits (as_builder w rows) row → ⊥)
+    (λ m. (m ≡ w.size + row_size row) × ((rows : List (List Content)) → Holds w rows → RowFits (as_builder w rows) row))
+fits_after w row n None long each size = λ rows h f.
+    let P : ℕ → Type 0 = λ m. PartFits (rows_packing w.rule w.limit m) w.types_due (rows ++ row ∷ []) in
+    each rows (sym h.count) h.size (subst P (sym long) f)
+fits_after w row n (Some m) long each size = (
+  size,
+  λ rows h.
+      let P : ℕ → Type 0 = λ k. PartFits (rows_packing w.rule w.limit k) w.types_due (rows ++ row ∷ []) in
+      subst P long (each rows (sym h.count) h.size).0,
+)
+
+-- it was written after these bytes
+pub holds_more : (w : WriterState) (rows : List (List Content)) (row : List ValueRef) (size : ℕ) (before : List ℕ) → Holds w rows → TakesRow (as_builder w rows) (map ref_content row)
+    → RowFits (as_builder w rows) (map ref_content row) → size ≡ w.size + row_size (map ref_content row)
+    → bytes_so_far (as_builder w (rows ++ map ref_content row ∷ [])) (rows ++ map ref_content row ∷ []) ≡ before ++ cells_bytes row
+    → Holds (with_row w before size row) (rows ++ map ref_content row ∷ [])
+holds_more w rows row size before h t f total bytes =
+    let values = map ref_content row in
+    let P : ℕ → Type 0 = λ n. PartFits (rows_packing w.rule w.limit n) w.types_due (rows ++ values ∷ []) in
+    record {
+      count = omega (arith, h.count, length-append rows (values ∷ []));
+      size = omega (arith, total, h.size, sum_by-append row_size rows (values ∷ []));
+      bytes = sym bytes;
+      taken = All-push (TakesTypes (Some w.types)) rows values h.taken t.1;
+      fits = λ some. subst P t.0 f;
+    }
+
+-- the builder took it too
+pub builder_more : (w : WriterState) (rows : List (List Content)) (row : List Content) → TakesRow (as_builder w rows) row → as_builder w (rows ++ row ∷ []) ≡ after_row (as_builder w rows) row
+builder_more w rows row t = ap (λ (n : ℕ). record (as_builder w (rows ++ row ∷ [])) { arity = Some n }) (sym t.0)
+
+-- no row waits where none was counted
+pub none_counted : (w : WriterState) (rows : List (List Content)) → Holds w rows → w.count ≡ 0 → rows ≡ []
+none_counted w [] h e = refl
+none_counted w (row ∷ rows) h e = absurd (omega (arith, h.count, e))
+
+pub some_counted : (w : WriterState) (rows : List (List Content)) → Holds w rows → w.count ≢ 0 → rows ≢ []
+some_counted w rows h n e = n (h.count ∙ ap length e)
+
+-- ---- the request
+
+length_first : (w : WriterState) (rows : List (List Content)) → rows ≢ [] → All (TakesTypes (Some w.types)) rows → length w.types ≡ first_length rows
+length_first w [] some taken = absurd (some refl)
+length_first w (row ∷ rows) some taken = sym (spelled_long w.types row (All-head (TakesTypes (Some w.types)) row rows taken))
+
+pub bytes_are : (s : BuilderState) (rows : List (List Content)) → rows ≢ [] → bytes_so_far s rows ≡ request_bytes (request_of s rows)
+bytes_are s [] some = absurd (some refl)
+bytes_are s (row ∷ rows) some = refl
+
+-- what was written is the request that the builder builds
+pub holds_request : (w : WriterState) (rows : List (List Content)) → Holds w rows → rows ≢ [] → IsBuilt (as_builder w rows) w.bytes
+holds_request w rows h some =
+    let s = as_builder w rows in
+    let request = request_of s rows in
+    let theirs : IsRequest s rows request = record { id = refl; flags = refl; types = refl; values = refl; taken = h.taken } in
+    let P : ℕ → Type 0 = λ n. PartFits (packing s n) w.types_due rows in
+    let builds : BuildsRequest s request (after_request s) = record {
+      some = some;
+      is_theirs = theirs;
+      size = size_of_rows s rows request theirs;
+      fits = subst P (length_first w rows some h.taken) (h.fits some);
+      left = refl;
+    } in
+    (request, builds, h.bytes ∙ bytes_are s rows some)
+
+-- a writer in which no row waits
+pub holds_none : (w : WriterState) → w.count ≡ 0 → w.size ≡ 0 → w.bytes ≡ [] → Holds w []
+holds_none w count size bytes = record { count = count; size = size; bytes = bytes; taken = All-nil (TakesTypes (Some w.types)); fits = λ some. absurd (some refl) }
+
+-- ---- what is answered
+
+abbrev pub Spells : WriterState → List ValueRef → Type 0
+Spells w row = IsTrue (spell_row w.types (map ref_content row))
+
+abbrev pub EachFits : WriterState → List ValueRef → Type 0
+EachFits w row = (rows : List (List Content)) → Holds w rows → RowFits (as_builder w rows) (map ref_content row)
+
+abbrev pub NoneFits : WriterState → List ValueRef → Type 0
+NoneFits w row = (rows : List (List Content)) → Holds w rows → RowFits (as_builder w rows) (map ref_content row) → ⊥
+
+takes : (w : WriterState) (row : List ValueRef) → length row ≡ length w.types → Spells w row → (rows : List (List Content)) → TakesRow (as_builder w rows) (map ref_content row)
+takes w row long spells rows = (length-map row ref_content ∙ long, spells)
+
+pub refused_arity : (w : WriterState) (row : List ValueRef) → length row ≢ length w.types → AddsAsBuilder w (map ref_content row) (Err refused.MixedArity) w
+refused_arity w row long = λ rows h. (rows, h, ((λ e. long (sym (length-map row ref_content) ∙ e)), refl))
+
+pub refused_types : (w : WriterState) (row : List ValueRef) → length row ≡ length w.types → (Spells w row → ⊥) → AddsAsBuilder w (map ref_content row) (Err refused.MixedTypes) w
+refused_types w row long spells = λ rows h. (rows, h, (length-map row ref_content ∙ long, spells, refl))
+
+pub does_not_fit : (w : WriterState) (row : List ValueRef) → length row ≡ length w.types → Spells w row → w.count ≢ 0 → NoneFits w row → AddsAsBuilder w (map ref_content row) (Ok false) w
+does_not_fit w row long spells some none = λ rows h. (rows, h, (takes w row long spells rows, none rows h, some_counted w rows h some, refl))
+
+pub is_too_large : (w : WriterState) (row : List ValueRef) → length row ≡ length w.types → Spells w row → w.count ≡ 0 → NoneFits w row → AddsAsBuilder w (map ref_content row) (Err refused.TooLarge) w
+is_too_large w row long spells empty none = λ rows h. (rows, h, (takes w row long spells rows, none rows h, none_counted w rows h empty, refl))
+
+pub no_memory : (w : WriterState) (row : List ValueRef) → length row ≡ length w.types → Spells w row → EachFits w row → AddsAsBuilder w (map ref_content row) (Err refused.Memory) w
+no_memory w row long spells fits = λ rows h. (rows, h, (takes w row long spells rows, fits rows h, refl))
+
+wrote : (w : WriterState) (row : List ValueRef) (size : ℕ) (before : List ℕ) → length row ≡ length w.types → Spells w row → EachFits w row → size ≡ w.size + row_size (map ref_content row)
+    → ((rows : List (List Content)) → Holds w rows → bytes_so_far (as_builder w (rows ++ map ref_content row ∷ [])) (rows ++ map ref_content row ∷ []) ≡ before ++ cells_bytes row)
+    → AddsAsBuilder w (map ref_content row) (Ok true) (with_row w before size row)
+wrote w row size before long spells fits total bytes = λ rows h.
+    let t = takes w row long spells rows in (
+      rows ++ map ref_content row ∷ [],
+      holds_more w rows row size before h t (fits rows h) total (bytes rows h),
+      (t, fits rows h, builder_more w rows (map ref_content row) t),
+    )
+
+first_after : (w : WriterState) (rows : List (List Content)) (row : List ValueRef) → rows ≡ [] → w.bytes ≡ bytes_so_far (as_builder w rows) rows
+    → bytes_so_far (as_builder w (rows ++ map ref_content row ∷ [])) (rows ++ map ref_content row ∷ []) ≡ (w.bytes ++ head_bytes w) ++ cells_bytes row
+first_after w [] row e b = first_bytes w row ∙ ap (λ (l : List ℕ). (l ++ head_bytes w) ++ cells_bytes row) (sym b)
+first_after w (r ∷ rows) row e b = cc
+
+pub wrote_first : (w : WriterState) (row : List ValueRef) (size : ℕ) → length row ≡ length w.types → Spells w row → EachFits w row → size ≡ w.size + row_size (map ref_content row) → w.count ≡ 0
+    → AddsAsBuilder w (map ref_content row) (Ok true) (with_row w (w.bytes ++ head_bytes w) size row)
+wrote_first w row size long spells fits total empty = wrote w row size (w.bytes ++ head_bytes w) long spells fits total (λ rows h. first_after w rows row (none_counted w rows h empty) h.bytes)
+
+pub wrote_further : (w : WriterState) (row : List ValueRef) (size : ℕ) → length row ≡ length w.types → Spells w row → EachFits w row → size ≡ w.size + row_size (map ref_content row) → w.count ≢ 0
+    → AddsAsBuilder w (map ref_content row) (Ok true) (with_row w w.bytes size row)
+wrote_further w row size long spells fits total some =
+    wrote w row size w.bytes long spells fits total (λ rows h. further_bytes w rows row (some_counted w rows h some) ∙ ap (λ (l : List ℕ). l ++ cells_bytes row) (sym h.bytes))
+
+-- ---- the request is done with
+
+pub nothing_finished : (w : WriterState) → w.count ≡ 0 → FinishesAsBuilder w w
+nothing_finished w empty = λ rows h.
+    let e = none_counted w rows h empty in
+    (Err request_refused.NoParams, subst (Holds w) e h, (e, ap (as_builder w) (sym e)))
+
+pub request_finished : (w : WriterState) (bytes : List ℕ) → w.count ≢ 0 → bytes ≡ []
+    → FinishesAsBuilder w (record w { types_due = w.rule.types_always; count = 0; size = 0; bytes = bytes })
+request_finished w bytes some none = λ rows h.
+    let built = holds_request w rows h (some_counted w rows h some) in
+    let left = record w { types_due = w.rule.types_always; count = 0; size = 0; bytes = bytes } in
+    (Ok built.0, holds_none left refl refl none, built.1)

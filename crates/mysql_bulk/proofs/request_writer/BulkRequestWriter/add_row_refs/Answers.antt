@@ -1,0 +1,23 @@
+use Rattle.std.proofs.Common.{◌≡◌, true, length, map, Ok, sym, ◌∙◌, ap, subst, rules}
+use Rattle.mysql_values.specs.ValueRef.{ref_content}
+use Rattle.mysql_bulk.specs.RequestWriter.{WriterState, AddsAsBuilder}
+use Rattle.mysql_bulk.proofs.RequestWriter.{Spells, wrote_first, wrote_further}
+use Rattle.mysql_bulk.proofs.request_writer.BulkRequestWriter.add_row_refs.Goals as goal
+
+pub returns-then-write_first : goal.returns-then-write_first
+returns-then-write_first c =
+    let w = c.args.self.now in
+    let row = c.args.row.now in
+    let long : length row ≡ length w.types = search rules in
+    let spells : Spells w row = search rules in
+    let empty = sym (ap (λ (w : WriterState). w.count) c.self.view_is) ∙ c.if-self-eq0-2.true in
+    subst (λ u. AddsAsBuilder w (map ref_content row) (Ok true) u) (sym c.if-write_first.ensures.written) (wrote_first w row c.in-Some.size long spells c.in-Some.ensures.1 c.in-Some.ensures.0 empty)
+
+pub returns-then-write_further : goal.returns-then-write_further
+returns-then-write_further c =
+    let w = c.args.self.now in
+    let row = c.args.row.now in
+    let long : length row ≡ length w.types = search rules in
+    let spells : Spells w row = search rules in
+    subst (λ u. AddsAsBuilder w (map ref_content row) (Ok true) u) (sym c.if-write_further.ensures.written)
+    (wrote_further w row c.in-Some.size long spells c.in-Some.ensures.1 c.in-Some.ensures.0 (λ e. c.if-self-eq0-2.false (ap (λ (w : WriterState). w.count) c.self.view_is ∙ e)))

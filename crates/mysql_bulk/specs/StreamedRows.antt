@@ -1,0 +1,27 @@
+-- A caller's own loop over a writer of requests.
+use Rattle.std.specs.Prelude.{◌≡◌, ◌⊎◌, ℕ, true, false, List, [], ◌∷◌, length, Ok}
+use Rattle.mysql_cuts.specs.Cut.{IsFewest}
+use Rattle.mysql_values.specs.Value.{Content}
+use Rattle.mysql_bulk.specs.Builder.{BuilderState, packing, after_request}
+use Rattle.mysql_bulk.specs.Request.{request_bytes}
+use Rattle.mysql_bulk.specs.RequestWriter.{WriterState, as_builder, request_of, AddsAsBuilder, FinishesAsBuilder}
+
+-- Rows were offered to a writer one after another, and each was written: where it did not fit with those that waited, their request was let go first. These are the bytes of the requests that were let go.
+abbrev pub Streams : WriterState → List (List Content) → List (List ℕ) → WriterState → Type 0
+Streams w [] requests u = (requests ≡ []) × (u ≡ w)
+Streams w (row ∷ rows) requests u =
+    ((m : WriterState) × AddsAsBuilder w row (Ok true) m × Streams m rows requests u)
+    ⊎ ((v : WriterState) × (m : WriterState) × (later : List (List ℕ)) × AddsAsBuilder w row (Ok false) w × FinishesAsBuilder w v × AddsAsBuilder v row (Ok true) m × (requests ≡ w.bytes ∷ later) × Streams m rows later u)
+
+-- these are the bytes of the requests that a builder makes of the parts, one after another
+abbrev pub AreBytes : BuilderState → List (List (List Content)) → List (List ℕ) → Type 0
+AreBytes s [] [] = Unit {0}
+AreBytes s (part ∷ parts) (bytes ∷ requests) = (bytes ≡ request_bytes (request_of s part)) × AreBytes (after_request s) parts requests
+AreBytes s [] (bytes ∷ requests) = ⊥
+AreBytes s (part ∷ parts) [] = ⊥
+
+-- the requests are those of a fewest cut of the rows
+pub record AreFewest (w : WriterState) (rows : List (List Content)) (requests : List (List ℕ)) : Type 0 where
+  pub cut : List (List (List Content))
+  pub fewest : IsFewest (packing (as_builder w []) (length w.types)) rows cut
+  pub bytes : AreBytes (as_builder w []) cut requests

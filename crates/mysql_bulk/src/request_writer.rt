@@ -1,0 +1,343 @@
+//! A writer of bulk requests, which keeps the bytes of the rows that it is offered and not their values.
+
+ghost use Rattle.std.specs.Prelude.{◌≡◌, ◌≢◌, ◌+◌, ◌++◌, ◌≤◌, ◌-◌, ◌↔◌, IsTrue, IfOk, MatchOption, [], length, map, None, Some, true, if◌then◌else◌, vec_len, vec_capacity, List};
+ghost use Rattle.std.specs.Bool.{OnTrue, OnFalse};
+ghost use Rattle.mysql_values.specs.Value.{Content};
+ghost use Rattle.mysql_values.specs.ValueRef.{ref_content};
+ghost use Rattle.mysql_bulk.specs.Builder.{RowFits};
+ghost use Rattle.mysql_bulk.specs.Head.{head};
+ghost use Rattle.mysql_bulk.specs.ParamValue.{indicator_of};
+ghost use Rattle.mysql_bulk.specs.RequestWriter.{as_builder, Holds, StartsAsBuilder, AddsAsBuilder, IsBuilt, FinishesAsBuilder, cell_bytes, cells_bytes, head_bytes, with_row};
+ghost use Rattle.mysql_bulk.specs.Row.{row_size};
+
+use crate::builder::{flags_of, size_with};
+use crate::column_types::{first_refused, spell_row};
+use crate::error::{BulkColumnTypeError, BulkRowRefusal};
+use crate::head::ComStmtBulkExecuteHeader;
+use crate::size::request_len;
+use mysql_cuts::BulkRule;
+use mysql_values::{ParamType, ValueRef};
+use mysql_wire::{
+    Const, LeU16, LeU32, MariadbBulkIndicator, MySerialize, RawInt, Seq, StmtBulkExecuteFlags,
+    Unknown, parts,
+};
+use std::marker::Model;
+use std::mem;
+
+/// Writes the rows of a bulk execution straight into the bytes of its requests, none of which is past the limit.
+///
+/// It answers what [`ComStmtBulkExecuteRequestBuilder`](crate::ComStmtBulkExecuteRequestBuilder) answers with the same
+/// settings and declared types, and its requests are those of that builder, byte for byte; but each byte of a value is copied
+/// once, and a row takes no memory beside that of the buffer. The types of the columns are declared when it is made, since
+/// they stand before the values in a request.
+///
+/// Rows are offered until one does not fit; then the request is taken from [`request`](Self::request), and after
+/// [`finish`](Self::finish) the row is offered again.
+#[derive(Debug, Drop)]
+pub struct BulkRequestWriter<'a> {
+    stmt_id: u32,
+    limit: u64,
+    results: bool,
+    rule: BulkRule,
+    types: &'a [ParamType],
+    types_due: bool,
+    /// The number of rows that were written, and their bytes in the request.
+    count: usize,
+    size: u64,
+    /// The request so far.
+    bytes: Vec<u8>,
+}
+
+impl<'a> Model for BulkRequestWriter<'a> {
+    ghost use Rattle.mysql_bulk.specs.RequestWriter.{WriterState};
+
+    ghost Value = { WriterState };
+
+    ghost view = { λ a. record {
+      stmt_id = a.stmt_id;
+      limit = a.limit;
+      results = a.results;
+      rule = a.rule;
+      types = a.types.now;
+      types_due = a.types_due;
+      count = a.count;
+      size = a.size;
+      bytes = a.bytes.items;
+    } };
+}
+
+/// The indicator of a value: `BULK_INDICATOR_NULL` for `NULL`, else `BULK_INDICATOR_NONE`.
+#[inline(always)]
+fn indicator_of(value: &ValueRef<'_>) -> MariadbBulkIndicator
+    ensures { result ≡ indicator_of (ref_content value.now) }
+{
+    match value {
+        ValueRef::NULL => MariadbBulkIndicator::BULK_INDICATOR_NULL,
+        _ => MariadbBulkIndicator::BULK_INDICATOR_NONE,
+    }
+}
+
+/// Writes a value after its indicator, where there is capacity.
+#[inline(always)]
+fn append_cell(out: &mut Vec<u8>, value: &ValueRef<'_>)
+    requires { vec_len out.old + length (cell_bytes value.now) ≤ vec_capacity out.old }
+    ensures items { out.new.items ≡ out.old.items ++ cell_bytes value.now }
+    ensures capacity { vec_capacity out.old ≤ vec_capacity out.new }
+{
+    let indicator = Const::<MariadbBulkIndicator, u8>::new(indicator_of(value));
+    parts!(indicator, *value).append(out);
+}
+
+/// Writes the values of a row, each after its indicator, where there is capacity.
+// (the buffer is moved to a local one, whose place in memory no write to its bytes can change: so those of a number are one
+// store)
+#[inline(always)]
+fn append_cells(out: &mut Vec<u8>, row: &[ValueRef<'_>])
+    requires { vec_len out.old + length (cells_bytes row.now) ≤ vec_capacity out.old }
+    ensures { out.new.items ≡ out.old.items ++ cells_bytes row.now }
+{
+    let none = Vec::new(*out.allocator());
+    let mut bytes = mem::replace(out, none);
+    for value in row {
+        append_cell(&mut bytes, value);
+    }
+    *out = bytes;
+}
+
+/// Writes what stands before the values of a request, where there is capacity.
+#[tactic(auto, using(mysql_wire::proofs::Packets::packets), unfolding(crate::specs::Head::head))]
+fn append_head(
+    out: &mut Vec<u8>,
+    stmt_id: u32,
+    bulk_flags: StmtBulkExecuteFlags,
+    types: &[ParamType],
+)
+    requires { vec_len out.old + length (head.bytes (record { stmt_id = stmt_id; bulk_flags = bulk_flags; types = types.now })) ≤ vec_capacity out.old }
+    ensures items { out.new.items ≡ out.old.items ++ head.bytes (record { stmt_id = stmt_id; bulk_flags = bulk_flags; types = types.now }) }
+    ensures capacity { vec_capacity out.old ≤ vec_capacity out.new }
+{
+    let header = ComStmtBulkExecuteHeader::new();
+    let stmt_id = RawInt::<LeU32>::new(stmt_id);
+    let bulk_flags = Const::<StmtBulkExecuteFlags, LeU16>::new(bulk_flags);
+    let types = Seq::<ParamType, Unknown>::borrowed(types);
+    parts!(header, stmt_id, bulk_flags, types).append(out);
+}
+
+impl<'a> BulkRequestWriter<'a> {
+    /// A writer into a buffer, which it empties first and whose memory it uses for each request. A request has at most as many
+    /// bytes as a packet may, less four. It takes no memory.
+    ///
+    /// The types of the columns are those that
+    /// [`with_column_types`](crate::ComStmtBulkExecuteRequestBuilder::with_column_types) takes. Where one may not be declared,
+    /// the error has its place.
+    pub fn new(
+        buffer: Vec<u8>,
+        stmt_id: u32,
+        max_allowed_packet: usize,
+        types: &'a [ParamType],
+    ) -> Result<Self, BulkColumnTypeError>
+        requires { 4 ≤ max_allowed_packet }
+        ensures none { IfOk result (λ writer. writer.count ≡ 0) }
+        ensures starts { StartsAsBuilder stmt_id (max_allowed_packet - 4) types.now result }
+    {
+        if let Some(place) = first_refused(types) {
+            return Err(BulkColumnTypeError { place });
+        }
+        let mut bytes = buffer;
+        bytes.clear();
+        Ok(BulkRequestWriter {
+            stmt_id,
+            limit: (max_allowed_packet - 4) as u64,
+            results: false,
+            rule: BulkRule::PLAIN,
+            types,
+            types_due: true,
+            count: 0,
+            size: 0,
+            bytes,
+        })
+    }
+
+    /// Asks the server for the results of each row.
+    pub fn with_results(self) -> Self
+        requires { self.count ≡ 0 }
+        ensures { result ≡ record self.entry { results = true } }
+    {
+        let mut writer = self;
+        writer.results = true;
+        writer
+    }
+
+    /// Sends types in every request from now on, also where one was written before.
+    pub fn with_types_always(self) -> Self
+        requires { self.count ≡ 0 }
+        ensures { result ≡ record self.entry { types_due = true; rule = record self.entry.rule { types_always = true } } }
+    {
+        let mut writer = self;
+        writer.types_due = true;
+        writer.rule = BulkRule {
+            types_always: true,
+            max_rows: writer.rule.max_rows,
+        };
+        writer
+    }
+
+    /// Sends at most so many rows in a request.
+    pub fn with_max_rows(self, k: usize) -> Self
+        requires none_waits { self.count ≡ 0 }
+        requires some { 1 ≤ k }
+        ensures { result ≡ record self.entry { rule = record self.entry.rule { max_rows = Some k } } }
+    {
+        let mut writer = self;
+        writer.rule = BulkRule {
+            types_always: writer.rule.types_always,
+            max_rows: Some(k),
+        };
+        writer
+    }
+
+    /// Whether rows wait for a request.
+    pub fn has_rows(&self) -> bool
+        ensures { IsTrue result ↔ (self.now.count ≢ 0) }
+    {
+        self.count != 0
+    }
+
+    /// The buffer, with the request so far.
+    pub fn into_buffer(self) -> Vec<u8>
+        ensures { result.items ≡ self.entry.bytes }
+    {
+        self.bytes
+    }
+
+    /// Offers a row, whose bytes are written where it fits.
+    ///
+    /// Where the row fits with those that wait, it is written after them, and the answer is `Ok(true)`; where it does not fit
+    /// with those that wait it is `Ok(false)`, and the request is done with then. The refusals are those of
+    /// [`add_row_refs`](crate::ComStmtBulkExecuteRequestBuilder::add_row_refs): `Memory` where the buffer did not grow. Where no
+    /// row is written, the writer stays as it was. The bytes of the row are counted first, and the buffer grows once at the
+    /// most.
+    // (inlined: a loop that offers rows of a known length is faster then)
+    #[inline(always)]
+    pub fn add_row_refs(&mut self, row: &[ValueRef<'_>]) -> Result<bool, BulkRowRefusal>
+        ensures { AddsAsBuilder self.old (map ref_content row.now) result self.new }
+    {
+        if row.len() != self.types.len() {
+            return Err(BulkRowRefusal::MixedArity);
+        }
+        if !spell_row(self.types, row) {
+            return Err(BulkRowRefusal::MixedTypes);
+        }
+        let Some(size) = self.size_after(row) else {
+            return if self.count == 0 {
+                Err(BulkRowRefusal::TooLarge)
+            } else {
+                Ok(false)
+            };
+        };
+        if self.count == 0 {
+            return if self.write_first(row, size) {
+                Ok(true)
+            } else {
+                Err(BulkRowRefusal::Memory)
+            };
+        }
+        if self.write_further(row, size) {
+            Ok(true)
+        } else {
+            Err(BulkRowRefusal::Memory)
+        }
+    }
+
+    /// The bytes of the rows with one more, if these may be one request.
+    #[inline(always)]
+    fn size_after(&self, row: &[ValueRef<'_>]) -> Option<u64>
+        ensures { MatchOption result ((rows : List (List Content)) → Holds self.now rows → RowFits (as_builder self.now rows) (map ref_content row.now) → ⊥)
+            (λ n. (n ≡ self.now.size + row_size (map ref_content row.now)) × ((rows : List (List Content)) → Holds self.now rows → RowFits (as_builder self.now rows) (map ref_content row.now))) }
+    {
+        size_with(
+            self.rule,
+            self.limit,
+            self.types_due,
+            self.count,
+            self.size,
+            row,
+        )
+    }
+
+    /// Writes the first row of a request, after what stands before it. Where memory is refused, nothing is written.
+    fn write_first(&mut self, row: &[ValueRef<'_>], size: u64) -> bool
+        requires { size ≡ self.old.size + row_size (map ref_content row.now) }
+        ensures written { OnTrue result (self.new ≡ with_row self.old (self.old.bytes ++ head_bytes self.old) size row.now) }
+        ensures stays { OnFalse result (self.new ≡ self.old) }
+    {
+        let Some(count) = self.count.checked_add(1) else {
+            return false;
+        };
+        let Some(bytes) = request_len(self.types.len(), self.types_due, size) else {
+            return false;
+        };
+        let Ok(()) = self.bytes.reserve(bytes as usize) else {
+            return false;
+        };
+        let bulk_flags = flags_of(self.types_due, self.results);
+        let types = sent_types(self.types_due, self.types);
+        append_head(&mut self.bytes, self.stmt_id, bulk_flags, types);
+        append_cells(&mut self.bytes, row);
+        self.size = size;
+        self.count = count;
+        true
+    }
+
+    /// Writes a further row. Where memory is refused, nothing is written.
+    #[inline(always)]
+    fn write_further(&mut self, row: &[ValueRef<'_>], size: u64) -> bool
+        requires { size ≡ self.old.size + row_size (map ref_content row.now) }
+        ensures written { OnTrue result (self.new ≡ with_row self.old self.old.bytes size row.now) }
+        ensures stays { OnFalse result (self.new ≡ self.old) }
+    {
+        let Some(count) = self.count.checked_add(1) else {
+            return false;
+        };
+        let Ok(()) = self.bytes.reserve((size - self.size) as usize) else {
+            return false;
+        };
+        append_cells(&mut self.bytes, row);
+        self.size = size;
+        self.count = count;
+        true
+    }
+
+    /// The request of the rows that were written: its bytes, as the request of the builder is written. `None` where no row
+    /// was written.
+    pub fn request(&self) -> Option<&[u8]>
+        ensures { (rows : List (List Content)) → Holds self.now rows → MatchOption result (rows ≡ []) (λ bytes. IsBuilt (as_builder self.now rows) bytes.now) }
+    {
+        if self.count == 0 {
+            None
+        } else {
+            Some(self.bytes.as_slice())
+        }
+    }
+
+    /// Lets the request go: its rows wait no longer, and the next row that is written begins another one. Where no row was
+    /// written, nothing changes. The memory of the buffer stays.
+    pub fn finish(&mut self)
+        ensures { FinishesAsBuilder self.old self.new }
+    {
+        if self.count == 0 {
+            return;
+        }
+        self.bytes.clear();
+        self.count = 0;
+        self.size = 0;
+        self.types_due = self.rule.types_always;
+    }
+}
+
+/// The types that a request sends.
+fn sent_types(types_due: bool, types: &[ParamType]) -> &[ParamType]
+    ensures { result.now ≡ (if types_due then types.now else []) }
+{
+    if types_due { types } else { &[] }
+}
