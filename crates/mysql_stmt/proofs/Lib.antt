@@ -16,3 +16,6 @@ pub mod StmtAgain
 pub mod PutCells
 pub mod RowViews
 pub mod PlainOptions
+pub mod TextRowAgain
+pub mod RowBytes
+pub mod BinaryRowAgain

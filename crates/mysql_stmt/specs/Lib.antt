@@ -13,3 +13,5 @@ pub mod RowEq
 pub mod RowView
 pub mod StmtWithMetadata
 pub mod PlainExecution
+pub mod TextRow
+pub mod BinaryRow

@@ -1,6 +1,6 @@
 -- The answer to a prepared statement.
 use Rattle.std.specs.Prelude.{ℕ, ◌<◌, ◌^◌, refl}
-use Rattle.mysql_wire.specs.Codecs.{Codec, Fields, ◌>>=◌, give, field, block, packet, const_u8, skip, u16, u32}
+use Rattle.mysql_wire.specs.Codecs.{Codec, Fields, ◌>>=◌, give, field, block, packet, const_u8, skip, u16, u32, raw_int}
 use Rattle.mysql_stmt.specs.declared.stmt.StmtPacket.{StmtPacket}
 
 -- 0, the statement's number, the counts of columns and parameters, a byte with any value, the count of warnings
@@ -24,6 +24,17 @@ stmt_fields = do
 -- twelve bytes
 unfoldable pub stmt : Codec (Unit {0}) StmtPacket
 stmt = packet (block 12 stmt_fields (λ p. refl)) (λ p. refl)
+
+-- the packet of these numbers
+abbrev pub stmt_packet_of : (statement_id num_columns num_params warning_count : ℕ) → StmtPacket
+stmt_packet_of statement_id num_columns num_params warning_count = record {
+  status = record { 0 = record {} };
+  statement_id = raw_int statement_id;
+  num_columns = raw_int num_columns;
+  num_params = raw_int num_params;
+  skipped = record {};
+  warning_count = raw_int warning_count;
+}
 
 -- ---- the packet's numbers
 

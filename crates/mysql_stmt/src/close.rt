@@ -2,14 +2,36 @@
 #![tactic(auto, using(mysql_wire::proofs::Packets::packets), unfolding(crate::specs::Close::close))]
 
 ghost use Rattle.std.specs.Prelude.{◌≡◌};
-ghost use Rattle.mysql_stmt.specs.Close.{close};
+ghost use Rattle.mysql_wire.specs.Form.{size-block};
+ghost use Rattle.mysql_stmt.specs.Close as spec;
 
-use mysql_wire::{ConstU8, LeU32, Parts, RawInt, Sink, parts};
+use mysql_wire::{
+    ConstFault, ConstU8, FaultOf, Fixed, LeU32, MyDeserialize, ParseBuf, Parts, RawInt, Sink, parts,
+};
+use thiserror::Error;
+
+/// The first byte of the end of a statement is not `19`.
+#[derive(Clone, Copy, Debug, Default, PartialEq, Eq, Hash, Error)]
+#[error("Invalid header for COM_STMT_CLOSE")]
+pub struct InvalidComStmtCloseHeader;
+
+impl ConstFault for InvalidComStmtCloseHeader {
+    const MESSAGE: &'static str = "Invalid header for COM_STMT_CLOSE";
+}
+
+/// The first byte of the end of a statement: `19`.
+pub type ComStmtCloseHeader = ConstU8<InvalidComStmtCloseHeader, 0x19>;
 
 /// `COM_STMT_CLOSE`: the client gives up a prepared statement. The server answers nothing.
 ///
-/// It is written alone, in 5 bytes: the byte `19`, and the statement's number with its low byte
-/// first.
+/// It takes 5 bytes, numbers little-endian:
+///
+/// | Bytes | Field |
+/// |---|---|
+/// | 1 | the byte `19` |
+/// | 4 | the statement's number |
+///
+/// Fewer than 5 bytes are refused as `UnexpectedEof`, another first byte as `InvalidData`.
 #[derive(Clone, Copy, Debug, PartialEq, Eq)]
 pub struct ComStmtClose {
     /// The number that the server gave the statement.
@@ -25,12 +47,31 @@ impl ComStmtClose {
     }
 }
 
+impl<'de> MyDeserialize<'de> for ComStmtClose {
+    const SIZE: Option<usize> = Some(5);
+
+    type Size = Fixed<5>;
+
+    type Ctx = ();
+
+    ghost form = { spec.close.form };
+
+    fn deserialize<'s>(_ctx: (), buf: &mut ParseBuf<'de>) -> Result<Self, FaultOf<'s>> {
+        let mut fields: ParseBuf<'de> = buf.parse(5)?;
+        let _header: ComStmtCloseHeader = fields.parse_unchecked(())?;
+        let stmt_id: RawInt<LeU32> = fields.parse_unchecked(())?;
+        Ok(ComStmtClose { stmt_id: stmt_id.0 })
+    }
+
+    ghost size_is = { λ _. unfold spec.close in size-block 5 (spec.close_fields.form tt) };
+}
+
 impl Parts for ComStmtClose {
-    ghost bytes = { close.bytes };
+    ghost bytes = { spec.close.bytes };
 
     #[inline(always)]
     fn put<S: Sink>(&self, sink: &mut S) {
-        let header: ConstU8<(), 0x19> = ConstU8::new();
+        let header: ComStmtCloseHeader = ConstU8::new();
         let stmt_id: RawInt<LeU32> = RawInt::new(self.stmt_id);
         sink.part(&parts!(header, stmt_id));
     }

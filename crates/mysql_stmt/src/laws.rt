@@ -3,7 +3,7 @@
 //! Each law is a function with nothing in it, whose contract holds for all values.
 #![tactic(auto, using(mysql_wire::proofs::Packets::packets))]
 
-ghost use Rattle.std.specs.Prelude.{◌≡◌, ◌+◌, ◌<◌, ◌^◌, ◌++◌, ◌↔◌, ℕ, List, Ok, Option, Some, None, IsTrue, length};
+ghost use Rattle.std.specs.Prelude.{◌≡◌, ◌+◌, ◌<◌, ◌^◌, ◌++◌, ◌↔◌, ℕ, List, Ok, Option, Some, None, IsTrue, length, map};
 ghost use Rattle.mysql_stmt.specs.Bitmap.{Bitmap, bytes_for};
 ghost use Rattle.mysql_stmt.specs.NullBitmap.{null_bitmap, borrowed};
 ghost use Rattle.mysql_stmt.specs.declared.stmt.StmtPacket.{StmtPacket};
@@ -26,6 +26,10 @@ ghost use Rattle.mysql_stmt.specs.declared.execute_with_options.ComStmtExecuteWi
 ghost use Rattle.mysql_stmt.specs.Row.{AnswersFound, Cells, CopyConvertsTo, FoundConverts};
 ghost use Rattle.mysql_stmt.specs.RowForm.{text_row, bin_row};
 ghost use Rattle.mysql_stmt.specs.RowView.{bin_row_of, text_row_of};
+ghost use Rattle.mysql_stmt.specs.TextRow.{text_row_bytes, text_contents, TextCellFits};
+ghost use Rattle.mysql_stmt.specs.BinaryRow.{takes_row, IsRowBytes};
+ghost use Rattle.mysql_values.specs.ReadingBack.{IsInRange};
+ghost use Rattle.std.specs.List.{All};
 ghost use Rattle.mysql_values.specs.ByContent.{IsConvertible};
 ghost use Rattle.mysql_values.specs.Cells.{held};
 ghost use Rattle.mysql_values.specs.declared.value.Value.{Value};
@@ -77,15 +81,31 @@ pub fn stmt_packet_once()
     ensures rest { (p q : StmtPacket) (bytes rest left : List ℕ) → (stmt.form tt).Spells p bytes rest → (stmt.form tt).Spells q bytes left → rest ≡ left }
 {}
 
-/// What is written of the data of one parameter spells it, where nothing follows.
+/// What is written of the data of one parameter is read again, where nothing follows.
 pub fn long_data_round_trips()
     ensures spelled { (p : ComStmtSendLongData) (rest : List ℕ) → long_data.fits tt p rest → (long_data.form tt).Spells p (long_data.bytes p ++ rest) rest }
+    ensures read { (p : ComStmtSendLongData) (rest : List ℕ) → long_data.fits tt p rest → (long_data.form tt).reads (long_data.bytes p ++ rest) ≡ Ok (p, rest) }
 {}
 
-/// What is written of the end of a statement spells it, whatever follows.
+/// What is written of the end of a statement is read again, whatever follows.
 pub fn close_round_trips()
     ensures spelled { (p : ComStmtClose) (rest : List ℕ) → close.fits tt p rest → (close.form tt).Spells p (close.bytes p ++ rest) rest }
+    ensures read { (p : ComStmtClose) (rest : List ℕ) → close.fits tt p rest → (close.form tt).reads (close.bytes p ++ rest) ≡ Ok (p, rest) }
 {}
+
+/// The end of a statement takes 5 bytes.
+pub fn close_size() -> Option<usize>
+    ensures value { result ≡ Some 5 }
+{
+    <crate::close::ComStmtClose as MyDeserialize>::SIZE
+}
+
+/// The data of one parameter has no constant size.
+pub fn long_data_has_no_constant_size() -> Option<usize>
+    ensures value { result ≡ None }
+{
+    <crate::long_data::ComStmtSendLongData as MyDeserialize>::SIZE
+}
 
 /// What is written of a bitmap of NULLs is read again for the count of its values, whatever follows.
 pub fn null_bitmap_round_trips()
@@ -109,6 +129,27 @@ pub fn views_read_rows()
     ensures binary { (offset : ℕ) (columns : List Column) (bytes : List ℕ) →
         (bin_row_of ⟦<mysql_replies::Column as TypedColumn>⟧.type_of ⟦<mysql_replies::Column as TypedColumn>⟧.unsigned offset columns).reads bytes ≡ (bin_row offset columns).reads bytes }
     ensures text { (columns : List Column) (bytes : List ℕ) → (text_row_of (length columns)).reads bytes ≡ (text_row columns).reads bytes }
+{}
+
+/// What is written of a text row is read again as the same cells, whatever follows.
+#[tactic(auto, using(crate::proofs::TextRowAgain::text_rows))]
+pub fn text_row_round_trips()
+    ensures spelled { (cells : List (Option (List ℕ))) (rest : List ℕ) → All TextCellFits cells →
+        (text_row_of (length cells)).Spells (text_contents cells) (text_row_bytes cells ++ rest) rest }
+    ensures read { (cells : List (Option (List ℕ))) (rest : List ℕ) → All TextCellFits cells →
+        (text_row_of (length cells)).reads (text_row_bytes cells ++ rest) ≡ Ok (text_contents cells, rest) }
+{}
+
+/// What is written of a binary row, which its columns take, is read again as the same values, whatever follows. Their numbers
+/// have their widths, as those of every [`ValueRef`](mysql_values::ValueRef) have, and a span of no time has no sign.
+#[tactic(auto, using(crate::proofs::BinaryRowAgain::binary_rows))]
+pub fn binary_row_round_trips<C: TypedColumn>()
+    ensures spelled { (columns : List C) (values : List Content) (bytes rest : List ℕ) → IsTrue (takes_row C.type_of C.unsigned columns values) → All IsInRange values
+        → length columns + 9 < 2 ^ 64 → IsRowBytes C.type_of C.unsigned columns values bytes
+        → (bin_row_of C.type_of C.unsigned 2 columns).Spells (map Some values) (bytes ++ rest) rest }
+    ensures read { (columns : List C) (values : List Content) (bytes rest : List ℕ) → IsTrue (takes_row C.type_of C.unsigned columns values) → All IsInRange values
+        → length columns + 9 < 2 ^ 64 → IsRowBytes C.type_of C.unsigned columns values bytes
+        → (bin_row_of C.type_of C.unsigned 2 columns).reads (bytes ++ rest) ≡ Ok (map Some values, rest) }
 {}
 
 /// The bitmap of an execution stands after its first ten bytes.

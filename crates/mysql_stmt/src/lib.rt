@@ -3,6 +3,7 @@
 //! their cuts of `mysql_cuts`, have a path here too.
 #![tactic(auto)]
 
+mod binary_row;
 mod binary_row_view;
 mod close;
 mod column_index;
@@ -23,11 +24,13 @@ mod sent_params;
 mod sent_values;
 mod stmt;
 mod stmt_with_metadata;
+mod text_row;
 mod text_row_view;
 mod typed_column;
 
+pub use binary_row::{BinaryRowError, write_binary_row};
 pub use binary_row_view::BinaryRowView;
-pub use close::ComStmtClose;
+pub use close::{ComStmtClose, ComStmtCloseHeader, InvalidComStmtCloseHeader};
 pub use column_index::ColumnIndex;
 pub use execute::{
     ComStmtExecuteHeader, ComStmtExecuteRequest, ComStmtExecuteRequestBuilder,
@@ -40,10 +43,10 @@ pub use long_data::{
 };
 pub use mysql_bulk::{
     BulkColumnTypeError, BulkExecuteRequestBuilderError, BulkExecuteRequestError,
-    BulkParamsRequests, BulkRequests, BulkRowRefusal, BulkRun, ComStmtBulkExecuteHeader,
-    ComStmtBulkExecuteRequest, ComStmtBulkExecuteRequestBuilder, InvalidComStmtBulkExecuteHeader,
-    StmtBulkExecuteParamType, StmtBulkExecuteParamValue, StmtBulkExecuteParamValues, bulk_row_size,
-    read_bulk_rows,
+    BulkParamsRequests, BulkRequestWriter, BulkRequests, BulkRowRefusal, BulkRun,
+    ComStmtBulkExecuteHeader, ComStmtBulkExecuteRequest, ComStmtBulkExecuteRequestBuilder,
+    InvalidComStmtBulkExecuteHeader, StmtBulkExecuteParamType, StmtBulkExecuteParamValue,
+    StmtBulkExecuteParamValues, bulk_row_size, read_bulk_rows,
 };
 pub use mysql_cuts::{BulkRule, cut_is_fewest};
 pub use null_bitmap::NullBitmap;
@@ -52,5 +55,6 @@ pub use row_deserializer::RowDeserializer;
 pub use row_protocol::RowProtocol;
 pub use stmt::{InvalidStmtPacketStatus, StmtPacket};
 pub use stmt_with_metadata::StmtPacketWithMetadata;
+pub use text_row::write_text_row;
 pub use text_row_view::TextRowView;
 pub use typed_column::TypedColumn;

@@ -1,12 +1,13 @@
 //! The data of one parameter, sent ahead of an execution.
 #![tactic(auto, using(mysql_wire::proofs::Packets::packets), unfolding(crate::specs::LongData::long_data))]
 
-ghost use Rattle.std.specs.Prelude.{◌≡◌, IfOk};
+ghost use Rattle.std.specs.Prelude.{◌≡◌, IfOk, refl};
 ghost use Rattle.std.specs.Cow.{cow_slice_items};
-ghost use Rattle.mysql_stmt.specs.LongData.{long_data, long_data_of};
+ghost use Rattle.mysql_stmt.specs.LongData as spec;
 
 use mysql_wire::{
-    ConstFault, ConstU8, EofBytes, LeU16, LeU32, Parts, RawBytes, RawInt, Sink, parts,
+    AnyWidth, ConstFault, ConstU8, EofBytes, FaultOf, LeU16, LeU32, MyDeserialize, ParseBuf, Parts,
+    RawBytes, RawInt, Sink, parts,
 };
 use std::alloc::{AllocError, Global};
 use std::borrow::CowSlice;
@@ -27,7 +28,7 @@ pub type ComStmtSendLongDataHeader = ConstU8<InvalidComStmtSendLongDataHeader, 0
 /// `COM_STMT_SEND_LONG_DATA`: some bytes of one parameter, sent ahead of the execution that they
 /// are for. The server joins what it got for a parameter, and answers nothing.
 ///
-/// It is written alone, numbers with their little-endian:
+/// Numbers are little-endian:
 ///
 /// | Bytes | Field |
 /// |---|---|
@@ -35,6 +36,8 @@ pub type ComStmtSendLongDataHeader = ConstU8<InvalidComStmtSendLongDataHeader, 0
 /// | 4 | the statement's number |
 /// | 2 | which parameter, the first being 0 |
 /// | to the end | the data |
+///
+/// Fewer than seven bytes are refused as `UnexpectedEof`, another first byte as `InvalidData`. The data stays in the packet.
 #[derive(Clone, Debug, PartialEq, Eq, Drop)]
 pub struct ComStmtSendLongData<'a> {
     header: ComStmtSendLongDataHeader,
@@ -46,7 +49,7 @@ pub struct ComStmtSendLongData<'a> {
 impl<'a> ComStmtSendLongData<'a> {
     /// These bytes, for that parameter of that statement.
     pub fn new(stmt_id: u32, param_index: u16, content: CowSlice<'a, u8>) -> Self
-        ensures value { result ≡ long_data_of stmt_id param_index (cow_slice_items content.entry) }
+        ensures value { result ≡ spec.long_data_of stmt_id param_index (cow_slice_items content.entry) }
     {
         ComStmtSendLongData {
             header: ConstU8::new(),
@@ -54,6 +57,30 @@ impl<'a> ComStmtSendLongData<'a> {
             param_index: RawInt::new(param_index),
             content: RawBytes::new(content),
         }
+    }
+
+    /// The statement's number.
+    #[inline]
+    pub fn stmt_id(&self) -> u32
+        ensures value { result ≡ spec.stmt_id self.now }
+    {
+        self.stmt_id.0
+    }
+
+    /// Which parameter, the first being 0.
+    #[inline]
+    pub fn param_index(&self) -> u16
+        ensures value { result ≡ spec.param_index self.now }
+    {
+        self.param_index.0
+    }
+
+    /// The data.
+    #[inline]
+    pub fn data_ref(&self) -> &[u8]
+        ensures value { result.now ≡ spec.content self.now }
+    {
+        self.content.as_bytes()
     }
 
     /// The same packet, on memory of its own.
@@ -71,8 +98,29 @@ impl<'a> ComStmtSendLongData<'a> {
     }
 }
 
+impl<'de> MyDeserialize<'de> for ComStmtSendLongData<'de> {
+    const SIZE: Option<usize> = None;
+
+    type Size = AnyWidth;
+
+    type Ctx = ();
+
+    ghost form = { spec.long_data.form };
+
+    fn deserialize<'s>(_ctx: (), buf: &mut ParseBuf<'de>) -> Result<Self, FaultOf<'s>> {
+        Ok(ComStmtSendLongData {
+            header: buf.parse(())?,
+            stmt_id: buf.parse(())?,
+            param_index: buf.parse(())?,
+            content: buf.parse(())?,
+        })
+    }
+
+    ghost size_is = { λ _. unfold spec.long_data in refl };
+}
+
 impl Parts for ComStmtSendLongData<'_> {
-    ghost bytes = { long_data.bytes };
+    ghost bytes = { spec.long_data.bytes };
 
     #[inline(always)]
     fn put<S: Sink>(&self, sink: &mut S) {

@@ -153,7 +153,7 @@ fn place_of(i: usize, offset: usize) -> (usize, usize)
 
 /// Makes one digit of the bytes' number 1 or 0.
 #[inline]
-fn put(bytes: &mut [u8], at: usize, bit: usize, one: bool)
+pub(crate) fn put(bytes: &mut [u8], at: usize, bit: usize, one: bool)
     requires at { at < length bytes.old }
     requires bit { bit < 8 }
     ensures len { length bytes.new ≡ length bytes.old }

@@ -22,7 +22,7 @@ impl ConstFault for InvalidStmtPacketStatus {
 
 /// What a server answers to a statement that it prepared: `COM_STMT_PREPARE_OK`.
 ///
-/// It is had by reading alone, and takes 12 bytes, numbers with their little-endian:
+/// It takes 12 bytes, numbers little-endian:
 ///
 /// | Bytes | Field |
 /// |---|---|
@@ -69,6 +69,20 @@ impl<'de> MyDeserialize<'de> for StmtPacket {
 }
 
 impl StmtPacket {
+    /// The answer for the statement of that number, with so many columns, parameters and warnings.
+    pub fn new(statement_id: u32, num_columns: u16, num_params: u16, warning_count: u16) -> Self
+        ensures value { result ≡ spec.stmt_packet_of statement_id num_columns num_params warning_count }
+    {
+        StmtPacket {
+            status: ConstU8::new(),
+            statement_id: RawInt::new(statement_id),
+            num_columns: RawInt::new(num_columns),
+            num_params: RawInt::new(num_params),
+            skipped: Skip,
+            warning_count: RawInt::new(warning_count),
+        }
+    }
+
     /// The number that the server gave the statement.
     pub fn statement_id(&self) -> u32
         ensures value { result ≡ spec.statement_id self.now }

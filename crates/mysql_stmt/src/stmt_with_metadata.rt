@@ -28,6 +28,23 @@ pub struct StmtPacketWithMetadata {
 }
 
 impl StmtPacketWithMetadata {
+    /// The statement packet with that metadata byte, or without one.
+    ///
+    /// It is read again under capabilities with CLIENT_OPTIONAL_RESULTSET_METADATA where there is a byte, and under others
+    /// where there is none.
+    pub fn new(packet: StmtPacket, metadata: Option<u8>) -> Self
+        ensures packet { spec.packet_of result ≡ packet }
+        ensures metadata { spec.metadata_of result ≡ metadata }
+    {
+        StmtPacketWithMetadata {
+            packet,
+            metadata: match metadata {
+                Some(byte) => Some(RawInt::new(byte)),
+                None => None,
+            },
+        }
+    }
+
     /// The statement packet.
     pub fn packet(&self) -> &StmtPacket
         ensures value { result.now ≡ spec.packet_of self.now }
