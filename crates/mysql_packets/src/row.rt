@@ -1,6 +1,6 @@
 //! Rows of results.
 
 pub use mysql_stmt::{
-    BinaryRowView, ColumnIndex, Row, RowDeserializer, RowProtocol, TextRowView, TypedColumn,
-    new_row, new_row_raw,
+    BinaryRowError, BinaryRowView, ColumnIndex, Row, RowDeserializer, RowProtocol, TextRowView,
+    TypedColumn, new_row, new_row_raw, write_binary_row, write_text_row,
 };

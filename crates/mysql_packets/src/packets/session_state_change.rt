@@ -1,6 +1,7 @@
 //! What changes in a session.
 
 pub use mysql_session::{
-    Gtids, Schema, SessionStateChange, SystemVariable, SystemVariables, TransactionCharacteristics,
+    ChangeRef, Gtids, Schema, SessionStateChange, SessionStateChangeRef, SystemVariable,
+    SystemVariableRef, SystemVariables, SystemVariablesRef, TransactionCharacteristics,
     TransactionState, Unsupported,
 };
