@@ -1,9 +1,9 @@
 #!/usr/bin/env python3
 """Holds the probe's builders of bulk executions to a plain model of them: lists of rows, and no sizes kept.
 
-The model makes the calls of each row `builder ..` of tests/vectors/statements/builders.txt, whose language stands in
-crates/test_probe_statements/src/builder.rt, and 500 sequences of calls at random and 500 with more kinds of calls among them, the
-same each time.
+The model makes the calls of each row `builder ..` and `writer ..` of tests/vectors/statements/builders.txt, whose language stands
+in crates/test_probe_statements/src/builder.rt and builder/writer.rt, and sequences of calls at random, the same each time: 500 on
+builders, 500 with more kinds of calls among them, and 500 on writers of requests, which answer as builders do.
 
 builders.py [PROGRAM ..]  asks these builds of the probe of statements, or those that rt ci left
 builders.py --unproved    asks it built without proof
@@ -267,6 +267,10 @@ class Session:
     def call_build(self, _):
         return self.builder.build()
 
+    def left(self):
+        """The bytes of the rows that wait, as a writer keeps them."""
+        return copy.deepcopy(self.builder).build().replace("request", "left") if self.builder.waiting else "left=x"
+
     def call_has(self, _):
         return "yes" if self.builder.waiting else "no"
 
@@ -321,12 +325,13 @@ class Session:
 
 def modelled(request):
     """What the model answers to a request."""
-    _, settings, *calls = request.split(" ")
+    kind, settings, *calls = request.split(" ")
     try:
         session = Session(settings)
     except Refused as refused:
         return refused.answer
-    return " ; ".join(session.answer(call) for call in calls)
+    answered = [session.answer(call) for call in calls]
+    return " ; ".join(answered + [session.left()] if kind == "writer" else answered)
 
 
 # calls at random
@@ -385,14 +390,26 @@ def with_more(rng, request):
     return " ".join([head, settings] + more)
 
 
+def random_writer(rng):
+    """Calls on a writer of requests."""
+    settings = random_request(rng).split(" ")[1]
+    columns = rng.choice(["8", "8u", "253", "8/8u", "8u/252", "8/8/254", "8/246", "()"])
+    arity = 0 if columns == "()" else columns.count("/") + 1
+    calls = []
+    for _ in range(rng.randrange(4, 16)):
+        row = random_row(rng, arity if rng.random() < 0.9 else rng.randrange(4))
+        calls += [f"refs:{row}"] if rng.random() < 0.7 else ["build", f"refs:{row}"] if rng.random() < 0.7 else [rng.choice(["has", "build"])]
+    return " ".join(["writer", f"{settings},columns={columns}"] + calls)
+
+
 def random_requests():
     rng = random.Random(16)
     first = [random_request(rng) for _ in range(SEQUENCES)]
-    return first + [with_more(rng, it) for it in first]
+    return first + [with_more(rng, it) for it in first] + [random_writer(rng) for _ in range(SEQUENCES)]
 
 
 def main(*programs):
-    rows = [it.request for it in vectors("statements") if it.request.startswith("builder ")]
+    rows = [it.request for it in vectors("statements") if it.request.startswith(("builder ", "writer "))]
     if programs == ("--answers",):
         for request in rows:
             print(f"{request}\n  {modelled(request)}")

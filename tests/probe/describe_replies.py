@@ -118,6 +118,11 @@ def describe_stmt_with_metadata(record):
     return describe_stmt(packet) + [f"metadata={'none' if metadata is None else metadata}"]
 
 
+def describe_long_data(record):
+    statement, param, content = record
+    return numbers(("stmt_id", "param_index"), (statement, param)) + [f"data_ref={x(content)}"]
+
+
 def binary_row(buf, columns, offset):
     buf.take(1)
     bits = int.from_bytes(buf.take((len(columns) + 7 + offset) // 8), "little") >> offset
@@ -140,7 +145,7 @@ def bitmap(side, count):
 # constant fields, by their names
 MARKERS = {"ColumnDefinitionCatalog": b"\x03def", "FixedLengthFieldsLen": b"\x0c", "ErrPacketHeader": b"\xff",
            "SqlStateMarker": b"#", "LocalInfileHeader": b"\xfb", "ComStmtExecuteHeader": b"\x17",
-           "ComStmtSendLongDataHeader": b"\x18", "IterationCount": b"\1\0\0\0"}
+           "ComStmtSendLongDataHeader": b"\x18", "ComStmtCloseHeader": b"\x19", "IterationCount": b"\1\0\0\0"}
 
 
 DESCRIBERS = {
@@ -166,6 +171,8 @@ DESCRIBERS = {
     "variables": lambda: by("SystemVariables", lambda it: describe_change(0, it)),
     "stmt": lambda: by("StmtPacket", describe_stmt),
     "stmt_metadata": lambda caps: by("StmtPacketWithMetadata", describe_stmt_with_metadata, int(caps)),
+    "com_close": lambda: by("ComStmtClose", lambda it: numbers(("stmt_id",), (it,))),
+    "com_long_data": lambda: by("ComStmtSendLongData", describe_long_data),
     "row": lambda columns: lambda buf: binary_row(buf, columns_of(columns), 2),
     "row_client": lambda columns: lambda buf: binary_row(buf, columns_of(columns), 0),
     "row_text": lambda columns: lambda buf: text_row(buf, columns_of(columns)),

@@ -53,6 +53,8 @@ READERS = {
     "NetworkStreamTerminator": replies.old_eof,
     "StmtPacket": statements.stmt_packet,
     "StmtPacketWithMetadata": statements.stmt_packet_with_metadata,
+    "ComStmtClose": statements.stmt_close,
+    "ComStmtSendLongData": statements.stmt_long_data,
     "ClientBitmap": lambda b, n: b.take((n + 7) // 8),
     "ServerBitmap": lambda b, n: b.take((n + 7 + 2) // 8),
     "TextRow": lambda b: [values.text_value(b), values.text_value(b)],

@@ -19,6 +19,17 @@ def stmt_packet_with_metadata(buf, capabilities):
     return stmt_packet(buf), buf.number(1) if capabilities & OPTIONAL_RESULTSET_METADATA else None
 
 
+def stmt_close(buf):
+    block = buf.block(5)
+    block.const(b"\x19")
+    return block.number(4)
+
+
+def stmt_long_data(buf):
+    buf.const(b"\x18")
+    return buf.number(4), buf.number(2), buf.all()
+
+
 COLUMNS = [(TYPE_CODES["LONGLONG"], 0), (TYPE_CODES["VAR_STRING"], 0), (TYPE_CODES["DATETIME"], 0)]
 
 

@@ -7,7 +7,8 @@ use mysql_packets::packets::{
     StmtPacket,
 };
 use mysql_packets::proto::MySerialize;
-use mysql_packets::value::Value;
+use mysql_packets::row::TextRowView;
+use mysql_packets::value::{Value, ValueRef};
 use std::alloc::Global;
 use std::test::Fail;
 
@@ -27,6 +28,13 @@ fn changes(alloc: Global, payload: &[u8]) -> Result<usize, Fail> {
     let ok: OkPacket<'_> = ok.into_inner();
     let changes = ok.session_state_info(alloc)?; // every change of the session, or the first fault
     Ok(changes.len())
+}
+
+/// Whether the first value of a text row of two columns is NULL.
+fn begins_with_null(alloc: Global, payload: &[u8]) -> Result<bool, Fail> {
+    let mut row = TextRowView::new(2, ParseBuf::new(alloc, payload));
+    let first = row.next_value()?; // NULL, or bytes where they lie in the packet: no memory is taken
+    Ok(first == Some(ValueRef::NULL))
 }
 
 /// The requests of a bulk execution.
@@ -50,6 +58,13 @@ fn a_statement_is_read_and_written(rt: HostRuntime) -> Result<(), Fail> {
 fn an_ok_packet_has_one_change(rt: HostRuntime) -> Result<(), Fail> {
     let payload = b"\x00\x00\x00\x02\x40\x00\x00\x00\x11\x00\x0f\x0aautocommit\x03OFF";
     assert_eq!(rt; changes(rt.alloc(), payload)?, 1);
+    Ok(())
+}
+
+#[test]
+fn a_row_begins_with_null(rt: HostRuntime) -> Result<(), Fail> {
+    assert!(rt; begins_with_null(rt.alloc(), b"\xfb\x011")?);
+    assert!(rt; !begins_with_null(rt.alloc(), b"\x011\xfb")?);
     Ok(())
 }
 

@@ -4,8 +4,9 @@
 
 use crate::plugins::show_plugin;
 use crate::prelude::*;
-use mysql_auth::{HandshakePacket, supported_capabilities};
+use mysql_auth::{HandshakePacket, HandshakePacketRef, supported_capabilities};
 use mysql_wire::StatusFlags;
+use test_probe::record::round_trip;
 
 /// The versions that a server's version says.
 pub fn version(out: &mut Out, request: &Request<'_>) -> Result {
@@ -42,6 +43,40 @@ impl<'a> Shows<HandshakePacket<'a>> for Connections {
     fn is_made(record: &HandshakePacket<'a>, alloc: Global) -> Result<bool> {
         is_owned!(alloc; made_again(record), record)
     }
+}
+
+/// Whether a handshake that stays in its packet is this one.
+fn is_handshake(
+    packet: &HandshakePacketRef<'_>,
+    owned: &HandshakePacket<'_>,
+    alloc: Global,
+) -> Result<bool> {
+    let (mut one, mut other) = (Out::new(alloc), Out::new(alloc));
+    fields!(one, packet; protocol_version, server_version, connection_id, scramble_1, scramble_2, capabilities,
+        default_collation, status_flags, mariadb_ext_capabilities, auth_plugin_name)?;
+    fields!(other, owned; protocol_version, server_version = server_version_ref, connection_id,
+        scramble_1 = scramble_1_ref, scramble_2 = scramble_2_ref, capabilities, default_collation, status_flags,
+        mariadb_ext_capabilities, auth_plugin_name = auth_plugin_name_ref)?;
+    let is_same = one.into_text() == other.into_text();
+    Ok(is_same && packet.auth_plugin() == owned.auth_plugin() && packet.to_packet() == *owned)
+}
+
+/// A handshake; and a word where the one that stays in its packet is another.
+pub fn handshake(out: &mut Out, request: &Request<'_>) -> Result {
+    round_trip::<Connections, HandshakePacket<'_>>(out, request, (), ())?;
+    let (alloc, bytes) = (request.alloc, request.bytes.as_slice());
+    let (mut buf, mut place) = (ParseBuf::new(alloc, bytes), ParseBuf::new(alloc, bytes));
+    let owned: Result<HandshakePacket<'_>, Fault> = buf.parse(());
+    let borrowed: Result<HandshakePacketRef<'_>, Fault> = counted!(alloc; value place.parse(()));
+    let is_same = match (&borrowed, &owned) {
+        (Ok(borrowed), Ok(owned)) => is_handshake(borrowed, owned, alloc)?,
+        (Err(borrowed), Err(owned)) => borrowed == owned,
+        _ => false,
+    };
+    if is_same && buf.len() == place.len() {
+        return Ok(());
+    }
+    out.field("borrowed", "other")
 }
 
 fn show_version(name: &str, version: Option<(u16, u16, u16)>, out: &mut Out) -> Result {

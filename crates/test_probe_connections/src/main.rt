@@ -24,11 +24,11 @@ struct Connections;
 /// The requests of authentication.
 fn of_authentication(out: &mut Out, request: &Request<'_>) -> Result<bool> {
     answers!(Connections, out, request, request.word(0);
-        with () => "handshake": HandshakePacket<'_>, "response": HandshakeResponse<'_>,
+        with () => "response": HandshakeResponse<'_>,
             "auth_switch": AuthSwitchRequest<'_>, "old_switch": OldAuthSwitchRequest, "auth_more_data": AuthMoreData<'_>,
             "key_request": PublicKeyRequest, "key": PublicKeyResponse<'_>, "tls": SslRequest, "plugin": AuthPlugin<'_>,
         with request.capabilities() => "change_user": ComChangeUser<'_>, "more_data": ComChangeUserMoreData<'_>,
-        call "version": handshake::version, "make_handshake": handshake::make, "make_response": client::make_response,
+        call "handshake": handshake::handshake, "version": handshake::version, "make_handshake": handshake::make, "make_response": client::make_response,
             "make_change_user": client::make_change_user, "make_switch": plugins::make_switch,
             "make_tls": plugins::make_tls, "tls_of": client::tls_of, "supported": handshake::supported, "add_data": plugins::add_data, "parsec": plugins::parsec,
             "plugin_data": plugins::plugin_data,)

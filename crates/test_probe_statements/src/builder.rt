@@ -21,6 +21,7 @@
 pub mod answers;
 mod runs;
 pub mod settings;
+pub mod writer;
 
 use crate::builder::answers::{show_error, show_refusal, show_request, show_row_refusal};
 use crate::builder::runs::{run_of_params, run_of_rows};
@@ -169,7 +170,7 @@ impl<'a> Session<'a> {
 }
 
 /// Adds what a call answered that adds a copy of a row.
-fn copied(out: &mut Out, answer: Result<bool, BulkRowRefusal>) -> Result {
+pub fn copied(out: &mut Out, answer: Result<bool, BulkRowRefusal>) -> Result {
     match answer {
         Ok(true) => out.word("taken"),
         Ok(false) => out.word("kept"),

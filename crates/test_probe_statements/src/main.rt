@@ -8,16 +8,18 @@ mod bulk;
 mod execute_with;
 mod forms;
 mod params;
+mod places;
 mod prelude;
 mod replies;
 mod rows;
+mod sent;
 mod session;
 mod stmt;
 mod texts;
 mod values;
 
 use crate::prelude::{Out, Request, Result, answers};
-use crate::rows::views;
+use crate::rows::{views, written};
 use mysql_bulk::*;
 use mysql_replies::*;
 use mysql_session::*;
@@ -30,33 +32,33 @@ struct Statements;
 
 fn of_replies(out: &mut Out, request: &Request<'_>) -> Result<bool> {
     answers!(Statements, out, request, request.word(0);
-        read request.capabilities() => "ok": OkPacketDeserializer<'_, CommonOkPacket>,
-            "ok_end": OkPacketDeserializer<'_, ResultSetTerminator>, "ok_eof": OkPacketDeserializer<'_, OldEofPacket>,
-            "ok_stream": OkPacketDeserializer<'_, NetworkStreamTerminator>,
-        with () => "local_infile": LocalInfilePacket<'_>, "sql_state": SqlState,
-            "progress": ProgressReport<'_>, "session_info": SessionStateInfo<'_>,
-        with request.capabilities() => "err": ErrPacket<'_>,
-        with replies::of_error(request) => "server_error": ServerError<'_>,
-        call "ok_body": replies::ok_body, "column": replies::column,)
+        with () => "local_infile": LocalInfilePacket<'_>,
+        call "ok": places::ok, "ok_end": places::ok_end,
+            "ok_eof": places::ok_eof, "ok_stream": places::ok_stream,
+            "sql_state": places::sql_state, "progress": places::progress, "session_info": places::session_info,
+            "err": places::err, "server_error": places::server_error, "ok_body": replies::ok_body, "column": replies::column,
+            "ok_sent": sent::common, "ok_end_sent": sent::end,
+            "ok_eof_sent": sent::old_end, "ok_stream_sent": sent::stream_end,)
 }
 
 fn of_session(out: &mut Out, request: &Request<'_>) -> Result<bool> {
     answers!(Statements, out, request, request.word(0);
         with () => "schema": Schema<'_>, "gtids": Gtids<'_>, "characteristics": TransactionCharacteristics<'_>,
-            "state": TransactionState<'_>, "unsupported": Unsupported<'_>, "variable": SystemVariable<'_>,
-            "variables": SystemVariables<'_>,
-        call "change": session::change,)
+            "state": TransactionState<'_>, "unsupported": Unsupported<'_>,
+        call "change": session::change, "variable": places::variable, "variables": places::variables,)
 }
 
 fn of_statements(out: &mut Out, request: &Request<'_>) -> Result<bool> {
     answers!(Statements, out, request, request.word(0);
-        with () => "stmt": StmtPacket,
+        with () => "stmt": StmtPacket, "com_close": ComStmtClose, "com_long_data": ComStmtSendLongData<'_>,
         with request.capabilities() => "stmt_metadata": StmtPacketWithMetadata,
         call "row_text": views::text::<ServerSide>, "row": views::binary::<ServerSide>,
             "row_text_client": views::text::<ClientSide>, "row_client": views::binary::<ClientSide>,
             "execute": stmt::execute, "execute_many": stmt::execute_many,
             "execute_with": execute_with::execute_with, "long_data": stmt::long_data,
             "close": stmt::close, "bitmap": bitmaps::bitmap, "bits": bitmaps::bits, "row_equal": rows::row_equal,
+            "write_row_text": written::text, "write_row": written::binary,
+            "row_text_again": written::text_again, "row_again": written::binary_again,
             "new_row": rows::made_row, "new_row_raw": rows::made_row_raw, "unwrap": rows::unwrap,)
 }
 
@@ -74,7 +76,8 @@ fn of_bulk(out: &mut Out, request: &Request<'_>) -> Result<bool> {
         with request.columns()? => "bulk": ComStmtBulkExecuteRequest, "bulk_values": StmtBulkExecuteParamValues,
         call "bulk_rows": bulk::bulk_rows, "bulk_new": bulk::bulk_new, "bulk_value_new": bulk::value_new,
             "bulk_values_new": bulk::values_new, "bulk_same": bulk::are_same, "bulk_error": bulk::bulk_error,
-            "fewest": bulk::fewest, "row_size": bulk::row_size, "builder": builder::builder,)
+            "fewest": bulk::fewest, "row_size": bulk::row_size, "builder": builder::builder,
+            "writer": builder::writer::writer,)
 }
 
 impl Answers for Statements {

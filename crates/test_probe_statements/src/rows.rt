@@ -4,12 +4,15 @@
 //! of a client, by `RowDeserializer` and by the views of `rows/views.rt`; `row_equal COLUMNS BYTES BYTES` compares two text
 //! rows.
 //!
+//! Written: by the requests of `rows/written.rt`.
+//!
 //! Made: `new_row COLUMNS VALUES CALL ..`, and `new_row_raw ..`, where `-` stands for a value that was taken; and
 //! `unwrap COLUMNS VALUES`, of two values. Their columns are names with types, as `a:8,b:253`. The calls stand in
 //! `rows/calls.rt`.
 
 mod calls;
 pub mod views;
+pub mod written;
 
 use crate::prelude::*;
 use crate::rows::calls::call;

@@ -4,6 +4,7 @@
 //! and the parts of changes, each alone: `schema BYTES`, `gtids BYTES`, `characteristics BYTES`, `state BYTES`,
 //! `unsupported BYTES`, `variable BYTES`, `variables BYTES`.
 
+use crate::places;
 use crate::prelude::*;
 use mysql_session::*;
 use mysql_wire::{BytesRepr, ConstValue, SessionStateType};
@@ -14,7 +15,7 @@ pub fn change(out: &mut Out, request: &Request<'_>) -> Result {
     }
     let code = request.word(1).parse::<u8>().unwrap_or(255);
     match SessionStateType::from_code(code) {
-        Some(kind) => round_trip::<Statements, SessionStateChange<'_>>(out, request, kind, kind),
+        Some(kind) => places::change(out, request, kind),
         None => out.word("unknown"),
     }
 }

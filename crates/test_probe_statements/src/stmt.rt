@@ -1,7 +1,7 @@
 //! Prepared statements, and what is sent for one.
 //!
 //! `stmt BYTES`, `stmt_metadata CAPABILITIES BYTES`, `execute ID VALUES`, `execute_many ID COUNT VALUE` (of so many of one value, with its sizes alone),
-//! `long_data ID PARAMETER BYTES`, `close ID`.
+//! `long_data ID PARAMETER BYTES`, `close ID`; and as a server reads them `com_long_data BYTES`, `com_close BYTES`.
 
 use crate::prelude::*;
 use mysql_stmt::*;
@@ -12,7 +12,14 @@ impl Shows<StmtPacket> for Statements {
     }
 
     fn is_made(record: &StmtPacket, alloc: Global) -> Result<bool> {
-        is_cloned(alloc, record, record)
+        let (columns, params) = (record.num_columns(), record.num_params());
+        let made = StmtPacket::new(
+            record.statement_id(),
+            columns,
+            params,
+            record.warning_count(),
+        );
+        is_cloned(alloc, &made, record)
     }
 }
 
@@ -23,7 +30,31 @@ impl Shows<StmtPacketWithMetadata> for Statements {
     }
 
     fn is_made(record: &StmtPacketWithMetadata, alloc: Global) -> Result<bool> {
-        is_cloned(alloc, record, record)
+        let packet = counted!(alloc; record.packet().clone())?;
+        let made = StmtPacketWithMetadata::new(packet, record.metadata());
+        is_cloned(alloc, &made, record)
+    }
+}
+
+impl Shows<ComStmtClose> for Statements {
+    fn fields(record: &ComStmtClose, out: &mut Out) -> Result {
+        out.show("stmt_id", record.stmt_id)
+    }
+
+    fn is_made(record: &ComStmtClose, alloc: Global) -> Result<bool> {
+        is_cloned(alloc, &ComStmtClose::new(record.stmt_id), record)
+    }
+}
+
+impl Shows<ComStmtSendLongData<'_>> for Statements {
+    fn fields(record: &ComStmtSendLongData<'_>, out: &mut Out) -> Result {
+        fields!(out, record; stmt_id, param_index, data_ref)
+    }
+
+    fn is_made(record: &ComStmtSendLongData<'_>, alloc: Global) -> Result<bool> {
+        let data = CowSlice::Borrowed(record.data_ref());
+        let made = ComStmtSendLongData::new(record.stmt_id(), record.param_index(), data);
+        is_owned!(alloc; made, record)
     }
 }
 

@@ -21,7 +21,7 @@ fn marker(out: &mut Out, request: &Request<'_>) -> Result<bool> {
         with () => "ColumnDefinitionCatalog": ColumnDefinitionCatalog, "FixedLengthFieldsLen": FixedLengthFieldsLen,
             "ErrPacketHeader": ErrPacketHeader, "SqlStateMarker": SqlStateMarker, "LocalInfileHeader": LocalInfileHeader,
             "ComStmtExecuteHeader": ComStmtExecuteHeader, "IterationCount": IterationCount,
-            "ComStmtSendLongDataHeader": ComStmtSendLongDataHeader,)
+            "ComStmtSendLongDataHeader": ComStmtSendLongDataHeader, "ComStmtCloseHeader": ComStmtCloseHeader,)
 }
 
 /// A builder's refusal has the text of what it holds.
@@ -30,7 +30,7 @@ fn text(out: &mut Out, name: &str) -> Result<bool> {
     error_texts!(out, name;
         InvalidCatalog, InvalidFixedLengthFieldsLen, InvalidOkPacketHeader, InvalidErrPacketHeader, InvalidSqlStateMarker,
         InvalidLocalInfileHeader, InvalidStmtPacketStatus, InvalidIterationCount, InvalidComStmtExecuteHeader,
-        InvalidComStmtSendLongDataHeader, InvalidComStmtBulkExecuteHeader,;
+        InvalidComStmtSendLongDataHeader, InvalidComStmtCloseHeader, InvalidComStmtBulkExecuteHeader,;
         "FromValueError": FromValueError(Value::NULL),
         "ParamsError::Missing": ParamsError::Missing(Vec::new(alloc)),
         "ParamsError::NamedForPositional": ParamsError::NamedForPositional,
@@ -48,5 +48,7 @@ fn text(out: &mut Out, name: &str) -> Result<bool> {
             BulkExecuteRequestBuilderError::from(ParamsError::NamedForPositional),
         "BulkRowRefusal::MixedArity": BulkRowRefusal::MixedArity, "BulkRowRefusal::TooLarge": BulkRowRefusal::TooLarge,
         "BulkRowRefusal::MixedTypes": BulkRowRefusal::MixedTypes, "BulkColumnTypeError": BulkColumnTypeError { place: 0 },
-        "BulkRowRefusal::Memory": BulkRowRefusal::Memory,)
+        "BulkRowRefusal::Memory": BulkRowRefusal::Memory,
+        "BinaryRowError::Count": BinaryRowError::Count, "BinaryRowError::Value": BinaryRowError::Value(0),
+        "BinaryRowError::Memory": BinaryRowError::Memory,)
 }

@@ -17,7 +17,7 @@ pub fn setting<'s>(settings: &'s str, mark: &str) -> Option<&'s str> {
 }
 
 /// The number after a mark among some settings, or 0.
-fn number(settings: &str, mark: &str) -> usize {
+pub fn number(settings: &str, mark: &str) -> usize {
     let digits = setting(settings, mark).unwrap_or("");
     digits.parse::<usize>().unwrap_or(0)
 }
