@@ -20,6 +20,7 @@ call bench_statements_read, bench_statements_written, bench_columns_read, bench_
     bench_ok_packets_read, bench_errors_read, bench_errors_written, bench_rows_read, bench_rows_counted,
     bench_rows_viewed, bench_rows_placed, bench_text_rows_viewed, bench_text_rows_placed,
     bench_executions_written, bench_bulk_rows_made, bench_bulk_rows_written, bench_bulk_rows_offered,
+    bench_bulk_rows_offered_refs, bench_bulk_rows_streamed,
     bench_handshakes_read, bench_handshakes_written, bench_responses_written, bench_registrations_written, bench_gtid_dumps_read,
     bench_gtid_dumps_written;
 
@@ -387,6 +388,8 @@ static const struct operation {
     { "bulk_rows_written", 1000000, "bulk row, made, built into requests and written", put_bulk_row, bench_bulk_rows_written },
     /* (so many that they go into one request: of several, glibc puts the blocks of one together while the next is made) */
     { "bulk_rows_offered", 250000, "bulk row, made, offered as a slice, built into requests and written", put_bulk_row, bench_bulk_rows_offered },
+    { "bulk_rows_offered_refs", 250000, "bulk row, offered as borrowed values, built into requests and written", put_bulk_row, bench_bulk_rows_offered_refs },
+    { "bulk_rows_streamed", 1000000, "bulk row, written straight into requests", put_bulk_row, bench_bulk_rows_streamed },
     { "handshakes_read", 10000, "handshake, read", put_handshake, bench_handshakes_read },
     { "handshakes_written", 10000, "handshake, read and written", put_handshake, bench_handshakes_written },
     { "responses_written", 10000, "response to a handshake, read and written", put_response, bench_responses_written },

@@ -1,8 +1,8 @@
 //! Bulk requests.
 
-use mysql_bulk::ComStmtBulkExecuteRequestBuilder;
-use mysql_values::Value;
-use mysql_wire::MySerialize;
+use mysql_bulk::{BulkRequestWriter, ComStmtBulkExecuteRequestBuilder};
+use mysql_values::{ParamType, Value, ValueRef};
+use mysql_wire::{ColumnType, Flags, MySerialize, StmtExecuteParamFlags};
 use std::alloc::{AllocError, Global};
 
 /// The most bytes that a packet may have: 16 MiB.
@@ -90,4 +90,77 @@ fn offered(alloc: Global, batch: &[u8]) -> Result<u64, AllocError> {
 #[unsafe(no_mangle)]
 pub extern "C" fn bench_bulk_rows_offered(alloc: Global, batch: &[u8]) -> u64 {
     offered(alloc, batch).unwrap_or(0)
+}
+
+/// Offers each row as borrowed values, and builds and writes a request wherever the next row does not fit.
+fn offered_refs(alloc: Global, batch: &[u8]) -> u64 {
+    let mut out = Vec::new(alloc);
+    let mut sum = 0u64;
+    let mut builder = ComStmtBulkExecuteRequestBuilder::new(alloc, 1, MAX_ALLOWED_PACKET);
+    for bytes in batch.chunks_exact(28) {
+        if let Some((number, text)) = bytes.split_first_chunk::<8>() {
+            let row = [
+                ValueRef::Int(i64::from_le_bytes(*number)),
+                ValueRef::Bytes(text),
+                ValueRef::NULL,
+            ];
+            if let Ok(false) = builder.add_row_refs(&row) {
+                sum = sum.wrapping_add(written(&mut builder, &mut out));
+                let _ = builder.add_row_refs(&row);
+            }
+        }
+    }
+    sum.wrapping_add(written(&mut builder, &mut out))
+}
+
+/// Offers rows of 28 bytes each as values whose bytes stay where they are, builds the requests and writes these, and answers
+/// how many bytes were written.
+#[unsafe(no_mangle)]
+pub extern "C" fn bench_bulk_rows_offered_refs(alloc: Global, batch: &[u8]) -> u64 {
+    offered_refs(alloc, batch)
+}
+
+/// Lets the request of a writer go, and answers how many bytes it has.
+fn finished(writer: &mut BulkRequestWriter<'_>) -> u64 {
+    let sent = match writer.request() {
+        Some(request) => request.len() as u64,
+        None => 0,
+    };
+    writer.finish();
+    sent
+}
+
+/// Writes each row into the request, which is let go wherever the next row does not fit.
+fn streamed(alloc: Global, batch: &[u8]) -> u64 {
+    let flags = StmtExecuteParamFlags::empty();
+    let types = [
+        ParamType::new(ColumnType::MYSQL_TYPE_LONGLONG, flags),
+        ParamType::new(ColumnType::MYSQL_TYPE_VAR_STRING, flags),
+        ParamType::new(ColumnType::MYSQL_TYPE_VAR_STRING, flags),
+    ];
+    let buffer = Vec::new(alloc);
+    let Ok(mut writer) = BulkRequestWriter::new(buffer, 1, MAX_ALLOWED_PACKET, &types) else {
+        return 0;
+    };
+    let mut sum = 0u64;
+    for bytes in batch.chunks_exact(28) {
+        if let Some((number, text)) = bytes.split_first_chunk::<8>() {
+            let row = [
+                ValueRef::Int(i64::from_le_bytes(*number)),
+                ValueRef::Bytes(text),
+                ValueRef::NULL,
+            ];
+            if let Ok(false) = writer.add_row_refs(&row) {
+                sum = sum.wrapping_add(finished(&mut writer));
+                let _ = writer.add_row_refs(&row);
+            }
+        }
+    }
+    sum.wrapping_add(finished(&mut writer))
+}
+
+/// Writes rows of 28 bytes each straight into requests, and answers how many bytes were written.
+#[unsafe(no_mangle)]
+pub extern "C" fn bench_bulk_rows_streamed(alloc: Global, batch: &[u8]) -> u64 {
+    streamed(alloc, batch)
 }
