@@ -54,6 +54,8 @@ READERS = {
     "StmtPacket": statements.stmt_packet,
     "StmtPacketWithMetadata": statements.stmt_packet_with_metadata,
     "ComStmtClose": statements.stmt_close,
+    "ComStmtExecuteHead": statements.stmt_execute_head,
+    "ComStmtExecute": statements.stmt_execute,
     "ComStmtSendLongData": statements.stmt_long_data,
     "ClientBitmap": lambda b, n: b.take((n + 7) // 8),
     "ServerBitmap": lambda b, n: b.take((n + 7 + 2) // 8),

@@ -30,6 +30,29 @@ def stmt_long_data(buf):
     return buf.number(4), buf.number(2), buf.all()
 
 
+def stmt_execute_head(buf):
+    block = buf.block(10)
+    block.const(b"\x17")
+    stmt_id, flags = block.number(4), block.number(1)
+    block.const(b"\1\0\0\0")
+    return stmt_id, flags
+
+
+def stmt_execute(buf, bound):
+    """An execution of parameters of which these are the type, its flags, and whether it was sent ahead."""
+    head, sends_types, params = stmt_execute_head(buf), False, []
+    if bound:
+        bits = int.from_bytes(buf.take((len(bound) + 7) // 8), "little")
+        sends_types = buf.number(1) != 0
+        if sends_types:
+            bound = [(*bulk_type(buf), is_sent_ahead) for _, _, is_sent_ahead in bound]
+        for i, (kind, flags, is_sent_ahead) in enumerate(bound):
+            has_value = not is_sent_ahead and not bits >> i & 1
+            value = bin_value(buf, kind, UNSIGNED if flags & 128 else 0) if has_value else None
+            params.append((kind, flags, is_sent_ahead, value))
+    return head, sends_types, params
+
+
 COLUMNS = [(TYPE_CODES["LONGLONG"], 0), (TYPE_CODES["VAR_STRING"], 0), (TYPE_CODES["DATETIME"], 0)]
 
 

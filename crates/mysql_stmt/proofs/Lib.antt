@@ -19,3 +19,5 @@ pub mod PlainOptions
 pub mod TextRowAgain
 pub mod RowBytes
 pub mod BinaryRowAgain
+pub mod ParamViews
+pub mod ExecutionAgain

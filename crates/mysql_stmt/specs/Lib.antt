@@ -15,3 +15,6 @@ pub mod StmtWithMetadata
 pub mod PlainExecution
 pub mod TextRow
 pub mod BinaryRow
+pub mod ExecuteHead
+pub mod ExecuteRead
+pub mod ReadAgain

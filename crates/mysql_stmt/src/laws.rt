@@ -18,6 +18,11 @@ ghost use Rattle.mysql_stmt.specs.LongData.{long_data};
 ghost use Rattle.mysql_replies.specs.declared.column.Column.{Column};
 ghost use Rattle.mysql_values.specs.Value.{Content};
 ghost use Rattle.mysql_stmt.specs.Execute.{execute_head};
+ghost use Rattle.mysql_stmt.specs.ExecuteHead as head;
+ghost use Rattle.mysql_stmt.specs.declared.execute_head.ComStmtExecuteHead.{ComStmtExecuteHead};
+ghost use Rattle.mysql_stmt.specs.declared.execute_view.BoundParam.{BoundParam};
+ghost use Rattle.mysql_stmt.specs.ExecuteRead.{execute_params};
+ghost use Rattle.mysql_stmt.specs.ReadAgain.{IsReadable, bytes_after_head, head_of, params_as_read};
 ghost use Rattle.mysql_stmt.specs.declared.execute.ComStmtExecuteRequest.{ComStmtExecuteRequest};
 ghost use Rattle.mysql_stmt.specs.Execute.{execute_bytes};
 ghost use Rattle.mysql_stmt.specs.ExecuteWithOptions as with_options;
@@ -151,6 +156,31 @@ pub fn binary_row_round_trips<C: TypedColumn>()
         → length columns + 9 < 2 ^ 64 → IsRowBytes C.type_of C.unsigned columns values bytes
         → (bin_row_of C.type_of C.unsigned 2 columns).reads (bytes ++ rest) ≡ Ok (map Some values, rest) }
 {}
+
+/// What is written of the head of an execution is read again, whatever follows.
+pub fn execute_head_round_trips()
+    ensures spelled { (p : ComStmtExecuteHead) (rest : List ℕ) → head.execute_head.fits tt p rest → (head.execute_head.form tt).Spells p (head.execute_head.bytes p ++ rest) rest }
+    ensures read { (p : ComStmtExecuteHead) (rest : List ℕ) → head.execute_head.fits tt p rest → (head.execute_head.form tt).reads (head.execute_head.bytes p ++ rest) ≡ Ok (p, rest) }
+{}
+
+/// What is written of an execution without attributes is read again, whatever follows: its head, and then its parameters, each with
+/// the type that it is sent with. The server knows how many there are, and which were sent ahead, as byte strings of long data are.
+#[tactic(auto, using(crate::proofs::ExecutionAgain::executions_again))]
+pub fn execution_round_trips<V: AsExecuteParam>()
+    ensures head { (r : ComStmtExecuteWithOptions V) (rest : List ℕ) → with_options.attributes r ≡ None → with_options.stmt_id r < 2 ^ 32 → with_options.flags r < 2 ^ 8
+        → (head.execute_head.form tt).reads (with_options.request_bytes V.param r ++ rest) ≡ Ok (head_of r, bytes_after_head V.param r ++ rest) }
+    ensures spelled { (bound : List BoundParam) (r : ComStmtExecuteWithOptions V) (rest : List ℕ) → IsReadable V.param bound r
+        → (execute_params bound).Spells (params_as_read V.param r) (bytes_after_head V.param r ++ rest) rest }
+    ensures read { (bound : List BoundParam) (r : ComStmtExecuteWithOptions V) (rest : List ℕ) → IsReadable V.param bound r
+        → (execute_params bound).reads (bytes_after_head V.param r ++ rest) ≡ Ok (params_as_read V.param r, rest) }
+{}
+
+/// The head of an execution takes 10 bytes.
+pub fn execute_head_size() -> Option<usize>
+    ensures value { result ≡ Some 10 }
+{
+    <crate::execute_head::ComStmtExecuteHead as MyDeserialize>::SIZE
+}
 
 /// The bitmap of an execution stands after its first ten bytes.
 #[tactic(auto, using(crate::proofs::HeadLength::head_length))]

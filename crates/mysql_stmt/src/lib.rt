@@ -8,8 +8,10 @@ mod binary_row_view;
 mod close;
 mod column_index;
 mod execute;
+mod execute_head;
 mod execute_param;
 mod execute_params;
+mod execute_view;
 mod execute_with_options;
 mod items;
 pub mod laws;
@@ -36,7 +38,9 @@ pub use execute::{
     ComStmtExecuteHeader, ComStmtExecuteRequest, ComStmtExecuteRequestBuilder,
     InvalidComStmtExecuteHeader, InvalidIterationCount, IterationCount,
 };
+pub use execute_head::ComStmtExecuteHead;
 pub use execute_param::{AsExecuteParam, ExecuteParam, QueryAttribute};
+pub use execute_view::{BoundParam, ExecuteParamsView};
 pub use execute_with_options::{ComStmtExecuteOptionsBuilder, ComStmtExecuteWithOptions, Cursor};
 pub use long_data::{
     ComStmtSendLongData, ComStmtSendLongDataHeader, InvalidComStmtSendLongDataHeader,

@@ -5,6 +5,7 @@ mod bitmaps;
 mod borrowed;
 mod builder;
 mod bulk;
+mod execute_read;
 mod execute_with;
 mod forms;
 mod params;
@@ -50,12 +51,12 @@ fn of_session(out: &mut Out, request: &Request<'_>) -> Result<bool> {
 
 fn of_statements(out: &mut Out, request: &Request<'_>) -> Result<bool> {
     answers!(Statements, out, request, request.word(0);
-        with () => "stmt": StmtPacket, "com_close": ComStmtClose, "com_long_data": ComStmtSendLongData<'_>,
+        with () => "stmt": StmtPacket, "com_close": ComStmtClose, "com_execute_head": ComStmtExecuteHead, "com_long_data": ComStmtSendLongData<'_>,
         with request.capabilities() => "stmt_metadata": StmtPacketWithMetadata,
         call "row_text": views::text::<ServerSide>, "row": views::binary::<ServerSide>,
             "row_text_client": views::text::<ClientSide>, "row_client": views::binary::<ClientSide>,
             "execute": stmt::execute, "execute_many": stmt::execute_many,
-            "execute_with": execute_with::execute_with, "long_data": stmt::long_data,
+            "execute_with": execute_with::execute_with, "com_execute": execute_read::com_execute, "long_data": stmt::long_data,
             "close": stmt::close, "bitmap": bitmaps::bitmap, "bits": bitmaps::bits, "row_equal": rows::row_equal,
             "write_row_text": written::text, "write_row": written::binary,
             "row_text_again": written::text_again, "row_again": written::binary_again,
