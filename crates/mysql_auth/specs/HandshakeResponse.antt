@@ -46,6 +46,10 @@ connect_attributes p = p.connect_attributes
 abbrev pub with_mariadb : MariadbCapabilities → HandshakeResponse → HandshakeResponse
 with_mariadb mariadb p = record p { head = ssl.with_mariadb mariadb p.head }
 
+-- the response with this collation
+abbrev pub with_collation : ℕ → HandshakeResponse → HandshakeResponse
+with_collation number p = record p { head = ssl.with_character_set number p.head }
+
 -- utf8mb4_general_ci from version 5.5.3 on, and utf8mb3_general_ci before
 abbrev pub collation_for : ℕ × ℕ × ℕ → ℕ
 collation_for version =

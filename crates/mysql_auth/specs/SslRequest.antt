@@ -34,6 +34,9 @@ request_of capabilities max_packet_size character_set mariadb = record {
 abbrev pub with_mariadb : MariadbCapabilities → SslRequest → SslRequest
 with_mariadb mariadb p = request_of (capabilities p) (max_packet_size p) (character_set p) mariadb
 
+abbrev pub with_character_set : ℕ → SslRequest → SslRequest
+with_character_set number p = request_of (capabilities p) (max_packet_size p) number (mariadb_capabilities p)
+
 -- CLIENT_SSL, by which a server knows a request for TLS
 abbrev pub with_client_ssl : ℕ → ℕ
 with_client_ssl bits = bit_or bits CLIENT_SSL

@@ -160,6 +160,20 @@ impl<'a> HandshakeResponse<'a> {
         }
     }
 
+    /// The same response with this collation, in place of the one that a server of the version knows.
+    pub fn with_collation(self, collation: u8) -> Self
+        ensures value { result ≡ spec.with_collation collation self.entry }
+    {
+        HandshakeResponse {
+            head: self.head.with_character_set(collation),
+            user: self.user,
+            scramble_buf: self.scramble_buf,
+            db_name: self.db_name,
+            auth_plugin: self.auth_plugin,
+            connect_attributes: self.connect_attributes,
+        }
+    }
+
     /// What the client can do.
     #[inline]
     pub fn capabilities(&self) -> CapabilityFlags

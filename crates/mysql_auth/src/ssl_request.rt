@@ -58,6 +58,16 @@ impl SslRequest {
         }
     }
 
+    /// The same request with this character set.
+    pub(crate) fn with_character_set(self, character_set: u8) -> Self
+        ensures value { result ≡ spec.with_character_set character_set self }
+    {
+        SslRequest {
+            character_set: RawInt::new(character_set),
+            ..self
+        }
+    }
+
     /// What the client can do.
     #[inline]
     pub fn capabilities(&self) -> CapabilityFlags

@@ -63,7 +63,8 @@ fn response_again<'b>(
     )
 }
 
-/// A response that is made of words, with MariaDB's flags, as it is shown, written and read again.
+/// A response that is made of words, with MariaDB's flags, as it is shown, written and read again. The first word is the server's
+/// version, or `c` and the collation's number.
 pub fn make_response(out: &mut Out, request: &Request<'_>) -> Result {
     let alloc = out.alloc();
     let part = |place: usize| words::number(request.word(1).split('.').nth(place).unwrap_or(""));
@@ -86,6 +87,10 @@ pub fn make_response(out: &mut Out, request: &Request<'_>) -> Result {
     };
     let flags = MariadbCapabilities::from_bits_retain(request.number(3));
     let packet = packet.with_mariadb_ext_capabilities(flags);
+    let packet = match request.word(1).strip_prefix('c') {
+        Some(collation) => packet.with_collation(words::number(collation)),
+        None => packet,
+    };
     out.word("made")?;
     Connections::fields(&packet, out)?;
     write_and_read(out, &packet, request, ())
