@@ -26,8 +26,8 @@ words='stranger|low (one|byte) first|says first|wrong (body|bodies)|refused grow
 # none_of_them: no file of the repository has one, but for a text that a reader answers
 none_of_them() {
     ! grep -rnIiwE --include='*.rt' --include='*.antt' --include='*.edit' --include='*.md' --include='*.py' --include='*.sh' \
-        --include='*.txt' --include='*.c' --include=check --include=mypackets --include=run --exclude=files.sh \
-        --exclude-dir=out -e "$words" README.md check mypackets bench crates docs tests tools |
+        --include='*.txt' --include='*.c' --include='*.h' --include=check --include=mypackets --include=mypackets-c --include=run --exclude=files.sh \
+        --exclude-dir=out -e "$words" README.md check mypackets mypackets-c bench crates docs examples include tests tools |
         grep -v 'Bytes behind the last sid'
 }
 expect 'a word stands there that another one stands for' none_of_them

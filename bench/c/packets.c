@@ -1,0 +1,288 @@
+/* One call of the library over many packets, each other than the one before it, for valgrind to count what runs in `measured`.
+ *
+ * packets NAME COUNT    prints a sum over what was read; built with -DALLOCATIONS, how many blocks of memory a packet took */
+#include "mysql_packets.h"
+#include <stdio.h>
+#include <stdlib.h>
+#include <string.h>
+
+#ifdef ALLOCATIONS
+static uint64_t blocks;
+extern void *__libc_malloc(size_t), *__libc_realloc(void *, size_t);
+void *malloc(size_t n) { blocks++; return __libc_malloc(n); }
+void *realloc(void *p, size_t n) { blocks++; return __libc_realloc(p, n); }
+#endif
+
+enum { COLUMNS = 10, CAPABILITIES = MYP_CLIENT_PROTOCOL_41 | MYP_CLIENT_SESSION_TRACK };
+
+/* ---- packets */
+
+struct batch {
+    uint8_t *bytes;
+    size_t len, size;
+};
+
+static uint64_t state = 88172645463325252u;
+
+static uint64_t varied(void)
+{
+    state ^= state << 13, state ^= state >> 7, state ^= state << 17;
+    return state;
+}
+
+static void put(struct batch *b, const void *bytes, size_t len)
+{
+    if (b->size - b->len < len && !(b->bytes = realloc(b->bytes, b->size = 2 * b->size + len)))
+        exit(1);
+    memcpy(b->bytes + b->len, bytes, len), b->len += len;
+}
+
+static void put_number(struct batch *b, uint64_t n, size_t width)
+{
+    for (size_t i = 0; i < width; i++)
+        put(b, &(uint8_t){ (uint8_t)(n >> 8 * i) }, 1);
+}
+
+/* a length-encoded string of 1 to 20 bytes */
+static void put_string(struct batch *b)
+{
+    size_t len = 1 + varied() % 20;
+    put_number(b, len, 1);
+    while (len--)
+        put_number(b, 'a' + varied() % 26, 1);
+}
+
+static void put_statement(struct batch *b)
+{
+    put_number(b, 0, 1), put_number(b, varied(), 4), put_number(b, varied(), 2), put_number(b, varied(), 2), put_number(b, 0, 1);
+    put_number(b, varied() % 4, 2);
+}
+
+static void put_column(struct batch *b)
+{
+    put(b, "\003def", 4);
+    for (int i = 0; i < 5; i++)
+        put_string(b);
+    put_number(b, 12, 1), put_number(b, varied(), 2), put_number(b, varied(), 4), put_number(b, varied() % 2 ? MYP_TYPE_LONGLONG : MYP_TYPE_VAR_STRING, 1);
+    put_number(b, varied() % 0x1000, 2), put_number(b, varied() % 32, 1), put_number(b, 0, 2);
+}
+
+static void put_ok(struct batch *b)
+{
+    put_number(b, 0, 1), put_number(b, varied() % 251, 1), put_number(b, varied() % 251, 1), put_number(b, MYP_SERVER_STATUS_AUTOCOMMIT, 2);
+    put_number(b, 0, 2);
+}
+
+static void put_ok_changes(struct batch *b)
+{
+    struct batch changes = { 0 };
+    put_number(b, 0, 1), put_number(b, varied() % 251, 1), put_number(b, 0xfc, 1), put_number(b, varied(), 2);
+    put_number(b, MYP_SERVER_STATUS_AUTOCOMMIT | MYP_SERVER_SESSION_STATE_CHANGED, 2), put_number(b, varied() % 4, 2);
+    put_string(b);
+    for (int type = MYP_SESSION_TRACK_SYSTEM_VARIABLES; type <= MYP_SESSION_TRACK_SCHEMA; type++) {
+        struct batch data = { 0 };
+        put_string(&data);
+        if (type == MYP_SESSION_TRACK_SYSTEM_VARIABLES)
+            put_string(&data);
+        put_number(&changes, (uint64_t)type, 1), put_number(&changes, data.len, 1), put(&changes, data.bytes, data.len);
+        free(data.bytes);
+    }
+    put_number(b, changes.len, 1), put(b, changes.bytes, changes.len);
+    free(changes.bytes);
+}
+
+static void put_error(struct batch *b)
+{
+    put_number(b, 0xff, 1), put_number(b, 1000 + varied() % 1000, 2), put(b, "#HY000", 6);
+    put_string(b);
+}
+
+static void put_handshake(struct batch *b)
+{
+    static const char version[] = "5.5.5-10.11.19-MariaDB-0+deb12u1-log", plugin[] = "mysql_native_password";
+    put_number(b, 10, 1), put(b, version, sizeof version), put_number(b, varied(), 4), put_number(b, varied(), 8), put_number(b, 0, 1);
+    put_number(b, 0xf7fe, 2), put_number(b, 45, 1), put_number(b, 2, 2), put_number(b, 0x81ff, 2), put_number(b, 21, 1), put_number(b, 0, 6);
+    put_number(b, 0x1d, 4), put_number(b, varied(), 8), put_number(b, varied(), 4), put_number(b, 0, 1), put(b, plugin, sizeof plugin);
+}
+
+/* five numbers and five strings */
+static void put_binary_row(struct batch *b)
+{
+    put_number(b, 0, 3);
+    for (int i = 0; i < 5; i++)
+        put_number(b, varied(), 8);
+    for (int i = 0; i < 5; i++)
+        put_string(b);
+}
+
+static void put_text_row(struct batch *b)
+{
+    for (int i = 0; i < 5; i++) {
+        char text[32];
+        int len = snprintf(text, sizeof text, "%lld", (long long)varied());
+        put_number(b, (uint64_t)len, 1), put(b, text, (size_t)len);
+    }
+    for (int i = 0; i < 5; i++)
+        put_string(b);
+}
+
+static void put_ten_numbers(struct batch *b)
+{
+    for (int i = 0; i < COLUMNS; i++)
+        put_number(b, varied(), 8);
+}
+
+/* ---- operations */
+
+static const myp_column_type types[COLUMNS] = { { 8, 0 }, { 8, 0 }, { 8, 0 }, { 8, 0 }, { 8, 0 }, { 253, 0 }, { 253, 0 }, { 253, 0 }, { 253, 0 }, { 253, 0 } };
+static myp_value row[COLUMNS];
+
+static uint64_t statement(const uint8_t *p, size_t n)
+{
+    static myp_statement s = MYP_STATEMENT_INIT;
+    return myp_read_statement(p, n, &s) ? 0 : 1 + s.statement_id;
+}
+
+static uint64_t column(const uint8_t *p, size_t n)
+{
+    static myp_column c = MYP_COLUMN_INIT;
+    return myp_read_column(p, n, &c) ? 0 : c.column_length + c.name.len;
+}
+
+static uint64_t ok(const uint8_t *p, size_t n)
+{
+    static myp_ok o = MYP_OK_INIT;
+    return myp_read_ok(p, n, MYP_OK_COMMON, CAPABILITIES, &o) ? 0 : 1 + o.affected_rows + o.info.len;
+}
+
+static uint64_t ok_changes(const uint8_t *p, size_t n)
+{
+    static myp_ok o = MYP_OK_INIT;
+    static myp_change change = MYP_CHANGE_INIT;
+    static myp_bytes name = MYP_BYTES_INIT, value = MYP_BYTES_INIT;
+    uint64_t sum = 1;
+    if (myp_read_ok(p, n, MYP_OK_COMMON, CAPABILITIES, &o))
+        return 0;
+    while (!myp_next_change(&o.session_state, &change)) {
+        sum += change.text.len;
+        while (!myp_next_variable(&change.variables, &name, &value))
+            sum += value.len;
+    }
+    return sum;
+}
+
+static uint64_t error(const uint8_t *p, size_t n)
+{
+    static myp_error e = MYP_ERROR_INIT;
+    return myp_read_error(p, n, CAPABILITIES, &e) ? 0 : e.code + e.message.len;
+}
+
+static uint64_t handshake(const uint8_t *p, size_t n)
+{
+    static myp_handshake h = MYP_HANDSHAKE_INIT;
+    return myp_read_handshake(p, n, &h) ? 0 : 1 + h.connection_id;
+}
+
+static uint64_t binary_row(const uint8_t *p, size_t n)
+{
+    size_t used = 0;
+    return myp_read_binary_row(p, n, types, COLUMNS, row, COLUMNS, &used) ? 0 : used;
+}
+
+static uint64_t text_row(const uint8_t *p, size_t n)
+{
+    size_t used = 0;
+    return myp_read_text_row(p, n, row, COLUMNS, &used) ? 0 : used;
+}
+
+static uint64_t execution(const uint8_t *p, size_t n)
+{
+    static uint8_t out[256];
+    uint8_t as_long_data = 0;
+    size_t written = 0;
+    (void)n;
+    for (int i = 0; i < COLUMNS; i++)
+        row[i].kind = MYP_INT, memcpy(&row[i].number, p + 8 * i, 8);
+    return myp_write_execute(1, row, COLUMNS, out, sizeof out, &written, &as_long_data) ? 0 : written;
+}
+
+static const struct operation {
+    const char *name;
+    void (*put)(struct batch *);
+    uint64_t (*run)(const uint8_t *, size_t);
+} operations[] = {
+    { "statement", put_statement, statement }, { "column", put_column, column }, { "ok", put_ok, ok },
+    { "ok_changes", put_ok_changes, ok_changes }, { "error", put_error, error }, { "handshake", put_handshake, handshake },
+    { "binary_row", put_binary_row, binary_row }, { "text_row", put_text_row, text_row }, { "execution", put_ten_numbers, execution },
+};
+
+__attribute__((noinline)) uint64_t measured(uint64_t (*run)(const uint8_t *, size_t), const struct batch *b)
+{
+    uint64_t sum = 0;
+    for (size_t at = 0; at < b->len;) {
+        size_t n = b->bytes[at] | (size_t)b->bytes[at + 1] << 8;
+        uint64_t one = run(b->bytes + at + 2, n);
+        if (!one)
+            return 0;
+        sum += one, at += 2 + n;
+    }
+    return sum;
+}
+
+/* a number, 20 bytes and NULL in each row, in one request */
+__attribute__((noinline)) uint64_t measured_bulk(const myp_value *values, size_t rows, uint8_t *out, size_t size)
+{
+    static const myp_column_type of[3] = { { MYP_TYPE_LONGLONG, 0 }, { MYP_TYPE_VAR_STRING, 0 }, { MYP_TYPE_LONG, 0 } };
+    size_t written = 0, taken = 0;
+    return myp_write_bulk(1, 0, 1 << 24, of, 3, values, 3 * rows, out, size, &written, &taken) || taken != rows ? 0 : written;
+}
+
+int main(int argc, char **argv)
+{
+    if (argc != 3)
+        return 2;
+    uint64_t sum = 0, before = 0;
+    size_t count = strtoul(argv[2], NULL, 10);
+    for (int i = 0; i < COLUMNS; i++)
+        row[i] = (myp_value)MYP_VALUE_INIT;
+    if (!strcmp(argv[1], "bulk")) {
+        static const char text[] = "abcdefghijklmnopqrstuvwxyzabcdefghijklmnop";
+        size_t size = 64 * count + 64;
+        myp_value *values = malloc(3 * count * sizeof *values);
+        uint8_t *out = malloc(size);
+        if (!values || !out)
+            return 1;
+        for (size_t i = 0; i < 3 * count; i++) {
+            values[i] = (myp_value)MYP_VALUE_INIT;
+            if (i % 3 == 0)
+                values[i].kind = MYP_INT, values[i].number = varied();
+            else if (i % 3 == 1)
+                values[i].kind = MYP_BYTES, values[i].bytes = (myp_bytes){ (const uint8_t *)text + varied() % 20, 20 };
+        }
+#ifdef ALLOCATIONS
+        before = blocks;
+#endif
+        sum = measured_bulk(values, count, out, size);
+    }
+    for (size_t i = 0; i < sizeof operations / sizeof *operations; i++)
+        if (!strcmp(argv[1], operations[i].name)) {
+            struct batch b = { 0 };
+            for (size_t n = 0; n < count; n++) {
+                size_t start = b.len;
+                put_number(&b, 0, 2);
+                operations[i].put(&b);
+                b.bytes[start] = (uint8_t)(b.len - start - 2), b.bytes[start + 1] = (uint8_t)((b.len - start - 2) >> 8);
+            }
+#ifdef ALLOCATIONS
+            before = blocks;
+#endif
+            sum = measured(operations[i].run, &b);
+        }
+#ifdef ALLOCATIONS
+    printf("%.3f\n", (double)(blocks - before) / (double)count);
+#else
+    (void)before;
+    printf("%llu\n", (unsigned long long)sum);
+#endif
+    return sum == 0;
+}

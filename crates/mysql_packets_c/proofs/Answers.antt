@@ -1,0 +1,12 @@
+-- What an answer is that is no error.
+use Rattle.std.proofs.Common.{rules, ◌≡◌, Bool, true, false, refl}
+use Rattle.std.specs.Prelude.{IsTrue}
+use Rattle.mysql_replies.specs.ErrPacket.{is_error, is_progress_report}
+use Rattle.mysql_replies.specs.declared.err_packet.ErrPacket.{ErrPacket}
+use Rattle.mysql_replies.specs.declared.err_packet.ErrPacket.TheVariants as err
+
+pub report-else : (p : ErrPacket) → is_error p ≡ false → IsTrue (is_progress_report p)
+report-else (err.Error e) h = absurd cc
+report-else (err.Progress r) h = search rules
+
+pub ruleset answers = (report-else)

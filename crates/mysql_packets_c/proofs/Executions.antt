@@ -1,0 +1,135 @@
+-- What filling places gives of an execution.
+use Rattle.std.proofs.Common.{◌≡◌, ◌≢◌, ◌<◌, ◌-◌, ◌++◌, ◌∷◌, ◌+◌, ℕ, List, [], slice_set, Result, Ok, Err, Bool, length, map, take, get_or, false, refl, sym, subst, ap, ◌∙◌, arith, if◌then◌else◌}
+use Rattle.std.proofs.lemmas.List.{append-nil, append_assoc, map-append, take_more, take_more_set}
+use Rattle.mysql_wire.specs.declared.fault.FaultKind.{FaultKind}
+use Rattle.mysql_wire.specs.declared.fault.FaultKind.TheVariants as kind
+use Rattle.mysql_wire.specs.declared.fault.FaultOf.{FaultOf}
+use Rattle.mysql_wire.specs.declared.fault.FaultOf.TheVariants as fault
+use Rattle.mysql_wire.specs.Reading.{Reading, Faults}
+use Rattle.mysql_stmt.specs.ExecuteRead.{HasNoParam, IsExecution, ParamsLeft, RefusesParam, TypedParam, execute_params, front, params_of, params_to}
+use Rattle.mysql_stmt.specs.declared.execute_head.ComStmtExecuteHead.{ComStmtExecuteHead}
+use Rattle.mysql_stmt.specs.declared.execute_view.BoundParam.{BoundParam}
+use Rattle.mysql_packets_c.specs.Code.{fault_code, kind_code}
+use Rattle.mysql_packets_c.specs.CValue.{value_content}
+use Rattle.mysql_packets_c.specs.Execution.{ExecutionInto, FillsParams, HoldsExecution, HoldsParams, ParamsInto, TakesParams, bound_list, bound_of, content_of, contents_of, sends_types, type_held, types_of}
+use Rattle.mysql_packets_c.specs.declared.execution.CExecution.{CExecution}
+use Rattle.mysql_packets_c.specs.declared.execution.CParam.{CParam}
+use Rattle.mysql_packets_c.specs.declared.rows.CColumnType.{CColumnType}
+use Rattle.mysql_packets_c.specs.declared.value.CValue.{CValue}
+use Rattle.mysql_packets_c.proofs.FilledRows.{one-more}
+
+-- ---- one parameter more
+
+pub one-content : (values : List CValue) (place : ℕ) (x : CValue) (read : List TypedParam) (left more : List TypedParam) (p : TypedParam)
+    → contents_of read ≡ map value_content (take place values) ++ contents_of left → left ≡ p ∷ more → value_content x ≡ content_of p.1 → place < length values
+    → contents_of read ≡ map value_content (take (place + 1) (slice_set values place x)) ++ contents_of more
+one-content values place x read left more p before first is fits =
+    one-more values place x (contents_of read) (contents_of left) (contents_of more) (content_of p.1) before (ap contents_of first) is fits
+
+pub one-type : (types : List CColumnType) (place : ℕ) (x : CColumnType) (read left more : List TypedParam) (p : TypedParam)
+    → types_of read ≡ take place types ++ types_of left → left ≡ p ∷ more → x ≡ type_held p.0 → place < length types
+    → types_of read ≡ take (place + 1) (slice_set types place x) ++ types_of more
+one-type types place x read left more p before first is fits =
+    let stored = take_more_set types place x fits in
+    before ∙ ap (λ ps. take place types ++ types_of ps) first ∙ ap (λ t. take place types ++ t ∷ types_of more) (sym is)
+    ∙ sym (ap (λ ts. ts ++ types_of more) stored ∙ append_assoc (take place types) (x ∷ []) (types_of more))
+
+-- ---- all of them
+
+all-held : (old new : ParamsLeft) (values : List CValue) (types : List CColumnType) → FillsParams old new values types → HasNoParam new
+    → HoldsParams old.params (take old.left values) (take old.left types)
+all-held old new values types fills none =
+    let whole : old.left - 0 ≡ old.left = omega arith in
+    let contents : contents_of old.params ≡ map value_content (take (old.left - 0) values) = rw (none.0, none.1, append-nil) at fills.contents in
+    let held : types_of old.params ≡ take (old.left - 0) types = rw (none.0, none.1, append-nil) at fills.types in
+    record {
+      contents = sym (subst (λ (n : ℕ). contents_of old.params ≡ map value_content (take n values)) whole contents);
+      types = sym (subst (λ (n : ℕ). types_of old.params ≡ take n types) whole held);
+    }
+
+front-sends : (params : List BoundParam) (bytes : List ℕ) (view : ParamsLeft) → IsExecution params bytes view → sends_types ((front params).reads bytes) ≡ (if view.sends_types then 1 else 0)
+front-sends params bytes view (f, after, reads, is) = rw (reads, is) refl
+
+pub all-taken : (params : List BoundParam) (bytes rest : List ℕ) (sends : Bool) (old new : ParamsLeft) (values : List CValue) (types : List CColumnType)
+    → old.left ≡ length params → params_of old ≡ (execute_params params).reads bytes → IsExecution params bytes old → sends ≡ old.sends_types
+    → FillsParams old new values types → HasNoParam new → (new.left ≡ 0 → new.end ≡ Ok rest)
+    → TakesParams params (Ok (sends, rest)) (take (length params) values) (take (length params) types) bytes
+all-taken params bytes rest sends old new values types left read execution is fills none end =
+    let ended : old.end ≡ Ok rest = sym fills.end ∙ end none.0 in
+    let held = all-held old new values types fills none in (
+      old.params,
+      sym read ∙ ap (params_to old.params) ended,
+      subst (λ (n : ℕ). HoldsParams old.params (take n values) (take n types)) left held,
+      front-sends params bytes old execution ∙ ap (λ (b : Bool). if b then 1 else 0) (sym is),
+    )
+
+-- a fault comes after any parameters
+fault-after : (ps : List TypedParam) (end : Result (List ℕ) FaultKind) (e : FaultOf) → Faults false e (params_to [] end) → Faults false e (params_to ps end)
+fault-after ps (Err k) e h = h
+fault-after ps (Ok rest) fault.UnexpectedEof h = absurd cc
+fault-after ps (Ok rest) (fault.InvalidData text) h = absurd cc
+fault-after ps (Ok rest) (fault.InvalidInput text) h = absurd cc
+fault-after ps (Ok rest) fault.Memory h = absurd cc
+
+pub one-refused : (read : Reading (List TypedParam)) (old new : ParamsLeft) (values : List CValue) (types : List CColumnType) (e : FaultOf)
+    → params_of old ≡ read → FillsParams old new values types → RefusesParam e new → Faults false e read
+one-refused read old new values types e is fills refused =
+    let at_end : Faults false e (params_to [] old.end) = rw (refused.0, fills.end) at refused.1 in
+    subst (λ (r : _). Faults false e r) is (fault-after old.params old.end e at_end)
+
+-- ---- codes
+
+pub not-memory : {A : Type 0} (e : FaultOf) (read : Reading A) → Faults false e read → fault_code e ≢ 4
+not-memory fault.UnexpectedEof read h = λ is. absurd cc
+not-memory (fault.InvalidData text) read h = λ is. absurd cc
+not-memory (fault.InvalidInput text) read h = λ is. absurd cc
+not-memory fault.Memory read h = absurd cc
+
+-- ---- the whole execution
+
+pub into-execution : (packet : List ℕ) (params : List BoundParam) (h : ComStmtExecuteHead) (after rest : List ℕ) (read : Reading ComStmtExecuteHead) (sends : Bool) (values : List CValue) (types : List CColumnType) (old new : CExecution)
+    → read ≡ Ok (h, after) → TakesParams params (Ok (sends, rest)) values types after → HoldsExecution packet h (if sends then 1 else 0) rest new → ExecutionInto packet params read values types 0 old new
+into-execution packet params h after rest read sends values types old new e (list, reads, held, sent) is =
+    let filled : HoldsExecution packet h (sends_types ((front params).reads after)) rest new = subst (λ (n : ℕ). HoldsExecution packet h n rest new) (sym sent) is in
+    let into : ParamsInto ((execute_params params).reads after) values types (HoldsExecution packet h (sends_types ((front params).reads after))) 0 old new =
+    subst (λ (r : Reading (List TypedParam)). ParamsInto r values types (HoldsExecution packet h (sends_types ((front params).reads after))) 0 old new) (sym reads) (refl, held, filled) in
+    subst (λ (r : Reading ComStmtExecuteHead). ExecutionInto packet params r values types 0 old new) (sym e) into
+
+head-fault : (packet : List ℕ) (params : List BoundParam) (values : List CValue) (types : List CColumnType) (old : CExecution) (k : FaultKind) (read : Reading ComStmtExecuteHead)
+    → read ≡ Err k → ExecutionInto packet params read values types (kind_code k) old old
+head-fault packet params values types old k read h = subst (λ (r : Reading ComStmtExecuteHead). ExecutionInto packet params r values types (kind_code k) old old) (sym h) (refl, refl)
+
+pub fault-of-head : (packet : List ℕ) (params : List BoundParam) (values : List CValue) (types : List CColumnType) (old : CExecution) (e : FaultOf) (read : Reading ComStmtExecuteHead)
+    → Faults false e read → ExecutionInto packet params read values types (fault_code e) old old
+fault-of-head packet params values types old fault.UnexpectedEof read h = head-fault packet params values types old kind.UnexpectedEof read h
+fault-of-head packet params values types old (fault.InvalidData text) read h = head-fault packet params values types old kind.InvalidData read h
+fault-of-head packet params values types old (fault.InvalidInput text) read h = head-fault packet params values types old kind.InvalidInput read h
+fault-of-head packet params values types old fault.Memory read h = absurd cc
+
+params-fault : (packet : List ℕ) (params : List BoundParam) (values : List CValue) (types : List CColumnType) (old : CExecution) (h : ComStmtExecuteHead) (after : List ℕ) (k : FaultKind) (read : Reading ComStmtExecuteHead)
+    → read ≡ Ok (h, after) → (execute_params params).reads after ≡ Err k → ExecutionInto packet params read values types (kind_code k) old old
+params-fault packet params values types old h after k read e f =
+    let into : ParamsInto ((execute_params params).reads after) values types (HoldsExecution packet h (sends_types ((front params).reads after))) (kind_code k) old old =
+    subst (λ (r : Reading (List TypedParam)). ParamsInto r values types (HoldsExecution packet h (sends_types ((front params).reads after))) (kind_code k) old old) (sym f) (refl, refl) in
+    subst (λ (r : Reading ComStmtExecuteHead). ExecutionInto packet params r values types (kind_code k) old old) (sym e) into
+
+pub fault-of-params : (packet : List ℕ) (params : List BoundParam) (values : List CValue) (types : List CColumnType) (old : CExecution) (h : ComStmtExecuteHead) (after : List ℕ) (e : FaultOf) (read : Reading ComStmtExecuteHead)
+    → read ≡ Ok (h, after) → Faults false e ((execute_params params).reads after) → ExecutionInto packet params read values types (fault_code e) old old
+fault-of-params packet params values types old h after fault.UnexpectedEof read is f = params-fault packet params values types old h after kind.UnexpectedEof read is f
+fault-of-params packet params values types old h after (fault.InvalidData text) read is f = params-fault packet params values types old h after kind.InvalidData read is f
+fault-of-params packet params values types old h after (fault.InvalidInput text) read is f = params-fault packet params values types old h after kind.InvalidInput read is f
+fault-of-params packet params values types old h after fault.Memory read is f = absurd cc
+
+-- ---- what the server knows before
+
+pub one-bound : (list : List CParam) (i : ℕ) (x d : CParam) (y : BoundParam) (items : List BoundParam) → i < length list → x ≡ get_or list i d → y ≡ bound_of x → items ≡ bound_list (take i list)
+    → items ++ y ∷ [] ≡ bound_list (take (i + 1) list)
+one-bound list i x d y items lt is bound so_far =
+    ap (λ (l : List BoundParam). l ++ y ∷ []) so_far ∙ ap (λ (b : BoundParam). bound_list (take i list) ++ b ∷ []) (bound ∙ ap bound_of is)
+    ∙ sym (ap bound_list (take_more list i d lt) ∙ map-append bound_of (take i list) (get_or list i d ∷ []))
+
+pub ruleset bound = (one-bound)
+
+pub ruleset fills = (one-content, one-type)
+
+pub ruleset executions = (all-taken, one-refused, not-memory, into-execution, fault-of-head, fault-of-params)

@@ -1,0 +1,96 @@
+-- What structs tell of sids.
+use Rattle.std.proofs.Common.{◌≡◌, ℕ, ◌<◌, ◌≤◌, ◌+◌, List, [], ◌∷◌, ◌++◌, length, take, drop, get_or, slice_set, Option, Some, None, refl, sym, ap, ◌∙◌, arith}
+use Rattle.std.proofs.lemmas.List.{append-nil, append_assoc, drop_all, drop_more, map-append, take_more, take_more_set}
+use Rattle.std.proofs.lemmas.Bool.{le-leb}
+use Rattle.std.specs.Str.{IsUtf8}
+use Rattle.mysql_packets_c.proofs.Tags.{bytes-not_utf8, bytes-fault, bytes-tag}
+use Rattle.mysql_repl.specs.Tag.{IsTag, tag_fault}
+use Rattle.mysql_repl.specs.TagString.{tag_of, tag_of-tag, tag-short}
+use Rattle.mysql_repl.specs.declared.sid.Sid.{Sid}
+use Rattle.mysql_repl.specs.declared.tag.InvalidTag.{InvalidTag}
+use Rattle.mysql_repl.specs.declared.gno_interval.GnoInterval.{GnoInterval}
+use Rattle.mysql_packets_c.specs.declared.sid.CInterval.{CInterval}
+use Rattle.mysql_packets_c.specs.Sid.{interval_of, intervals_of, tag_held, sid_held, sids_held, with_first}
+use Rattle.mysql_packets_c.specs.declared.sid.CSid.{CSid}
+
+-- ---- a tag among bytes
+
+pub held-none : (bytes : List ℕ) → length bytes ≡ 0 → tag_of bytes ≡ Some None
+unfolding tag_of
+held-none [] h = refl
+held-none (b ∷ bytes) h = absurd (omega (arith, h))
+
+pub held-not_utf8 : (bytes : List ℕ) → (length bytes ≡ 0 → ⊥) → (IsUtf8 bytes → ⊥) → tag_of bytes ≡ None
+held-not_utf8 [] some h = absurd (some refl)
+held-not_utf8 (b ∷ bytes) some h = bytes-not_utf8 b bytes h
+
+pub held-fault : (bytes text : List ℕ) (fault : InvalidTag) → (length bytes ≡ 0 → ⊥) → text ≡ bytes → tag_fault text ≡ Some fault → tag_of bytes ≡ None
+held-fault [] text fault some same h = absurd (some refl)
+held-fault (b ∷ bytes) text fault some same h = bytes-fault b bytes fault (rw same at h)
+
+pub held-tag : (bytes text tag : List ℕ) → (length bytes ≡ 0 → ⊥) → IsUtf8 bytes → text ≡ bytes → tag ≡ text → tag_fault text ≡ None → tag_of bytes ≡ Some (Some tag)
+held-tag [] text tag some utf8 same is h = absurd (some refl)
+held-tag (b ∷ bytes) text tag some utf8 same is h = bytes-tag b bytes utf8 (rw same at h) ∙ ap (λ (t : List ℕ). Some (Some t)) (sym (is ∙ same))
+
+-- ---- intervals one by one
+
+pub one-interval : (list : List CInterval) (i : ℕ) (x d : CInterval) (items : List GnoInterval) → i < length list → x ≡ get_or list i d → items ≡ intervals_of (take i list)
+    → items ++ interval_of x ∷ [] ≡ intervals_of (take (i + 1) list)
+one-interval list i x d items lt is so_far =
+    ap (λ (l : List GnoInterval). l ++ interval_of x ∷ []) so_far ∙ ap (λ (y : CInterval). intervals_of (take i list) ++ interval_of y ∷ []) is
+    ∙ sym (ap intervals_of (take_more list i d lt) ∙ map-append interval_of (take i list) (get_or list i d ∷ []))
+
+pub one-placed : (list : List GnoInterval) (places : List CInterval) (i : ℕ) (x : CInterval) (y d : GnoInterval) → i < length list → i < length places → y ≡ get_or list i d → interval_of x ≡ y → intervals_of (take i places) ≡ take i list
+    → intervals_of (take (i + 1) (slice_set places i x)) ≡ take (i + 1) list
+one-placed list places i x y d lt fits is same so_far =
+    ap intervals_of (take_more_set places i x fits) ∙ map-append interval_of (take i places) (x ∷ [])
+    ∙ ap (λ (l : List GnoInterval). l ++ interval_of x ∷ []) so_far ∙ ap (λ (z : GnoInterval). take i list ++ z ∷ []) (same ∙ is) ∙ sym (take_more list i d lt)
+
+-- ---- a tag that is put
+
+pub tag-put : (out : CSid) (tag : List ℕ) → IsTag tag → out.tag_length ≡ length tag → take (length tag) out.tag ≡ tag → tag_held out ≡ Some (Some tag)
+unfolding tag_held
+tag-put out tag h len bytes =
+    rw (len, le-leb (length tag) 32 (tag-short tag h), bytes) (tag_of-tag tag h)
+
+pub no-tag-put : (out : CSid) (n : ℕ) → out.tag_length ≡ n → n ≡ 0 → tag_held out ≡ Some None
+unfolding tag_held tag_of
+no-tag-put out n len none = rw (len, none) refl
+
+pub tag-fits : (tag : List ℕ) → IsTag tag → length tag ≤ 32
+tag-fits tag h = tag-short tag h
+
+pub ruleset intervals_put = (one-placed)
+
+pub ruleset tags_put = (tag-put, no-tag-put, tag-fits)
+
+-- ---- sids one by one
+
+-- what is held, after these
+abbrev pub after_these : List Sid → Option (List Sid) → Option (List Sid)
+after_these front None = None
+after_these front (Some sids) = Some (front ++ sids)
+
+pub one-more : (front : List Sid) (s : Sid) (more : Option (List Sid)) → after_these front (with_first (Some s) more) ≡ after_these (front ++ s ∷ []) more
+one-more front s None = refl
+one-more front s (Some sids) = ap (λ (l : List Sid). Some l) (sym (append_assoc front (s ∷ []) sids))
+
+pub next-held : (front : List Sid) (sids : List CSid) (i : ℕ) (x d : CSid) (s : Sid) (total : Option (List Sid)) → i < length sids → x ≡ get_or sids i d → sid_held x ≡ Some s
+    → after_these front (sids_held (drop i sids)) ≡ total → after_these (front ++ s ∷ []) (sids_held (drop (i + 1) sids)) ≡ total
+next-held front sids i x d s total lt is held so_far =
+    let one : sids_held (drop i sids) ≡ with_first (Some s) (sids_held (drop (i + 1) sids)) =
+    ap sids_held (drop_more sids i d lt) ∙ ap (λ (t : Option Sid). with_first t (sids_held (drop (i + 1) sids))) (ap sid_held (sym is) ∙ held) in
+    sym (ap (after_these front) one ∙ one-more front s (sids_held (drop (i + 1) sids))) ∙ so_far
+
+pub none-held : (front : List Sid) (sids : List CSid) (i : ℕ) (x d : CSid) (total : Option (List Sid)) → i < length sids → x ≡ get_or sids i d → sid_held x ≡ None
+    → after_these front (sids_held (drop i sids)) ≡ total → total ≡ None
+none-held front sids i x d total lt is held so_far =
+    let one : sids_held (drop i sids) ≡ None =
+    ap sids_held (drop_more sids i d lt) ∙ ap (λ (t : Option Sid). with_first t (sids_held (drop (i + 1) sids))) (ap sid_held (sym is) ∙ held) in
+    sym so_far ∙ ap (after_these front) one
+
+pub all-held : (front : List Sid) (sids : List CSid) (i : ℕ) (total : Option (List Sid)) → length sids ≤ i
+    → after_these front (sids_held (drop i sids)) ≡ total → total ≡ Some front
+all-held front sids i total le so_far = sym so_far ∙ ap (λ (l : List CSid). after_these front (sids_held l)) (drop_all i sids le) ∙ ap (λ (l : List Sid). Some l) (append-nil front)
+
+pub ruleset sids_held_one = (one-interval, next-held, none-held, all-held)

@@ -1,0 +1,17 @@
+use Rattle.std.proofs.Common.{◌≡◌, ◌+◌, ◌++◌, length, map, take}
+use Rattle.mysql_packets_c.specs.CValue.{value_content}
+use Rattle.mysql_packets_c.specs.Execution.{contents_of, types_of}
+use Rattle.mysql_packets_c.proofs.execution.fill_params.Given as goal
+
+abbrev pub invariant-loop-pair : goal.invariant-loop-pair
+invariant-loop-pair l = record {
+  count : l.place + l.view.left ≡ l.fn.view.left;
+  contents : contents_of l.fn.view.params ≡ map value_content (take l.place l.values) ++ contents_of l.view.params;
+  types : types_of l.fn.view.params ≡ take l.place l.types ++ types_of l.view.params;
+  end : l.view.end ≡ l.fn.view.end;
+  value_places : length l.values ≡ length l.fn.values;
+  type_places : length l.types ≡ length l.fn.types;
+}
+
+abbrev pub decreases-loop-pair : goal.decreases-loop-pair
+decreases-loop-pair l = l.view.left

@@ -1,0 +1,148 @@
+-- A bulk request, as C asks for it.
+use Rattle.std.specs.Prelude.{◌≡◌, ◌≢◌, ◌⊎◌, ℕ, ◌+◌, ◌*◌, ◌-◌, ◌%◌, ◌==◌, ◌&&◌, ◌||◌, ◌≤◌, Bool, true, false, not, nat_le, List, [], length, map, take, drop, All, Option, Some, None, position}
+use Rattle.std.specs.List.{list_all}
+use Rattle.mysql_bulk.specs.declared.error.BulkRowRefusal.{BulkRowRefusal}
+use Rattle.mysql_bulk.specs.declared.error.BulkRowRefusal.TheVariants as refusal
+use Rattle.mysql_cuts.specs.Cut.{PartFits}
+use Rattle.mysql_bulk.specs.Builder.{BuilderState, RowFits, TakesRow, packing}
+use Rattle.mysql_bulk.specs.BuilderRows.{rows_of}
+use Rattle.mysql_bulk.specs.ColumnTypes.{TakesTypes, may_be_declared}
+use Rattle.mysql_bulk.specs.RequestWriter.{Holds, IsBuilt, WriterState, as_builder, new_builder}
+use Rattle.mysql_values.specs.ParamType.{typed}
+use Rattle.mysql_values.specs.Value.{Content}
+use Rattle.mysql_values.specs.declared.param_type.ParamType.{ParamType}
+use Rattle.mysql_packets_c.specs.ColumnType.{type_of, unsigned_of}
+use Rattle.mysql_packets_c.specs.CValue.{is_value, values_contents}
+use Rattle.mysql_packets_c.specs.Output.{Puts}
+use Rattle.mysql_packets_c.specs.declared.rows.CColumnType.{CColumnType}
+use Rattle.mysql_packets_c.specs.declared.value.CValue.{CValue}
+
+-- ---- what may be asked for
+
+-- the type that is declared for a column
+abbrev pub declared_type : CColumnType → ParamType
+declared_type c = typed (type_of c) (unsigned_of c)
+
+abbrev pub declared_types : List CColumnType → List ParamType
+declared_types types = map declared_type types
+
+-- the first type that may not be declared
+abbrev pub first_undeclared : List ParamType → Option ℕ
+first_undeclared types = position (λ kind. not (may_be_declared kind)) types
+
+abbrev pub first_refused : List CColumnType → Option ℕ
+first_refused types = first_undeclared (declared_types types)
+
+-- 64 asks for the results of each row
+abbrev pub may_ask : ℕ → ℕ → ℕ → ℕ → Bool
+may_ask flags max_allowed_packet columns values =
+    (flags == 0 || flags == 64) && (nat_le 4 max_allowed_packet && (nat_le 1 columns && (values % columns == 0)))
+
+-- such a call may be made, and the types may be declared
+abbrev pub IsCall : ℕ → ℕ → List CColumnType → List CValue → Type 0
+IsCall flags max_allowed_packet types values =
+    (may_ask flags max_allowed_packet (length types) (length values) ≡ true) × (first_refused types ≡ None)
+
+-- the library's builder with these settings, in which no row waits
+abbrev pub builder_with : ℕ → ℕ → ℕ → List ParamType → BuilderState
+builder_with statement_id flags max_allowed_packet types = record (new_builder statement_id (max_allowed_packet - 4)) {
+  results = flags == 64;
+  columns = Some types;
+  arity = Some (length types);
+}
+
+abbrev pub builder_of : ℕ → ℕ → ℕ → List CColumnType → BuilderState
+builder_of statement_id flags max_allowed_packet types = builder_with statement_id flags max_allowed_packet (declared_types types)
+
+-- ---- rows of values that stand row after row
+
+-- the first rows
+abbrev pub first_rows : ℕ → ℕ → List CValue → List (List Content)
+first_rows columns count values = rows_of columns count (values_contents values)
+
+-- the row after them
+abbrev pub row_at : ℕ → ℕ → List CValue → List CValue
+row_at columns count values = take columns (drop (count * columns) values)
+
+-- the builder in which the first rows wait
+abbrev pub waits : BuilderState → ℕ → ℕ → List CValue → BuilderState
+waits s columns count values = record s { waiting = first_rows columns count values }
+
+-- ---- what is answered
+
+-- there is a row after the first ones, all values, which the types spell, and it doesn't fit with them
+pub record NextIsFull (s : BuilderState) (columns count : ℕ) (values : List CValue) : Type 0 where
+  pub are_values : list_all is_value (row_at columns count values) ≡ true
+  pub taken : TakesRow (waits s columns count values) (values_contents (row_at columns count values))
+  pub full : RowFits (waits s columns count values) (values_contents (row_at columns count values)) → ⊥
+
+-- no row is left, or the next one doesn't fit
+abbrev pub IsFull : BuilderState → ℕ → ℕ → List CValue → Type 0
+IsFull s columns count values = (count * columns ≡ length values) ⊎ NextIsFull s columns count values
+
+-- the first rows are values
+pub record AreRows (columns count : ℕ) (values : List CValue) : Type 0 where
+  pub within : count * columns ≤ length values
+  pub are_values : list_all is_value (take (count * columns) values) ≡ true
+
+-- why the row after the first ones is refused: 3 where one of it is no value, or its type doesn't spell it; 6 where it is the
+-- first row and doesn't fit
+abbrev pub WhyRefused : BuilderState → ℕ → ℕ → List CValue → ℕ → Type 0
+WhyRefused s columns count values code =
+    ((code ≡ 3) × (list_all is_value (row_at columns count values) ≡ false))
+    ⊎ (((code ≡ 3) × (list_all is_value (row_at columns count values) ≡ true) × (TakesTypes s.columns (values_contents (row_at columns count values)) → ⊥))
+    ⊎ ((code ≡ 6) × (count ≡ 0) × NextIsFull s columns count values))
+
+-- the row after the first ones, which may be one request, is there and is refused
+pub record Refuses (s : BuilderState) (columns count : ℕ) (values : List CValue) (code : ℕ) : Type 0 where
+  pub rows : AreRows columns count values
+  pub there : count * columns + columns ≤ length values
+  pub taken : All (TakesTypes s.columns) (first_rows columns count values)
+  pub fit : first_rows columns count values ≢ [] → PartFits (packing s columns) s.types_due (first_rows columns count values)
+  pub why : WhyRefused s columns count values code
+
+-- the request of the rows that wait is written, and how many they are is answered
+pub record WritesBuilt (s : BuilderState) (count code : ℕ) (old new : List ℕ) (written rows : ℕ) : Type 0 where
+  pub request : List ℕ
+  pub built : IsBuilt s request
+  pub bytes : Puts request code old new written
+  pub done : code ≡ 0 → rows ≡ count
+  pub small : code ≢ 0 → rows ≡ 0
+
+-- The request of the first rows is written, as many as fit, and how many is answered. One that the buffer doesn't hold is not
+-- written: 5, and no row.
+pub record Writes (s : BuilderState) (columns : ℕ) (values : List CValue) (code : ℕ) (old new : List ℕ) (written rows : ℕ) : Type 0 where
+  pub count : ℕ
+  pub are_rows : AreRows columns count values
+  pub full : IsFull s columns count values
+  pub built : WritesBuilt (waits s columns count values) count code old new written rows
+
+-- a row is refused, and nothing is written
+pub record RefusesAny (s : BuilderState) (columns : ℕ) (values : List CValue) (code : ℕ) : Type 0 where
+  pub count : ℕ
+  pub refused : Refuses s columns count values code
+
+abbrev pub WritesNothing : List ℕ → List ℕ → ℕ → ℕ → Type 0
+WritesNothing old new written rows = (new ≡ old) × (written ≡ 0) × (rows ≡ 0)
+
+-- the request is written, or a row is refused
+abbrev pub Bulk : BuilderState → ℕ → List CValue → ℕ → List ℕ → List ℕ → ℕ → ℕ → Type 0
+Bulk s columns values code old new written rows =
+    Writes s columns values code old new written rows ⊎ (RefusesAny s columns values code × WritesNothing old new written rows)
+
+-- ---- how the rows are offered
+
+-- the code of a refusal
+abbrev pub refusal_code : BulkRowRefusal → ℕ
+refusal_code refusal.MixedArity = 3
+refusal_code refusal.MixedTypes = 3
+refusal_code refusal.TooLarge = 6
+refusal_code refusal.Memory = 4
+
+-- a writer that began as the builder has the first rows, and no more fit
+pub record Taken (s : BuilderState) (w : WriterState) (columns count : ℕ) (values : List CValue) : Type 0 where
+  pub are_rows : AreRows columns count values
+  pub full : IsFull s columns count values
+  pub holds : Holds w (first_rows columns count values)
+  pub settings : as_builder w (first_rows columns count values) ≡ waits s columns count values
+  pub some : first_rows columns count values ≡ [] → values ≡ []

@@ -1,0 +1,20 @@
+-- The definition of a column, as C has it.
+use Rattle.std.specs.Prelude.{◌≡◌, ℕ, List}
+use Rattle.mysql_wire.specs.ColumnType.{column_type_code}
+use Rattle.mysql_replies.specs.declared.column.Column.{Column}
+use Rattle.mysql_replies.specs.Column as column
+use Rattle.mysql_packets_c.specs.declared.column.CColumn.{CColumn}
+use Rattle.mysql_packets_c.specs.Input.{used_of}
+
+pub record IsColumn (packet : List ℕ) (c : Column) (rest : List ℕ) (out : CColumn) : Type 0 where
+  pub schema : out.schema.now ≡ column.schema c
+  pub table : out.table.now ≡ column.table c
+  pub org_table : out.org_table.now ≡ column.org_table c
+  pub name : out.name.now ≡ column.name c
+  pub org_name : out.org_name.now ≡ column.org_name c
+  pub column_length : out.column_length ≡ column.column_length c
+  pub character_set : out.character_set ≡ column.character_set c
+  pub flags : out.flags ≡ (column.flags c).0
+  pub column_type : out.column_type ≡ column_type_code (column.column_type c)
+  pub decimals : out.decimals ≡ column.decimals c
+  pub used : out.used ≡ used_of packet rest

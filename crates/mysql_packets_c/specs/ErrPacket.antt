@@ -1,0 +1,40 @@
+-- Errors and progress reports, as C has them.
+use Rattle.std.specs.Prelude.{◌≡◌, ℕ, List, [], option_map}
+use Rattle.std.specs.Option.{unwrap_or}
+use Rattle.mysql_replies.specs.ServerError as error
+use Rattle.mysql_replies.specs.ProgressReport as report
+use Rattle.mysql_replies.specs.SqlState.{state_bytes}
+use Rattle.mysql_replies.specs.declared.err_packet.ErrPacket.{ErrPacket}
+use Rattle.mysql_replies.specs.declared.err_packet.ErrPacket.TheVariants as err
+use Rattle.mysql_replies.specs.declared.progress_report.ProgressReport.{ProgressReport}
+use Rattle.mysql_replies.specs.declared.server_error.ServerError.{ServerError}
+use Rattle.mysql_packets_c.specs.declared.err_packet.CError.{CError}
+use Rattle.mysql_packets_c.specs.Input.{used_of}
+
+-- no SQL state is an empty one
+pub record HoldsError (e : ServerError) (taken : ℕ) (out : CError) : Type 0 where
+  pub is_progress : out.is_progress ≡ 0
+  pub code : out.code ≡ error.error_code e
+  pub sql_state : out.sql_state.now ≡ unwrap_or (option_map state_bytes (error.sql_state_of e)) []
+  pub message : out.message.now ≡ error.message e
+  pub stage : out.stage ≡ 0
+  pub max_stage : out.max_stage ≡ 0
+  pub progress : out.progress ≡ 0
+  pub used : out.used ≡ taken
+
+pub record HoldsReport (r : ProgressReport) (taken : ℕ) (out : CError) : Type 0 where
+  pub is_progress : out.is_progress ≡ 1
+  pub code : out.code ≡ 0xffff
+  pub sql_state : out.sql_state.now ≡ []
+  pub message : out.message.now ≡ report.stage_info r
+  pub stage : out.stage ≡ report.stage r
+  pub max_stage : out.max_stage ≡ report.max_stage r
+  pub progress : out.progress ≡ report.progress r
+  pub used : out.used ≡ taken
+
+abbrev pub HoldsAnswer : ErrPacket → ℕ → CError → Type 0
+HoldsAnswer (err.Error e) used out = HoldsError e used out
+HoldsAnswer (err.Progress r) used out = HoldsReport r used out
+
+abbrev pub IsAnswer : List ℕ → ErrPacket → List ℕ → CError → Type 0
+IsAnswer packet p rest out = HoldsAnswer p (used_of packet rest) out

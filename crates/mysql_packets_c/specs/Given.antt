@@ -1,0 +1,9 @@
+-- What is there or not, as C says it.
+use Rattle.std.specs.Prelude.{ℕ, Bool, ◌==◌, not, Option, Some, None, if◌then◌else◌}
+
+-- a number that is not 0 says that something is there
+abbrev pub is_set : ℕ → Bool
+is_set n = not (n == 0)
+
+abbrev pub if_set : {A : Type 0} → ℕ → A → Option A
+if_set n a = if is_set n then Some a else None

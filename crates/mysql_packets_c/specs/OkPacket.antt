@@ -1,0 +1,41 @@
+-- An OK packet, as C has it.
+use Rattle.std.specs.Prelude.{◌≡◌, ℕ, List}
+use Rattle.std.specs.Option.{unwrap_or}
+use Rattle.mysql_wire.specs.Flags.{CapabilityFlags}
+use Rattle.mysql_wire.specs.Form.{Form}
+use Rattle.mysql_replies.specs.OkKind.{common_ok_body, terminator_body, old_eof_body}
+use Rattle.mysql_replies.specs.OkPacket as ok
+use Rattle.mysql_replies.specs.declared.ok_kind.CommonOkPacket.{CommonOkPacket}
+use Rattle.mysql_replies.specs.declared.ok_kind.NetworkStreamTerminator.{NetworkStreamTerminator}
+use Rattle.mysql_replies.specs.declared.ok_kind.OldEofPacket.{OldEofPacket}
+use Rattle.mysql_replies.specs.declared.ok_kind.ResultSetTerminator.{ResultSetTerminator}
+use Rattle.mysql_replies.specs.declared.ok_packet.OkPacket.{OkPacket}
+use Rattle.mysql_replies.specs.declared.ok_packet.OkPacketDeserializer.{OkPacketDeserializer}
+use Rattle.mysql_packets_c.specs.declared.ok_packet.COk.{COk}
+use Rattle.mysql_packets_c.specs.Input.{used_of}
+
+-- the packet of each kind
+abbrev pub common_ok : CapabilityFlags → Form (OkPacketDeserializer CommonOkPacket)
+common_ok capabilities = ok.ok_packet 0 (common_ok_body capabilities)
+
+abbrev pub terminator : CapabilityFlags → Form (OkPacketDeserializer ResultSetTerminator)
+terminator capabilities = ok.ok_packet 0xfe (terminator_body capabilities)
+
+abbrev pub old_eof : CapabilityFlags → Form (OkPacketDeserializer OldEofPacket)
+old_eof capabilities = ok.ok_packet 0xfe (old_eof_body capabilities)
+
+abbrev pub stream_end : CapabilityFlags → Form (OkPacketDeserializer NetworkStreamTerminator)
+stream_end capabilities = ok.ok_packet 0xfe (old_eof_body capabilities)
+
+-- what is absent is 0 or empty
+pub record HoldsOk (p : OkPacket) (taken : ℕ) (out : COk) : Type 0 where
+  pub affected_rows : out.affected_rows ≡ ok.affected_rows p
+  pub last_insert_id : out.last_insert_id ≡ unwrap_or (ok.last_insert_id p) 0
+  pub status_flags : out.status_flags ≡ (ok.status_flags p).0
+  pub warnings : out.warnings ≡ ok.warnings p
+  pub info : out.info.now ≡ ok.bytes_or_none (ok.info p)
+  pub session_state : out.session_state.now ≡ ok.bytes_or_none (ok.session_state p)
+  pub used : out.used ≡ taken
+
+abbrev pub IsOk : {T : Type 0} → List ℕ → OkPacketDeserializer T → List ℕ → COk → Type 0
+IsOk packet d rest out = HoldsOk (ok.packet d) (used_of packet rest) out

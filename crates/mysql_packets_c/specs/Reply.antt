@@ -1,0 +1,55 @@
+-- What a reply is, by its first byte, and the count of columns that a result begins with.
+use Rattle.std.specs.Prelude.{◌≡◌, ℕ, List, [], ◌∷◌, length, Option, Some, None, Bool, if◌then◌else◌, ◌==◌, ◌&&◌, nat_lt}
+use Rattle.mysql_wire.specs.FlagMasks.{MARIADB_CLIENT_CACHE_METADATA}
+use Rattle.mysql_wire.specs.Flags.{CapabilityFlags, MariadbCapabilities, has}
+use Rattle.mysql_wire.specs.Form.{Form, ◌>>=◌, give, when}
+use Rattle.mysql_wire.specs.Int.{byte, raw}
+use Rattle.mysql_wire.specs.LenEnc.{lenenc}
+use Rattle.mysql_wire.specs.declared.int.RawInt.{RawInt}
+use Rattle.mysql_wire.specs.declared.lenenc.LenEnc.{LenEnc}
+use Rattle.mysql_packets_c.specs.declared.reply.CColumnCount.{CColumnCount}
+use Rattle.mysql_packets_c.specs.declared.reply.ColumnCount.{ColumnCount}
+use Rattle.mysql_packets_c.specs.Input.{used_of}
+
+-- the kind of the first packet after a command, by its first byte: OK, error, end, local file, or a count of columns
+abbrev pub reply_kind : List ℕ → Option ℕ
+reply_kind [] = None
+reply_kind (b ∷ bytes) = Some (if b == 0 then 0 else if b == 0xff then 1 else if b == 0xfe then 2 else if b == 0xfb then 3 else 4)
+
+abbrev pub CLIENT_DEPRECATE_EOF : ℕ
+CLIENT_DEPRECATE_EOF = 0x1000000
+
+-- what begins with fe and has fewer bytes ends a result, by the old end or by the OK packet in place of it
+abbrev pub end_below : CapabilityFlags → ℕ
+end_below capabilities = if has capabilities.0 CLIENT_DEPRECATE_EOF then 0xffffff else 9
+
+-- the kind of a packet among the rows of a result: error, end or row
+abbrev pub row_kind : CapabilityFlags → List ℕ → Option ℕ
+row_kind capabilities [] = None
+row_kind capabilities (b ∷ bytes) =
+    Some (if b == 0xff then 1 else if (b == 0xfe) && nat_lt (length (b ∷ bytes)) (end_below capabilities) then 2 else 5)
+
+-- the kind of a packet of some bytes; of none the code 1, and the place is as it was
+abbrev pub TellsKind : Option ℕ → ℕ → ℕ → ℕ → Type 0
+TellsKind None code old new = (code ≡ 1) × (new ≡ old)
+TellsKind (Some kind) code old new = (code ≡ 0) × (new ≡ kind)
+
+abbrev pub count_of : RawInt LenEnc ℕ → Option (RawInt ℕ ℕ) → ColumnCount
+count_of count follows = record { count = count; metadata_follows = follows }
+
+-- a length-encoded count, and under MARIADB_CLIENT_CACHE_METADATA a byte that says whether definitions follow
+unfoldable pub column_count : MariadbCapabilities → Form ColumnCount
+column_count capabilities = do
+  count ← raw {R = LenEnc} lenenc
+  follows ← when (has capabilities.0 MARIADB_CLIENT_CACHE_METADATA) byte
+  give (count_of count follows)
+
+-- whether definitions follow: they do where no byte says so
+abbrev pub follows : Option (RawInt ℕ ℕ) → ℕ
+follows None = 1
+follows (Some b) = if b.0 == 0 then 0 else 1
+
+pub record IsCount (packet : List ℕ) (c : ColumnCount) (rest : List ℕ) (out : CColumnCount) : Type 0 where
+  pub count : out.count ≡ c.count.0
+  pub metadata_follows : out.metadata_follows ≡ follows c.metadata_follows
+  pub used : out.used ≡ used_of packet rest

@@ -1,0 +1,67 @@
+-- A server's transactions, as C has them.
+use Rattle.std.specs.Prelude.{◌≡◌, ℕ, ◌<◌, ◌≤◌, List, [], ◌∷◌, length, map, take, Option, Some, None, Result, Ok, Err, ◌⊎◌, if◌then◌else◌, nat_le}
+use Rattle.mysql_repl.specs.GnoInterval as gno
+use Rattle.mysql_repl.specs.Sid as lib
+use Rattle.mysql_repl.specs.TagString.{tag_of}
+use Rattle.mysql_repl.specs.declared.gno_interval.GnoInterval.{GnoInterval}
+use Rattle.mysql_repl.specs.declared.sid.Sid.{Sid}
+use Rattle.mysql_repl.specs.declared.sid_text.InvalidSid.{InvalidSid}
+use Rattle.mysql_packets_c.specs.declared.sid.CInterval.{CInterval}
+use Rattle.mysql_packets_c.specs.declared.sid.CSid.{CSid}
+
+abbrev pub interval_of : CInterval → GnoInterval
+interval_of i = gno.interval_of i.start i.end
+
+abbrev pub intervals_of : List CInterval → List GnoInterval
+intervals_of list = map interval_of list
+
+-- no tag where its length is 0; none is held where those bytes are no tag, or the length is past 32
+unfoldable pub tag_held : CSid → Option (Option (List ℕ))
+tag_held s = if nat_le s.tag_length 32 then tag_of (take s.tag_length s.tag) else None
+
+abbrev pub sid_with : CSid → Option (Option (List ℕ)) → Option Sid
+sid_with s None = None
+sid_with s (Some tag) = Some (record { uuid = s.uuid; tag = tag; intervals = intervals_of s.intervals.now })
+
+-- the sid, unless its tag is none
+unfoldable pub sid_held : CSid → Option Sid
+sid_held s = sid_with s (tag_held s)
+
+abbrev pub with_first : Option Sid → Option (List Sid) → Option (List Sid)
+with_first None more = None
+with_first (Some s) None = None
+with_first (Some s) (Some sids) = Some (s ∷ sids)
+
+-- all of them, unless one has a tag that is none
+abbrev pub sids_held : List CSid → Option (List Sid)
+sids_held [] = Some []
+sids_held (s ∷ sids) = with_first (sid_held s) (sids_held sids)
+
+-- the struct tells the sid
+pub record HoldsSid (s : Sid) (out : CSid) : Type 0 where
+  pub uuid : out.uuid ≡ lib.uuid s
+  pub tag : tag_held out ≡ Some (lib.tag s)
+  pub intervals : intervals_of out.intervals.now ≡ lib.intervals s
+
+-- A sid whose intervals have their places is held: code 0. Where there are fewer places, the struct is as it was: code 5. In
+-- both cases the count of intervals is answered.
+pub record PutsSid (s : Sid) (places answer : ℕ) (old new : CSid) (needed : ℕ) : Type 0 where
+  pub fits : length (lib.intervals s) ≤ places → (answer ≡ 0) × HoldsSid s new
+  pub small : places < length (lib.intervals s) → (answer ≡ 5) × (new ≡ old)
+  pub count : needed ≡ length (lib.intervals s)
+
+-- what a text that spells no sid is answered
+pub record RefusesText (answer : ℕ) (old new : CSid) (needed : ℕ) : Type 0 where
+  pub code : answer ≡ 2
+  pub out : new ≡ old
+  pub count : needed ≡ 0
+
+abbrev pub SidInto : Result Sid InvalidSid → (places answer : ℕ) (old new : CSid) (needed : ℕ) → Type 0
+SidInto (Ok s) places answer old new needed = PutsSid s places answer old new needed
+SidInto (Err e) places answer old new needed = RefusesText answer old new needed
+
+-- the sid that a text spells; or 2 of another text; or memory was refused
+abbrev pub TextRead : Result Sid ℕ → Result Sid InvalidSid → Type 0
+TextRead (Ok s) read = read ≡ Ok s
+TextRead (Err code) (Err e) = (code ≡ 2) ⊎ (code ≡ 4)
+TextRead (Err code) (Ok s) = code ≡ 4

@@ -1,0 +1,160 @@
+//! OK packets, by their kinds.
+#![tactic(auto, using(crate::proofs::Codes::codes))]
+
+ghost use Rattle.std.specs.Prelude.{◌≡◌, ◌<◌};
+ghost use Rattle.mysql_packets_c.specs.Code.{ReadsInto};
+ghost use Rattle.mysql_packets_c.specs.OkPacket.{HoldsOk, IsOk, common_ok, old_eof, stream_end, terminator};
+
+use crate::code::{INVALID_INPUT, OK, code_of};
+use crate::input::read;
+use bitflags::Flags;
+use mysql_replies::{
+    CommonOkPacket, NetworkStreamTerminator, OkPacketRef, OkPacketRefDeserializer, OldEofPacket,
+    ResultSetTerminator,
+};
+use mysql_wire::CapabilityFlags;
+use std::alloc::Global;
+
+/// `myp_ok`.
+#[repr(C)]
+#[derive(Drop)]
+pub struct COk<'a> {
+    pub affected_rows: u64,
+    pub last_insert_id: u64,
+    pub info: &'a [u8],
+    pub session_state: &'a [u8],
+    pub used: usize,
+    pub status_flags: u16,
+    pub warnings: u16,
+}
+
+/// Puts the fields of a packet into the caller's struct.
+#[inline(always)]
+fn put_ok<'a>(packet: &OkPacketRef<'a>, used: usize, out: &mut COk<'a>)
+    ensures value { HoldsOk packet.now used out.new }
+{
+    out.affected_rows = packet.affected_rows();
+    out.last_insert_id = match packet.last_insert_id() {
+        Some(id) => id,
+        None => 0,
+    };
+    out.status_flags = packet.status_flags().0;
+    out.warnings = packet.warnings();
+    out.info = match packet.info() {
+        Some(info) => info,
+        None => &[],
+    };
+    out.session_state = match packet.session_state_info() {
+        Some(state) => state,
+        None => &[],
+    };
+    out.used = used;
+}
+
+/// The packet that a statement is done with.
+fn read_common<'a>(
+    alloc: Global,
+    packet: &'a [u8],
+    capabilities: CapabilityFlags,
+    out: &mut COk<'a>,
+) -> u32
+    ensures value { ReadsInto (IsOk packet.now) ((common_ok capabilities).reads packet.now) result out.old out.new }
+{
+    match read::<OkPacketRefDeserializer<'a, CommonOkPacket>>(alloc, packet, capabilities) {
+        Ok((found, used)) => {
+            let ok = found.into_inner();
+            put_ok(&ok, used, out);
+            OK
+        }
+        Err(fault) => code_of(&fault),
+    }
+}
+
+/// The packet in place of the old end of a result.
+fn read_terminator<'a>(
+    alloc: Global,
+    packet: &'a [u8],
+    capabilities: CapabilityFlags,
+    out: &mut COk<'a>,
+) -> u32
+    ensures value { ReadsInto (IsOk packet.now) ((terminator capabilities).reads packet.now) result out.old out.new }
+{
+    match read::<OkPacketRefDeserializer<'a, ResultSetTerminator>>(alloc, packet, capabilities) {
+        Ok((found, used)) => {
+            let ok = found.into_inner();
+            put_ok(&ok, used, out);
+            OK
+        }
+        Err(fault) => code_of(&fault),
+    }
+}
+
+/// The old end of a result.
+fn read_old_eof<'a>(
+    alloc: Global,
+    packet: &'a [u8],
+    capabilities: CapabilityFlags,
+    out: &mut COk<'a>,
+) -> u32
+    ensures value { ReadsInto (IsOk packet.now) ((old_eof capabilities).reads packet.now) result out.old out.new }
+{
+    match read::<OkPacketRefDeserializer<'a, OldEofPacket>>(alloc, packet, capabilities) {
+        Ok((found, used)) => {
+            let ok = found.into_inner();
+            put_ok(&ok, used, out);
+            OK
+        }
+        Err(fault) => code_of(&fault),
+    }
+}
+
+/// The end of a replication stream.
+fn read_stream_end<'a>(
+    alloc: Global,
+    packet: &'a [u8],
+    capabilities: CapabilityFlags,
+    out: &mut COk<'a>,
+) -> u32
+    ensures value { ReadsInto (IsOk packet.now) ((stream_end capabilities).reads packet.now) result out.old out.new }
+{
+    match read::<OkPacketRefDeserializer<'a, NetworkStreamTerminator>>(
+        alloc,
+        packet,
+        capabilities,
+    ) {
+        Ok((found, used)) => {
+            let ok = found.into_inner();
+            put_ok(&ok, used, out);
+            OK
+        }
+        Err(fault) => code_of(&fault),
+    }
+}
+
+/// Reads `OK_Packet` or `EOF_Packet` of a kind: 0; 1 or 2; or 3, where there is no such kind. But for 0 the struct is as it was.
+///
+/// The kinds are 0 the end of a statement, 1 the OK packet in place of the old end of a result, 2 that old end, and 3 the end
+/// of a replication stream.
+#[unsafe(no_mangle)]
+pub extern "C" fn myp_read_ok<'a>(
+    alloc: Global,
+    packet: &'a [u8],
+    kind: u32,
+    capabilities: u32,
+    out: &mut COk<'a>,
+) -> u32
+    ensures unknown { 3 < kind → (result ≡ 3) × (out.new ≡ out.old) }
+    ensures common { kind ≡ 0 → ReadsInto (IsOk packet.now) ((common_ok (record { 0 = capabilities; 1 = record {} })).reads packet.now) result out.old out.new }
+    ensures terminator { kind ≡ 1 → ReadsInto (IsOk packet.now) ((terminator (record { 0 = capabilities; 1 = record {} })).reads packet.now) result out.old out.new }
+    ensures old_eof { kind ≡ 2 → ReadsInto (IsOk packet.now) ((old_eof (record { 0 = capabilities; 1 = record {} })).reads packet.now) result out.old out.new }
+    ensures stream_end { kind ≡ 3 → ReadsInto (IsOk packet.now) ((stream_end (record { 0 = capabilities; 1 = record {} })).reads packet.now) result out.old out.new }
+{
+    let capabilities = CapabilityFlags::from_bits_retain(capabilities);
+    match kind {
+        0 => read_common(alloc, packet, capabilities, out),
+        1 => read_terminator(alloc, packet, capabilities, out),
+        2 => read_old_eof(alloc, packet, capabilities, out),
+        3 => read_stream_end(alloc, packet, capabilities, out),
+        _ => INVALID_INPUT,
+    }
+}

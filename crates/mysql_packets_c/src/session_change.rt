@@ -1,0 +1,135 @@
+//! The changes of a session, one after another.
+#![tactic(auto, using(crate::proofs::Codes::codes, crate::proofs::Changes::changes))]
+
+ghost use Rattle.std.specs.Prelude.{◌≡◌, ◌≢◌, [], OnOk, IfErr, IfOk, Ok, false};
+ghost use Rattle.mysql_replies.specs.SessionStateInfo.{data_type, data_bytes};
+ghost use Rattle.mysql_session.specs.SystemVariable.{system_variable};
+ghost use Rattle.mysql_wire.specs.Reading.{Faults};
+ghost use Rattle.mysql_packets_c.specs.SessionChange.{Entry, IsChange, IsVariable, NextInto, change_text, entry_in, tracked, variables_of};
+
+use crate::code::{END, OK, code_of};
+use crate::text::CBytes;
+use mysql_replies::SessionStateInfoRef;
+use mysql_session::{ChangeRef, SessionStateChangeRef, SystemVariableRef};
+use mysql_wire::{ConstValue, Fault, ParseBuf, SessionStateType};
+use std::alloc::Global;
+
+/// `myp_change`.
+#[repr(C)]
+#[derive(Drop)]
+pub struct CChange<'a> {
+    /// The data of the entry, as it was sent.
+    pub content: &'a [u8],
+    pub text: &'a [u8],
+    pub variables: &'a [u8],
+    pub change_type: u8,
+    pub is_tracked: u8,
+}
+
+/// The text that a change says, and whether changes are tracked.
+#[inline(always)]
+fn text_and_tracked<'a>(change: SessionStateChangeRef<'a>) -> (&'a [u8], u8)
+    ensures text { result.0.now ≡ change_text change.entry }
+    ensures tracked { result.1 ≡ tracked change.entry }
+{
+    match change.into_change() {
+        ChangeRef::IsTracked(is_tracked) => (&[], is_tracked as u8),
+        ChangeRef::Schema(text) => (text, 0),
+        ChangeRef::SystemVariables(_) => (&[], 0),
+        ChangeRef::Gtids(text) => (text, 0),
+        ChangeRef::TransactionCharacteristics(text) => (text, 0),
+        ChangeRef::TransactionState(text) => (text, 0),
+    }
+}
+
+/// The data, where it is a list of variables.
+#[inline(always)]
+fn variables_in<'a>(data_type: SessionStateType, content: &'a [u8]) -> &'a [u8]
+    ensures value { result.now ≡ variables_of data_type content.now }
+{
+    match data_type {
+        SessionStateType::SESSION_TRACK_SYSTEM_VARIABLES => content,
+        _ => &[],
+    }
+}
+
+/// The entry that the bytes begin with, its change, and the bytes after it.
+#[inline(always)]
+fn next_entry<'a>(
+    alloc: Global,
+    bytes: &'a [u8],
+) -> Result<(SessionStateInfoRef<'a>, SessionStateChangeRef<'a>, &'a [u8]), Fault>
+    ensures good { IfOk result (λ x. entry_in bytes.now ≡ Ok ((x.0, x.1), x.2.now)) }
+    ensures refused { IfErr result (λ e. Faults {A = Entry} false e (entry_in bytes.now)) }
+{
+    let mut buf = ParseBuf::new(alloc, bytes);
+    let info: SessionStateInfoRef<'a> = buf.parse(())?;
+    let change = info.decode_as_sent()?;
+    Ok((info, change, buf.eat_all()))
+}
+
+/// Takes the next change off the front: 0, and what follows it is left; 7 where nothing is left; or 1 or 2. But for 0 both
+/// places are as they were.
+#[unsafe(no_mangle)]
+pub extern "C" fn myp_next_change<'a>(
+    alloc: Global,
+    rest: &mut CBytes<'a>,
+    out: &mut CChange<'a>,
+) -> u32
+    ensures end { rest.old.bytes.now ≡ [] → (result ≡ 7) × (rest.new ≡ rest.old) × (out.new ≡ out.old) }
+    ensures value { rest.old.bytes.now ≢ [] → NextInto IsChange (entry_in rest.old.bytes.now) result rest.old rest.new out.old out.new }
+{
+    if rest.bytes.is_empty() {
+        return END;
+    }
+    match next_entry(alloc, rest.bytes) {
+        Ok((info, change, after)) => {
+            let (text, is_tracked) = text_and_tracked(change);
+            out.content = info.data_bytes();
+            out.text = text;
+            out.variables = variables_in(info.data_type(), info.data_bytes());
+            out.change_type = info.data_type().code();
+            out.is_tracked = is_tracked;
+            rest.bytes = after;
+            OK
+        }
+        Err(fault) => code_of(&fault),
+    }
+}
+
+/// The variable that the bytes begin with, and the bytes after it.
+#[inline(always)]
+fn next_pair<'a>(alloc: Global, bytes: &'a [u8]) -> Result<(SystemVariableRef<'a>, &'a [u8]), Fault>
+    ensures good { IfOk result (λ x. (system_variable.form tt).reads bytes.now ≡ Ok (x.0, x.1.now)) }
+    ensures refused { IfErr result (λ e. Faults false e ((system_variable.form tt).reads bytes.now)) }
+{
+    let mut buf = ParseBuf::new(alloc, bytes);
+    let variable: SystemVariableRef<'a> = buf.parse(())?;
+    Ok((variable, buf.eat_all()))
+}
+
+/// Takes the next variable off the front: 0, and what follows it is left; 7 where nothing is left; or 1 or 2. But for 0 the
+/// places are as they were.
+#[unsafe(no_mangle)]
+pub extern "C" fn myp_next_variable<'a>(
+    alloc: Global,
+    rest: &mut CBytes<'a>,
+    name: &mut CBytes<'a>,
+    value: &mut CBytes<'a>,
+) -> u32
+    ensures end { rest.old.bytes.now ≡ [] → (result ≡ 7) × (rest.new ≡ rest.old) × (name.new ≡ name.old) × (value.new ≡ value.old) }
+    ensures value { rest.old.bytes.now ≢ [] → NextInto IsVariable ((system_variable.form tt).reads rest.old.bytes.now) result rest.old rest.new (name.old, value.old) (name.new, value.new) }
+{
+    if rest.bytes.is_empty() {
+        return END;
+    }
+    match next_pair(alloc, rest.bytes) {
+        Ok((variable, after)) => {
+            name.bytes = variable.name();
+            value.bytes = variable.value();
+            rest.bytes = after;
+            OK
+        }
+        Err(fault) => code_of(&fault),
+    }
+}

@@ -1,0 +1,133 @@
+//! Values as C has them.
+#![tactic(auto, unfolding(crate::specs::CValue::value_content))]
+
+ghost use Rattle.std.specs.Prelude.{◌≡◌, [], IfSome, is_some};
+ghost use Rattle.std.specs.List.{list_all};
+ghost use Rattle.mysql_values.specs.ValueRef.{ref_content};
+ghost use Rattle.mysql_packets_c.specs.CValue.{is_value, value_content};
+
+use mysql_values::ValueRef;
+
+/// A value of a row or of a parameter: `myp_value` in C.
+#[repr(C)]
+#[derive(Clone, Copy, Drop)]
+pub struct CValue<'a> {
+    /// 0 NULL, 1 bytes, 2 a signed and 3 an unsigned number, 4 and 5 the bits of floats of 4 and 8 bytes, 6 a date, 7 a
+    /// span of time.
+    pub kind: u8,
+    pub is_negative: u8,
+    pub month: u8,
+    pub day: u8,
+    pub hour: u8,
+    pub minute: u8,
+    pub second: u8,
+    pub reserved: u8,
+    pub micros: u32,
+    /// The year of a date, or the days of a span of time.
+    pub days: u32,
+    pub number: u64,
+    pub bytes: &'a [u8],
+}
+
+#[inline(always)]
+fn put_number(place: &mut CValue<'_>, kind: u8, number: u64)
+    ensures kind { place.new.kind ≡ kind }
+    ensures number { place.new.number ≡ number }
+    ensures bytes { place.new.bytes.now ≡ [] }
+{
+    place.kind = kind;
+    place.number = number;
+    place.bytes = &[];
+}
+
+/// Puts a value into one of the caller's. The fields of dates are set for dates and spans of time alone.
+#[inline(always)]
+pub(crate) fn put_ref<'a>(place: &mut CValue<'a>, value: ValueRef<'a>)
+    ensures { value_content place.new ≡ ref_content value.entry }
+{
+    match value {
+        ValueRef::NULL => put_number(place, 0, 0),
+        ValueRef::Bytes(bytes) => {
+            place.kind = 1;
+            place.number = 0;
+            place.bytes = bytes;
+        }
+        ValueRef::Int(n) => put_number(place, 2, n.cast_unsigned()),
+        ValueRef::UInt(n) => put_number(place, 3, n),
+        ValueRef::Float(bits) => put_number(place, 4, u64::from(bits)),
+        ValueRef::Double(bits) => put_number(place, 5, bits),
+        ValueRef::Date(year, month, day, hour, minute, second, micros) => {
+            put_number(place, 6, 0);
+            place.is_negative = 0;
+            place.month = month;
+            place.day = day;
+            place.hour = hour;
+            place.minute = minute;
+            place.second = second;
+            place.micros = micros;
+            place.days = u32::from(year);
+        }
+        ValueRef::Time(is_negative, days, hour, minute, second, micros) => {
+            put_number(place, 7, 0);
+            place.is_negative = is_negative as u8;
+            place.month = 0;
+            place.day = 0;
+            place.hour = hour;
+            place.minute = minute;
+            place.second = second;
+            place.micros = micros;
+            place.days = days;
+        }
+    }
+}
+
+/// The value that C handed in. `None` where it is none: its kind is none, or its number doesn't fit its kind.
+pub(crate) fn to_ref<'a>(value: &CValue<'a>) -> Option<ValueRef<'a>>
+    ensures value { IfSome result (λ v. ref_content v ≡ value_content value.now) }
+    ensures is_there { is_some result ≡ is_value value.now }
+{
+    match value.kind {
+        0 => Some(ValueRef::NULL),
+        1 => Some(ValueRef::Bytes(value.bytes)),
+        2 => Some(ValueRef::Int(value.number.cast_signed())),
+        3 => Some(ValueRef::UInt(value.number)),
+        4 => Some(ValueRef::Float(u32::try_from(value.number).ok()?)),
+        5 => Some(ValueRef::Double(value.number)),
+        6 => Some(ValueRef::Date(
+            u16::try_from(value.days).ok()?,
+            value.month,
+            value.day,
+            value.hour,
+            value.minute,
+            value.second,
+            value.micros,
+        )),
+        7 => Some(ValueRef::Time(
+            value.is_negative != 0,
+            value.days,
+            value.hour,
+            value.minute,
+            value.second,
+            value.micros,
+        )),
+        _ => None,
+    }
+}
+
+/// Whether it is a value: its kind is one, and its number fits the kind.
+pub(crate) fn is_value(value: &CValue<'_>) -> bool
+    ensures { result ≡ is_value value.now }
+{
+    match value.kind {
+        4 => value.number < 1 << 32,
+        6 => value.days < 1 << 16,
+        kind => kind < 8,
+    }
+}
+
+/// Whether each of them is a value.
+pub(crate) fn are_values(values: &[CValue<'_>]) -> bool
+    ensures { result ≡ list_all is_value values.now }
+{
+    values.iter().all(|value| is_value(value))
+}

@@ -1,0 +1,185 @@
+"""The packets library for C, called from Python by ctypes.
+
+What mysql_packets.h declares is made from the header as it is read: a ctypes structure of each struct, a number of each enum
+value, a function of each call. So this file names no field and no number of its own.
+
+    packets = Library("/usr/local")
+    ok = packets.read("myp_read_ok", payload, packets.MYP_OK_COMMON, capabilities, into="myp_ok")
+    payload = packets.write("myp_write_close", statement_id)
+"""
+import ctypes
+import datetime
+import re
+import struct
+from pathlib import Path
+
+NUMBERS = {
+    "uint8_t": ctypes.c_uint8, "uint16_t": ctypes.c_uint16, "uint32_t": ctypes.c_uint32, "uint64_t": ctypes.c_uint64,
+    "size_t": ctypes.c_size_t,
+}
+# a comment, a struct, an enum, a call
+COMMENT = re.compile(r"/\*.*?\*/", re.S)
+STRUCT = re.compile(r"typedef struct (\w+) \{(.*?)\} \1;", re.S)
+ENUM = re.compile(r"enum \w+ \{(.*?)\};", re.S)
+MACRO = re.compile(r"^#define (MYP_\w+) (0x[0-9a-f]+)u$", re.M)
+CALL = re.compile(r"^uint32_t (myp_\w+)\(([^)]*)\);", re.M)
+DECLARED = re.compile(r"(?:const )?(\w+) (\**)(\w+)(?:\[(\d+)\])?$")
+
+
+class PacketError(Exception):
+    """A call answered another code than MYP_OK."""
+
+    def __init__(self, call, code, written=0):
+        super().__init__(f"{call} answers {code}")
+        self.code, self.written = code, written
+
+
+class Library:
+    """The library that is installed under a prefix."""
+
+    def __init__(self, prefix="/usr/local", library=None, header=None):
+        header = Path(header or Path(prefix) / "include/mysql_packets.h").read_text()
+        self.dll = ctypes.CDLL(str(library or Path(prefix) / "lib/libmysql_packets.so"))
+        self.types, self.calls, self.numbers = dict(NUMBERS), {}, {}
+        text = COMMENT.sub("", header)
+        for name, value in MACRO.findall(text):
+            self.numbers[name] = int(value, 16)
+        for body in ENUM.findall(text):
+            self._number(body)
+        for name, body in STRUCT.findall(text):
+            fields = [field for line in body.split(";") if line.strip() for field in self._fields(line)]
+            self.types[name] = type(name, (ctypes.Structure,), {"_fields_": fields})
+        for name, arguments in CALL.findall(text):
+            of = [self._argument(it) for it in arguments.split(",") if it.strip() != "void"]
+            function = getattr(self.dll, name)
+            function.argtypes, function.restype = [it for _, it in of], ctypes.c_uint32
+            self.calls[name] = [it for it, _ in of]
+        if self.dll.myp_version() != self.MYP_VERSION:
+            raise ImportError("the library and its header have different versions")
+
+    def __getattr__(self, name):
+        try:
+            return self.__dict__["numbers"][name]
+        except KeyError:
+            raise AttributeError(name) from None
+
+    def _number(self, body):
+        """The values of an enum: each is the one before it and 1, where none is written."""
+        value = -1
+        for part in body.split(","):
+            if part.strip():
+                name, _, given = part.partition("=")
+                shifted = [int(it, 0) for it in given.split("<<")] if given.strip() else [value + 1]
+                value = shifted[0] << shifted[1] if len(shifted) == 2 else shifted[0]
+                self.numbers[name.strip()] = value
+
+    def _fields(self, line):
+        """The fields of a line of a struct: one type, and names with commas between them."""
+        first, *more = [it.strip() for it in line.strip().split(",")]
+        of, stars, name, size = DECLARED.match(first).groups()
+        kind = ctypes.POINTER(self.types[of]) if stars else self.types[of]
+        for it in [name + (f"[{size}]" if size else ""), *more]:
+            array = re.fullmatch(r"(\w+)\[(\d+)\]", it)
+            yield (array[1], kind * int(array[2])) if array else (it, kind)
+
+    def _argument(self, text):
+        of, stars, name, _ = DECLARED.match(" ".join(text.split())).groups()
+        return name, ctypes.POINTER(self.types[of]) if stars else self.types[of]
+
+    def bytes(self, content):
+        """A byte string as a `myp_bytes`, which keeps the bytes that it points to."""
+        held = ctypes.create_string_buffer(content, len(content) + 1)
+        it = self.types["myp_bytes"](ctypes.cast(held, ctypes.POINTER(ctypes.c_uint8)), len(content))
+        it.held = held
+        return it
+
+    def new(self, name, /, **fields):
+        """A struct with these fields: numbers, byte strings, and lists of structs, beside which `n_FIELD` is set. Each other
+        byte string is empty."""
+        it = self.types[name]()
+        it.held = []
+        for field, kind in it._fields_:
+            value = fields.pop(field, b"" if kind is self.types["myp_bytes"] else None)
+            if isinstance(value, bytes) and kind is self.types["myp_bytes"]:
+                value = self.bytes(value)
+            elif isinstance(value, bytes):
+                value = kind(*value)
+            elif isinstance(value, list):
+                it.held.append(value)
+                setattr(it, f"n_{field}", len(value))
+                value = self.array(kind._type_, value)
+            if value is not None:
+                it.held.append(value)
+                setattr(it, field, value)
+        if fields:
+            raise TypeError(f"{name} has no {', '.join(fields)}")
+        return it
+
+    def array(self, kind, items):
+        kind = self.types.get(kind, kind)
+        it = (kind * max(len(items), 1))(*items)
+        it.held = items
+        return it
+
+    def text(self, span):
+        """The bytes that a `myp_bytes` stands for."""
+        return ctypes.string_at(span.data, span.len) if span.len else b""
+
+    def read(self, call, packet, *context, into):
+        """What a reader gives of a packet: a struct, or the number or byte string that it hands out."""
+        payload = self.bytes(packet)
+        out = self.new(into) if into not in NUMBERS and into != "myp_bytes" else self.bytes(b"") if into == "myp_bytes" else NUMBERS[into]()
+        code = getattr(self.dll, call)(payload.data, payload.len, *context, ctypes.byref(out))
+        if code:
+            raise PacketError(call, code)
+        out.packet = payload
+        return out
+
+    def next(self, call, rest, *out):
+        """Whether another one stood at the front of `rest`, which then begins after it."""
+        code = getattr(self.dll, call)(ctypes.byref(rest), *(ctypes.byref(it) for it in out))
+        if code not in (self.MYP_OK, self.MYP_END):
+            raise PacketError(call, code)
+        return code == self.MYP_OK
+
+    def value(self, value):
+        """A value as a `myp_value`."""
+        if value is None:
+            return self.new("myp_value", kind=self.MYP_NULL)
+        if isinstance(value, int):
+            return self.new("myp_value", kind=self.MYP_INT if value < 2**63 else self.MYP_UINT, number=value & 2**64 - 1)
+        if isinstance(value, float):
+            return self.new("myp_value", kind=self.MYP_DOUBLE, number=int.from_bytes(struct.pack("<d", value), "little"))
+        if isinstance(value, datetime.datetime):
+            return self.new("myp_value", kind=self.MYP_DATE, days=value.year, month=value.month, day=value.day, hour=value.hour,
+                            minute=value.minute, second=value.second, micros=value.microsecond)
+        return self.new("myp_value", kind=self.MYP_BYTES, bytes=value.encode() if isinstance(value, str) else bytes(value))
+
+    def type_of(self, values):
+        """The type under which these values of a column are sent: that of the first which is not None."""
+        first = next((it for it in values if it is not None), None)
+        name = {int: "LONGLONG", float: "DOUBLE", datetime.datetime: "DATETIME"}.get(type(first), "VAR_STRING")
+        unsigned = isinstance(first, int) and any(it is not None and it >= 2**63 for it in values)
+        return self.new("myp_column_type", column_type=getattr(self, f"MYP_TYPE_{name}"), is_unsigned=int(unsigned))
+
+    def write(self, call, *arguments, size=512, after=()):
+        """What a writer writes, into a buffer that grows once where it is too small. A struct is handed in as its place, and
+        a byte string as its bytes and their count."""
+        flat = []
+        for it in arguments:
+            if isinstance(it, bytes):
+                it = self.bytes(it)
+                flat += [it.data, it.len]
+            elif isinstance(it, ctypes.Array):
+                flat += [it, len(it.held)]
+            else:
+                flat.append(ctypes.byref(it) if isinstance(it, ctypes.Structure) else it)
+        while True:
+            out, written = (ctypes.c_uint8 * size)(), ctypes.c_size_t()
+            code = getattr(self.dll, call)(*flat, out, size, ctypes.byref(written), *(ctypes.byref(it) for it in after))
+            if code != self.MYP_BUFFER_TOO_SMALL:
+                break
+            size = written.value
+        if code:
+            raise PacketError(call, code, written.value)
+        return bytes(out[:written.value])

@@ -1,0 +1,774 @@
+/* The packets of MySQL and MariaDB: a payload is read where it lies, and written to a buffer of the caller's.
+ *
+ * No call keeps anything: there is nothing to make and nothing to free, and a call depends on its arguments alone, so any
+ * thread may make it. A byte string that is read is handed out as its place in the packet, and is good as long as the packet
+ * stands there. Numbers in structs are the machine's own; in packets they are little-endian.
+ *
+ * What a caller owes: a pointer is not NULL, but beside a length of 0, where it is an empty string or list. What is handed out
+ * through a pointer is set before the call (each struct has an initializer for that), and overlaps nothing else that is passed.
+ *
+ * Each call answers an enum myp_code. After another code than MYP_OK what `out` points to is as it was, unless the call's
+ * line says more. A struct keeps its layout: further fields come with a struct and a call of another name.
+ *
+ * Compile with what `pkg-config --cflags --libs mysql_packets` answers. docs/C.md has the rules of ownership, threads and codes. */
+#ifndef MYSQL_PACKETS_H
+#define MYSQL_PACKETS_H
+
+#include <stddef.h>
+#include <stdint.h>
+
+#ifdef __cplusplus
+extern "C" {
+#endif
+
+/* Major, minor and patch, a byte each. myp_version() is that of the archive. */
+#define MYP_VERSION 0x000100u
+
+enum myp_code {
+    MYP_OK = 0,
+    MYP_UNEXPECTED_EOF = 1,   /* bytes are missing */
+    MYP_INVALID_DATA = 2,     /* the bytes spell no such packet */
+    MYP_INVALID_INPUT = 3,    /* what was passed fits no packet */
+    MYP_NO_MEMORY = 4,        /* memory was refused, and none is kept: of calls that write alone */
+    MYP_BUFFER_TOO_SMALL = 5, /* *written is how many bytes it takes, and nothing is written */
+    MYP_ROW_TOO_LARGE = 6,    /* a row is too large for a request of its own */
+    MYP_END = 7               /* nothing is left */
+};
+
+static inline const char *myp_error_text(uint32_t code)
+{
+    switch (code) {
+    case MYP_OK: return "done";
+    case MYP_UNEXPECTED_EOF: return "bytes are missing";
+    case MYP_INVALID_DATA: return "the bytes spell no such packet";
+    case MYP_INVALID_INPUT: return "what was passed fits no packet";
+    case MYP_NO_MEMORY: return "memory was refused";
+    case MYP_BUFFER_TOO_SMALL: return "the buffer is too small";
+    case MYP_ROW_TOO_LARGE: return "a row is too large for a request";
+    case MYP_END: return "nothing is left";
+    default: return "no code of this library";
+    }
+}
+
+/* A byte string: so many bytes from there. It ends in no zero. Initializer: MYP_BYTES_INIT. */
+typedef struct myp_bytes {
+    const uint8_t *data;
+    size_t len;
+} myp_bytes;
+#define MYP_BYTES_INIT { (const uint8_t *)"", 0 }
+
+uint32_t myp_version(void);
+
+/* ---- packet headers and replies */
+
+/* Initializer: MYP_HEADER_INIT. */
+typedef struct myp_header {
+    uint32_t payload_length; /* of 16,777,215 the payload goes on in the next packet */
+    uint8_t sequence_id;
+} myp_header;
+#define MYP_HEADER_INIT { 0, 0 }
+
+/* Reads the four bytes before a payload: three with its length, one with the sequence number.
+ * MYP_UNEXPECTED_EOF of fewer bytes. What follows the four is not looked at. */
+uint32_t myp_read_header(const uint8_t *bytes, size_t len, myp_header *out);
+
+/* Writes the four bytes before a payload. MYP_INVALID_INPUT of a length past 16,777,215, and *written is 0;
+ * MYP_BUFFER_TOO_SMALL; MYP_NO_MEMORY, and *written is 0. */
+uint32_t myp_write_header(uint32_t payload_length, uint8_t sequence_id, uint8_t *out, size_t size, size_t *written);
+
+enum myp_reply {
+    MYP_REPLY_OK = 0,
+    MYP_REPLY_ERROR = 1,        /* an error, or a progress report: myp_read_error tells which */
+    MYP_REPLY_END = 2,
+    MYP_REPLY_LOCAL_INFILE = 3,
+    MYP_REPLY_COLUMNS = 4,      /* a count of columns: a result follows */
+    MYP_REPLY_ROW = 5
+};
+
+/* What the first packet after a command is, by its first byte: 00 OK, ff an error, fe the end, fb a request for a local file,
+ * else a count of columns. MYP_UNEXPECTED_EOF of no byte. */
+uint32_t myp_reply_kind(const uint8_t *packet, size_t len, uint32_t *kind);
+
+/* What a packet among the rows of a result is: ff an error; fe the end, where the packet has fewer than 9 bytes, or fewer than
+ * 16,777,215 under MYP_CLIENT_DEPRECATE_EOF; else a row. MYP_UNEXPECTED_EOF of no byte. */
+uint32_t myp_row_kind(const uint8_t *packet, size_t len, uint32_t capabilities, uint32_t *kind);
+
+/* Initializer: MYP_COLUMN_COUNT_INIT. */
+typedef struct myp_column_count {
+    uint64_t count;
+    uint8_t metadata_follows; /* 1 where definitions of the columns follow, else 0 */
+    size_t used;              /* the bytes that were read: those after them are of no packet */
+} myp_column_count;
+#define MYP_COLUMN_COUNT_INIT { 0, 0, 0 }
+
+/* Reads the count of columns, length-encoded, and under MYP_MARIADB_CLIENT_CACHE_METADATA a byte that says whether definitions
+ * follow. MYP_UNEXPECTED_EOF; MYP_INVALID_DATA of a number that begins with fb or ff. */
+uint32_t myp_read_column_count(const uint8_t *packet, size_t len, uint32_t mariadb_capabilities, myp_column_count *out);
+
+/* ---- what a server says */
+
+/* Initializer: MYP_HANDSHAKE_INIT. The nonce is scramble_1 and after it the first 12 bytes of scramble_2. */
+typedef struct myp_handshake {
+    myp_bytes server_version;
+    myp_bytes scramble_1;       /* 8 bytes */
+    myp_bytes scramble_2;       /* 13 bytes or more, or none without MYP_CLIENT_SECURE_CONNECTION */
+    myp_bytes auth_plugin_name; /* none without MYP_CLIENT_PLUGIN_AUTH */
+    size_t used;
+    uint32_t connection_id;
+    uint32_t capabilities;
+    uint32_t mariadb_capabilities;
+    uint16_t status_flags;
+    uint8_t protocol_version;
+    uint8_t default_collation;
+} myp_handshake;
+#define MYP_HANDSHAKE_INIT { MYP_BYTES_INIT, MYP_BYTES_INIT, MYP_BYTES_INIT, MYP_BYTES_INIT, 0, 0, 0, 0, 0, 0, 0 }
+
+/* Reads Protocol::HandshakeV10. MYP_UNEXPECTED_EOF where a field is cut, or the version has no zero. */
+uint32_t myp_read_handshake(const uint8_t *packet, size_t len, myp_handshake *out);
+
+/* Initializer: MYP_AUTH_SWITCH_INIT. */
+typedef struct myp_auth_switch {
+    myp_bytes plugin_name;
+    myp_bytes plugin_data; /* to the end: of a scramble of 20 bytes the zero after it too */
+} myp_auth_switch;
+#define MYP_AUTH_SWITCH_INIT { MYP_BYTES_INIT, MYP_BYTES_INIT }
+
+/* Reads Protocol::AuthSwitchRequest: fe, the plugin's name up to a zero, and its data. MYP_INVALID_DATA of another first
+ * byte; MYP_UNEXPECTED_EOF of no byte, or of a name without its zero. */
+uint32_t myp_read_auth_switch(const uint8_t *packet, size_t len, myp_auth_switch *out);
+
+/* Reads Protocol::AuthMoreData: 01, and the plugin's data to the end. MYP_INVALID_DATA of another first byte;
+ * MYP_UNEXPECTED_EOF of no byte. */
+uint32_t myp_read_auth_more_data(const uint8_t *packet, size_t len, myp_bytes *plugin_data);
+
+/* Reads the server's RSA key of caching_sha2_password: 01, and the key as PEM to the end. MYP_INVALID_DATA of another first
+ * byte; MYP_UNEXPECTED_EOF of no byte. */
+uint32_t myp_read_public_key(const uint8_t *packet, size_t len, myp_bytes *pem);
+
+/* Reads what the plugin parsec is sent beside the scramble, of 20 bytes: 'P', a factor of at most 20, and 18 bytes of salt;
+ * *iterations is 1024 << factor. MYP_INVALID_DATA of anything else. */
+uint32_t myp_read_parsec_salt(const uint8_t *packet, size_t len, uint32_t *iterations, myp_bytes *salt);
+
+enum myp_ok_kind {
+    MYP_OK_COMMON = 0,     /* a statement is done: begins with 00 */
+    MYP_OK_TERMINATOR = 1, /* under MYP_CLIENT_DEPRECATE_EOF, the end of a result: begins with fe; rows and id are answered as 0 */
+    MYP_OK_OLD_EOF = 2,    /* EOF_Packet: fe, and four bytes with the warnings and the status */
+    MYP_OK_STREAM_END = 3  /* the same, at the end of a replication stream */
+};
+
+/* Initializer: MYP_OK_INIT. */
+typedef struct myp_ok {
+    uint64_t affected_rows;
+    uint64_t last_insert_id; /* 0 where there is none */
+    myp_bytes info;
+    myp_bytes session_state; /* changes of the session: each a byte with its type, and length-encoded data */
+    size_t used;
+    uint16_t status_flags;
+    uint16_t warnings;
+} myp_ok;
+#define MYP_OK_INIT { 0, 0, MYP_BYTES_INIT, MYP_BYTES_INIT, 0, 0, 0 }
+
+/* Reads OK_Packet or EOF_Packet of that kind, by what both sides can do. MYP_UNEXPECTED_EOF; MYP_INVALID_DATA of another first
+ * byte or of a bad length; MYP_INVALID_INPUT of a kind that is none of enum myp_ok_kind. */
+uint32_t myp_read_ok(const uint8_t *packet, size_t len, uint32_t kind, uint32_t capabilities, myp_ok *out);
+
+enum myp_session_state {
+    MYP_SESSION_TRACK_SYSTEM_VARIABLES = 0, MYP_SESSION_TRACK_SCHEMA = 1, MYP_SESSION_TRACK_STATE_CHANGE = 2,
+    MYP_SESSION_TRACK_GTIDS = 3, MYP_SESSION_TRACK_TRANSACTION_CHARACTERISTICS = 4, MYP_SESSION_TRACK_TRANSACTION_STATE = 5
+};
+
+/* Initializer: MYP_CHANGE_INIT. */
+typedef struct myp_change {
+    myp_bytes content;   /* the data, as it was sent */
+    myp_bytes text;      /* the schema, the GTIDs, or the transaction's characteristics or state; else none */
+    myp_bytes variables; /* the system variables, for myp_next_variable; else none */
+    uint8_t change_type; /* of enum myp_session_state */
+    uint8_t is_tracked;  /* 1 of a state change that says that changes are tracked, else 0 */
+} myp_change;
+#define MYP_CHANGE_INIT { MYP_BYTES_INIT, MYP_BYTES_INIT, MYP_BYTES_INIT, 0, 0 }
+
+/* Takes the next change off the front of *rest, which begins as the session_state of an OK packet. A state change is read as
+ * the string of the protocol's pages, and as the one byte that servers send. MYP_END where nothing is left;
+ * MYP_UNEXPECTED_EOF; MYP_INVALID_DATA of another type, or of a bad length. */
+uint32_t myp_next_change(myp_bytes *rest, myp_change *out);
+
+/* Takes the next system variable off the front of *rest, which begins as the variables of a change. MYP_END where nothing is
+ * left; MYP_UNEXPECTED_EOF; MYP_INVALID_DATA of a bad length. */
+uint32_t myp_next_variable(myp_bytes *rest, myp_bytes *name, myp_bytes *value);
+
+/* Initializer: MYP_ERROR_INIT. */
+typedef struct myp_error {
+    myp_bytes sql_state; /* five bytes, or none where none was sent */
+    myp_bytes message;   /* of a progress report the stage's text */
+    size_t used;
+    uint32_t progress;   /* of a progress report, in thousandths of a percent; else 0, as stage and max_stage */
+    uint16_t code;       /* of a progress report 0xffff */
+    uint8_t is_progress; /* 1 of a progress report, else 0 */
+    uint8_t stage;
+    uint8_t max_stage;
+} myp_error;
+#define MYP_ERROR_INIT { MYP_BYTES_INIT, MYP_BYTES_INIT, 0, 0, 0, 0, 0, 0 }
+
+/* Reads ERR_Packet, with an SQL state under MYP_CLIENT_PROTOCOL_41; or under MYP_CLIENT_PROGRESS a progress report of MariaDB.
+ * MYP_UNEXPECTED_EOF; MYP_INVALID_DATA of another first byte, or of a state without its '#'. */
+uint32_t myp_read_error(const uint8_t *packet, size_t len, uint32_t capabilities, myp_error *out);
+
+/* Reads a LOCAL INFILE request: fb, and the file's name to the end. MYP_INVALID_DATA of another first byte;
+ * MYP_UNEXPECTED_EOF of no byte. */
+uint32_t myp_read_local_infile(const uint8_t *packet, size_t len, myp_bytes *file_name);
+
+/* Initializer: MYP_STATEMENT_INIT. */
+typedef struct myp_statement {
+    uint32_t statement_id;
+    uint16_t num_columns;
+    uint16_t num_params;
+    uint16_t warning_count;
+    size_t used;
+} myp_statement;
+#define MYP_STATEMENT_INIT { 0, 0, 0, 0, 0 }
+
+/* Reads COM_STMT_PREPARE_OK, of 12 bytes. MYP_UNEXPECTED_EOF of fewer; MYP_INVALID_DATA of another first byte than 00. */
+uint32_t myp_read_statement(const uint8_t *packet, size_t len, myp_statement *out);
+
+/* Initializer: MYP_COLUMN_INIT. */
+typedef struct myp_column {
+    myp_bytes schema;
+    myp_bytes table;     /* or its alias */
+    myp_bytes org_table;
+    myp_bytes name;      /* or its alias */
+    myp_bytes org_name;
+    uint32_t column_length; /* the most characters of a value, for showing it */
+    uint16_t character_set; /* the collation's number */
+    uint16_t flags;         /* of enum myp_column_flag */
+    uint8_t column_type;    /* of enum myp_type */
+    uint8_t decimals;
+    size_t used;
+} myp_column;
+#define MYP_COLUMN_INIT { MYP_BYTES_INIT, MYP_BYTES_INIT, MYP_BYTES_INIT, MYP_BYTES_INIT, MYP_BYTES_INIT, 0, 0, 0, 0, 0, 0 }
+
+/* Reads Protocol::ColumnDefinition41. MYP_UNEXPECTED_EOF; MYP_INVALID_DATA of another catalog than def, of a bad length, or of a
+ * type that is none. */
+uint32_t myp_read_column(const uint8_t *packet, size_t len, myp_column *out);
+
+/* ---- rows */
+
+enum myp_kind { MYP_NULL, MYP_BYTES, MYP_INT, MYP_UINT, MYP_FLOAT, MYP_DOUBLE, MYP_DATE, MYP_TIME };
+
+/* Initializer: MYP_VALUE_INIT, of each element of an array. Which fields a kind sets; the others are as they were:
+ *
+ *   every kind   number and bytes, which are 0 and empty where they are not named below
+ *   MYP_BYTES    bytes
+ *   MYP_INT      number, in two's complement
+ *   MYP_UINT     number
+ *   MYP_FLOAT    number: the 32 bits
+ *   MYP_DOUBLE   number: the 64 bits
+ *   MYP_DATE     days (the year), month, day, hour, minute, second, micros; is_negative is 0
+ *   MYP_TIME     is_negative, days, hour, minute, second, micros; month and day are 0 */
+typedef struct myp_value {
+    uint8_t kind; /* of enum myp_kind */
+    uint8_t is_negative, month, day, hour, minute, second;
+    uint8_t reserved;
+    uint32_t micros;
+    uint32_t days;
+    uint64_t number;
+    myp_bytes bytes;
+} myp_value;
+#define MYP_VALUE_INIT { 0, 0, 0, 0, 0, 0, 0, 0, 0, 0, 0, MYP_BYTES_INIT }
+
+/* Values, to be handed in. */
+static inline myp_value myp_null(void)
+{
+    myp_value value = MYP_VALUE_INIT;
+    return value;
+}
+
+static inline myp_value myp_int(int64_t number)
+{
+    myp_value value = MYP_VALUE_INIT;
+    value.kind = MYP_INT, value.number = (uint64_t)number;
+    return value;
+}
+
+static inline myp_value myp_uint(uint64_t number)
+{
+    myp_value value = MYP_VALUE_INIT;
+    value.kind = MYP_UINT, value.number = number;
+    return value;
+}
+
+static inline myp_value myp_double(double number)
+{
+    union { double number; uint64_t bits; } either;
+    myp_value value = MYP_VALUE_INIT;
+    either.number = number;
+    value.kind = MYP_DOUBLE, value.number = either.bits;
+    return value;
+}
+
+static inline myp_value myp_text(const void *data, size_t len)
+{
+    myp_value value = MYP_VALUE_INIT;
+    value.kind = MYP_BYTES, value.bytes.data = (const uint8_t *)data, value.bytes.len = len;
+    return value;
+}
+
+/* Of a column: its type, and whether its flags have MYP_UNSIGNED_FLAG (any number but 0). */
+typedef struct myp_column_type {
+    uint8_t column_type;
+    uint8_t is_unsigned;
+} myp_column_type;
+
+/* Reads ProtocolText::ResultsetRow into n values, one of each column, which are bytes or NULL; *used is how many bytes it takes.
+ * MYP_UNEXPECTED_EOF and MYP_INVALID_DATA: *used is as it was, and of the values the first ones may be set. */
+uint32_t myp_read_text_row(const uint8_t *packet, size_t len, myp_value *values, size_t n, size_t *used);
+
+/* Reads ProtocolBinary::ResultsetRow into the first values, one of each column; *used is how many bytes it takes.
+ * MYP_BUFFER_TOO_SMALL where there are fewer values than columns, and nothing is changed; MYP_UNEXPECTED_EOF and
+ * MYP_INVALID_DATA: *used is as it was, and of the values the first ones may be set. */
+uint32_t myp_read_binary_row(const uint8_t *packet, size_t len, const myp_column_type *columns, size_t n_columns,
+                             myp_value *values, size_t n, size_t *used);
+
+/* ---- what a client says */
+
+/* Writes COM_STMT_CLOSE, of 5 bytes. MYP_BUFFER_TOO_SMALL; MYP_NO_MEMORY, and *written is 0. */
+uint32_t myp_write_close(uint32_t statement_id, uint8_t *out, size_t size, size_t *written);
+
+/* Writes COM_STMT_SEND_LONG_DATA: seven bytes, and some bytes of one parameter, the first being 0. MYP_BUFFER_TOO_SMALL;
+ * MYP_NO_MEMORY, and *written is 0. */
+uint32_t myp_write_long_data(uint32_t statement_id, uint16_t param_index, const uint8_t *content, size_t len, uint8_t *out,
+                             size_t size, size_t *written);
+
+/* Writes COM_STMT_EXECUTE with the values, their types, and no cursor; *as_long_data is 1 where byte strings are left out,
+ * since the request with them is past 16,777,215 bytes: each is sent ahead by myp_write_long_data. MYP_INVALID_INPUT of a
+ * value that is none, and *written is 0; MYP_BUFFER_TOO_SMALL, and *as_long_data is set; MYP_NO_MEMORY, and *written is 0. */
+uint32_t myp_write_execute(uint32_t statement_id, const myp_value *values, size_t n, uint8_t *out, size_t size, size_t *written,
+                           uint8_t *as_long_data);
+
+/* Flags of myp_write_bulk. */
+enum myp_bulk_flag {
+    MYP_SEND_UNIT_RESULTS = 64 /* each row is answered with a result of its own */
+};
+
+/* Writes COM_STMT_BULK_EXECUTE with the first rows, as many as a request of max_allowed_packet - 4 bytes holds, and their
+ * types; *rows is how many. The values stand row after row. The declared types are MYP_TYPE_LONGLONG, MYP_TYPE_FLOAT, MYP_TYPE_DOUBLE,
+ * those of dates and times, and those of byte strings but MYP_TYPE_BIT; MYP_TYPE_LONGLONG alone may be unsigned. Of no values
+ * nothing is written. A buffer of max_allowed_packet - 4 bytes is never too small.
+ * MYP_INVALID_INPUT of no columns, of values that are no whole rows, of an unknown flag, of a type that may not be declared, of
+ * a value that is none or that its type doesn't spell, or of max_allowed_packet below 4; MYP_ROW_TOO_LARGE where the first row
+ * is larger than a request may be; MYP_NO_MEMORY: *written and *rows are 0, also where the refused row comes after others.
+ * Rows after those that fit are not looked at. MYP_BUFFER_TOO_SMALL: *rows is 0. */
+uint32_t myp_write_bulk(uint32_t statement_id, uint32_t flags, size_t max_allowed_packet, const myp_column_type *types,
+                        size_t columns, const myp_value *values, size_t n_values, uint8_t *out, size_t size, size_t *written,
+                        size_t *rows);
+
+/* Initializer: MYP_BULK_RULE_INIT, types in the first request alone and any number of rows. */
+typedef struct myp_bulk_rule {
+    size_t max_rows;      /* the most rows of a request, where has_max_rows is not 0 */
+    uint8_t has_max_rows;
+    uint8_t types_always; /* not 0: every request sends types */
+} myp_bulk_rule;
+#define MYP_BULK_RULE_INIT { 0, 0, 0 }
+
+/* Tells whether rows are cut into the fewest requests: *yes is 1 where each request fits the limit and no cut that fits has
+ * fewer requests, else 0. sizes[i] is the bytes of row i in a request, one and its own for each value; ends[j] is how many rows
+ * stand before the end of request j. MYP_OK always. */
+uint32_t myp_bulk_cut_is_fewest(const myp_bulk_rule *rule, uint64_t limit, size_t columns, const uint64_t *sizes, size_t n,
+                                const size_t *ends, size_t n_ends, uint8_t *yes);
+
+/* Initializer: MYP_SSL_REQUEST_INIT. */
+typedef struct myp_ssl_request {
+    uint32_t capabilities; /* those of the login that follows, and MYP_CLIENT_SSL */
+    uint32_t mariadb_capabilities;
+    uint32_t max_packet_size;
+    uint8_t character_set;
+} myp_ssl_request;
+#define MYP_SSL_REQUEST_INIT { 0, 0, 0, 0 }
+
+/* Writes Protocol::SSLRequest, of 32 bytes. MYP_BUFFER_TOO_SMALL; MYP_NO_MEMORY, and *written is 0. */
+uint32_t myp_write_ssl_request(const myp_ssl_request *request, uint8_t *out, size_t size, size_t *written);
+
+/* An attribute of a connection. Of two with one name the later one counts. Initializer: MYP_ATTRIBUTE_INIT. */
+typedef struct myp_attribute {
+    myp_bytes name;
+    myp_bytes value;
+} myp_attribute;
+#define MYP_ATTRIBUTE_INIT { MYP_BYTES_INIT, MYP_BYTES_INIT }
+
+/* Where attributes stand that are none. */
+static const myp_attribute myp_no_attribute = MYP_ATTRIBUTE_INIT;
+
+/* What is there is said by has_database, has_auth_plugin and has_attributes (any number but 0), which set their flags in the
+ * capabilities: MYP_CLIENT_CONNECT_WITH_DB, MYP_CLIENT_PLUGIN_AUTH, MYP_CLIENT_CONNECT_ATTRS. Initializer: MYP_LOGIN_INIT. */
+typedef struct myp_login {
+    myp_bytes user;
+    myp_bytes auth_response; /* what the plugin answers to the nonce */
+    myp_bytes database;
+    myp_bytes auth_plugin_name;
+    const myp_attribute *attributes;
+    size_t n_attributes;
+    uint32_t capabilities;
+    uint32_t mariadb_capabilities;
+    uint32_t max_packet_size;
+    uint8_t collation;
+    uint8_t has_database;
+    uint8_t has_auth_plugin;
+    uint8_t has_attributes;
+} myp_login;
+#define MYP_NO_ATTRIBUTES ((const myp_attribute *)(const void *)"\0\0\0\0\0\0\0"), 0
+#define MYP_LOGIN_INIT { MYP_BYTES_INIT, MYP_BYTES_INIT, MYP_BYTES_INIT, MYP_BYTES_INIT, MYP_NO_ATTRIBUTES, 0, 0, 0, 0, 0, 0, 0 }
+
+/* Writes Protocol::HandshakeResponse41; of a name what stands before its first zero. MYP_INVALID_INPUT of attributes that are
+ * not UTF-8, and *written is 0; MYP_BUFFER_TOO_SMALL; MYP_NO_MEMORY, and *written is 0. */
+uint32_t myp_write_login(const myp_login *login, uint8_t *out, size_t size, size_t *written);
+
+/* Initializer: MYP_CHANGE_USER_INIT. */
+typedef struct myp_change_user {
+    myp_bytes user;
+    myp_bytes auth_plugin_data; /* what the plugin answers to the nonce, of at most 255 bytes: more are not written */
+    myp_bytes database;
+    myp_bytes auth_plugin_name;
+    const myp_attribute *attributes;
+    size_t n_attributes;
+    uint16_t character_set;
+    uint8_t has_auth_plugin; /* not 0: the plugin is named */
+} myp_change_user;
+#define MYP_CHANGE_USER_INIT { MYP_BYTES_INIT, MYP_BYTES_INIT, MYP_BYTES_INIT, MYP_BYTES_INIT, &myp_no_attribute, 0, 0, 0 }
+
+/* Writes COM_CHANGE_USER; of a name what stands before its first zero. MYP_INVALID_INPUT of attributes that are not UTF-8, and
+ * *written is 0; MYP_BUFFER_TOO_SMALL; MYP_NO_MEMORY, and *written is 0. */
+uint32_t myp_write_change_user(const myp_change_user *change, uint8_t *out, size_t size, size_t *written);
+
+/* Writes the request for the server's RSA key of caching_sha2_password, of one byte. MYP_BUFFER_TOO_SMALL; MYP_NO_MEMORY, and
+ * *written is 0. */
+uint32_t myp_write_public_key_request(uint8_t *out, size_t size, size_t *written);
+
+/* Writes what mysql_native_password answers to a nonce, of 20 bytes, or of none for an empty password: no packet, but what one
+ * carries. The nonce is the 20 bytes without the zero after them. MYP_BUFFER_TOO_SMALL. */
+uint32_t myp_scramble_native(const uint8_t *password, size_t len, const uint8_t *nonce, size_t nonce_len, uint8_t *out,
+                             size_t size, size_t *written);
+
+/* ---- replication */
+
+/* Initializer: MYP_REPLICA_INIT. What a replica says of itself; a source lists it in SHOW REPLICAS. */
+typedef struct myp_replica {
+    myp_bytes hostname;
+    myp_bytes user;
+    myp_bytes password;
+    size_t used;               /* of a registration that was read; what is written does not look at it */
+    uint32_t server_id;
+    uint32_t replication_rank; /* servers ignore it */
+    uint32_t master_id;        /* mostly 0 */
+    uint16_t port;
+} myp_replica;
+#define MYP_REPLICA_INIT { MYP_BYTES_INIT, MYP_BYTES_INIT, MYP_BYTES_INIT, 0, 0, 0, 0, 0 }
+
+/* Writes COM_REGISTER_SLAVE. Of hostname, user and password the first 255 bytes are written. MYP_BUFFER_TOO_SMALL;
+ * MYP_NO_MEMORY, and *written is 0. */
+uint32_t myp_write_register_replica(const myp_replica *replica, uint8_t *out, size_t size, size_t *written);
+
+/* Writes COM_BINLOG_DUMP, with flags of enum myp_dump_flag. MYP_BUFFER_TOO_SMALL; MYP_NO_MEMORY, and *written is 0. */
+uint32_t myp_write_dump(uint32_t server_id, uint16_t flags, const uint8_t *file_name, size_t file_name_len, uint32_t position,
+                        uint8_t *out, size_t size, size_t *written);
+
+/* Writes COM_TABLE_DUMP. Of each name the first 255 bytes are written. MYP_BUFFER_TOO_SMALL; MYP_NO_MEMORY, and *written
+ * is 0. */
+uint32_t myp_write_table_dump(const uint8_t *database, size_t database_len, const uint8_t *table, size_t table_len,
+                              uint8_t *out, size_t size, size_t *written);
+
+/* Writes the acknowledgement of semi-synchronous replication: the position after the event, in the binary log of that name.
+ * MYP_BUFFER_TOO_SMALL; MYP_NO_MEMORY, and *written is 0. */
+uint32_t myp_write_semi_sync_ack(uint64_t position, const uint8_t *file_name, size_t file_name_len, uint8_t *out, size_t size,
+                                 size_t *written);
+
+/* Transactions of one server: from start on, before end. Initializer: MYP_INTERVAL_INIT. */
+typedef struct myp_interval {
+    uint64_t start;
+    uint64_t end;
+} myp_interval;
+#define MYP_INTERVAL_INIT { 0, 0 }
+static const myp_interval myp_no_interval = MYP_INTERVAL_INIT; /* what a sid without intervals points to */
+
+/* The transactions of one server, or those of them that have one tag. Initializer: MYP_SID_INIT. */
+typedef struct myp_sid {
+    const myp_interval *intervals;
+    size_t n_intervals;
+    uint8_t uuid[16];
+    uint8_t tag[32];    /* the first tag_length bytes: a lowercase letter or '_', and then these and digits */
+    uint8_t tag_length; /* 0 where there is no tag */
+} myp_sid;
+#define MYP_SID_INIT { &myp_no_interval, 0, { 0 }, { 0 }, 0 }
+
+/* Reads the text of a sid: UUID:1-5:7, or with a tag UUID:tag:1-5:7. Its intervals are put into the first places, to which
+ * out->intervals then points, and *count is how many they are. MYP_INVALID_DATA of another text, and MYP_NO_MEMORY: *count is
+ * 0; MYP_BUFFER_TOO_SMALL where there are fewer places than *count, and nothing else is changed. */
+uint32_t myp_sid_from_text(const uint8_t *text, size_t len, myp_sid *out, myp_interval *intervals, size_t n, size_t *count);
+
+/* Writes COM_BINLOG_DUMP_GTID: the replica has the transactions of these sids. MYP_DUMP_THROUGH_GTID is written where there is
+ * a sid, and else not, whatever flags has. MYP_INVALID_INPUT of a tag that is none, and *written is 0; MYP_BUFFER_TOO_SMALL;
+ * MYP_NO_MEMORY, and *written is 0. */
+uint32_t myp_write_gtid_dump(uint32_t server_id, uint16_t flags, const uint8_t *file_name, size_t file_name_len,
+                             uint64_t position, const myp_sid *sids, size_t n, uint8_t *out, size_t size, size_t *written);
+
+/* ---- what a server reads */
+
+/* Reads Protocol::SSLRequest, the first 32 bytes of a login. MYP_UNEXPECTED_EOF of fewer bytes. It is a request for TLS where
+ * capabilities has MYP_CLIENT_SSL. */
+uint32_t myp_read_ssl_request(const uint8_t *packet, size_t len, myp_ssl_request *out);
+
+/* Initializer: MYP_LOGIN_REQUEST_INIT. What was not sent is empty. */
+typedef struct myp_login_request {
+    myp_bytes user;
+    myp_bytes auth_response;
+    myp_bytes database;
+    myp_bytes auth_plugin_name;
+    myp_bytes attributes; /* keys and values: myp_next_attribute goes over them */
+    size_t used;
+    uint32_t capabilities;
+    uint32_t mariadb_capabilities;
+    uint32_t max_packet_size;
+    uint8_t collation;
+    uint8_t has_database;         /* 1 where it was sent, else 0; so the next two */
+    uint8_t has_auth_plugin_name;
+    uint8_t has_attributes;
+} myp_login_request;
+#define MYP_LOGIN_REQUEST_INIT \
+    { MYP_BYTES_INIT, MYP_BYTES_INIT, MYP_BYTES_INIT, MYP_BYTES_INIT, MYP_BYTES_INIT, 0, 0, 0, 0, 0, 0, 0, 0 }
+
+/* Reads Protocol::HandshakeResponse41, by the capabilities that stand in it. MYP_UNEXPECTED_EOF where a field is cut;
+ * MYP_INVALID_DATA of a bad length. */
+uint32_t myp_read_login_request(const uint8_t *packet, size_t len, myp_login_request *out);
+
+/* Takes the next attribute off the front of *rest, which begins as the attributes of a login. Of a key that comes again the
+ * last value counts. MYP_END where no byte is left; MYP_UNEXPECTED_EOF; MYP_INVALID_DATA of a bad length. */
+uint32_t myp_next_attribute(myp_bytes *rest, myp_bytes *name, myp_bytes *value);
+
+/* Initializer: MYP_USER_CHANGE_INIT. What was not sent is empty or 0. */
+typedef struct myp_user_change {
+    myp_bytes user;
+    myp_bytes auth_response;
+    myp_bytes database;
+    myp_bytes auth_plugin_name;
+    myp_bytes attributes; /* keys and values: myp_next_attribute goes over them */
+    size_t used;
+    uint16_t character_set;       /* the collation's number */
+    uint8_t has_character_set;    /* 1 where it was sent, else 0; so the next two, which are not sent without it */
+    uint8_t has_auth_plugin_name;
+    uint8_t has_attributes;
+} myp_user_change;
+#define MYP_USER_CHANGE_INIT { MYP_BYTES_INIT, MYP_BYTES_INIT, MYP_BYTES_INIT, MYP_BYTES_INIT, MYP_BYTES_INIT, 0, 0, 0, 0, 0 }
+
+/* Reads COM_CHANGE_USER, by what both sides can do: the plugin under MYP_CLIENT_PLUGIN_AUTH, the attributes under
+ * MYP_CLIENT_CONNECT_ATTRS. MYP_UNEXPECTED_EOF where a field is cut; MYP_INVALID_DATA of another first byte than 11, or of a
+ * bad length. */
+uint32_t myp_read_change_user(const uint8_t *packet, size_t len, uint32_t capabilities, myp_user_change *out);
+
+/* Reads COM_STMT_CLOSE, of 5 bytes. MYP_UNEXPECTED_EOF of fewer; MYP_INVALID_DATA of another first byte than 19. */
+uint32_t myp_read_close(const uint8_t *packet, size_t len, uint32_t *statement_id);
+
+/* Initializer: MYP_LONG_DATA_INIT. */
+typedef struct myp_long_data {
+    myp_bytes content;
+    uint32_t statement_id;
+    uint16_t param_index; /* the first being 0 */
+} myp_long_data;
+#define MYP_LONG_DATA_INIT { MYP_BYTES_INIT, 0, 0 }
+
+/* Reads COM_STMT_SEND_LONG_DATA: seven bytes, and some bytes of one parameter to the end. A server joins what it gets for a
+ * parameter. MYP_UNEXPECTED_EOF of fewer than seven bytes; MYP_INVALID_DATA of another first byte than 18. */
+uint32_t myp_read_long_data(const uint8_t *packet, size_t len, myp_long_data *out);
+
+/* Initializer: MYP_EXECUTION_HEAD_INIT. */
+typedef struct myp_execution_head {
+    size_t used;           /* 10 */
+    uint32_t statement_id;
+    uint8_t flags;         /* which cursor is opened: 0 for none */
+} myp_execution_head;
+#define MYP_EXECUTION_HEAD_INIT { 0, 0, 0 }
+
+/* Reads the first 10 bytes of COM_STMT_EXECUTE, which say which statement it is. MYP_UNEXPECTED_EOF of fewer;
+ * MYP_INVALID_DATA of another first byte than 17, or of another count of executions than 1. */
+uint32_t myp_read_execution_head(const uint8_t *packet, size_t len, myp_execution_head *out);
+
+/* A parameter, as a server knows it before an execution. */
+typedef struct myp_param {
+    uint8_t column_type;   /* of enum myp_type: that of an earlier execution, for one that sends no types */
+    uint8_t is_unsigned;   /* any number but 0 where it is */
+    uint8_t is_sent_ahead; /* any number but 0 where COM_STMT_SEND_LONG_DATA sent its data: the execution has no value of it */
+} myp_param;
+
+/* Initializer: MYP_EXECUTION_INIT. */
+typedef struct myp_execution {
+    size_t used;
+    uint32_t statement_id;
+    uint8_t flags;       /* which cursor is opened: 0 for none */
+    uint8_t sends_types; /* 1 where the execution sends types, else 0 */
+} myp_execution;
+#define MYP_EXECUTION_INIT { 0, 0, 0, 0 }
+
+/* Reads COM_STMT_EXECUTE of a session without MYP_CLIENT_QUERY_ATTRIBUTES: into the first values and the first types, one of
+ * each parameter of the statement. A server keeps the types for an execution that sends none. What was sent ahead is
+ * MYP_NULL. MYP_BUFFER_TOO_SMALL where there are fewer values or types than parameters, and MYP_NO_MEMORY, which n parameters
+ * take: nothing is changed; MYP_UNEXPECTED_EOF and MYP_INVALID_DATA: of the values and the types the first ones may be set. */
+uint32_t myp_read_execution(const uint8_t *packet, size_t len, const myp_param *params, size_t n_params, myp_value *values,
+                            size_t n_values, myp_column_type *types, size_t n_types, myp_execution *out);
+
+/* ---- what a server writes
+ *
+ * A struct that a reader filled can be written again: used is not looked at. Of each call: MYP_BUFFER_TOO_SMALL, and *written
+ * is how many bytes it takes; MYP_NO_MEMORY, and *written is 0. After MYP_INVALID_INPUT *written is 0. */
+
+/* Writes OK_Packet or EOF_Packet of a kind of enum myp_ok_kind. An empty info or session state is absent, and what the kind or the
+ * capabilities leave no place for is not written. MYP_INVALID_INPUT of a kind that is none. */
+uint32_t myp_write_ok(const myp_ok *packet, uint32_t kind, uint32_t capabilities, uint8_t *out, size_t size, size_t *written);
+
+/* Writes one change of the session: its type, and its data, length-encoded. The session_state of an OK packet is such changes, one
+ * after another. MYP_INVALID_INPUT of a type past 5. */
+uint32_t myp_write_change(uint8_t type, const uint8_t *content, size_t len, uint8_t *out, size_t size, size_t *written);
+
+/* Writes ERR_Packet, with the SQL state where there is one: a client with MYP_CLIENT_PROTOCOL_41 expects one, another expects none.
+ * MYP_INVALID_INPUT of a state that has neither five bytes nor none. */
+uint32_t myp_write_error(const myp_error *error, uint8_t *out, size_t size, size_t *written);
+
+/* Writes a progress report of MariaDB, for a client with MYP_CLIENT_PROGRESS: stage, max_stage, progress, and message as the
+ * stage's text. MYP_INVALID_INPUT of a progress past 16,777,215. */
+uint32_t myp_write_progress(const myp_error *report, uint8_t *out, size_t size, size_t *written);
+
+/* Writes COM_STMT_PREPARE_OK, of 12 bytes. */
+uint32_t myp_write_statement(const myp_statement *statement, uint8_t *out, size_t size, size_t *written);
+
+/* Writes the count of columns, and under MYP_MARIADB_CLIENT_CACHE_METADATA a byte that says whether definitions follow.
+ * MYP_INVALID_INPUT where metadata_follows is 0 and no byte says so. */
+uint32_t myp_write_column_count(const myp_column_count *columns, uint32_t mariadb_capabilities, uint8_t *out, size_t size,
+                                size_t *written);
+
+/* Writes Protocol::ColumnDefinition41. MYP_INVALID_INPUT of a type that is none of enum myp_type. */
+uint32_t myp_write_column(const myp_column *column, uint8_t *out, size_t size, size_t *written);
+
+/* Writes ProtocolText::ResultsetRow of n values. MYP_INVALID_INPUT of a value that is neither bytes nor NULL. */
+uint32_t myp_write_text_row(const myp_value *values, size_t n, uint8_t *out, size_t size, size_t *written);
+
+/* Writes ProtocolBinary::ResultsetRow, a value of each column, of a kind that the column is read as. MYP_INVALID_INPUT of a value
+ * that is none or that its column's type can't spell, and where n is not n_columns. */
+uint32_t myp_write_binary_row(const myp_column_type *columns, size_t n_columns, const myp_value *values, size_t n, uint8_t *out,
+                              size_t size, size_t *written);
+
+/* Writes Protocol::HandshakeV10. MYP_INVALID_INPUT of a zero in the version or the name; of a scramble_1 of other than 8 bytes, or a
+ * scramble_2 of other than 13, with MYP_CLIENT_PLUGIN_AUTH 13 to 247; and of a scramble_2 or a name without its capability. */
+uint32_t myp_write_handshake(const myp_handshake *handshake, uint8_t *out, size_t size, size_t *written);
+
+/* Writes Protocol::AuthSwitchRequest. MYP_INVALID_INPUT of a name with a zero. */
+uint32_t myp_write_auth_switch(const myp_auth_switch *request, uint8_t *out, size_t size, size_t *written);
+
+/* Writes Protocol::AuthMoreData: 01, and the plugin's data. */
+uint32_t myp_write_auth_more_data(const uint8_t *plugin_data, size_t len, uint8_t *out, size_t size, size_t *written);
+
+/* Writes the answer to a request for the server's public key: 01, and the key as PEM. */
+uint32_t myp_write_public_key(const uint8_t *rsa_key, size_t len, uint8_t *out, size_t size, size_t *written);
+
+/* Writes a LOCAL INFILE request: fb, and the file's name. */
+uint32_t myp_write_local_infile(const uint8_t *file_name, size_t len, uint8_t *out, size_t size, size_t *written);
+/* Initializer: MYP_DUMP_INIT. */
+typedef struct myp_dump {
+    myp_bytes file_name;
+    uint32_t server_id;
+    uint32_t position;
+    uint16_t flags; /* of enum myp_dump_flag */
+} myp_dump;
+#define MYP_DUMP_INIT { MYP_BYTES_INIT, 0, 0, 0 }
+
+/* Reads COM_BINLOG_DUMP: 11 bytes, and the file's name to the end. MYP_UNEXPECTED_EOF of fewer than 11 bytes;
+ * MYP_INVALID_DATA of another first byte than 12. */
+uint32_t myp_read_dump(const uint8_t *packet, size_t len, myp_dump *out);
+
+/* Reads COM_REGISTER_SLAVE. MYP_UNEXPECTED_EOF where a field is cut; MYP_INVALID_DATA of another first byte than 15. */
+uint32_t myp_read_register_replica(const uint8_t *packet, size_t len, myp_replica *out);
+
+/* Initializer: MYP_GTID_DUMP_INIT. */
+typedef struct myp_gtid_dump {
+    myp_bytes file_name;
+    myp_bytes sids;    /* n_sids of them: myp_next_sid goes over them */
+    uint64_t n_sids;
+    uint64_t position;
+    size_t used;
+    uint32_t server_id;
+    uint16_t flags;    /* of enum myp_dump_flag */
+    uint8_t is_tagged; /* 1 where the sids are in the form with tags, else 0 */
+} myp_gtid_dump;
+#define MYP_GTID_DUMP_INIT { MYP_BYTES_INIT, MYP_BYTES_INIT, 0, 0, 0, 0, 0, 0 }
+
+/* Reads COM_BINLOG_DUMP_GTID, and looks at each sid. Bytes after the last sid of the block are not looked at.
+ * MYP_UNEXPECTED_EOF where a field or a sid is cut; MYP_INVALID_DATA of another first byte than 1e, or of a bad tag. */
+uint32_t myp_read_gtid_dump(const uint8_t *packet, size_t len, myp_gtid_dump *out);
+
+/* A sid of a packet. Initializer: MYP_SID_PLACES_INIT. */
+typedef struct myp_sid_places {
+    myp_bytes tag;       /* none without a tag */
+    myp_bytes intervals; /* n_intervals of them: myp_next_interval goes over them */
+    uint64_t n_intervals;
+    uint8_t uuid[16];
+} myp_sid_places;
+#define MYP_SID_PLACES_INIT { MYP_BYTES_INIT, MYP_BYTES_INIT, 0, { 0 } }
+
+/* Takes the next sid off the front of *rest, which begins as the sids of a dump; is_tagged is the dump's. MYP_END where no
+ * byte is left; MYP_UNEXPECTED_EOF; MYP_INVALID_DATA of a bad tag. */
+uint32_t myp_next_sid(myp_bytes *rest, uint8_t is_tagged, myp_sid_places *out);
+
+/* Takes the next interval off the front of *rest, which begins as the intervals of a sid. Any two numbers are one. MYP_END
+ * where no byte is left; MYP_UNEXPECTED_EOF of fewer than 16 bytes. */
+uint32_t myp_next_interval(myp_bytes *rest, myp_interval *out);
+
+/* ---- numbers of the protocol */
+
+enum myp_type {
+    MYP_TYPE_DECIMAL = 0, MYP_TYPE_TINY = 1, MYP_TYPE_SHORT = 2, MYP_TYPE_LONG = 3, MYP_TYPE_FLOAT = 4, MYP_TYPE_DOUBLE = 5,
+    MYP_TYPE_NULL = 6, MYP_TYPE_TIMESTAMP = 7, MYP_TYPE_LONGLONG = 8, MYP_TYPE_INT24 = 9, MYP_TYPE_DATE = 10,
+    MYP_TYPE_TIME = 11, MYP_TYPE_DATETIME = 12, MYP_TYPE_YEAR = 13, MYP_TYPE_NEWDATE = 14, MYP_TYPE_VARCHAR = 15,
+    MYP_TYPE_BIT = 16, MYP_TYPE_TIMESTAMP2 = 17, MYP_TYPE_DATETIME2 = 18, MYP_TYPE_TIME2 = 19, MYP_TYPE_JSON = 245,
+    MYP_TYPE_NEWDECIMAL = 246, MYP_TYPE_ENUM = 247, MYP_TYPE_SET = 248, MYP_TYPE_TINY_BLOB = 249, MYP_TYPE_MEDIUM_BLOB = 250,
+    MYP_TYPE_LONG_BLOB = 251, MYP_TYPE_BLOB = 252, MYP_TYPE_VAR_STRING = 253, MYP_TYPE_STRING = 254, MYP_TYPE_GEOMETRY = 255
+};
+
+enum myp_column_flag {
+    MYP_NOT_NULL_FLAG = 1, MYP_PRI_KEY_FLAG = 2, MYP_UNIQUE_KEY_FLAG = 4, MYP_MULTIPLE_KEY_FLAG = 8, MYP_BLOB_FLAG = 16,
+    MYP_UNSIGNED_FLAG = 32, MYP_ZEROFILL_FLAG = 64, MYP_BINARY_FLAG = 128, MYP_ENUM_FLAG = 256, MYP_AUTO_INCREMENT_FLAG = 512
+};
+
+enum myp_command {
+    MYP_COM_QUIT = 1, MYP_COM_INIT_DB = 2, MYP_COM_QUERY = 3, MYP_COM_STATISTICS = 9, MYP_COM_PING = 14,
+    MYP_COM_CHANGE_USER = 17, MYP_COM_BINLOG_DUMP = 18, MYP_COM_REGISTER_SLAVE = 21, MYP_COM_STMT_PREPARE = 22,
+    MYP_COM_STMT_EXECUTE = 23, MYP_COM_STMT_SEND_LONG_DATA = 24, MYP_COM_STMT_CLOSE = 25, MYP_COM_STMT_RESET = 26,
+    MYP_COM_SET_OPTION = 27, MYP_COM_STMT_FETCH = 28, MYP_COM_BINLOG_DUMP_GTID = 30, MYP_COM_RESET_CONNECTION = 31,
+    MYP_COM_STMT_BULK_EXECUTE = 250
+};
+
+enum myp_capability {
+    MYP_CLIENT_LONG_PASSWORD = 1, MYP_CLIENT_FOUND_ROWS = 2, MYP_CLIENT_LONG_FLAG = 4, MYP_CLIENT_CONNECT_WITH_DB = 8,
+    MYP_CLIENT_COMPRESS = 0x20, MYP_CLIENT_LOCAL_FILES = 0x80, MYP_CLIENT_PROTOCOL_41 = 0x200, MYP_CLIENT_SSL = 0x800,
+    MYP_CLIENT_TRANSACTIONS = 0x2000, MYP_CLIENT_SECURE_CONNECTION = 0x8000, MYP_CLIENT_MULTI_STATEMENTS = 1 << 16,
+    MYP_CLIENT_MULTI_RESULTS = 1 << 17, MYP_CLIENT_PS_MULTI_RESULTS = 1 << 18, MYP_CLIENT_PLUGIN_AUTH = 1 << 19,
+    MYP_CLIENT_CONNECT_ATTRS = 1 << 20, MYP_CLIENT_PLUGIN_AUTH_LENENC_CLIENT_DATA = 1 << 21,
+    MYP_CLIENT_CAN_HANDLE_EXPIRED_PASSWORDS = 1 << 22, MYP_CLIENT_SESSION_TRACK = 1 << 23,
+    MYP_CLIENT_DEPRECATE_EOF = 1 << 24, MYP_CLIENT_OPTIONAL_RESULTSET_METADATA = 1 << 25,
+    MYP_CLIENT_QUERY_ATTRIBUTES = 1 << 27, MYP_CLIENT_PROGRESS = 1 << 29
+};
+
+enum myp_mariadb_capability {
+    MYP_MARIADB_CLIENT_PROGRESS = 1, MYP_MARIADB_CLIENT_STMT_BULK_OPERATIONS = 4, MYP_MARIADB_CLIENT_EXTENDED_METADATA = 8,
+    MYP_MARIADB_CLIENT_CACHE_METADATA = 16
+};
+
+enum myp_status {
+    MYP_SERVER_STATUS_IN_TRANS = 1, MYP_SERVER_STATUS_AUTOCOMMIT = 2, MYP_SERVER_MORE_RESULTS_EXISTS = 8,
+    MYP_SERVER_STATUS_NO_GOOD_INDEX_USED = 16, MYP_SERVER_STATUS_NO_INDEX_USED = 32, MYP_SERVER_STATUS_CURSOR_EXISTS = 64,
+    MYP_SERVER_STATUS_LAST_ROW_SENT = 128, MYP_SERVER_STATUS_DB_DROPPED = 256, MYP_SERVER_STATUS_NO_BACKSLASH_ESCAPES = 512,
+    MYP_SERVER_STATUS_METADATA_CHANGED = 1024, MYP_SERVER_QUERY_WAS_SLOW = 2048, MYP_SERVER_PS_OUT_PARAMS = 4096,
+    MYP_SERVER_STATUS_IN_TRANS_READONLY = 8192, MYP_SERVER_SESSION_STATE_CHANGED = 16384
+};
+
+enum myp_dump_flag { MYP_DUMP_NON_BLOCK = 1, MYP_DUMP_THROUGH_POSITION = 2, MYP_DUMP_THROUGH_GTID = 4 };
+
+#ifdef __cplusplus
+}
+#endif
+
+#endif

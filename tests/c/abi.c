@@ -1,0 +1,159 @@
+/* Packets of the protocol's pages through every call, and the sizes of the structs: here what a client reads. */
+#include "abi.h"
+
+int passed, failed;
+
+static void headers(void)
+{
+    uint8_t out[8];
+    size_t n = 9;
+    myp_header h = MYP_HEADER_INIT;
+    CHECK(myp_read_header((const uint8_t *)"\x05\x00\x01\x07rest", 8, &h) == MYP_OK && h.payload_length == 0x10005 && h.sequence_id == 7);
+    CHECK(myp_read_header((const uint8_t *)"\x05\x00\x00", 3, &h) == MYP_UNEXPECTED_EOF && h.payload_length == 0x10005);
+    CHECK(myp_write_header(0xffffff, 3, out, sizeof out, &n) == MYP_OK && n == 4 && !memcmp(out, "\xff\xff\xff\x03", 4));
+    CHECK(myp_write_header(0x1000000, 3, out, sizeof out, &n) == MYP_INVALID_INPUT && n == 0);
+    CHECK(myp_write_header(1, 3, out, 3, &n) == MYP_BUFFER_TOO_SMALL && n == 4);
+}
+
+static void replies(void)
+{
+    uint32_t kind = 9;
+    static const struct { uint8_t first; uint32_t kind; } firsts[] = {
+        { 0, MYP_REPLY_OK }, { 0xff, MYP_REPLY_ERROR }, { 0xfe, MYP_REPLY_END }, { 0xfb, MYP_REPLY_LOCAL_INFILE }, { 3, MYP_REPLY_COLUMNS } };
+    for (size_t i = 0; i < sizeof firsts / sizeof *firsts; i++)
+        CHECK(myp_reply_kind(&firsts[i].first, 1, &kind) == MYP_OK && kind == firsts[i].kind);
+    CHECK(myp_reply_kind((const uint8_t *)"", 0, &kind) == MYP_UNEXPECTED_EOF && kind == MYP_REPLY_COLUMNS);
+    static const uint8_t eof[9] = { 0xfe };
+    CHECK(myp_row_kind(eof, 5, 0, &kind) == MYP_OK && kind == MYP_REPLY_END);
+    CHECK(myp_row_kind(eof, 9, 0, &kind) == MYP_OK && kind == MYP_REPLY_ROW);
+    CHECK(myp_row_kind(eof, 9, MYP_CLIENT_DEPRECATE_EOF, &kind) == MYP_OK && kind == MYP_REPLY_END);
+    myp_column_count c = MYP_COLUMN_COUNT_INIT;
+    CHECK(myp_read_column_count((const uint8_t *)"\xfc\x00\x01", 3, 0, &c) == MYP_OK && c.count == 256 && c.metadata_follows == 1 && c.used == 3);
+    CHECK(myp_read_column_count((const uint8_t *)"\x02\x00", 2, MYP_MARIADB_CLIENT_CACHE_METADATA, &c) == MYP_OK && c.count == 2 && c.metadata_follows == 0 && c.used == 2);
+    CHECK(myp_read_column_count((const uint8_t *)"\xfb", 1, 0, &c) == MYP_INVALID_DATA && c.count == 2);
+}
+
+static void connection(void)
+{
+    static const uint8_t handshake[] = "\x0a" "5.5.5-10.11.19-MariaDB\0\x01\0\0\0abcdefgh\0\xfe\xf7\x2d\x02\0\xff\x81\x15\0\0\0\0\0\0\x1d\0\0\0ijklmnopqrst\0mysql_native_password";
+    myp_handshake h = MYP_HANDSHAKE_INIT;
+    CHECK(myp_read_handshake(handshake, sizeof handshake - 1, &h) == MYP_OK);
+    CHECK(h.protocol_version == 10 && IS(h.server_version, "5.5.5-10.11.19-MariaDB") && h.connection_id == 1 && h.used == sizeof handshake - 1);
+    CHECK(IS(h.scramble_1, "abcdefgh") && IS(h.scramble_2, "ijklmnopqrst\0") && IS(h.auth_plugin_name, "mysql_native_password"));
+    CHECK(h.capabilities == 0x81fff7fe && h.mariadb_capabilities == 0x1d && h.default_collation == 0x2d && h.status_flags == 2);
+    CHECK(myp_read_handshake(handshake, 30, &h) == MYP_UNEXPECTED_EOF);
+    static const uint8_t change[] = "\xfe" "caching_sha2_password\0aaaaaaaaaaaaaaaaaaaa";
+    myp_auth_switch s = MYP_AUTH_SWITCH_INIT;
+    CHECK(myp_read_auth_switch(change, sizeof change, &s) == MYP_OK && IS(s.plugin_name, "caching_sha2_password") && s.plugin_data.len == 21 && s.plugin_data.data == change + 23);
+    CHECK(myp_read_auth_switch(change, 5, &s) == MYP_UNEXPECTED_EOF && myp_read_auth_switch(change + 1, 5, &s) == MYP_INVALID_DATA);
+    myp_bytes more = MYP_BYTES_INIT;
+    CHECK(myp_read_auth_more_data((const uint8_t *)"\x01\x04", 2, &more) == MYP_OK && IS(more, "\x04"));
+    CHECK(myp_read_auth_more_data((const uint8_t *)"\x02\x04", 2, &more) == MYP_INVALID_DATA && IS(more, "\x04"));
+}
+
+static void answers(void)
+{
+    static const uint8_t schema[] = { 0x00, 0x00, 0x00, 0x02, 0x40, 0x00, 0x00, 0x00, 0x0c, 0x01, 0x0a, 0x09, 'n', 'e', 'w', '_', 's', 'c', 'h', 'm', '1' };
+    myp_ok o = MYP_OK_INIT;
+    CHECK(myp_read_ok(schema, sizeof schema, MYP_OK_COMMON, MYP_CLIENT_SESSION_TRACK, &o) == MYP_OK && o.status_flags == 0x4002 && o.info.len == 0 && o.session_state.len == 12 && o.session_state.data == schema + 9 && o.used == sizeof schema);
+    static const uint8_t rows[] = { 0, 3, 0xfc, 0x10, 0x27, 2, 0, 1, 0 };
+    CHECK(myp_read_ok(rows, sizeof rows, MYP_OK_COMMON, 0, &o) == MYP_OK && o.affected_rows == 3 && o.last_insert_id == 10000 && o.warnings == 1 && o.session_state.len == 0);
+    CHECK(myp_read_ok(rows, sizeof rows, MYP_OK_TERMINATOR, 0, &o) == MYP_INVALID_DATA && o.affected_rows == 3);
+    CHECK(myp_read_ok(rows, sizeof rows, 4, 0, &o) == MYP_INVALID_INPUT && o.affected_rows == 3);
+    static const uint8_t end[] = { 0xfe, 0, 0, 2, 0, 0, 0 }, eof[] = { 0xfe, 1, 0, 2, 0 };
+    CHECK(myp_read_ok(end, sizeof end, MYP_OK_TERMINATOR, MYP_CLIENT_DEPRECATE_EOF, &o) == MYP_OK && o.status_flags == 2 && o.affected_rows == 0);
+    CHECK(myp_read_ok(eof, sizeof eof, MYP_OK_OLD_EOF, 0, &o) == MYP_OK && o.status_flags == 2 && o.warnings == 1);
+    CHECK(myp_read_ok(eof, sizeof eof, MYP_OK_STREAM_END, 0, &o) == MYP_OK && o.warnings == 1 && o.used == 5);
+    static const uint8_t err[] = "\xff\x48\x04#HY000No tables used";
+    myp_error e = MYP_ERROR_INIT;
+    CHECK(myp_read_error(err, sizeof err - 1, MYP_CLIENT_PROTOCOL_41, &e) == MYP_OK && e.code == 1096 && !e.is_progress && IS(e.sql_state, "HY000") && IS(e.message, "No tables used") && e.message.data == err + 9);
+    static const uint8_t progress[] = "\xff\xff\xff\x01\x02\x03\x10\x27\x00\x04text";
+    CHECK(myp_read_error(progress, sizeof progress - 1, MYP_CLIENT_PROGRESS, &e) == MYP_OK && e.is_progress == 1 && e.stage == 2 && e.max_stage == 3 && e.progress == 10000 && IS(e.message, "text") && e.code == 0xffff);
+    myp_bytes file = MYP_BYTES_INIT;
+    CHECK(myp_read_local_infile((const uint8_t *)"\xfb/tmp/x", 7, &file) == MYP_OK && IS(file, "/tmp/x"));
+    CHECK(myp_read_local_infile((const uint8_t *)"", 0, &file) == MYP_UNEXPECTED_EOF && IS(file, "/tmp/x"));
+}
+
+static void results(void)
+{
+    static const uint8_t stmt[] = { 0, 1, 0, 0, 0, 1, 0, 2, 0, 0, 0, 0 };
+    myp_statement s = MYP_STATEMENT_INIT;
+    CHECK(myp_read_statement(stmt, sizeof stmt, &s) == MYP_OK && s.statement_id == 1 && s.num_columns == 1 && s.num_params == 2 && s.used == 12);
+    CHECK(myp_read_statement(stmt, 11, &s) == MYP_UNEXPECTED_EOF && myp_read_statement(stmt + 1, 11, &s) != MYP_OK);
+    static const uint8_t column[] = "\003def\004test\003tbl\003org\001a\001b\x0c\x3f\0\x0b\0\0\0\x08\x21\0\0\0\0";
+    myp_column c = MYP_COLUMN_INIT;
+    CHECK(myp_read_column(column, sizeof column - 1, &c) == MYP_OK && IS(c.schema, "test") && IS(c.table, "tbl") && IS(c.org_table, "org") && IS(c.name, "a") && IS(c.org_name, "b"));
+    CHECK(c.character_set == 63 && c.column_length == 11 && c.column_type == MYP_TYPE_LONGLONG && c.flags == 33 && c.decimals == 0 && c.used == sizeof column - 1);
+    static const uint8_t text[] = { 1, '7', 0xfb, 3, 'a', 'b', 'c', 9 };
+    myp_value v[4] = { MYP_VALUE_INIT, MYP_VALUE_INIT, MYP_VALUE_INIT, MYP_VALUE_INIT };
+    size_t used = 0;
+    CHECK(myp_read_text_row(text, sizeof text, v, 3, &used) == MYP_OK && v[0].kind == MYP_BYTES && v[1].kind == MYP_NULL && v[2].bytes.data == text + 4 && v[2].bytes.len == 3 && used == 7);
+    CHECK(myp_read_text_row(text, 6, v, 3, &used) == MYP_UNEXPECTED_EOF && used == 7);
+    static const uint8_t row[] = { 0, 1 << 3, 0xff, 0xff, 0xff, 0xff, 2, 'o', 'k', 7, 0xe8, 0x07, 2, 29, 23, 59, 58 };
+    static const myp_column_type types[] = { { MYP_TYPE_LONG, 0 }, { MYP_TYPE_LONGLONG, 0 }, { MYP_TYPE_VAR_STRING, 0 }, { MYP_TYPE_DATETIME, 0 } };
+    CHECK(myp_read_binary_row(row, sizeof row, types, 4, v, 4, &used) == MYP_OK && used == sizeof row);
+    CHECK(v[0].kind == MYP_INT && (int64_t)v[0].number == -1 && v[1].kind == MYP_NULL && v[2].bytes.len == 2 && v[2].bytes.data == row + 7);
+    CHECK(v[3].kind == MYP_DATE && v[3].days == 2024 && v[3].month == 2 && v[3].day == 29 && v[3].hour == 23 && v[3].minute == 59 && v[3].second == 58 && v[3].micros == 0);
+    CHECK(myp_read_binary_row(row, sizeof row, types, 4, v, 3, &used) == MYP_BUFFER_TOO_SMALL);
+}
+
+static void commands(void)
+{
+    uint8_t out[16];
+    size_t n = 0;
+    CHECK(myp_write_close(0x01020304, out, sizeof out, &n) == MYP_OK && n == 5 && !memcmp(out, "\x19\x04\x03\x02\x01", 5));
+    CHECK(myp_write_close(1, out, 4, &n) == MYP_BUFFER_TOO_SMALL && n == 5 && out[1] == 4);
+    CHECK(myp_write_long_data(5, 2, (const uint8_t *)"abc", 3, out, sizeof out, &n) == MYP_OK && n == 10 && !memcmp(out, "\x18\x05\0\0\0\x02\0abc", 10));
+    CHECK(myp_write_long_data(5, 2, (const uint8_t *)"", 0, out, 6, &n) == MYP_BUFFER_TOO_SMALL && n == 7);
+}
+
+/* NULL with a length of 0 is an empty string or list, as an argument and in a struct */
+static void nulls(void)
+{
+    static const myp_bytes null = { NULL, 0 };
+    uint8_t out[128], again[128];
+    size_t n = 0, m = 0, rows = 9;
+    uint8_t as_long_data = 7;
+    uint32_t kind = 7;
+    myp_bytes rest = null, name = MYP_BYTES_INIT, value = MYP_BYTES_INIT;
+    myp_change change = MYP_CHANGE_INIT;
+    CHECK(myp_reply_kind(NULL, 0, &kind) == MYP_UNEXPECTED_EOF && kind == 7);
+    CHECK(myp_next_change(&rest, &change) == MYP_END && myp_next_variable(&rest, &name, &value) == MYP_END);
+    CHECK(myp_write_execute(1, NULL, 0, out, sizeof out, &n, &as_long_data) == MYP_OK && n == 10);
+    CHECK(myp_write_long_data(1, 2, NULL, 0, out, sizeof out, &n) == MYP_OK && n == 7);
+    CHECK(myp_write_close(1, NULL, 0, &n) == MYP_BUFFER_TOO_SMALL && n == 5);
+    CHECK(myp_scramble_native(NULL, 0, (const uint8_t *)"aaaaaaaaaaaaaaaaaaaa", 20, out, sizeof out, &n) == MYP_OK && n == 0);
+    CHECK(myp_write_bulk(1, 0, 64, NULL, 0, NULL, 0, out, sizeof out, &n, &rows) == MYP_INVALID_INPUT && rows == 0);
+    CHECK(myp_write_text_row(NULL, 0, out, sizeof out, &n) == MYP_OK && n == 0);
+    myp_login login = MYP_LOGIN_INIT, other = MYP_LOGIN_INIT;
+    other.user = other.auth_response = other.database = other.auth_plugin_name = null, other.attributes = NULL;
+    other.has_database = login.has_database = other.has_attributes = login.has_attributes = 1;
+    CHECK(myp_write_login(&login, out, sizeof out, &n) == MYP_OK && myp_write_login(&other, again, sizeof again, &m) == MYP_OK && n == m && !memcmp(out, again, n));
+    myp_ok ok = MYP_OK_INIT, empty = MYP_OK_INIT;
+    empty.info = empty.session_state = null;
+    CHECK(myp_write_ok(&ok, MYP_OK_COMMON, 0, out, sizeof out, &n) == MYP_OK && myp_write_ok(&empty, MYP_OK_COMMON, 0, again, sizeof again, &m) == MYP_OK && n == m && !memcmp(out, again, n));
+    myp_value text = myp_text(NULL, 0);
+    CHECK(myp_write_text_row(&text, 1, out, sizeof out, &n) == MYP_OK && n == 1 && out[0] == 0);
+}
+
+int main(void)
+{
+    CHECK(myp_version() == MYP_VERSION && !strcmp(myp_error_text(MYP_OK), "done") && !strcmp(myp_error_text(MYP_END), "nothing is left"));
+    CHECK(sizeof(myp_bytes) == 16 && sizeof(myp_value) == 40 && sizeof(myp_column_type) == 2 && sizeof(myp_header) == 8);
+    CHECK(sizeof(myp_column) == 104 && sizeof(myp_ok) == 64 && sizeof(myp_error) == 56 && sizeof(myp_handshake) == 88 && sizeof(myp_statement) == 24 && sizeof(myp_column_count) == 24);
+    CHECK(sizeof(myp_change) == 56 && sizeof(myp_login) == 96 && sizeof(myp_change_user) == 88 && sizeof(myp_ssl_request) == 16 && sizeof(myp_attribute) == 32 && sizeof(myp_bulk_rule) == 16);
+    CHECK(sizeof(myp_replica) == 72 && sizeof(myp_interval) == 16 && sizeof(myp_sid) == 72 && sizeof(myp_ssl_request) == 16 && sizeof(myp_login_request) == 104);
+    CHECK(sizeof(myp_long_data) == 24 && sizeof(myp_execution_head) == 16 && sizeof(myp_param) == 3 && sizeof(myp_user_change) == 96 && sizeof(myp_dump) == 32 && sizeof(myp_gtid_dump) == 64 && sizeof(myp_sid_places) == 56 && sizeof(myp_execution) == 16);
+    headers();
+    replies();
+    connection();
+    answers();
+    results();
+    commands();
+    client_checks();
+    replica_checks();
+    server_checks();
+    nulls();
+    printf("%d passed, %d failed\n", passed, failed);
+    return failed != 0;
+}

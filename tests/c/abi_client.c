@@ -1,0 +1,151 @@
+/* What a client says, and the rest of what it reads. */
+#include "abi.h"
+
+static void executions(void)
+{
+    uint8_t out[64], as_long_data = 7;
+    size_t n = 9;
+    myp_value v[6] = { MYP_VALUE_INIT, MYP_VALUE_INIT, MYP_VALUE_INIT, MYP_VALUE_INIT, MYP_VALUE_INIT, MYP_VALUE_INIT };
+    v[1].kind = MYP_INT, v[1].number = 1;
+    CHECK(myp_write_execute(1, v, 2, out, sizeof out, &n, &as_long_data) == MYP_OK && as_long_data == 0 && is_hex(out, n, "170100000000010000000101060008000100000000000000"));
+    CHECK(myp_write_execute(1, v, 0, out, sizeof out, &n, &as_long_data) == MYP_OK && is_hex(out, n, "17010000000001000000"));
+    CHECK(myp_write_execute(1, v, 2, out, 23, &n, &as_long_data) == MYP_BUFFER_TOO_SMALL && n == 24 && as_long_data == 0);
+    v[0].kind = MYP_BYTES, v[1].kind = MYP_UINT, v[2].kind = MYP_FLOAT, v[2].number = 2, v[3].kind = MYP_DOUBLE, v[3].number = 3, v[4].kind = MYP_DATE, v[5].kind = MYP_TIME;
+    CHECK(myp_write_execute(1, v, 6, out, sizeof out, &n, &as_long_data) == MYP_OK && is_hex(out, n, "170100000000010000000001fd000880040005000c000b000001000000000000000200000003000000000000000000"));
+    out[0] = 7, as_long_data = 7;
+    v[2].number = UINT64_C(1) << 32;
+    CHECK(myp_write_execute(1, v, 6, out, sizeof out, &n, &as_long_data) == MYP_INVALID_INPUT && n == 0 && as_long_data == 7 && out[0] == 7);
+    v[2].number = 2, v[4].days = 65536;
+    CHECK(myp_write_execute(1, v, 6, out, sizeof out, &n, &as_long_data) == MYP_INVALID_INPUT);
+    v[4].days = 0, v[5].kind = 8;
+    CHECK(myp_write_execute(1, v, 6, out, sizeof out, &n, &as_long_data) == MYP_INVALID_INPUT && out[0] == 7);
+    static uint8_t huge[16777198];
+    v[0].bytes.data = huge, v[0].bytes.len = sizeof huge;
+    CHECK(myp_write_execute(1, v, 1, out, sizeof out, &n, &as_long_data) == MYP_OK && as_long_data == 1 && is_hex(out, n, "170100000000010000000001fd00"));
+}
+
+static void bulk(void)
+{
+    uint8_t out[64];
+    size_t n = 9, rows = 9;
+    myp_value v[5] = { MYP_VALUE_INIT, MYP_VALUE_INIT, MYP_VALUE_INIT, MYP_VALUE_INIT, MYP_VALUE_INIT };
+    for (size_t i = 0; i < 5; i++)
+        v[i].kind = MYP_INT, v[i].number = i + 1;
+    static const myp_column_type number[] = { { MYP_TYPE_LONGLONG, 0 }, { MYP_TYPE_LONGLONG, 1 } }, tiny = { MYP_TYPE_TINY, 0 };
+    CHECK(myp_write_bulk(1, 0, 31, number, 1, v, 5, out, sizeof out, &n, &rows) == MYP_OK && rows == 2 && is_hex(out, n, "fa0100000080000800000100000000000000000200000000000000"));
+    CHECK(myp_write_bulk(1, 64, 30, number, 1, v + 2, 3, out, 27, &n, &rows) == MYP_OK && rows == 1 && is_hex(out, n, "fa01000000c0000800000300000000000000"));
+    CHECK(myp_write_bulk(1, 0, 1000, number, 2, v, 4, out, sizeof out, &n, &rows) == MYP_OK && rows == 2 && n == 11 + 36);
+    CHECK(myp_write_bulk(1, 0, 31, number, 1, v, 5, out, 26, &n, &rows) == MYP_BUFFER_TOO_SMALL && rows == 0 && n == 27);
+    out[0] = 7, rows = 9;
+    CHECK(myp_write_bulk(1, 0, 21, number, 1, v, 5, out, sizeof out, &n, &rows) == MYP_ROW_TOO_LARGE && rows == 0 && n == 0 && out[0] == 7);
+    CHECK(myp_write_bulk(1, 0, 31, number, 1, v, 0, out, sizeof out, &n, &rows) == MYP_OK && rows == 0 && n == 0 && out[0] == 7);
+    CHECK(myp_write_bulk(1, 1, 31, number, 1, v, 5, out, sizeof out, &n, &rows) == MYP_INVALID_INPUT);
+    CHECK(myp_write_bulk(1, 0, 3, number, 1, v, 5, out, sizeof out, &n, &rows) == MYP_INVALID_INPUT);
+    CHECK(myp_write_bulk(1, 0, 31, number, 0, v, 5, out, sizeof out, &n, &rows) == MYP_INVALID_INPUT);
+    CHECK(myp_write_bulk(1, 0, 31, number, 2, v, 5, out, sizeof out, &n, &rows) == MYP_INVALID_INPUT);
+    CHECK(myp_write_bulk(1, 0, 31, &tiny, 1, v, 5, out, sizeof out, &n, &rows) == MYP_INVALID_INPUT);
+    v[1].kind = MYP_DOUBLE, rows = 9;
+    CHECK(myp_write_bulk(1, 0, 31, number, 1, v, 5, out, sizeof out, &n, &rows) == MYP_INVALID_INPUT && rows == 0 && n == 0 && out[0] == 7);
+    v[1].kind = 8;
+    CHECK(myp_write_bulk(1, 0, 31, number, 1, v, 5, out, sizeof out, &n, &rows) == MYP_INVALID_INPUT && out[0] == 7);
+    static const uint64_t sizes[] = { 9, 9, 9, 9, 9 };
+    static const size_t few[] = { 2, 4, 5 }, many[] = { 1, 2, 4, 5 };
+    static const myp_bulk_rule plain = MYP_BULK_RULE_INIT, one = { 1, 1, 0 };
+    uint8_t yes = 7;
+    CHECK(myp_bulk_cut_is_fewest(&plain, 27, 1, sizes, 5, few, 3, &yes) == MYP_OK && yes == 1);
+    CHECK(myp_bulk_cut_is_fewest(&plain, 27, 1, sizes, 5, many, 4, &yes) == MYP_OK && yes == 0);
+    CHECK(myp_bulk_cut_is_fewest(&one, 27, 1, sizes, 5, few, 3, &yes) == MYP_OK && yes == 0);
+}
+
+static void changes(void)
+{
+    static const uint8_t state[] = "\x00\x0f\x0a" "autocommit\x03OFF\x01\x05\x04test\x02\x01" "1\x03\x04\x00\x01g1";
+    myp_bytes rest = { state, sizeof state - 1 }, name = MYP_BYTES_INIT, value = MYP_BYTES_INIT;
+    myp_change c = MYP_CHANGE_INIT;
+    CHECK(myp_next_change(&rest, &c) == MYP_OK && c.change_type == MYP_SESSION_TRACK_SYSTEM_VARIABLES && c.variables.len == 15 && c.content.data == state + 2 && c.text.len == 0);
+    myp_bytes left = c.variables;
+    CHECK(myp_next_variable(&left, &name, &value) == MYP_OK && IS(name, "autocommit") && IS(value, "OFF") && left.len == 0);
+    CHECK(myp_next_variable(&left, &name, &value) == MYP_END && IS(name, "autocommit"));
+    CHECK(myp_next_change(&rest, &c) == MYP_OK && c.change_type == MYP_SESSION_TRACK_SCHEMA && IS(c.text, "test") && c.variables.len == 0 && c.is_tracked == 0);
+    CHECK(myp_next_change(&rest, &c) == MYP_OK && c.change_type == MYP_SESSION_TRACK_STATE_CHANGE && c.is_tracked == 1 && c.text.len == 0);
+    CHECK(myp_next_change(&rest, &c) == MYP_OK && c.change_type == MYP_SESSION_TRACK_GTIDS && c.text.len == 4 && rest.len == 0);
+    CHECK(myp_next_change(&rest, &c) == MYP_END && c.change_type == MYP_SESSION_TRACK_GTIDS);
+    rest.data = state, rest.len = 5;
+    CHECK(myp_next_change(&rest, &c) == MYP_UNEXPECTED_EOF && rest.len == 5 && rest.data == state && c.change_type == MYP_SESSION_TRACK_GTIDS);
+    rest.data = (const uint8_t *)"\x09\x00", rest.len = 2;
+    CHECK(myp_next_change(&rest, &c) == MYP_INVALID_DATA && rest.len == 2);
+    left.data = (const uint8_t *)"\x01", left.len = 1;
+    CHECK(myp_next_variable(&left, &name, &value) == MYP_UNEXPECTED_EOF && left.len == 1 && IS(value, "OFF"));
+}
+
+static void logins(void)
+{
+    static const char root[] = "05a2ae81000000012d0000000000000000000000000000000000000000000000726f6f7400006d7973716c5f6e61746976655f70617373776f726400";
+    static const char mydb[] = "0da2ae81000000012d0000000000000000000000000000000000000000000000726f6f7400006d796462006d7973716c5f6e61746976655f70617373776f726400";
+    uint8_t out[128];
+    size_t n = 9;
+    myp_login l = MYP_LOGIN_INIT;
+    l.user.data = (const uint8_t *)"root", l.user.len = 4;
+    l.auth_plugin_name.data = (const uint8_t *)"mysql_native_password", l.auth_plugin_name.len = 21, l.has_auth_plugin = 1;
+    l.capabilities = 2175705605u, l.max_packet_size = 16777216, l.collation = 45;
+    CHECK(myp_write_login(&l, out, sizeof out, &n) == MYP_OK && is_hex(out, n, root));
+    CHECK(myp_write_login(&l, out, 59, &n) == MYP_BUFFER_TOO_SMALL && n == 60);
+    l.database.data = (const uint8_t *)"mydb", l.database.len = 4;
+    CHECK(myp_write_login(&l, out, sizeof out, &n) == MYP_OK && is_hex(out, n, root));
+    l.has_database = 1;
+    CHECK(myp_write_login(&l, out, sizeof out, &n) == MYP_OK && is_hex(out, n, mydb));
+    l.collation = 33;
+    CHECK(myp_write_login(&l, out, sizeof out, &n) == MYP_OK && n == 65 && out[8] == 33);
+    myp_attribute a[2] = { MYP_ATTRIBUTE_INIT, MYP_ATTRIBUTE_INIT };
+    a[0].name.data = a[1].name.data = (const uint8_t *)"k", a[0].name.len = a[1].name.len = 1;
+    a[0].value.data = (const uint8_t *)"w", a[1].value.data = (const uint8_t *)"v", a[0].value.len = a[1].value.len = 1;
+    l.attributes = a, l.n_attributes = 2, l.has_attributes = 1;
+    CHECK(myp_write_login(&l, out, sizeof out, &n) == MYP_OK && n == 70 && !memcmp(out + 65, "\x04\x01k\x01v", 5) && (out[2] & 0x10));
+    a[1].value.data = (const uint8_t *)"\xff", out[0] = 7;
+    CHECK(myp_write_login(&l, out, sizeof out, &n) == MYP_INVALID_INPUT && n == 0 && out[0] == 7);
+    l.has_attributes = 0;
+    CHECK(myp_write_login(&l, out, sizeof out, &n) == MYP_OK && n == 65);
+    myp_ssl_request r = MYP_SSL_REQUEST_INIT;
+    r.capabilities = 0x81aea205, r.max_packet_size = 16777216, r.character_set = 45, r.mariadb_capabilities = 29;
+    CHECK(myp_write_ssl_request(&r, out, sizeof out, &n) == MYP_OK && is_hex(out, n, "05a2ae81000000012d000000000000000000000000000000000000001d000000"));
+    CHECK(myp_write_ssl_request(&r, out, 31, &n) == MYP_BUFFER_TOO_SMALL && n == 32);
+    myp_change_user c = MYP_CHANGE_USER_INIT;
+    c.user.data = (const uint8_t *)"u", c.user.len = 1, c.auth_plugin_data.data = (const uint8_t *)"AB", c.auth_plugin_data.len = 2;
+    c.database.data = (const uint8_t *)"d", c.database.len = 1, c.character_set = 258;
+    c.auth_plugin_name.data = (const uint8_t *)"client_ed25519", c.auth_plugin_name.len = 14, c.has_auth_plugin = 1;
+    a[1].value.data = (const uint8_t *)"v", c.attributes = a, c.n_attributes = 2;
+    CHECK(myp_write_change_user(&c, out, sizeof out, &n) == MYP_OK && is_hex(out, n, "11750002414264000201636c69656e745f656432353531390004016b0176"));
+    CHECK(myp_write_change_user(&c, out, 29, &n) == MYP_BUFFER_TOO_SMALL && n == 30);
+    a[0].name.data = (const uint8_t *)"\x80";
+    CHECK(myp_write_change_user(&c, out, sizeof out, &n) == MYP_INVALID_INPUT && n == 0);
+    c.n_attributes = 0, c.has_auth_plugin = 0, c.character_set = 45, c.auth_plugin_data.len = c.database.len = 0, c.user.data = (const uint8_t *)"root", c.user.len = 4;
+    CHECK(myp_write_change_user(&c, out, sizeof out, &n) == MYP_OK && is_hex(out, n, "11726f6f740000002d0000"));
+}
+
+static void keys(void)
+{
+    uint8_t out[32];
+    size_t n = 9;
+    CHECK(myp_write_public_key_request(out, sizeof out, &n) == MYP_OK && n == 1 && out[0] == 2);
+    CHECK(myp_write_public_key_request(out, 0, &n) == MYP_BUFFER_TOO_SMALL && n == 1);
+    myp_bytes pem = MYP_BYTES_INIT, salt = MYP_BYTES_INIT;
+    CHECK(myp_read_public_key((const uint8_t *)"\x01-----BEGIN", 11, &pem) == MYP_OK && IS(pem, "-----BEGIN"));
+    CHECK(myp_read_public_key((const uint8_t *)"\x02-", 2, &pem) == MYP_INVALID_DATA && myp_read_public_key((const uint8_t *)"", 0, &pem) == MYP_UNEXPECTED_EOF && pem.len == 10);
+    uint32_t iterations = 7;
+    static const uint8_t parsec[] = "P\x02" "abcdefghijklmnopqr";
+    CHECK(myp_read_parsec_salt(parsec, 20, &iterations, &salt) == MYP_OK && iterations == 4096 && IS(salt, "abcdefghijklmnopqr"));
+    CHECK(myp_read_parsec_salt(parsec, 19, &iterations, &salt) == MYP_INVALID_DATA && iterations == 4096 && salt.len == 18);
+    /* by Python's hashlib */
+    CHECK(myp_scramble_native((const uint8_t *)"password", 8, (const uint8_t *)"abcdefghijklmnopqrst", 20, out, sizeof out, &n) == MYP_OK && is_hex(out, n, "bfdd49584b917d42c758edd2a7a541f721843041"));
+    CHECK(myp_scramble_native((const uint8_t *)"password", 8, (const uint8_t *)"abcdefghijklmnopqrst", 20, out, 19, &n) == MYP_BUFFER_TOO_SMALL && n == 20);
+    CHECK(myp_scramble_native((const uint8_t *)"", 0, (const uint8_t *)"abcdefghijklmnopqrst", 20, out, sizeof out, &n) == MYP_OK && n == 0);
+}
+
+void client_checks(void)
+{
+    executions();
+    bulk();
+    changes();
+    logins();
+    keys();
+}

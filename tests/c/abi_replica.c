@@ -1,0 +1,176 @@
+/* What a replica says, and what a server reads. */
+#include "abi.h"
+
+static void replicas(void)
+{
+    uint8_t out[600], is[600];
+    size_t n = 9, len;
+    myp_replica r = MYP_REPLICA_INIT;
+    r.server_id = 7, r.port = 3306, r.hostname = (myp_bytes){ (const uint8_t *)"h", 1 };
+    len = hex(is, "150700000001680000ea0c0000000000000000"); /* replication.txt: registration */
+    CHECK(myp_write_register_replica(&r, out, sizeof out, &n) == MYP_OK && n == len && !memcmp(out, is, len));
+    CHECK(myp_write_register_replica(&r, out, len - 1, &n) == MYP_BUFFER_TOO_SMALL && n == len && !memcmp(out, is, len));
+    r = (myp_replica)MYP_REPLICA_INIT;
+    r.server_id = 1, r.port = 0x17, r.replication_rank = 2, r.master_id = 3; /* commands.txt: its first row */
+    len = hex(is, "1501000000000000170002000000" "03000000");
+    CHECK(myp_write_register_replica(&r, out, sizeof out, &n) == MYP_OK && n == len && !memcmp(out, is, len));
+    static uint8_t many[300];
+    memset(many, 'x', sizeof many);
+    r.user = (myp_bytes){ many, 300 };
+    CHECK(myp_write_register_replica(&r, out, sizeof out, &n) == MYP_OK && n == 18 + 255 && out[6] == 255 && out[262] == 0);
+    len = hex(is, "12040000000100070000006d62696e2e303030303031"); /* the protocol's page: position, flags, replica, file */
+    CHECK(myp_write_dump(7, MYP_DUMP_NON_BLOCK, (const uint8_t *)"mbin.000001", 11, 4, out, sizeof out, &n) == MYP_OK && n == len && !memcmp(out, is, len));
+    CHECK(myp_write_dump(7, 0, (const uint8_t *)"", 0, 4, out, 10, &n) == MYP_BUFFER_TOO_SMALL && n == 11 && out[5] == 1);
+    len = hex(is, "130264620174"); /* commands.txt: a request for a table */
+    CHECK(myp_write_table_dump((const uint8_t *)"db", 2, (const uint8_t *)"t", 1, out, sizeof out, &n) == MYP_OK && n == len && !memcmp(out, is, len));
+    CHECK(myp_write_table_dump(many, 256, many, 300, out, sizeof out, &n) == MYP_OK && n == 513 && out[1] == 255 && out[257] == 255);
+    CHECK(myp_write_table_dump(many, 1, many, 1, out, 4, &n) == MYP_BUFFER_TOO_SMALL && n == 5);
+    len = hex(is, "ef96650000000000006d62696e2e303030303031"); /* commands.txt: captured acknowledgement */
+    CHECK(myp_write_semi_sync_ack(0x6596, (const uint8_t *)"mbin.000001", 11, out, sizeof out, &n) == MYP_OK && n == len && !memcmp(out, is, len));
+    CHECK(myp_write_semi_sync_ack(4, (const uint8_t *)"b.1", 3, out, 11, &n) == MYP_BUFFER_TOO_SMALL && n == 12);
+}
+
+static void sids(void)
+{
+    static const char one[] = "3E11FA47-71CA-11E1-9E33-C80AA9429562:app:1-99", two[] = "a0b1c2d3-e4f5-6789-abcd-ef0123456789:1-49:60";
+    uint8_t out[300], is[300];
+    size_t n = 9, len, count = 7;
+    myp_interval places[4] = { MYP_INTERVAL_INIT, MYP_INTERVAL_INIT, MYP_INTERVAL_INIT, MYP_INTERVAL_INIT };
+    myp_sid s[2] = { MYP_SID_INIT, MYP_SID_INIT };
+    CHECK(myp_sid_from_text((const uint8_t *)one, sizeof one - 1, s, places, 0, &count) == MYP_BUFFER_TOO_SMALL && count == 1 && s[0].uuid[0] == 0 && s[0].n_intervals == 0);
+    CHECK(myp_sid_from_text((const uint8_t *)one, sizeof one - 1, s, places, 1, &count) == MYP_OK && count == 1 && s[0].uuid[0] == 0x3e && s[0].uuid[15] == 0x62);
+    CHECK(s[0].tag_length == 3 && !memcmp(s[0].tag, "app", 3) && s[0].n_intervals == 1 && s[0].intervals == places && places[0].start == 1 && places[0].end == 100);
+    CHECK(myp_sid_from_text((const uint8_t *)two, sizeof two - 1, s + 1, places + 1, 3, &count) == MYP_OK && count == 2 && s[1].tag_length == 0 && s[1].n_intervals == 2);
+    CHECK(places[1].start == 1 && places[1].end == 50 && places[2].start == 60 && places[2].end == 61 && places[3].end == 0);
+    CHECK(myp_sid_from_text((const uint8_t *)one, 36, s, places, 4, &count) == MYP_INVALID_DATA && count == 0 && s[0].tag_length == 3);
+    CHECK(myp_sid_from_text((const uint8_t *)"3E11FA47-71CA-11E1-9E33-C80AA9429562:4-3", 40, s, places, 4, &count) == MYP_INVALID_DATA && count == 0);
+    CHECK(myp_sid_from_text((const uint8_t *)"3E11FA47-71CA-11E1-9E33-C80AA9429562:\xff:1", 40, s, places, 4, &count) == MYP_INVALID_DATA && s[0].n_intervals == 1);
+    s[1].n_intervals = 1; /* replication.txt: dump by sets */
+    len = hex(is, "1e04002a0000000000000004000000000000005d00000000020000000000013e11fa4771ca11e19e33c80aa942956206617070010000000000000001000000000000006400000000000000a0b1c2d3e4f56789abcdef012345678900010000000000000001000000000000003200000000000000");
+    CHECK(myp_write_gtid_dump(42, 0, (const uint8_t *)"", 0, 4, s, 2, out, sizeof out, &n) == MYP_OK && n == len && !memcmp(out, is, len));
+    CHECK(myp_write_gtid_dump(42, 0, (const uint8_t *)"", 0, 4, s, 2, out, len - 1, &n) == MYP_BUFFER_TOO_SMALL && n == len);
+    len = hex(is, "1e01000700000003000000622e310500000001000000080000000000000000000000"); /* without sids */
+    CHECK(myp_write_gtid_dump(7, MYP_DUMP_NON_BLOCK | MYP_DUMP_THROUGH_GTID, (const uint8_t *)"b.1", 3, 4294967301u, s, 0, out, sizeof out, &n) == MYP_OK && n == len && !memcmp(out, is, len));
+    s[0].tag[0] = 'A';
+    CHECK(myp_write_gtid_dump(42, 0, (const uint8_t *)"", 0, 4, s, 2, out, sizeof out, &n) == MYP_INVALID_INPUT && n == 0 && !memcmp(out, is, len));
+    s[0].tag[0] = 'a', s[0].tag_length = 33;
+    CHECK(myp_write_gtid_dump(42, 0, (const uint8_t *)"", 0, 4, s, 1, out, sizeof out, &n) == MYP_INVALID_INPUT && n == 0);
+}
+
+static void served(void)
+{
+    uint32_t id = 5;
+    CHECK(myp_read_close((const uint8_t *)"\x19\x04\x03\x02\x01", 5, &id) == MYP_OK && id == 0x01020304);
+    CHECK(myp_read_close((const uint8_t *)"\x19\x04\x03\x02", 4, &id) == MYP_UNEXPECTED_EOF && myp_read_close((const uint8_t *)"\x18\x04\x03\x02\x01", 5, &id) == MYP_INVALID_DATA && id == 0x01020304);
+    static const uint8_t data[] = "\x18\x05\0\0\0\x02\0abc";
+    myp_long_data l = MYP_LONG_DATA_INIT;
+    CHECK(myp_read_long_data(data, sizeof data - 1, &l) == MYP_OK && l.statement_id == 5 && l.param_index == 2 && l.content.data == data + 7 && l.content.len == 3);
+    CHECK(myp_read_long_data(data, 6, &l) == MYP_UNEXPECTED_EOF && myp_read_long_data(data + 1, 9, &l) == MYP_INVALID_DATA && l.param_index == 2);
+    uint8_t p[200];
+    size_t len = hex(p, "05aaae81000000012d00000000000000000000000000000000000000" "1d000000726f6f7400");
+    myp_ssl_request q = MYP_SSL_REQUEST_INIT;
+    CHECK(myp_read_ssl_request(p, 32, &q) == MYP_OK && q.capabilities == 0x81aeaa05 && (q.capabilities & MYP_CLIENT_SSL) && q.max_packet_size == 0x1000000 && q.character_set == 45 && q.mariadb_capabilities == 29);
+    CHECK(myp_read_ssl_request(p, 31, &q) == MYP_UNEXPECTED_EOF && q.character_set == 45);
+    /* responses.txt: a database sets its flag */
+    len = hex(p, "0da2ae81000000012d0000000000000000000000000000000000000000000000726f6f7400006d796462006d7973716c5f6e61746976655f70617373776f726400");
+    p[2] |= 0x10; /* and attributes after the plugin: a=b, cd= */
+    static const char attributes[] = "\x08\x01" "a\x01" "b\x02" "cd\0";
+    memcpy(p + len, attributes, sizeof attributes - 1);
+    len += sizeof attributes - 1;
+    myp_login_request r = MYP_LOGIN_REQUEST_INIT;
+    CHECK(myp_read_login_request(p, len, &r) == MYP_OK && IS(r.user, "root") && r.auth_response.len == 0 && IS(r.database, "mydb") && IS(r.auth_plugin_name, "mysql_native_password"));
+    CHECK(r.has_database == 1 && r.has_auth_plugin_name == 1 && r.has_attributes == 1 && r.attributes.data == p + len - 8 && r.attributes.len == 8 && r.used == len && r.collation == 45 && r.max_packet_size == 0x1000000);
+    myp_bytes rest = r.attributes, name = MYP_BYTES_INIT, value = MYP_BYTES_INIT;
+    CHECK(myp_next_attribute(&rest, &name, &value) == MYP_OK && IS(name, "a") && IS(value, "b") && rest.len == 4);
+    CHECK(myp_next_attribute(&rest, &name, &value) == MYP_OK && IS(name, "cd") && value.len == 0 && rest.len == 0);
+    CHECK(myp_next_attribute(&rest, &name, &value) == MYP_END && IS(name, "cd"));
+    rest = (myp_bytes){ r.attributes.data, 3 };
+    CHECK(myp_next_attribute(&rest, &name, &value) == MYP_UNEXPECTED_EOF && IS(name, "cd") && rest.len == 3);
+    CHECK(myp_read_login_request(p, len - 1, &r) == MYP_UNEXPECTED_EOF && myp_read_login_request(p, 31, &r) == MYP_UNEXPECTED_EOF && IS(r.user, "root"));
+    len = hex(p, "05a2ae81000000012d0000000000000000000000000000000000000000000000726f6f7400006d7973716c5f6e61746976655f70617373776f726400"); /* a response of 60 bytes */
+    CHECK(myp_read_login_request(p, len, &r) == MYP_OK && r.has_database == 0 && r.database.len == 0 && r.has_attributes == 0 && r.capabilities == 2175705605u && r.used == 60);
+}
+
+static void executions(void)
+{
+    uint8_t p[64];
+    size_t len = hex(p, "170100000000010000000101060008000100000000000000"); /* executions.txt: statement 1 with NULL and 1 */
+    myp_execution_head h = MYP_EXECUTION_HEAD_INIT;
+    CHECK(myp_read_execution_head(p, len, &h) == MYP_OK && h.statement_id == 1 && h.flags == 0 && h.used == 10);
+    CHECK(myp_read_execution_head(p, 9, &h) == MYP_UNEXPECTED_EOF && myp_read_execution_head(p + 1, 10, &h) == MYP_INVALID_DATA && h.statement_id == 1);
+    myp_param params[2] = { { 0, 0, 0 }, { 0, 0, 0 } };
+    myp_value v[2] = { MYP_VALUE_INIT, MYP_VALUE_INIT };
+    myp_column_type t[2] = { { 0, 0 }, { 0, 0 } };
+    myp_execution e = MYP_EXECUTION_INIT;
+    CHECK(myp_read_execution(p, len, params, 2, v, 1, t, 2, &e) == MYP_BUFFER_TOO_SMALL && myp_read_execution(p, len, params, 2, v, 2, t, 1, &e) == MYP_BUFFER_TOO_SMALL && e.statement_id == 0);
+    CHECK(myp_read_execution(p, len, params, 2, v, 2, t, 2, &e) == MYP_OK && e.statement_id == 1 && e.flags == 0 && e.sends_types == 1 && e.used == len);
+    CHECK(v[0].kind == MYP_NULL && v[1].kind == MYP_INT && v[1].number == 1 && t[0].column_type == MYP_TYPE_NULL && t[1].column_type == MYP_TYPE_LONGLONG && t[1].is_unsigned == 0);
+    CHECK(myp_read_execution(p, len - 1, params, 2, v, 2, t, 2, &e) == MYP_UNEXPECTED_EOF && e.used == len);
+    p[11] = 0, len = 12; /* no types are sent: those of an earlier execution are taken; the second was sent ahead */
+    memcpy(p + len, "\x02hi", 3);
+    p[10] = 0, params[0] = (myp_param){ MYP_TYPE_VAR_STRING, 0, 0 }, params[1] = (myp_param){ MYP_TYPE_BLOB, 0, 1 };
+    CHECK(myp_read_execution(p, len + 3, params, 2, v, 2, t, 2, &e) == MYP_OK && e.sends_types == 0 && e.used == 15 && v[0].bytes.data == p + 13 && v[0].bytes.len == 2 && v[1].kind == MYP_NULL && t[1].column_type == MYP_TYPE_BLOB);
+    params[0].column_type = 100; /* no type */
+    CHECK(myp_read_execution(p, len + 3, params, 2, v, 2, t, 2, &e) == MYP_INVALID_DATA && e.used == 15);
+    CHECK(myp_read_execution(p, 10, params, 0, v, 0, t, 0, &e) == MYP_OK && e.used == 10 && e.sends_types == 0);
+}
+
+static void dumps(void)
+{
+    uint8_t p[200];
+    size_t len = hex(p, "12040000000100070000006d62696e2e303030303031"); /* the protocol's page: position, flags, replica, file */
+    myp_dump d = MYP_DUMP_INIT;
+    CHECK(myp_read_dump(p, len, &d) == MYP_OK && d.position == 4 && d.flags == MYP_DUMP_NON_BLOCK && d.server_id == 7 && IS(d.file_name, "mbin.000001") && d.file_name.data == p + 11);
+    CHECK(myp_read_dump(p, 10, &d) == MYP_UNEXPECTED_EOF && myp_read_dump(p + 1, len - 1, &d) == MYP_INVALID_DATA && d.position == 4);
+    len = hex(p, "154d000000107665632d686f73742e6578616d706c6500009f0f0000000000000000"); /* replication.txt: captured registration */
+    myp_replica r = MYP_REPLICA_INIT;
+    CHECK(myp_read_register_replica(p, len, &r) == MYP_OK && r.server_id == 77 && IS(r.hostname, "vec-host.example") && r.user.len == 0 && r.password.len == 0 && r.port == 3999 && r.replication_rank == 0 && r.master_id == 0 && r.used == len);
+    CHECK(myp_read_register_replica(p, 22, &r) == MYP_UNEXPECTED_EOF && myp_read_register_replica(p + 1, len - 1, &r) == MYP_INVALID_DATA && r.port == 3999);
+    /* replication.txt: dump by sets */
+    len = hex(p, "1e04002a0000000000000004000000000000005d00000000020000000000013e11fa4771ca11e19e33c80aa942956206617070010000000000000001000000000000006400000000000000a0b1c2d3e4f56789abcdef012345678900010000000000000001000000000000003200000000000000");
+    myp_gtid_dump g = MYP_GTID_DUMP_INIT;
+    CHECK(myp_read_gtid_dump(p, len, &g) == MYP_OK && g.server_id == 42 && g.flags == MYP_DUMP_THROUGH_GTID && g.file_name.len == 0 && g.position == 4 && g.n_sids == 2 && g.is_tagged == 1 && g.sids.data == p + 31 && g.sids.len == len - 31 && g.used == len);
+    CHECK(myp_read_gtid_dump(p, len - 1, &g) == MYP_UNEXPECTED_EOF && myp_read_gtid_dump(p + 1, len - 1, &g) == MYP_INVALID_DATA && g.n_sids == 2);
+    myp_bytes rest = g.sids;
+    myp_sid_places s = MYP_SID_PLACES_INIT;
+    CHECK(myp_next_sid(&rest, g.is_tagged, &s) == MYP_OK && IS(s.tag, "app") && s.uuid[0] == 0x3e && s.uuid[15] == 0x62 && s.n_intervals == 1 && s.intervals.len == 16 && s.intervals.data == p + 59);
+    myp_bytes left = s.intervals;
+    myp_interval i = MYP_INTERVAL_INIT;
+    CHECK(myp_next_interval(&left, &i) == MYP_OK && i.start == 1 && i.end == 100 && left.len == 0);
+    CHECK(myp_next_interval(&left, &i) == MYP_END && i.end == 100);
+    left = (myp_bytes){ p, 15 };
+    CHECK(myp_next_interval(&left, &i) == MYP_UNEXPECTED_EOF && i.end == 100 && left.len == 15);
+    CHECK(myp_next_sid(&rest, g.is_tagged, &s) == MYP_OK && s.tag.len == 0 && s.uuid[0] == 0xa0 && s.n_intervals == 1 && rest.len == 0);
+    CHECK(myp_next_sid(&rest, g.is_tagged, &s) == MYP_END && s.uuid[0] == 0xa0);
+    rest = (myp_bytes){ p + 31, 20 };
+    CHECK(myp_next_sid(&rest, 0, &s) == MYP_UNEXPECTED_EOF && rest.len == 20 && s.uuid[0] == 0xa0);
+    p[48] = 'A'; /* of the tag */
+    CHECK(myp_read_gtid_dump(p, len, &g) == MYP_INVALID_DATA && g.n_sids == 2);
+    len = hex(p, "1e01000700000003000000622e310500000001000000080000000000000000000000"); /* without sids */
+    CHECK(myp_read_gtid_dump(p, len, &g) == MYP_OK && IS(g.file_name, "b.1") && g.n_sids == 0 && g.sids.len == 0 && g.is_tagged == 0 && g.position == 4294967301u);
+}
+
+static void changes(void)
+{
+    uint8_t p[100];
+    size_t len = hex(p, "11750002010264000201636c69656e745f656432353531390004016b0176"); /* changes.txt: the same, read */
+    uint32_t both = MYP_CLIENT_PLUGIN_AUTH | MYP_CLIENT_CONNECT_ATTRS;
+    myp_user_change c = MYP_USER_CHANGE_INIT;
+    CHECK(myp_read_change_user(p, len, both, &c) == MYP_OK && IS(c.user, "u") && IS(c.auth_response, "\x01\x02") && IS(c.database, "d") && c.has_character_set == 1 && c.character_set == 258);
+    CHECK(c.has_auth_plugin_name == 1 && IS(c.auth_plugin_name, "client_ed25519") && c.has_attributes == 1 && c.attributes.data == p + 26 && c.attributes.len == 4 && c.used == len);
+    CHECK(myp_read_change_user(p, len - 1, both, &c) == MYP_UNEXPECTED_EOF && myp_read_change_user(p + 1, len - 1, both, &c) == MYP_INVALID_DATA && c.character_set == 258);
+    len = hex(p, "11726f6f740000"); /* connections.txt: cut in its database */
+    CHECK(myp_read_change_user(p, len, MYP_CLIENT_CONNECT_ATTRS, &c) == MYP_UNEXPECTED_EOF && c.character_set == 258 && c.user.len == 1);
+    len = hex(p, "11726f6f74000000"); /* nothing after the database */
+    CHECK(myp_read_change_user(p, len, both, &c) == MYP_OK && IS(c.user, "root") && c.database.len == 0 && c.has_character_set == 0 && c.has_auth_plugin_name == 0 && c.has_attributes == 0);
+}
+
+void replica_checks(void)
+{
+    replicas();
+    sids();
+    served();
+    executions();
+    dumps();
+    changes();
+}

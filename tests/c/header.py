@@ -1,0 +1,132 @@
+#!/usr/bin/env python3
+"""Holds include/mysql_packets.h to the library: each struct, field, call and number.
+
+The offset of each field and the size of each struct, as Rattle lays a `repr(C)` struct out, are asserted by the C compiler over the
+header. Numbers are those of crates/mysql_wire, and of <mysql.h> where Debian's libmariadb-dev is installed. The last line is 'N passed, N
+failed'."""
+import re
+import shutil
+import subprocess
+import sys
+import tempfile
+from pathlib import Path
+
+TOP = Path(__file__).resolve().parent.parent.parent
+sys.path.insert(0, str(TOP / "tests/probe"))
+from lines import summary
+
+CRATE, WIRE = TOP / "crates/mysql_packets_c/src", TOP / "crates/mysql_wire/specs"
+HEADER = TOP / "include/mysql_packets.h"
+STRUCT = re.compile(r"((?:^///[^\n]*\n)+)#\[repr\(C\)\]\n(?:#\[[^\n]*\n)*pub struct (\w+)(?:<'a>)? \{(.*?)^\}", re.M | re.S)
+FIELD = re.compile(r"^    pub (\w+): ([^\n]+),$", re.M)
+EXPORT = re.compile(r'pub extern "C" fn (myp_\w+)(?:<[^>]*>)?\((.*?)\) -> u32', re.S)
+SIZES = {"u8": 1, "u16": 2, "u32": 4, "u64": 8, "usize": 8}
+
+
+def comments_out(text):
+    return re.sub(r"/\*.*?\*/", "", text, flags=re.S)
+
+
+def layout(fields):
+    """The C fields of a struct of Rattle, with their offsets, and its size."""
+    at, widest, found = 0, 1, []
+    for name, kind in fields:
+        array = re.fullmatch(r"\[u8; (\d+)\]", kind)
+        parts = [(name, int(array[1]), 1)] if array else [(name, SIZES[kind], SIZES[kind])] if kind in SIZES else None
+        if parts is None and kind.startswith("&'a [u8]"):
+            parts = [(name, 16, 8)]
+        elif parts is None and kind.startswith("&'a ["):
+            parts = [(name, 8, 8), (f"n_{name}", 8, 8)]
+        for part, size, align in parts:
+            at = (at + align - 1) // align * align
+            found.append((part, at))
+            at, widest = at + size, max(widest, align)
+    return found, (at + widest - 1) // widest * widest
+
+
+def structs():
+    """The struct of Rattle for each struct of C: its documentation names it."""
+    found = {}
+    for path in sorted(CRATE.rglob("*.rt")):
+        for doc, _, body in STRUCT.findall(path.read_text()):
+            name = re.search(r"`(myp_\w+)`", doc)
+            if name:
+                found[name[1]] = FIELD.findall(body)
+    return found
+
+
+def asserted(header):
+    """The assertions of C on its structs, and what has no counterpart."""
+    known, wrong, lines = structs(), [], []
+    declared = dict(re.findall(r"typedef struct (myp_\w+) \{(.*?)\} \1;", header, re.S))
+    known.pop("myp_bytes"), declared.pop("myp_bytes")
+    wrong += [f"{it} is a struct of one side alone" for it in declared.keys() ^ known.keys()]
+    for name in declared.keys() & known.keys():
+        fields, size = layout(known[name])
+        lines += [f'_Static_assert(offsetof({name}, {field}) == {at}, "{name}.{field}");' for field, at in fields]
+        lines.append(f'_Static_assert(sizeof({name}) == {size}, "{name}");')
+        count = len([it for line in declared[name].split(";") for it in line.split(",") if it.strip()])
+        if count != len(fields):
+            wrong.append(f"{name} has {count} fields in C, and {len(fields)} in Rattle")
+    return lines, wrong
+
+
+def refused(lines, *flags):
+    """The assertions that the C compiler refuses."""
+    with tempfile.NamedTemporaryFile("w", suffix=".c") as file:
+        file.write("\n".join(lines))
+        file.flush()
+        ran = subprocess.run(["cc", "-std=c11", "-fsyntax-only", "-I", TOP / "include", *flags, file.name], capture_output=True, text=True)
+    return [it for it in ran.stderr.splitlines() if "error" in it]
+
+
+def numbers_of_the_library():
+    """The numbers that the library has, by the names of the header."""
+    found = {}
+    masks = re.findall(r"^([A-Z]\w+) = (\w+)$", (WIRE / "FlagMasks.antt").read_text(), re.M)
+    found.update({f"MYP_{name}": int(value.replace("_", ""), 0) for name, value in masks})
+    types = re.findall(r"^column_type_code variant\.MYSQL_(TYPE_\w+) = (\d+)$", (WIRE / "ColumnType.antt").read_text(), re.M)
+    found.update({f"MYP_{name}": int(value) for name, value in types})
+    states = re.findall(r"^session_state_type_code variant\.(\w+) = (\d+)$", (WIRE / "SessionStateType.antt").read_text(), re.M)
+    found.update({f"MYP_{name}": int(value) for name, value in states})
+    codes = re.findall(r"^pub\(crate\) const (\w+): u32 = (\d+);$", (CRATE / "code.rt").read_text(), re.M)
+    found.update({f"MYP_{name}": int(value) for name, value in codes})
+    return found
+
+
+
+def calls(header):
+    """What is exported, and what is declared."""
+    exported = {name for path in CRATE.rglob("*.rt") for name, _ in EXPORT.findall(path.read_text())}
+    return exported, set(re.findall(r"^uint32_t (myp_\w+)\(", header, re.M))
+
+
+def main():
+    header, passed, wrong = comments_out(HEADER.read_text()), 0, []
+    lines, found = asserted(header)
+    failed = refused(["#include <stddef.h>", "#include <mysql_packets.h>", *lines], "-Werror")
+    passed, wrong = passed + len(lines) - len(failed), wrong + found + failed
+    exported, declared = calls(header)
+    passed += len(exported & declared)
+    wrong += [f"{it} is a call of one side alone" for it in exported ^ declared]
+    declared_names = set(re.findall(r"\b(MYP_\w+) =|\b(MYP_\w+),", " ".join(re.findall(r"enum \w+ \{(.*?)\};", header, re.S))))
+    names = {a or b for a, b in declared_names}
+    ours = {name: value for name, value in numbers_of_the_library().items() if name in names}
+    tests = [f'_Static_assert({name} == {value}u, "{name} is not the library\'s");' for name, value in ours.items()]
+    failed = refused(["#include <mysql_packets.h>", *tests])
+    passed, wrong = passed + len(tests) - len(failed), wrong + failed
+    if shutil.which("mariadb_config"):
+        flags = subprocess.run(["mariadb_config", "--cflags"], capture_output=True, text=True).stdout.split()
+        texts = "".join(path.read_text(errors="replace") for path in Path(flags[0].removeprefix("-I")).glob("m*.h"))
+        theirs = [(name, other) for name in names for other in (name.removeprefix("MYP_"), name.replace("MYP_TYPE_", "MYSQL_TYPE_"))
+                  if name.startswith(("MYP_CLIENT_", "MYP_SERVER_", "MYP_COM_", "MYP_TYPE_", "MYP_SESSION_TRACK_")) or name.endswith("_FLAG")
+                  if re.search(rf"\b{other}\b", texts)]
+        tests = [f'_Static_assert((unsigned){name} == (unsigned){other}, "{name} is not {other}");' for name, other in theirs]
+        failed = refused(["#include <mysql.h>", "#include <mysql_packets.h>", *tests], *flags)
+        passed, wrong = passed + len(tests) - len(failed), wrong + failed
+        print(f"header: {len(lines)} offsets and sizes, {len(ours)} numbers of the library, {len(tests)} of <mysql.h>")
+    return summary("header", passed, wrong)
+
+
+if __name__ == "__main__":
+    sys.exit(main())

@@ -1,0 +1,50 @@
+/* What a client reads one after another: keys, changes of the session, and their variables. */
+#include "hostile.h"
+
+static void read_keys(const uint8_t *p, size_t len)
+{
+    myp_bytes pem = nothing;
+    CALL(pem, myp_read_public_key(p, len, &pem));
+    place("key", pem);
+    struct {
+        uint32_t iterations, unused;
+        myp_bytes salt;
+    } parsec = { 7, 7, MYP_BYTES_INIT };
+    CALL(parsec, myp_read_parsec_salt(p, len, &parsec.iterations, &parsec.salt));
+    place("salt", parsec.salt);
+}
+
+/* goes on to the end, or to the first fault; the last answer is no change either */
+#define NEXT(left, next, call) do { size_t had; do { had = (left).rest.len; __typeof__(left) before; memcpy(&before, &(left), sizeof (left)); \
+    uint32_t code = (call); done++; if (code) { refused++; \
+        if (code > 3 && (code != MYP_END || had)) lost(#call, code); \
+        if (memcmp(&before, &(left), sizeof (left))) { changed++; } \
+        break; } \
+        if ((left).rest.len >= had) lost("nothing was taken", code); \
+        next; } while (1); } while (0)
+
+static void variables(myp_bytes bytes)
+{
+    struct {
+        myp_bytes rest, name, value;
+    } left = { bytes, MYP_BYTES_INIT, MYP_BYTES_INIT };
+    NEXT(left, (place("name", left.name), place("value", left.value), place("rest", left.rest)), myp_next_variable(&left.rest, &left.name, &left.value));
+}
+
+static void read_changes(const uint8_t *p, size_t len)
+{
+    struct {
+        myp_bytes rest;
+        myp_change change;
+    } left;
+    memset(&left, 7, sizeof left), left.rest.data = p, left.rest.len = len;
+    left.change.content = left.change.text = left.change.variables = nothing;
+    NEXT(left, (place("data", left.change.content), place("text", left.change.text), variables(left.change.variables)), myp_next_change(&left.rest, &left.change));
+    variables((myp_bytes){ p, len });
+}
+
+void read_client(const uint8_t *p, size_t len)
+{
+    read_keys(p, len);
+    read_changes(p, len);
+}

@@ -1,0 +1,97 @@
+/* What a server reads. */
+#include "hostile.h"
+
+/* what a server reads */
+static void read_served(const uint8_t *p, size_t len)
+{
+    uint32_t id = 7;
+    CALL(id, myp_read_close(p, len, &id));
+    myp_long_data l;
+    memset(&l, 7, sizeof l), l.content = nothing;
+    CALL(l, myp_read_long_data(p, len, &l));
+    place("long data", l.content);
+    myp_ssl_request q;
+    memset(&q, 7, sizeof q);
+    CALL(q, myp_read_ssl_request(p, len, &q));
+    myp_login_request r;
+    memset(&r, 7, sizeof r), r.user = r.auth_response = r.database = r.auth_plugin_name = r.attributes = nothing;
+    CALL(r, myp_read_login_request(p, len, &r));
+    place("user", r.user), place("response", r.auth_response), place("database", r.database), place("plugin", r.auth_plugin_name), place("attributes", r.attributes);
+    myp_user_change u;
+    memset(&u, 7, sizeof u), u.user = u.auth_response = u.database = u.auth_plugin_name = u.attributes = nothing;
+    CALL(u, myp_read_change_user(p, len, capabilities, &u));
+    place("user", u.user), place("response", u.auth_response), place("database", u.database), place("plugin", u.auth_plugin_name), place("attributes", u.attributes);
+    struct { myp_bytes rest, name, value; } a = { r.attributes, nothing, nothing };
+    while (a.rest.len) {
+        size_t left = a.rest.len;
+        CALL(a, myp_next_attribute(&a.rest, &a.name, &a.value));
+        place("name", a.name), place("value", a.value), place("rest", a.rest);
+        if (a.rest.len >= left) { /* the attributes of a login that was read are good */
+            printf("an attribute of a login was refused\n"), bad++;
+            break;
+        }
+    }
+    a.rest.data = p, a.rest.len = len, a.name = a.value = nothing;
+    if (len)
+        CALL(a, myp_next_attribute(&a.rest, &a.name, &a.value));
+    place("name", a.name), place("value", a.value), place("rest", a.rest);
+    myp_execution_head h;
+    memset(&h, 7, sizeof h);
+    CALL(h, myp_read_execution_head(p, len, &h));
+    static const myp_value no_value = MYP_VALUE_INIT;
+    myp_param params[6];
+    myp_value v[6];
+    myp_column_type t[6] = { { 0, 0 } };
+    for (size_t i = 0; i < 6; i++)
+        v[i] = no_value, params[i].column_type = kinds[varied() % 6].column_type, params[i].is_unsigned = varied() % 2, params[i].is_sent_ahead = varied() % 4 == 0;
+    myp_execution e;
+    memset(&e, 7, sizeof e);
+    CALL(e, myp_read_execution(p, len, params, varied() % 7, v, 6, t, 6, &e));
+    for (size_t i = 0; i < 6; i++)
+        place("parameter", v[i].bytes);
+}
+
+/* what a replica says */
+static void read_replica(const uint8_t *p, size_t len)
+{
+    myp_dump d;
+    memset(&d, 7, sizeof d), d.file_name = nothing;
+    CALL(d, myp_read_dump(p, len, &d));
+    place("file", d.file_name);
+    myp_replica r;
+    memset(&r, 7, sizeof r), r.hostname = r.user = r.password = nothing;
+    CALL(r, myp_read_register_replica(p, len, &r));
+    place("host", r.hostname), place("user", r.user), place("password", r.password);
+    myp_gtid_dump g;
+    memset(&g, 7, sizeof g), g.file_name = g.sids = nothing, g.n_sids = 0;
+    CALL(g, myp_read_gtid_dump(p, len, &g));
+    place("file", g.file_name), place("sids", g.sids);
+    struct { myp_bytes rest; myp_sid_places sid; } s;
+    memset(&s, 7, sizeof s), s.rest = g.sids, s.sid.tag = s.sid.intervals = nothing;
+    uint64_t n = 0;
+    for (; s.rest.len; n++) {
+        size_t left = s.rest.len;
+        CALL(s, myp_next_sid(&s.rest, g.is_tagged, &s.sid));
+        place("tag", s.sid.tag), place("intervals", s.sid.intervals), place("rest", s.rest);
+        if (s.rest.len >= left || s.sid.intervals.len != 16 * s.sid.n_intervals)
+            break;
+    }
+    if (n != g.n_sids || s.rest.len) {
+        printf("the sids of a dump are others one by one\n");
+        bad++;
+    }
+    s.rest.data = p, s.rest.len = len, s.sid.tag = s.sid.intervals = nothing;
+    struct { myp_bytes rest; myp_interval interval; } i;
+    memset(&i, 7, sizeof i), i.rest = s.rest;
+    if (len) {
+        CALL(s, myp_next_sid(&s.rest, varied() % 2, &s.sid));
+        CALL(i, myp_next_interval(&i.rest, &i.interval));
+    }
+    place("tag", s.sid.tag), place("intervals", s.sid.intervals), place("rest", s.rest), place("rest", i.rest);
+}
+
+void read_server(const uint8_t *p, size_t len)
+{
+    read_served(p, len);
+    read_replica(p, len);
+}

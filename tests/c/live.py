@@ -1,0 +1,70 @@
+#!/usr/bin/env python3
+"""The examples in C and Python against a MariaDB server, where one is installed. live.py PREFIX, where the library is installed.
+
+The last line is 'N passed, N failed'."""
+import os
+import subprocess
+import sys
+import tempfile
+from pathlib import Path
+
+TOP = Path(__file__).resolve().parent.parent.parent
+sys.path[:0] = [str(TOP / "tests/live"), str(TOP / "tests/probe")]
+import server
+from lines import summary
+
+ROWS = [f"row {n} 'odd' '{n / 2:.4f}' 2024-02-29 01:02:03" for n in range(99991, 100000, 2)]
+WANTED = ["row '2' 'text' NULL", *ROWS, "error 1146 (42S02): Table 'live.nothing_here' doesn't exist"]
+
+
+def driver(prefix, folder, port):
+    """What the driver in C prints, built as a user builds it."""
+    environment = {**os.environ, "PKG_CONFIG_PATH": str(prefix / "lib/pkgconfig"), "LD_LIBRARY_PATH": str(prefix / "lib")}
+    flags = subprocess.run(["pkg-config", "--cflags", "--libs", "mysql_packets"], env=environment, capture_output=True, text=True, check=True).stdout.split()
+    program = Path(folder) / "driver"
+    subprocess.run(["cc", "-std=gnu11", "-Wall", "-Wextra", "-Werror", TOP / "examples/c/driver.c", *flags, "-o", program], check=True)
+    ran = subprocess.run([program, "127.0.0.1", str(port), "native", "secret", "live"], env=environment, capture_output=True, text=True, timeout=120)
+    return ran.stdout.splitlines() + ran.stderr.splitlines()
+
+
+def rows_in(lines):
+    """How many rows the requests of the driver took, of 1 MiB each at most, and whether the server has as many."""
+    asked = [it.split() for it in lines if it.startswith("a request of ")]
+    return sum(int(it[3]) for it in asked), sum(int(it[5]) for it in asked), len(asked)
+
+
+def main(prefix):
+    missing = server.missing()
+    if missing:
+        print(f"live in C: skipped, since {', '.join(missing)} is not installed (Debian: apt-get install mariadb-server)")
+        return summary("live in C", 0, [])
+    prefix, passed, wrong = Path(prefix), 0, []
+    with tempfile.TemporaryDirectory() as folder, server.running() as port:
+        lines = driver(prefix, folder, port)
+        shown = [it for it in lines if it.startswith(("row", "error", "driver"))]
+        for number, line in enumerate(WANTED):
+            if number < len(shown) and shown[number] == line:
+                passed += 1
+            else:
+                wrong.append(f"driver: {shown[number] if number < len(shown) else lines} is not {line}")
+        taken, stored, requests = rows_in(lines)
+        # (100,000 rows of at least 15 bytes fit no fewer than two requests of 1 MiB)
+        if taken == stored == 100_000 and requests >= 2:
+            passed += 1
+        else:
+            wrong.append(f"driver: {taken} rows in {requests} requests, of which {stored} are stored")
+        ran = subprocess.run([sys.executable, TOP / "examples/python/insert.py", prefix, "127.0.0.1", str(port), "native", "secret", "live"],
+                             capture_output=True, text=True, timeout=120)
+        count = subprocess.run([server.found("mariadb"), "--no-defaults", "-h127.0.0.1", f"-P{port}", "-unative", "-psecret", "live", "-Be",
+                                "select count(*), sum(id), count(height), sum(name = concat('name ', id)), sum(height = id / 4) from people"],
+                               capture_output=True, text=True)
+        wanted = "100000\t4999950000\t33334\t100000\t33334"
+        if ran.stdout == "100000 rows in 1 request\n" and count.stdout.splitlines()[1:] == [wanted]:
+            passed += 1
+        else:
+            wrong.append(f"insert.py: {ran.stdout}{ran.stderr}{count.stdout}{count.stderr}")
+    return summary("live in C", passed, wrong)
+
+
+if __name__ == "__main__":
+    sys.exit(main(*sys.argv[1:]))

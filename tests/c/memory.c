@@ -1,0 +1,157 @@
+/* Refuses each block of memory in turn, in every call that takes memory: MYP_NO_MEMORY each time, no block kept, the buffer as it
+ * was and *written 0. Link with -Wl,--wrap=malloc,--wrap=realloc,--wrap=calloc,--wrap=free. */
+#include "mysql_packets.h"
+#include <stdio.h>
+#include <stdlib.h>
+#include <string.h>
+
+static unsigned long asked, refuse, live;
+void *__real_malloc(size_t), *__real_realloc(void *, size_t), *__real_calloc(size_t, size_t);
+void __real_free(void *);
+void *__wrap_malloc(size_t n) { if (++asked == refuse) return NULL; live++; return __real_malloc(n); }
+void *__wrap_calloc(size_t k, size_t n) { if (++asked == refuse) return NULL; live++; return __real_calloc(k, n); }
+void *__wrap_realloc(void *p, size_t n) { if (++asked == refuse) return NULL; if (!p) live++; return __real_realloc(p, n); }
+void __wrap_free(void *p) { if (p) live--; __real_free(p); }
+
+static int passed, failed;
+#define TEXT(text) { (const uint8_t *)(text), sizeof(text) - 1 }
+static uint8_t out[4096];
+
+static int untouched(void)
+{
+    for (size_t i = 0; i < sizeof out; i++)
+        if (out[i] != 0xee)
+            return 0;
+    return 1;
+}
+
+/* counts a call that keeps its contract, and shows one that does not */
+static void check(const char *call, int good)
+{
+    if (good) {
+        passed++;
+        return;
+    }
+    printf("  FAILED: memory.c, %s with block %lu refused\n", call, refuse);
+    failed++;
+}
+
+/* a call that takes `blocks` blocks; each of them is refused in turn, and then none */
+#define EACH(blocks, call) do { \
+    size_t n; uint32_t code; \
+    for (refuse = 1; refuse <= (blocks); refuse++) { \
+        memset(out, 0xee, sizeof out), asked = live = 0, n = 77; \
+        code = (call); \
+        check(#call, code == MYP_NO_MEMORY && n == 0 && live == 0 && untouched()); \
+    } \
+    memset(out, 0xee, sizeof out), asked = live = 0, n = 77, refuse = 0; \
+    code = (call); \
+    check(#call, code == MYP_OK && n != 77 && live == 0 && asked == (blocks)); } while (0)
+
+/* a call that takes at least one block, and so many as it asks for: each of them is refused in turn */
+#define SOME(call) do { \
+    size_t n; uint32_t code; \
+    for (refuse = 1;; refuse++) { \
+        memset(out, 0xee, sizeof out), asked = live = 0, n = 77; \
+        code = (call); \
+        if (asked < refuse) \
+            break; \
+        check(#call, code == MYP_NO_MEMORY && n == 0 && live == 0 && untouched()); \
+    } \
+    check(#call, code == MYP_OK && live == 0 && refuse > 1); } while (0)
+
+static void replies(void)
+{
+    static const myp_ok o = { 3, 10000, TEXT("info"), TEXT("\1\5\4name"), 0, 0x4002, 1 };
+    static const myp_error e = { TEXT("HY000"), TEXT("No tables used"), 0, 23500, 1096, 0, 1, 10 };
+    for (uint32_t kind = 0; kind < 4; kind++)
+        EACH(1, myp_write_ok(&o, kind, MYP_CLIENT_SESSION_TRACK, out, sizeof out, &n));
+    EACH(1, myp_write_change(1, (const uint8_t *)"\4name", 5, out, sizeof out, &n));
+    EACH(1, myp_write_error(&e, out, sizeof out, &n));
+    EACH(1, myp_write_progress(&e, out, sizeof out, &n));
+    EACH(1, myp_write_local_infile((const uint8_t *)"/tmp/x", 6, out, sizeof out, &n));
+}
+
+static void results(void)
+{
+    static const myp_statement s = { 1, 1, 2, 0, 0 };
+    static const myp_column_count c = { 256, 1, 0 };
+    static const myp_column d = { TEXT("test"), TEXT("tbl"), TEXT("org"), TEXT("a"), TEXT("b"), 11, 63, 33, MYP_TYPE_LONGLONG, 0, 0 };
+    static const myp_column_type types[] = { { MYP_TYPE_VAR_STRING, 0 }, { MYP_TYPE_LONGLONG, 0 } };
+    static const myp_value none = MYP_VALUE_INIT;
+    static const myp_bytes text = TEXT("some bytes");
+    myp_value v[2] = { none, none };
+    v[0].kind = MYP_BYTES, v[0].bytes = text;
+    EACH(1, myp_write_statement(&s, out, sizeof out, &n));
+    EACH(1, myp_write_column_count(&c, MYP_MARIADB_CLIENT_CACHE_METADATA, out, sizeof out, &n));
+    EACH(1, myp_write_column(&d, out, sizeof out, &n));
+    EACH(2, myp_write_text_row(v, 2, out, sizeof out, &n));
+    EACH(2, myp_write_binary_row(types, 2, v, 2, out, sizeof out, &n));
+}
+
+static void connection(void)
+{
+    static const myp_handshake h = { TEXT("5.5.5-10.11.19-MariaDB"), TEXT("abcdefgh"), TEXT("ijklmnopqrst\0"), TEXT("mysql_native_password"), 0, 1, 0x81fff7fe, 0x1d, 2, 10, 0x2d };
+    static const myp_auth_switch s = { TEXT("mysql_native_password"), TEXT("zQg4i6oNy6=rHN/>-b)A\0") };
+    EACH(1, myp_write_handshake(&h, out, sizeof out, &n));
+    EACH(1, myp_write_auth_switch(&s, out, sizeof out, &n));
+    EACH(1, myp_write_auth_more_data((const uint8_t *)"\4", 1, out, sizeof out, &n));
+    EACH(1, myp_write_public_key((const uint8_t *)"-----BEGIN", 10, out, sizeof out, &n));
+}
+
+static void commands(void)
+{
+    EACH(1, myp_write_header(5, 1, out, sizeof out, &n));
+    EACH(1, myp_write_close(1, out, sizeof out, &n));
+    EACH(1, myp_write_long_data(5, 2, (const uint8_t *)"abc", 3, out, sizeof out, &n));
+}
+
+/* what a client and a replica say, and what a server reads with memory */
+static void requests(void)
+{
+    static const myp_attribute attributes[] = { { TEXT("program"), TEXT("memory") }, { TEXT("of"), TEXT("tests") } };
+    static const myp_column_type types[] = { { MYP_TYPE_LONGLONG, 0 }, { MYP_TYPE_VAR_STRING, 0 } };
+    static const myp_interval intervals[] = { { 1, 100 }, { 200, 300 } };
+    static const myp_bytes text = TEXT("some bytes");
+    static const uint8_t execution[] = { 0x17, 1, 0, 0, 0, 0, 1, 0, 0, 0, 2, 1, 8, 0, 6, 0, 5, 0, 0, 0, 0, 0, 0, 0 };
+    uint8_t as_long_data = 0;
+    size_t rows = 0;
+    myp_value v[4] = { myp_int(1), myp_text("a", 1), myp_int(2), myp_text("bc", 2) };
+    myp_login l = MYP_LOGIN_INIT;
+    l.user = text, l.auth_plugin_name = text, l.has_auth_plugin = 1, l.attributes = attributes, l.n_attributes = 2, l.has_attributes = 1;
+    myp_change_user c = MYP_CHANGE_USER_INIT;
+    c.user = text, c.has_auth_plugin = 1, c.auth_plugin_name = text, c.attributes = attributes, c.n_attributes = 2;
+    myp_sid sid = MYP_SID_INIT;
+    sid.intervals = intervals, sid.n_intervals = 2, sid.tag[0] = 'a', sid.tag_length = 1;
+    myp_ssl_request r = MYP_SSL_REQUEST_INIT;
+    myp_replica replica = MYP_REPLICA_INIT;
+    SOME(myp_write_execute(1, v, 4, out, sizeof out, &n, &as_long_data));
+    SOME(myp_write_bulk(1, 0, 1 << 20, types, 2, v, 4, out, sizeof out, &n, &rows));
+    SOME(myp_write_login(&l, out, sizeof out, &n));
+    SOME(myp_write_change_user(&c, out, sizeof out, &n));
+    SOME(myp_write_ssl_request(&r, out, sizeof out, &n));
+    SOME(myp_write_public_key_request(out, sizeof out, &n));
+    SOME(myp_write_register_replica(&replica, out, sizeof out, &n));
+    SOME(myp_write_dump(1, 0, text.data, text.len, 4, out, sizeof out, &n));
+    SOME(myp_write_table_dump(text.data, text.len, text.data, text.len, out, sizeof out, &n));
+    SOME(myp_write_semi_sync_ack(4, text.data, text.len, out, sizeof out, &n));
+    SOME(myp_write_gtid_dump(1, 0, text.data, text.len, 4, &sid, 1, out, sizeof out, &n));
+    myp_interval places[4] = { MYP_INTERVAL_INIT, MYP_INTERVAL_INIT, MYP_INTERVAL_INIT, MYP_INTERVAL_INIT };
+    SOME(myp_sid_from_text((const uint8_t *)"3e11fa47-71ca-11e1-9e33-c80aa9429562:1-5:7", 42, &sid, places, 4, &n));
+    /* (a refused execution that is read leaves the struct: `used` in the place of what is written) */
+    static const myp_param params[] = { { MYP_TYPE_LONGLONG, 0, 0 }, { MYP_TYPE_LONGLONG, 0, 0 } };
+    myp_column_type found[2] = { { 0, 0 }, { 0, 0 } };
+    myp_execution e = MYP_EXECUTION_INIT;
+    SOME((e.used = 0, code = myp_read_execution(execution, sizeof execution, params, 2, v, 4, found, 2, &e), n = e.used, code));
+}
+
+int main(void)
+{
+    replies();
+    results();
+    connection();
+    commands();
+    requests();
+    printf("%d passed, %d failed\n", passed, failed);
+    return failed != 0;
+}

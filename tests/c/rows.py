@@ -1,0 +1,224 @@
+#!/usr/bin/env python3
+"""The rows of tests/vectors/ and malformed input, read by the library for C and by the reference decoder.
+
+rows.py --seeds: prints the bytes of each row that is read, in hexadecimal digits, for hostile.c
+rows.py LIBRARY [COUNT]: each row of bytes that a call of mysql_packets.h reads, and COUNT inputs that are cut, changed and spliced
+(100,000). The fields of the struct, the count of bytes that are used, and the code of a refusal must be those of the reference
+decoder; after a refusal the struct is as it was. The last line is 'N passed, N failed'."""
+import ctypes
+import random
+import sys
+from pathlib import Path
+
+TOP = Path(__file__).resolve().parent.parent.parent
+sys.path[:0] = [str(TOP / "tests/probe"), str(TOP / "examples/python")]
+import malformed
+from describe import lossy, x
+from describe_connections import plugin
+from described import describer
+from describe_replies import bound_of
+from describe_values import columns_of
+from lines import summary, vectors
+from mysql_packets import Library
+
+CODES = {"": "MYP_OK", "UnexpectedEof": "MYP_UNEXPECTED_EOF", "InvalidData": "MYP_INVALID_DATA"}
+# the struct of each word that is read into one, its call, and its fields: the name that the reference decoder has for each, or none
+# where it is the same, and `?` after it where what is absent is 0 or empty
+STRUCTS = {
+    "handshake": ("myp_handshake", "myp_read_handshake", "protocol_version server_version connection_id scramble_1 scramble_2? capabilities default_collation "
+                  "status_flags mariadb_capabilities=mariadb auth_plugin_name?"),
+    "auth_switch": ("myp_auth_switch", "myp_read_auth_switch", "plugin_data=raw"),
+    "stmt": ("myp_statement", "myp_read_statement", "statement_id num_columns num_params warning_count"),
+    "column": ("myp_column", "myp_read_column", "schema table org_table name org_name character_set column_length column_type flags decimals"),
+    **{word: ("myp_ok", "myp_read_ok", "affected_rows last_insert_id? status_flags warnings info? session_state=session_state_info?")
+       for word in ("ok", "ok_end", "ok_eof", "ok_stream")},
+    "err": ("myp_error", "myp_read_error", ""),
+    "tls": ("myp_ssl_request", "myp_read_ssl_request", "capabilities max_packet_size character_set"),
+    "response": ("myp_login_request", "myp_read_login_request", "capabilities collation mariadb_capabilities=mariadb user auth_response=scramble_buf"),
+    "com_long_data": ("myp_long_data", "myp_read_long_data", "statement_id=stmt_id param_index content=data_ref"),
+}
+KINDS = {"ok": 0, "ok_end": 1, "ok_eof": 2, "ok_stream": 3}
+# a word that is read as one number or one byte string
+SINGLE = {"local_infile": ("myp_read_local_infile", "file_name"), "auth_more_data": ("myp_read_auth_more_data", "data"),
+          "com_close": ("myp_read_close", "stmt_id")}
+
+
+def field_word(packets, out, field):
+    """A field of a struct as the reference decoder has it."""
+    name, _, other = field.rstrip("?").partition("=")
+    value = getattr(out, name)
+    if isinstance(value, packets.types["myp_bytes"]):
+        content = packets.text(value)
+        return f"{other or name}={'none' if field.endswith('?') and not content else x(content)}"
+    return f"{other or name}={'none' if field.endswith('?') and not value else value}"
+
+
+def error_words(packets, out):
+    message, state = packets.text(out.message), packets.text(out.sql_state)
+    if out.is_progress:
+        return [f"stage={out.stage}", f"max_stage={out.max_stage}", f"progress={out.progress}", f"stage_info={x(message)}"]
+    return [f"error={out.code}", f"sql_state={x(state) if state else 'none'}", f"message={x(message)}"]
+
+
+def login_words(packets, out):
+    """What may be absent of a login, and its attributes: of a key that comes again the last value counts."""
+    name, value, texts = packets.bytes(b""), packets.bytes(b""), {}
+    rest = out.attributes
+    while packets.next("myp_next_attribute", rest, name, value):
+        texts[lossy(packets.text(name))] = lossy(packets.text(value))
+    words = [f"db_name={x(packets.text(out.database)) if out.has_database else 'none'}",
+             plugin(packets.text(out.auth_plugin_name)) if out.has_auth_plugin_name else "plugin=none"]
+    if not out.has_attributes:
+        return words + ["attributes=none"]
+    return words + [f"attributes={len(texts)}"] + [word for k, v in texts.items() for word in (f"key={k}", f"value={v}")]
+
+
+def value_word(packets, value):
+    """A value as a word of an answer."""
+    kinds = [getattr(packets, f"MYP_{it}") for it in "NULL BYTES INT UINT FLOAT DOUBLE DATE TIME".split()]
+    match kinds.index(value.kind):
+        case 0: return "N"
+        case 1: return x(packets.text(value.bytes))
+        case 2: return f"i{ctypes.c_int64(value.number).value}"
+        case 6: return f"D{value.days}-{value.month}-{value.day}-{value.hour}-{value.minute}-{value.second}-{value.micros}"
+        case 7: return f"T{value.is_negative}-{value.days}-{value.hour}-{value.minute}-{value.second}-{value.micros}"
+        case it: return f"{'ufd'[it - 3]}{value.number}"
+
+
+def places(packets, out):
+    """Each byte string of a struct."""
+    if isinstance(out, packets.types["myp_bytes"]):
+        return [out]
+    return [getattr(out, name) for name, kind in getattr(out, "_fields_", []) if kind is packets.types["myp_bytes"]]
+
+
+class Calls:
+    """What a call answers of a packet: its code, the words of what it gives, how many bytes it uses, and what is wrong with it."""
+
+    def __init__(self, packets):
+        self.packets = packets
+
+    def answer(self, request, content):
+        word, *context = request.split(" ")
+        payload = self.packets.bytes(content)
+        if word in ("row", "row_text"):
+            return self.row(word, context, payload)
+        if word == "com_execute":
+            return self.execution(context, payload)
+        if word in SINGLE:
+            return self.single(word, payload)
+        return self.struct(word, context, payload)
+
+    def struct(self, word, context, payload):
+        p = self.packets
+        name, call, fields = STRUCTS[word]
+        out = p.new(name)
+        before = bytes(out)
+        given = [KINDS[word]] if word in KINDS else []
+        given += [int(context[0]) & 0xFFFFFFFF] if word in KINDS or word == "err" else []
+        code = getattr(p.dll, call)(payload.data, payload.len, *given, ctypes.byref(out))
+        if code:
+            return code, [], None, "" if bytes(out) == before else "the struct is changed"
+        words = error_words(p, out) if word == "err" else [field_word(p, out, it) for it in fields.split()]
+        words += login_words(p, out) if word == "response" else []
+        return code, words, getattr(out, "used", None), self.outside(payload, places(p, out))
+
+    def single(self, word, payload):
+        p, (call, name) = self.packets, SINGLE[word]
+        out = ctypes.c_uint32(7) if word == "com_close" else p.bytes(b"")
+        before = bytes(out)
+        code = getattr(p.dll, call)(payload.data, payload.len, ctypes.byref(out))
+        if code:
+            return code, [], None, "" if bytes(out) == before else "the place is changed"
+        if word == "com_close":
+            return code, [f"{name}={out.value}"], None, ""
+        return code, [f"{name}={x(p.text(out))}"], None, self.outside(payload, [out])
+
+    def row(self, word, context, payload):
+        p, columns, used = self.packets, columns_of(context[0]), ctypes.c_size_t(7)
+        values = p.array("myp_value", [p.new("myp_value") for _ in columns])
+        if word == "row":
+            types = p.array("myp_column_type", [p.types["myp_column_type"](kind, int(bool(flags))) for kind, flags in columns])
+            code = p.dll.myp_read_binary_row(payload.data, payload.len, types, len(columns), values, len(columns), ctypes.byref(used))
+        else:
+            code = p.dll.myp_read_text_row(payload.data, payload.len, values, len(columns), ctypes.byref(used))
+        if code:
+            return code, [], None, "" if used.value == 7 else "the count of bytes is changed"
+        found = list(values)[:len(columns)]
+        return code, [value_word(p, it) for it in found], used.value, self.outside(payload, [it.bytes for it in found])
+
+    def execution(self, context, payload):
+        p, bound = self.packets, bound_of(context[0])
+        count, out = len(bound), p.new("myp_execution")
+        known = p.array("myp_param", [p.types["myp_param"](kind, int(bool(flags)), int(ahead)) for kind, flags, ahead in bound])
+        values = p.array("myp_value", [p.new("myp_value") for _ in bound])
+        types = p.array("myp_column_type", [p.new("myp_column_type") for _ in bound])
+        before = bytes(out)
+        code = p.dll.myp_read_execution(payload.data, payload.len, known, count, values, count, types, count, ctypes.byref(out))
+        if code:
+            return code, [], None, "" if bytes(out) == before else "the struct is changed"
+        words = [f"stmt_id={out.statement_id}", f"flags={out.flags}", f"types={'yes' if out.sends_types else 'no'}"]
+        for (_, _, ahead), value, of in zip(bound, values, types):
+            words.append(f"{of.column_type}-{128 * of.is_unsigned}={'ahead' if ahead else value_word(p, value)}")
+        return code, words, out.used, self.outside(payload, [it.bytes for it in list(values)[:count]])
+
+    def outside(self, payload, spans):
+        """What is wrong where a byte string lies outside of the packet."""
+        first = ctypes.addressof(payload.data.contents)
+        for span in spans:
+            at = ctypes.addressof(span.data.contents)
+            if span.len and not first <= at <= at + span.len <= first + payload.len:
+                return "a byte string lies outside of the packet"
+        return ""
+
+
+def wrong(packets, calls, describer_, request, content):
+    """What is wrong with an answer, or nothing."""
+    right = malformed.Reading(describer_, content)
+    code, words, used, why = calls.answer(request, content)
+    if code != getattr(packets, CODES[right.refused]):
+        return f"code {code}, the reference decoder: {right.refused or right.words}"
+    if why or code:
+        return why
+    if request.startswith("row"):
+        is_same = words == right.words
+    else:
+        is_same = set(words) <= set(right.words) | {"affected_rows=0"}
+    if not is_same:
+        return f"{words}, the reference decoder: {right.words}"
+    return "" if used is None or used == len(content) - right.left else f"{used} bytes are used"
+
+
+READ = {*STRUCTS, *SINGLE, "row", "row_text", "com_execute"}
+
+
+def rows_read():
+    """How the request of each row begins, and its bytes."""
+    for probe in ("statements", "connections"):
+        for it in vectors(probe):
+            head, _, digits = it.request.rpartition(" ")
+            if head.split(" ")[0] in READ and describer(it.request):
+                yield head, bytes.fromhex(digits)
+
+
+def main(library, count="100000"):
+    if library == "--seeds":
+        print("\n".join(sorted({content.hex() for _, content in rows_read() if len(content) < 1000})))
+        return 0
+    packets = Library(library=library, header=TOP / "include/mysql_packets.h")
+    calls, rows, inputs = Calls(packets), list(rows_read()), []
+    for probe in ("statements", "connections"):
+        inputs += [it for it in malformed.inputs(probe, int(count), 0) if it[0].split(" ")[0] in READ]
+    inputs = random.Random(3).sample(inputs, min(len(inputs), int(count)))
+    failures, describers = [], {}
+    for head, content in rows + inputs:
+        it = describers.setdefault(head, describer(f"{head} 00"))
+        why = wrong(packets, calls, it, head, content)
+        if why:
+            failures.append(f"{head} {content.hex()}\n  {why}")
+    print(f"rows in C: {len(rows)} rows, {len(inputs)} malformed inputs")
+    return summary("rows in C", len(rows) + len(inputs) - len(failures), failures, 10)
+
+
+if __name__ == "__main__":
+    sys.exit(main(*sys.argv[1:]))

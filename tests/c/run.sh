@@ -1,0 +1,74 @@
+#!/usr/bin/env bash
+# Installs the library for C as a user does, and passes its tests:
+#
+# header.py    the header and the library have the same structs, offsets, numbers and calls
+# abi.c        packets of the protocol's pages through each call
+# memory.c     each allocation of each call fails in turn
+# hostile.c    the rows of tests/vectors/, cut and changed, right before a page that may not be touched
+# rows.py      the same rows and malformed input, compared with the reference decoder
+# live.py      the examples against a MariaDB server, where one is installed
+#
+# The address and undefined behaviour sanitizers watch the programs in C, where the compiler has them. The last line is 'N passed, N
+# failed'. It needs rt, a C toolchain with cc, ld, ar, objcopy and nm, and python3. run.sh [COUNT]: COUNT malformed packets (100,000).
+set -uo pipefail
+top=$(cd -- "$(dirname -- "${BASH_SOURCE[0]}")/../.." && pwd) || exit 1
+work=$(mktemp -d) || exit 1
+trap 'rm -rf -- "$work"' EXIT
+prefix=$top/crates/mysql_packets_c/out/installed
+count=${1:-100000}
+passed=0 failed=0
+
+# expect WHAT COMMAND ..: the command succeeds
+expect() {
+    if "${@:2}"; then passed=$((passed + 1)); else failed=$((failed + 1)); printf '  FAILED: %s\n' "$1"; fi
+}
+
+# counted COMMAND ..: the command's last line has its counts
+counted() {
+    "$@" >"$work/said" 2>&1
+    sed '$d' "$work/said"
+    if [[ $(tail -n 1 "$work/said") =~ ^([0-9]+)\ passed,\ ([0-9]+)\ failed$ ]]; then
+        passed=$((passed + BASH_REMATCH[1])) failed=$((failed + BASH_REMATCH[2]))
+    else
+        tail -n 3 "$work/said"
+        failed=$((failed + 1))
+        printf '  FAILED: %s\n' "$*"
+    fi
+}
+
+if ! "$top/mypackets-c" "$prefix"; then
+    printf '0 passed, 1 failed\n'
+    exit 1
+fi
+sanitize=(-fsanitize=address,undefined -fno-sanitize-recover=all)
+printf 'int main(void) { return 0; }\n' >"$work/none.c"
+if ! { cc "${sanitize[@]}" -o "$work/none" "$work/none.c" && "$work/none"; } >"$work/log" 2>&1; then
+    echo 'run.sh: the compiler has no sanitizers'
+    sanitize=()
+fi
+
+# built NAME [FLAGS ..]: a program of the files of this folder that begin so, over the archive
+built() {
+    cc -std=gnu11 -O1 -g -Wall -Wextra -Werror "${@:2}" -I "$prefix/include" -o "$work/$1" "$top/tests/c/$1"*.c "$prefix/lib/libmysql_packets.a"
+}
+
+counted "$top/tests/c/header.py"
+expect 'abi.c is built' built abi "${sanitize[@]}"
+counted "$work/abi"
+expect 'memory.c is built' built memory "${sanitize[@]}" -Wl,--wrap=malloc,--wrap=realloc,--wrap=calloc,--wrap=free
+counted "$work/memory"
+expect 'hostile.c is built' built hostile "${sanitize[@]}"
+"$top/tests/c/rows.py" --seeds >"$work/seeds"
+expect 'hostile.c' "$work/hostile" "$count" 1 <"$work/seeds"
+counted "$top/tests/c/rows.py" "$prefix/lib/libmysql_packets.so" "$count"
+counted "$top/tests/c/live.py" "$prefix"
+
+# the symbols that are visible: the calls of the header
+sed -n 's/^uint32_t \(myp_[a-z0-9_]*\)(.*/\1/p' "$prefix/include/mysql_packets.h" | sort -u >"$work/header"
+nm -g --defined-only "$prefix/lib/libmysql_packets.a" 2>"$work/log" | sed -n 's/^[0-9a-f]* [A-Z] //p' | sort -u >"$work/archive"
+nm -D --defined-only "$prefix/lib/libmysql_packets.so" | sed -n 's/^[0-9a-f]* T //p' | sed 's/@.*//' | sort -u >"$work/shared"
+expect 'the archive has other symbols than the header' diff -- "$work/header" "$work/archive"
+expect 'the shared library has other symbols than the header' diff -- "$work/header" "$work/shared"
+expect 'the shared library has no soname' grep -q 'soname: \[libmysql_packets.so.0\]' <(readelf -d "$prefix/lib/libmysql_packets.so")
+printf '%d passed, %d failed\n' "$passed" "$failed"
+((failed == 0))
