@@ -21,6 +21,7 @@ call bench_statements_read, bench_statements_written, bench_columns_read, bench_
     bench_rows_viewed, bench_rows_placed, bench_text_rows_viewed, bench_text_rows_placed,
     bench_executions_written, bench_bulk_rows_made, bench_bulk_rows_written, bench_bulk_rows_offered,
     bench_bulk_rows_offered_refs, bench_bulk_rows_streamed,
+    bench_ok_packets_sent, bench_rows_sent, bench_text_rows_sent, bench_executions_received,
     bench_handshakes_read, bench_handshakes_written, bench_responses_written, bench_registrations_written, bench_gtid_dumps_read,
     bench_gtid_dumps_written;
 
@@ -206,6 +207,27 @@ static void put_text_row(struct batch *batch)
     put_framed(batch, fill_text_row);
 }
 
+/* an execution of five numbers and five strings, with their types */
+static void fill_execution(struct batch *batch)
+{
+    put_number(batch, 0x17, 1);
+    put_number(batch, varied(), 4);
+    put_number(batch, 0, 1);
+    put_number(batch, 1, 4);
+    put_number(batch, 0, 2);
+    put_number(batch, 1, 1);
+    for (int i = 0; i < 10; i++)
+        put_number(batch, i < 5 ? 8 : 0xfd, 2);
+    put_numbers(batch);
+    for (int i = 0; i < 5; i++)
+        put_string(batch, 20);
+}
+
+static void put_execution(struct batch *batch)
+{
+    put_framed(batch, fill_execution);
+}
+
 /* a number of 8 bytes, and 20 bytes of text */
 static void put_bulk_row(struct batch *batch)
 {
@@ -382,6 +404,10 @@ static const struct operation {
     { "rows_placed", 10000, "binary row of 10 columns, read into borrowed values", put_row, bench_rows_placed },
     { "text_rows_viewed", 10000, "text row of 10 columns, viewed value by value", put_text_row, bench_text_rows_viewed },
     { "text_rows_placed", 10000, "text row of 10 columns, read into borrowed values", put_text_row, bench_text_rows_placed },
+    { "ok_packets_sent", 10000, "OK packet with session changes, read and sent", put_ok_packet, bench_ok_packets_sent },
+    { "rows_sent", 10000, "binary row of 10 columns, read and sent", put_row, bench_rows_sent },
+    { "text_rows_sent", 10000, "text row of 10 columns, read and sent", put_text_row, bench_text_rows_sent },
+    { "executions_received", 10000, "execution of 10 values, read by a server", put_execution, bench_executions_received },
     { "executions_written", 10000, "execution of 10 values, built and written", put_numbers, bench_executions_written },
     { "executions_borrowed", 10000, "execution of 10 borrowed values, built and written", put_numbers, bench_executions_borrowed },
     { "bulk_rows_made", 1000000, "bulk row, made and dropped", put_bulk_row, bench_bulk_rows_made },

@@ -232,7 +232,7 @@ __attribute__((noinline)) uint64_t measured(uint64_t (*run)(const uint8_t *, siz
 /* a number, 20 bytes and NULL in each row, in one request */
 __attribute__((noinline)) uint64_t measured_bulk(const myp_value *values, size_t rows, uint8_t *out, size_t size)
 {
-    static const myp_column_type of[3] = { { MYP_TYPE_LONGLONG, 0 }, { MYP_TYPE_VAR_STRING, 0 }, { MYP_TYPE_LONG, 0 } };
+    static const myp_column_type of[3] = { { MYP_TYPE_LONGLONG, 0 }, { MYP_TYPE_VAR_STRING, 0 }, { MYP_TYPE_LONGLONG, 0 } };
     size_t written = 0, taken = 0;
     return myp_write_bulk(1, 0, 1 << 24, of, 3, values, 3 * rows, out, size, &written, &taken) || taken != rows ? 0 : written;
 }

@@ -38,14 +38,12 @@ static myp_bytes bytes_of(const char *text)
 }
 
 /* ---- packets over the socket: a header of four bytes, and a payload (here no longer than one packet) */
-
 static myp_bytes receive(void)
 {
     uint8_t head[HEADER];
     myp_header header = MYP_HEADER_INIT;
-    if (fread(head, 1, HEADER, from_server) != HEADER)
+    if (fread(head, 1, HEADER, from_server) != HEADER || myp_read_header(head, HEADER, &header) != MYP_OK)
         stop("the connection is closed");
-    check(myp_read_header(head, HEADER, &header), "header");
     if (header.payload_length > SIZE || fread(in, 1, header.payload_length, from_server) != header.payload_length)
         stop("a packet is cut, or larger than this driver's buffer");
     sequence_id = (uint8_t)(header.sequence_id + 1);
@@ -73,7 +71,6 @@ static void send_command(uint8_t command, const char *text)
 }
 
 /* ---- answers */
-
 static void show_error(myp_bytes packet)
 {
     myp_error error = MYP_ERROR_INIT;
@@ -104,7 +101,6 @@ static myp_ok receive_ok(void)
 }
 
 /* ---- login by mysql_native_password */
-
 static void log_in(const char *user, const char *password, const char *schema)
 {
     uint8_t nonce[20], answer[20];
@@ -128,15 +124,13 @@ static void log_in(const char *user, const char *password, const char *schema)
     login.auth_response = (myp_bytes){ answer, answer_length };
     login.database = bytes_of(schema), login.has_database = 1;
     login.auth_plugin_name = bytes_of("mysql_native_password"), login.has_auth_plugin = 1;
-    login.capabilities = capabilities, login.mariadb_capabilities = mariadb_capabilities;
-    login.max_packet_size = 1 << 24, login.collation = 45;
+    login.capabilities = capabilities, login.mariadb_capabilities = mariadb_capabilities, login.max_packet_size = 1 << 24, login.collation = 45;
     check(myp_write_login(&login, out + HEADER, SIZE, &length), "login");
     send_payload(length);
     receive_ok();
 }
 
 /* ---- results */
-
 static void show(const myp_value *value)
 {
     switch (value->kind) {
@@ -171,8 +165,7 @@ static void show_result(int is_binary)
     static myp_value values[MOST_COLUMNS];
     myp_column_count count = MYP_COLUMN_COUNT_INIT;
     myp_bytes packet = receive();
-    if (reply_kind(packet) != MYP_REPLY_COLUMNS)
-        return;
+    reply_kind(packet);
     check(myp_read_column_count(packet.data, packet.len, 0, &count), "count of columns");
     if (count.count > MOST_COLUMNS)
         stop("too many columns");
@@ -196,7 +189,6 @@ static void show_result(int is_binary)
 }
 
 /* ---- prepared statements */
-
 static uint32_t prepare(const char *sql)
 {
     myp_statement statement = MYP_STATEMENT_INIT;

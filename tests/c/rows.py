@@ -7,6 +7,7 @@ rows.py LIBRARY [COUNT]: each row of bytes that a call of mysql_packets.h reads,
 decoder; after a refusal the struct is as it was. The last line is 'N passed, N failed'."""
 import ctypes
 import random
+import re
 import sys
 from pathlib import Path
 
@@ -180,12 +181,17 @@ def wrong(packets, calls, describer_, request, content):
         return f"code {code}, the reference decoder: {right.refused or right.words}"
     if why or code:
         return why
-    if request.startswith("row"):
-        is_same = words == right.words
+    wanted = right.words
+    if request.startswith("com_execute"):
+        # (of a type's flags C has the one of unsigned numbers)
+        wanted = [re.sub(r"^(\d+)-(\d+)=", lambda it: f"{it[1]}-{int(it[2]) & 128}=", word) for word in wanted]
+    if request.startswith(("row", "com_execute")):
+        is_same = words == wanted
     else:
-        is_same = set(words) <= set(right.words) | {"affected_rows=0"}
+        # (what is absent and what is empty is one in C)
+        is_same = set(words) <= {*wanted, *(f"{word[:-1]}none" for word in wanted if word.endswith("=x")), "affected_rows=0"}
     if not is_same:
-        return f"{words}, the reference decoder: {right.words}"
+        return f"{words}, the reference decoder: {wanted}"
     return "" if used is None or used == len(content) - right.left else f"{used} bytes are used"
 
 

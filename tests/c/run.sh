@@ -14,7 +14,7 @@ set -uo pipefail
 top=$(cd -- "$(dirname -- "${BASH_SOURCE[0]}")/../.." && pwd) || exit 1
 work=$(mktemp -d) || exit 1
 trap 'rm -rf -- "$work"' EXIT
-prefix=$top/crates/mysql_packets_c/out/installed
+prefix=$top/target/c
 count=${1:-100000}
 passed=0 failed=0
 
@@ -62,6 +62,14 @@ expect 'hostile.c is built' built hostile "${sanitize[@]}"
 expect 'hostile.c' "$work/hostile" "$count" 1 <"$work/seeds"
 counted "$top/tests/c/rows.py" "$prefix/lib/libmysql_packets.so" "$count"
 counted "$top/tests/c/live.py" "$prefix"
+
+# C++ takes the header too
+if command -v c++ >"$work/log"; then
+    printf '#include <mysql_packets.h>\nint main() { myp_login l = MYP_LOGIN_INIT; myp_sid s = MYP_SID_INIT; myp_value v = myp_text("a", 1);\n%s\n' \
+        'return (int)(l.n_attributes + s.n_intervals + v.bytes.len - 1 + myp_version() - MYP_VERSION); }' >"$work/plus.cc"
+    expect 'C++' c++ -Wall -Wextra -Werror -I "$prefix/include" -o "$work/plus" "$work/plus.cc" "$prefix/lib/libmysql_packets.a"
+    expect 'C++' "$work/plus"
+fi
 
 # the symbols that are visible: the calls of the header
 sed -n 's/^uint32_t \(myp_[a-z0-9_]*\)(.*/\1/p' "$prefix/include/mysql_packets.h" | sort -u >"$work/header"

@@ -45,7 +45,7 @@ static void fetched(MYSQL_STMT *stmt, const char *what)
 {
     static char buffers[COLUMNS][SIZE];
     static unsigned long lengths[COLUMNS];
-    static my_bool nulls[COLUMNS];
+    static my_bool nulls[COLUMNS], cut[COLUMNS];
     MYSQL_BIND binds[COLUMNS];
     MYSQL_RES *columns = mysql_stmt_result_metadata(stmt);
     unsigned n = mysql_num_fields(columns);
@@ -53,12 +53,22 @@ static void fetched(MYSQL_STMT *stmt, const char *what)
     for (unsigned i = 0; i < n; i++) {
         binds[i].buffer_type = mysql_fetch_field_direct(columns, i)->charsetnr == 63 && mysql_fetch_field_direct(columns, i)->type == MYSQL_TYPE_BLOB
             ? MYSQL_TYPE_BLOB : MYSQL_TYPE_STRING;
-        binds[i].buffer = buffers[i], binds[i].buffer_length = SIZE, binds[i].length = &lengths[i], binds[i].is_null = &nulls[i];
+        binds[i].buffer = buffers[i], binds[i].buffer_length = SIZE, binds[i].length = &lengths[i], binds[i].is_null = &nulls[i], binds[i].error = &cut[i];
     }
     mysql_stmt_bind_result(stmt, binds);
-    while (!mysql_stmt_fetch(stmt))
+    for (int code; (code = mysql_stmt_fetch(stmt)) != MYSQL_NO_DATA;) {
+        if (code) {
+            printf("%s fetch %d %s", what, code, mysql_stmt_error(stmt));
+            for (unsigned i = 0; i < n; i++)
+                if (cut[i])
+                    printf(" %s is cut", mysql_fetch_field_direct(columns, i)->name);
+            puts("");
+            if (code != MYSQL_DATA_TRUNCATED)
+                break;
+        }
         for (unsigned i = 0; i < n; i++)
             show(what, mysql_fetch_field_direct(columns, i)->name, buffers[i], lengths[i], nulls[i]);
+    }
     mysql_free_result(columns);
 }
 

@@ -19,7 +19,8 @@ def main(port, user, password, schema):
         except pymysql.err.ProgrammingError as error:
             print("text error", *error.args)
         count = cursor.execute("UPDATE cells")
-        print("done", count, cursor.lastrowid, db._result.warning_count, db._result.message.decode())
+        # (PyMySQL takes the length of the info for its first character)
+        print("done", count, cursor.lastrowid, db._result.warning_count, db._result.message.decode()[1:])
     db.close()
 
 

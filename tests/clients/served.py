@@ -15,7 +15,8 @@ class Cell:
 
 
 def number(name, type_, n, unsigned=False):
-    kind = "MYP_UINT" if unsigned else "MYP_INT"
+    # (a narrower number fits the signed one)
+    kind = "MYP_UINT" if unsigned and type_ == "MYP_TYPE_LONGLONG" else "MYP_INT"
     return Cell(name, type_, str(n).encode(), {"kind": kind, "number": n & (2**64 - 1)}, ("MYP_UNSIGNED_FLAG",) if unsigned else ())
 
 

@@ -79,8 +79,11 @@ class Session(socketserver.BaseRequestHandler):
 
     def column(self, name, of, flags, character_set, decimals=0):
         p, name = self.packets, name.encode()
+        # (libmariadb refuses numbers and times that would be shown too long, and shows a float with as many decimals; 31 are any)
+        is_text = of.column_type in (p.MYP_TYPE_BLOB, p.MYP_TYPE_VAR_STRING, p.MYP_TYPE_STRING)
+        decimals = 31 if of.column_type in (p.MYP_TYPE_FLOAT, p.MYP_TYPE_DOUBLE) else decimals
         return p.write("myp_write_column", p.new(
-            "myp_column", schema=SCHEMA, table=b"cells", org_table=b"cells", name=name, org_name=name, column_length=1 << 16,
+            "myp_column", schema=SCHEMA, table=b"cells", org_table=b"cells", name=name, org_name=name, column_length=1 << 17 if is_text else 80,
             character_set=character_set, flags=flags, column_type=of.column_type, decimals=decimals))
 
     def columns(self, definitions):
@@ -174,11 +177,12 @@ class Session(socketserver.BaseRequestHandler):
         p, params = self.packets, sql.count(b"?")
         if sql.startswith(b"SELECT nothing_here"):
             return self.error(**ERROR)
-        columns = [self.column_of(it) for it in (CELLS if sql == b"SELECT cells" else [NAME] * params)]
+        texts = [self.column(f"p{i}", self.type_of(NAME), 0, 45) for i in range(params)]
+        columns = [self.column_of(it) for it in CELLS] if sql == b"SELECT cells" else texts
         number = len(self.statements) + 1
         self.statements[number] = sql, [self.type_of(NAME)] * params
         self.send(p.write("myp_write_statement", p.new("myp_statement", statement_id=number, num_columns=len(columns), num_params=params)))
-        self.columns([self.column_of(NAME)] * params)
+        self.columns(texts)
         self.columns(columns)
 
     def execute(self, payload):

@@ -14,4 +14,5 @@ mod packets;
 mod replication;
 mod row_views;
 mod rows;
+mod sent;
 mod statements;

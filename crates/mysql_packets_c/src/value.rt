@@ -82,6 +82,7 @@ pub(crate) fn put_ref<'a>(place: &mut CValue<'a>, value: ValueRef<'a>)
 }
 
 /// The value that C handed in. `None` where it is none: its kind is none, or its number doesn't fit its kind.
+#[inline(always)]
 pub(crate) fn to_ref<'a>(value: &CValue<'a>) -> Option<ValueRef<'a>>
     ensures value { IfSome result (λ v. ref_content v ≡ value_content value.now) }
     ensures is_there { is_some result ≡ is_value value.now }
@@ -126,6 +127,7 @@ pub(crate) fn is_value(value: &CValue<'_>) -> bool
 }
 
 /// Whether each of them is a value.
+#[inline(always)]
 pub(crate) fn are_values(values: &[CValue<'_>]) -> bool
     ensures { result ≡ list_all is_value values.now }
 {
