@@ -2,10 +2,14 @@
  *
  * No call keeps anything: there is nothing to make and nothing to free, and a call depends on its arguments alone, so any
  * thread may make it. A byte string that is read is handed out as its place in the packet, and is good as long as the packet
- * stands there. Numbers in structs are the machine's own; in packets they are little-endian.
+ * stands there. Numbers in structs are the machine's own; in packets they are little-endian. `packet, len` is a whole payload:
+ * without the header of four bytes, and joined where it was sent in more than one.
  *
- * What a caller owes: a pointer is not NULL, but beside a length of 0, where it is an empty string or list. What is handed out
- * through a pointer is set before the call (each struct has an initializer for that), and overlaps nothing else that is passed.
+ * What a caller owes: a pointer is not NULL, but beside a length of 0, where it is an empty string, list or buffer: so a buffer of
+ * NULL and 0 asks how many bytes a packet takes. What a call hands out through a pointer is initialized before, each element of an
+ * array too (each struct has an initializer for that; zeroed memory serves as well), and overlaps nothing else that is passed.
+ *
+ * C99 or later, and C++.
  *
  * Each call answers an enum myp_code. After another code than MYP_OK what `out` points to is as it was, unless the call's
  * line says more. A struct keeps its layout: further fields come with a struct and a call of another name.
@@ -85,8 +89,9 @@ enum myp_reply {
     MYP_REPLY_ROW = 5
 };
 
-/* What the first packet after a command is, by its first byte: 00 OK, ff an error, fe the end, fb a request for a local file,
- * else a count of columns. MYP_UNEXPECTED_EOF of no byte. */
+/* What the first packet after a command is, in `kind` of enum myp_reply, by its first byte: 00 OK, ff an error, fe the end, fb a request for a local file,
+ * else a count of columns. MYP_UNEXPECTED_EOF of no byte. Before a login is done it is by the first byte too, but another table:
+ * 00 OK, ff an error, 01 myp_read_auth_more_data, fe myp_read_auth_switch; and an error may come in place of the handshake. */
 uint32_t myp_reply_kind(const uint8_t *packet, size_t len, uint32_t *kind);
 
 /* What a packet among the rows of a result is: ff an error; fe the end, where the packet has fewer than 9 bytes, or fewer than
@@ -96,7 +101,7 @@ uint32_t myp_row_kind(const uint8_t *packet, size_t len, uint32_t capabilities, 
 /* Initializer: MYP_COLUMN_COUNT_INIT. */
 typedef struct myp_column_count {
     uint64_t count;
-    uint8_t metadata_follows; /* 1 where definitions of the columns follow, else 0 */
+    uint8_t metadata_follows; /* 1 where definitions of the columns follow; 0 where those that were sent before still stand */
     size_t used;              /* the bytes that were read: those after them are of no packet */
 } myp_column_count;
 #define MYP_COLUMN_COUNT_INIT { 0, 0, 0 }
@@ -152,8 +157,8 @@ uint32_t myp_read_parsec_salt(const uint8_t *packet, size_t len, uint32_t *itera
 enum myp_ok_kind {
     MYP_OK_COMMON = 0,     /* a statement is done: begins with 00 */
     MYP_OK_TERMINATOR = 1, /* under MYP_CLIENT_DEPRECATE_EOF, the end of a result: begins with fe; rows and id are answered as 0 */
-    MYP_OK_OLD_EOF = 2,    /* EOF_Packet: fe, and four bytes with the warnings and the status */
-    MYP_OK_STREAM_END = 3  /* the same, at the end of a replication stream */
+    MYP_OK_OLD_EOF = 2,    /* EOF_Packet: fe, the warnings and the status; after definitions and rows without MYP_CLIENT_DEPRECATE_EOF */
+    MYP_OK_STREAM_END = 3  /* as MYP_OK_OLD_EOF, at the end of a replication stream */
 };
 
 /* Initializer: MYP_OK_INIT. */
@@ -209,7 +214,8 @@ typedef struct myp_error {
 } myp_error;
 #define MYP_ERROR_INIT { MYP_BYTES_INIT, MYP_BYTES_INIT, 0, 0, 0, 0, 0, 0 }
 
-/* Reads ERR_Packet, with an SQL state under MYP_CLIENT_PROTOCOL_41; or under MYP_CLIENT_PROGRESS a progress report of MariaDB.
+/* Reads ERR_Packet, with an SQL state under MYP_CLIENT_PROTOCOL_41; or under MYP_CLIENT_PROGRESS a progress report of MariaDB:
+ * MYP_CLIENT_PROGRESS is passed where MYP_MARIADB_CLIENT_PROGRESS is agreed on too, which servers of today offer in its place.
  * MYP_UNEXPECTED_EOF; MYP_INVALID_DATA of another first byte, or of a state without its '#'. */
 uint32_t myp_read_error(const uint8_t *packet, size_t len, uint32_t capabilities, myp_error *out);
 
@@ -227,7 +233,9 @@ typedef struct myp_statement {
 } myp_statement;
 #define MYP_STATEMENT_INIT { 0, 0, 0, 0, 0 }
 
-/* Reads COM_STMT_PREPARE_OK, of 12 bytes. MYP_UNEXPECTED_EOF of fewer; MYP_INVALID_DATA of another first byte than 00. */
+/* Reads COM_STMT_PREPARE_OK, of 12 bytes. MYP_UNEXPECTED_EOF of fewer; MYP_INVALID_DATA of another first byte than 00 (ff is an
+ * error). num_params definitions follow and then num_columns, each list that has any with an EOF_Packet after it without
+ * MYP_CLIENT_DEPRECATE_EOF. */
 uint32_t myp_read_statement(const uint8_t *packet, size_t len, myp_statement *out);
 
 /* Initializer: MYP_COLUMN_INIT. */
@@ -247,14 +255,18 @@ typedef struct myp_column {
 #define MYP_COLUMN_INIT { MYP_BYTES_INIT, MYP_BYTES_INIT, MYP_BYTES_INIT, MYP_BYTES_INIT, MYP_BYTES_INIT, 0, 0, 0, 0, 0, 0 }
 
 /* Reads Protocol::ColumnDefinition41. MYP_UNEXPECTED_EOF; MYP_INVALID_DATA of another catalog than def, of a bad length, or of a
- * type that is none. */
+ * type that is none. Under MYP_MARIADB_CLIENT_EXTENDED_METADATA columns have another layout, which is MYP_INVALID_DATA. */
 uint32_t myp_read_column(const uint8_t *packet, size_t len, myp_column *out);
 
 /* ---- rows */
 
 enum myp_kind { MYP_NULL, MYP_BYTES, MYP_INT, MYP_UINT, MYP_FLOAT, MYP_DOUBLE, MYP_DATE, MYP_TIME };
 
-/* Initializer: MYP_VALUE_INIT, of each element of an array. Which fields a kind sets; the others are as they were:
+/* A column is read as MYP_INT, or MYP_UINT of an unsigned MYP_TYPE_LONGLONG, where its type is a whole number or a year; as MYP_FLOAT,
+ * MYP_DOUBLE, MYP_TIME where it is that; as MYP_DATE where it is DATE, DATETIME or TIMESTAMP; and else as MYP_BYTES, decimal numbers
+ * too. A text row has bytes and NULL alone.
+ *
+ * Initializer: MYP_VALUE_INIT, of each element of an array. Which fields a kind sets; the others are as they were:
  *
  *   every kind   number and bytes, which are 0 and empty where they are not named below
  *   MYP_BYTES    bytes
@@ -269,7 +281,7 @@ typedef struct myp_value {
     uint8_t is_negative, month, day, hour, minute, second;
     uint8_t reserved;
     uint32_t micros;
-    uint32_t days;
+    uint32_t days; /* of MYP_DATE the year */
     uint64_t number;
     myp_bytes bytes;
 } myp_value;
@@ -305,6 +317,31 @@ static inline myp_value myp_double(double number)
     return value;
 }
 
+static inline myp_value myp_datetime(uint16_t year, uint8_t month, uint8_t day, uint8_t hour, uint8_t minute, uint8_t second, uint32_t micros)
+{
+    myp_value value = MYP_VALUE_INIT;
+    value.kind = MYP_DATE, value.days = year, value.month = month, value.day = day;
+    value.hour = hour, value.minute = minute, value.second = second, value.micros = micros;
+    return value;
+}
+
+static inline myp_value myp_time(int is_negative, uint32_t days, uint8_t hour, uint8_t minute, uint8_t second, uint32_t micros)
+{
+    myp_value value = MYP_VALUE_INIT;
+    value.kind = MYP_TIME, value.is_negative = is_negative != 0, value.days = days;
+    value.hour = hour, value.minute = minute, value.second = second, value.micros = micros;
+    return value;
+}
+
+/* The number of MYP_FLOAT and MYP_DOUBLE. */
+static inline double myp_as_double(const myp_value *value)
+{
+    union { uint64_t bits; double number; } twice;
+    union { uint32_t bits; float number; } single;
+    twice.bits = value->number, single.bits = (uint32_t)value->number;
+    return value->kind == MYP_FLOAT ? (double)single.number : twice.number;
+}
+
 static inline myp_value myp_text(const void *data, size_t len)
 {
     myp_value value = MYP_VALUE_INIT;
@@ -338,7 +375,8 @@ uint32_t myp_write_close(uint32_t statement_id, uint8_t *out, size_t size, size_
 uint32_t myp_write_long_data(uint32_t statement_id, uint16_t param_index, const uint8_t *content, size_t len, uint8_t *out,
                              size_t size, size_t *written);
 
-/* Writes COM_STMT_EXECUTE with the values, their types, and no cursor; *as_long_data is 1 where byte strings are left out,
+/* Writes COM_STMT_EXECUTE with the values, the types of their kinds (LONGLONG, FLOAT, DOUBLE, VAR_STRING of MYP_BYTES, DATETIME, TIME,
+ * NULL), and no cursor; whether a date has its ranges is the server's to say. *as_long_data is 1 where byte strings are left out,
  * since the request with them is past 16,777,215 bytes: each is sent ahead by myp_write_long_data. MYP_INVALID_INPUT of a
  * value that is none, and *written is 0; MYP_BUFFER_TOO_SMALL, and *as_long_data is set; MYP_NO_MEMORY, and *written is 0. */
 uint32_t myp_write_execute(uint32_t statement_id, const myp_value *values, size_t n, uint8_t *out, size_t size, size_t *written,
@@ -397,11 +435,12 @@ typedef struct myp_attribute {
 /* Where attributes stand that are none. */
 static const myp_attribute myp_no_attribute = MYP_ATTRIBUTE_INIT;
 
-/* What is there is said by has_database, has_auth_plugin and has_attributes (any number but 0), which set their flags in the
- * capabilities: MYP_CLIENT_CONNECT_WITH_DB, MYP_CLIENT_PLUGIN_AUTH, MYP_CLIENT_CONNECT_ATTRS. Initializer: MYP_LOGIN_INIT. */
+/* What is there is said by has_database, has_auth_plugin and has_attributes (any number but 0), which set or clear their flags in
+ * what is written, whatever capabilities has: MYP_CLIENT_CONNECT_WITH_DB, MYP_CLIENT_PLUGIN_AUTH, MYP_CLIENT_CONNECT_ATTRS. The other
+ * flags are the caller's: MYP_CLIENT_PROTOCOL_41 and MYP_CLIENT_SECURE_CONNECTION at least, and none that the handshake hasn't. Initializer: MYP_LOGIN_INIT. */
 typedef struct myp_login {
     myp_bytes user;
-    myp_bytes auth_response; /* what the plugin answers to the nonce */
+    myp_bytes auth_response; /* what the plugin answers to the nonce: 255 bytes of it without MYP_CLIENT_PLUGIN_AUTH_LENENC_CLIENT_DATA */
     myp_bytes database;
     myp_bytes auth_plugin_name;
     const myp_attribute *attributes;
@@ -414,8 +453,7 @@ typedef struct myp_login {
     uint8_t has_auth_plugin;
     uint8_t has_attributes;
 } myp_login;
-#define MYP_NO_ATTRIBUTES ((const myp_attribute *)(const void *)"\0\0\0\0\0\0\0"), 0
-#define MYP_LOGIN_INIT { MYP_BYTES_INIT, MYP_BYTES_INIT, MYP_BYTES_INIT, MYP_BYTES_INIT, MYP_NO_ATTRIBUTES, 0, 0, 0, 0, 0, 0, 0 }
+#define MYP_LOGIN_INIT { MYP_BYTES_INIT, MYP_BYTES_INIT, MYP_BYTES_INIT, MYP_BYTES_INIT, &myp_no_attribute, 0, 0, 0, 0, 0, 0, 0, 0 }
 
 /* Writes Protocol::HandshakeResponse41; of a name what stands before its first zero. MYP_INVALID_INPUT of attributes that are
  * not UTF-8, and *written is 0; MYP_BUFFER_TOO_SMALL; MYP_NO_MEMORY, and *written is 0. */
@@ -443,7 +481,7 @@ uint32_t myp_write_change_user(const myp_change_user *change, uint8_t *out, size
 uint32_t myp_write_public_key_request(uint8_t *out, size_t size, size_t *written);
 
 /* Writes what mysql_native_password answers to a nonce, of 20 bytes, or of none for an empty password: no packet, but what one
- * carries. The nonce is the 20 bytes without the zero after them. MYP_BUFFER_TOO_SMALL. */
+ * carries. The nonce is 20 bytes: of an auth switch plugin_data without the zero at its end. MYP_BUFFER_TOO_SMALL. */
 uint32_t myp_scramble_native(const uint8_t *password, size_t len, const uint8_t *nonce, size_t nonce_len, uint8_t *out,
                              size_t size, size_t *written);
 
@@ -558,11 +596,11 @@ typedef struct myp_user_change {
 #define MYP_USER_CHANGE_INIT { MYP_BYTES_INIT, MYP_BYTES_INIT, MYP_BYTES_INIT, MYP_BYTES_INIT, MYP_BYTES_INIT, 0, 0, 0, 0, 0 }
 
 /* Reads COM_CHANGE_USER, by what both sides can do: the plugin under MYP_CLIENT_PLUGIN_AUTH, the attributes under
- * MYP_CLIENT_CONNECT_ATTRS. MYP_UNEXPECTED_EOF where a field is cut; MYP_INVALID_DATA of another first byte than 11, or of a
+ * MYP_CLIENT_CONNECT_ATTRS. MYP_UNEXPECTED_EOF where a field is cut; MYP_INVALID_DATA of another first byte than MYP_COM_CHANGE_USER, or of a
  * bad length. */
 uint32_t myp_read_change_user(const uint8_t *packet, size_t len, uint32_t capabilities, myp_user_change *out);
 
-/* Reads COM_STMT_CLOSE, of 5 bytes. MYP_UNEXPECTED_EOF of fewer; MYP_INVALID_DATA of another first byte than 19. */
+/* Reads COM_STMT_CLOSE, of 5 bytes. MYP_UNEXPECTED_EOF of fewer; MYP_INVALID_DATA of another first byte than MYP_COM_STMT_CLOSE. */
 uint32_t myp_read_close(const uint8_t *packet, size_t len, uint32_t *statement_id);
 
 /* Initializer: MYP_LONG_DATA_INIT. */
@@ -574,7 +612,7 @@ typedef struct myp_long_data {
 #define MYP_LONG_DATA_INIT { MYP_BYTES_INIT, 0, 0 }
 
 /* Reads COM_STMT_SEND_LONG_DATA: seven bytes, and some bytes of one parameter to the end. A server joins what it gets for a
- * parameter. MYP_UNEXPECTED_EOF of fewer than seven bytes; MYP_INVALID_DATA of another first byte than 18. */
+ * parameter. MYP_UNEXPECTED_EOF of fewer than seven bytes; MYP_INVALID_DATA of another first byte than MYP_COM_STMT_SEND_LONG_DATA. */
 uint32_t myp_read_long_data(const uint8_t *packet, size_t len, myp_long_data *out);
 
 /* Initializer: MYP_EXECUTION_HEAD_INIT. */
@@ -586,7 +624,7 @@ typedef struct myp_execution_head {
 #define MYP_EXECUTION_HEAD_INIT { 0, 0, 0 }
 
 /* Reads the first 10 bytes of COM_STMT_EXECUTE, which say which statement it is. MYP_UNEXPECTED_EOF of fewer;
- * MYP_INVALID_DATA of another first byte than 17, or of another count of executions than 1. */
+ * MYP_INVALID_DATA of another first byte than MYP_COM_STMT_EXECUTE, or of another count of executions than 1. */
 uint32_t myp_read_execution_head(const uint8_t *packet, size_t len, myp_execution_head *out);
 
 /* A parameter, as a server knows it before an execution. */
@@ -677,10 +715,10 @@ typedef struct myp_dump {
 #define MYP_DUMP_INIT { MYP_BYTES_INIT, 0, 0, 0 }
 
 /* Reads COM_BINLOG_DUMP: 11 bytes, and the file's name to the end. MYP_UNEXPECTED_EOF of fewer than 11 bytes;
- * MYP_INVALID_DATA of another first byte than 12. */
+ * MYP_INVALID_DATA of another first byte than MYP_COM_BINLOG_DUMP. */
 uint32_t myp_read_dump(const uint8_t *packet, size_t len, myp_dump *out);
 
-/* Reads COM_REGISTER_SLAVE. MYP_UNEXPECTED_EOF where a field is cut; MYP_INVALID_DATA of another first byte than 15. */
+/* Reads COM_REGISTER_SLAVE. MYP_UNEXPECTED_EOF where a field is cut; MYP_INVALID_DATA of another first byte than MYP_COM_REGISTER_SLAVE. */
 uint32_t myp_read_register_replica(const uint8_t *packet, size_t len, myp_replica *out);
 
 /* Initializer: MYP_GTID_DUMP_INIT. */
@@ -697,7 +735,7 @@ typedef struct myp_gtid_dump {
 #define MYP_GTID_DUMP_INIT { MYP_BYTES_INIT, MYP_BYTES_INIT, 0, 0, 0, 0, 0, 0 }
 
 /* Reads COM_BINLOG_DUMP_GTID, and looks at each sid. Bytes after the last sid of the block are not looked at.
- * MYP_UNEXPECTED_EOF where a field or a sid is cut; MYP_INVALID_DATA of another first byte than 1e, or of a bad tag. */
+ * MYP_UNEXPECTED_EOF where a field or a sid is cut; MYP_INVALID_DATA of another first byte than MYP_COM_BINLOG_DUMP_GTID, or of a bad tag. */
 uint32_t myp_read_gtid_dump(const uint8_t *packet, size_t len, myp_gtid_dump *out);
 
 /* A sid of a packet. Initializer: MYP_SID_PLACES_INIT. */
@@ -728,11 +766,15 @@ enum myp_type {
     MYP_TYPE_LONG_BLOB = 251, MYP_TYPE_BLOB = 252, MYP_TYPE_VAR_STRING = 253, MYP_TYPE_STRING = 254, MYP_TYPE_GEOMETRY = 255
 };
 
+/* Other bits may be set, of these and of the others. */
 enum myp_column_flag {
     MYP_NOT_NULL_FLAG = 1, MYP_PRI_KEY_FLAG = 2, MYP_UNIQUE_KEY_FLAG = 4, MYP_MULTIPLE_KEY_FLAG = 8, MYP_BLOB_FLAG = 16,
     MYP_UNSIGNED_FLAG = 32, MYP_ZEROFILL_FLAG = 64, MYP_BINARY_FLAG = 128, MYP_ENUM_FLAG = 256, MYP_AUTO_INCREMENT_FLAG = 512
 };
 
+/* A command without a call of its own is its byte and a text to the end (MYP_COM_QUERY, MYP_COM_STMT_PREPARE, MYP_COM_INIT_DB), the
+ * statement's number of four bytes (MYP_COM_STMT_RESET), or its byte alone (MYP_COM_QUIT, MYP_COM_PING). Sequence numbers begin at 0 with
+ * each. MYP_COM_STMT_CLOSE and MYP_COM_STMT_SEND_LONG_DATA are not answered. */
 enum myp_command {
     MYP_COM_QUIT = 1, MYP_COM_INIT_DB = 2, MYP_COM_QUERY = 3, MYP_COM_STATISTICS = 9, MYP_COM_PING = 14,
     MYP_COM_CHANGE_USER = 17, MYP_COM_BINLOG_DUMP = 18, MYP_COM_REGISTER_SLAVE = 21, MYP_COM_STMT_PREPARE = 22,
@@ -741,6 +783,8 @@ enum myp_command {
     MYP_COM_STMT_BULK_EXECUTE = 250
 };
 
+/* A client of MariaDB leaves MYP_CLIENT_LONG_PASSWORD out: with it the server takes it for one of MySQL, and mariadb_capabilities are
+ * ignored. */
 enum myp_capability {
     MYP_CLIENT_LONG_PASSWORD = 1, MYP_CLIENT_FOUND_ROWS = 2, MYP_CLIENT_LONG_FLAG = 4, MYP_CLIENT_CONNECT_WITH_DB = 8,
     MYP_CLIENT_COMPRESS = 0x20, MYP_CLIENT_LOCAL_FILES = 0x80, MYP_CLIENT_PROTOCOL_41 = 0x200, MYP_CLIENT_SSL = 0x800,
