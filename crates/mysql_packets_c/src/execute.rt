@@ -1,5 +1,5 @@
 //! The execution of a prepared statement.
-#![tactic(auto)]
+#![tactic(auto, unfolding(crate::specs::CValue::value_content))]
 
 ghost use Rattle.std.specs.Prelude.{◌≡◌, ◌≢◌, true, false};
 ghost use Rattle.std.specs.List.{list_all};
@@ -8,10 +8,24 @@ ghost use Rattle.mysql_packets_c.specs.Execute.{Executes};
 
 use crate::code::{INVALID_INPUT, NO_MEMORY};
 use crate::output::put_packet;
-use crate::value::{CValue, are_values};
-use crate::write_rows::refs_of;
-use mysql_stmt::ComStmtExecuteRequestBuilder;
+use crate::value::{CValue, are_values, to_ref};
+use mysql_stmt::{AsExecuteParam, ComStmtExecuteRequestBuilder, ExecuteParam};
+use mysql_values::ValueRef;
 use std::alloc::Global;
+
+impl AsExecuteParam for CValue<'_> {
+    ghost use Rattle.mysql_packets_c.specs.Execute.{param};
+
+    ghost param = { param };
+
+    #[inline(always)]
+    fn as_execute_param(&self) -> ExecuteParam<'_> {
+        match to_ref(self) {
+            Some(value) => ExecuteParam::Value(value),
+            None => ExecuteParam::Value(ValueRef::NULL),
+        }
+    }
+}
 
 /// Writes `COM_STMT_EXECUTE` with the values: 0; 5, and how many bytes it takes; 3 where one of them is no value; or 4. But for 0
 /// and 5 `as_long_data` is as it was.
@@ -32,11 +46,7 @@ pub extern "C" fn myp_write_execute(
     if !are_values(values) {
         return INVALID_INPUT;
     }
-    // (each value is taken apart once, and looked at several times)
-    let Ok(refs) = refs_of(alloc, values) else {
-        return NO_MEMORY;
-    };
-    match ComStmtExecuteRequestBuilder::new(statement_id).build_ref(alloc, refs.as_slice()) {
+    match ComStmtExecuteRequestBuilder::new(statement_id).build_ref(alloc, values) {
         Ok((request, leaves_out)) => {
             let code = put_packet(alloc, &request, out, written);
             if code != NO_MEMORY {

@@ -80,11 +80,8 @@ pub extern "C" fn myp_write_text_row(
     }
 }
 
-/// The values as the library has them.
-pub(crate) fn refs_of<'a>(
-    alloc: Global,
-    values: &[CValue<'a>],
-) -> Result<Vec<ValueRef<'a>>, AllocError>
+/// The values of a binary row.
+fn refs_of<'a>(alloc: Global, values: &[CValue<'a>]) -> Result<Vec<ValueRef<'a>>, AllocError>
     requires { IsTrue (list_all is_value values.now) }
     ensures value { IfOk result (λ refs. refs_held refs.items ≡ values_contents values.now) }
 {
