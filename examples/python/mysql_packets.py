@@ -135,9 +135,9 @@ class Library:
         out.packet = payload
         return out
 
-    def next(self, call, rest, *out):
+    def next(self, call, rest, *out, given=()):
         """Whether another one stood at the front of `rest`, which then begins after it."""
-        code = getattr(self.dll, call)(ctypes.byref(rest), *(ctypes.byref(it) for it in out))
+        code = getattr(self.dll, call)(ctypes.byref(rest), *given, *(ctypes.byref(it) for it in out))
         if code not in (self.MYP_OK, self.MYP_END):
             raise PacketError(call, code)
         return code == self.MYP_OK

@@ -36,6 +36,9 @@ STRUCTS = {
     "err": ("myp_error", "myp_read_error", ""),
     "tls": ("myp_ssl_request", "myp_read_ssl_request", "capabilities max_packet_size character_set"),
     "response": ("myp_login_request", "myp_read_login_request", "capabilities collation mariadb_capabilities=mariadb user auth_response=scramble_buf"),
+    "binlog_dump": ("myp_dump", "myp_read_dump", "position=pos flags server_id file_name=filename"),
+    "register_slave": ("myp_replica", "myp_read_register_replica", "server_id hostname user password port replication_rank master_id"),
+    "gtid": ("myp_gtid_dump", "myp_read_gtid_dump", "server_id flags file_name=filename position=pos n_sids=sids"),
     "com_long_data": ("myp_long_data", "myp_read_long_data", "statement_id=stmt_id param_index content=data_ref"),
 }
 KINDS = {"ok": 0, "ok_end": 1, "ok_eof": 2, "ok_stream": 3}
@@ -72,6 +75,17 @@ def login_words(packets, out):
     if not out.has_attributes:
         return words + ["attributes=none"]
     return words + [f"attributes={len(texts)}"] + [word for k, v in texts.items() for word in (f"key={k}", f"value={v}")]
+
+
+def sid_words(packets, out):
+    """The sids of a dump, gone through one by one, with their intervals."""
+    rest, sid, interval, words = out.sids, packets.new("myp_sid_places"), packets.new("myp_interval"), []
+    while packets.next("myp_next_sid", rest, sid, given=[out.is_tagged]):
+        words += [f"uuid={x(bytes(sid.uuid))}", f"tag={packets.text(sid.tag).decode() or 'none'}", f"intervals={sid.n_intervals}"]
+        left = sid.intervals
+        while packets.next("myp_next_interval", left, interval):
+            words += [f"start={interval.start}", f"end={interval.end}"]
+    return words
 
 
 def value_word(packets, value):
@@ -122,6 +136,7 @@ class Calls:
             return code, [], None, "" if bytes(out) == before else "the struct is changed"
         words = error_words(p, out) if word == "err" else [field_word(p, out, it) for it in fields.split()]
         words += login_words(p, out) if word == "response" else []
+        words += sid_words(p, out) if word == "gtid" else []
         return code, words, getattr(out, "used", None), self.outside(payload, places(p, out))
 
     def single(self, word, payload):
@@ -185,8 +200,13 @@ def wrong(packets, calls, describer_, request, content):
     if request.startswith("com_execute"):
         # (of a type's flags C has the one of unsigned numbers)
         wanted = [re.sub(r"^(\d+)-(\d+)=", lambda it: f"{it[1]}-{int(it[2]) & 128}=", word) for word in wanted]
-    if request.startswith(("row", "com_execute")):
+    if request.startswith("gtid"):
+        # (after the five fields of the dump, those of its sids in their order; the decoder has a text of the file's name more)
+        wanted = [it for it in wanted if not it.startswith("filename_str=")]
+    if request.startswith(("row ", "row_text", "com_execute")):
         is_same = words == wanted
+    elif request.startswith("gtid"):
+        is_same = set(words[:5]) == set(wanted[:5]) and words[5:] == wanted[5:]
     else:
         # (what is absent and what is empty is one in C)
         is_same = set(words) <= {*wanted, *(f"{word[:-1]}none" for word in wanted if word.endswith("=x")), "affected_rows=0"}
