@@ -33,7 +33,7 @@ enum myp_code {
     MYP_UNEXPECTED_EOF = 1,   /* bytes are missing */
     MYP_INVALID_DATA = 2,     /* the bytes spell no such packet */
     MYP_INVALID_INPUT = 3,    /* what was passed fits no packet */
-    MYP_NO_MEMORY = 4,        /* memory was refused, and none is kept: of calls that write alone */
+    MYP_NO_MEMORY = 4,        /* memory was refused, and none is kept */
     MYP_BUFFER_TOO_SMALL = 5, /* *written is how many bytes it takes, and nothing is written */
     MYP_ROW_TOO_LARGE = 6,    /* a row is too large for a request of its own */
     MYP_END = 7               /* nothing is left */
@@ -596,8 +596,8 @@ typedef struct myp_user_change {
 #define MYP_USER_CHANGE_INIT { MYP_BYTES_INIT, MYP_BYTES_INIT, MYP_BYTES_INIT, MYP_BYTES_INIT, MYP_BYTES_INIT, 0, 0, 0, 0, 0 }
 
 /* Reads COM_CHANGE_USER, by what both sides can do: the plugin under MYP_CLIENT_PLUGIN_AUTH, the attributes under
- * MYP_CLIENT_CONNECT_ATTRS. MYP_UNEXPECTED_EOF where a field is cut; MYP_INVALID_DATA of another first byte than MYP_COM_CHANGE_USER, or of a
- * bad length. */
+ * MYP_CLIENT_CONNECT_ATTRS. MYP_UNEXPECTED_EOF where a field is cut; MYP_INVALID_DATA of another first byte than
+ * MYP_COM_CHANGE_USER, or of a bad length. */
 uint32_t myp_read_change_user(const uint8_t *packet, size_t len, uint32_t capabilities, myp_user_change *out);
 
 /* Reads COM_STMT_CLOSE, of 5 bytes. MYP_UNEXPECTED_EOF of fewer; MYP_INVALID_DATA of another first byte than MYP_COM_STMT_CLOSE. */
