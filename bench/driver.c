@@ -1,7 +1,7 @@
 /* Runs one operation over a batch of packets, for valgrind to count its instructions.
  *
- * driver NAME COUNT   prints the sum that the operation answers, which depends on all of its work; status 1 where it is
- *                     0, since nothing was read or written then
+ * driver NAME COUNT   prints the sum that the operation answers, which depends on all of its work, and the most memory that was
+ *                     held, in KiB; status 1 where the sum is 0, since nothing was read or written then
  * driver              prints the operations, one a line: NAME COUNT TEXT, with the COUNT to be used
  *
  * Only what runs below `measured` is to be counted; the packets, each other than the one before it,
@@ -12,6 +12,7 @@
 #include <stdio.h>
 #include <stdlib.h>
 #include <string.h>
+#include <sys/resource.h>
 
 typedef uint64_t call(const uint8_t *bytes, size_t len);
 
@@ -20,7 +21,7 @@ call bench_statements_read, bench_statements_written, bench_columns_read, bench_
     bench_ok_packets_read, bench_errors_read, bench_errors_written, bench_rows_read, bench_rows_counted,
     bench_rows_viewed, bench_rows_placed, bench_text_rows_viewed, bench_text_rows_placed,
     bench_executions_written, bench_bulk_rows_made, bench_bulk_rows_written, bench_bulk_rows_offered,
-    bench_bulk_rows_offered_refs, bench_bulk_rows_streamed,
+    bench_bulk_rows_offered_refs, bench_bulk_rows_streamed, bench_bulk_rows_iterated,
     bench_ok_packets_sent, bench_rows_sent, bench_text_rows_sent, bench_executions_received,
     bench_handshakes_read, bench_handshakes_written, bench_responses_written, bench_registrations_written, bench_gtid_dumps_read,
     bench_gtid_dumps_written;
@@ -409,9 +410,10 @@ static const struct operation {
     { "text_rows_sent", 10000, "text row of 10 columns, read and sent", put_text_row, bench_text_rows_sent },
     { "executions_received", 10000, "execution of 10 values, read by a server", put_execution, bench_executions_received },
     { "executions_written", 10000, "execution of 10 values, built and written", put_numbers, bench_executions_written },
-    { "executions_borrowed", 10000, "execution of 10 borrowed values, built and written", put_numbers, bench_executions_borrowed },
+    { "executions_borrowed", 10000, "execution of 10 borrowed values, written at once", put_numbers, bench_executions_borrowed },
     { "bulk_rows_made", 1000000, "bulk row, made and dropped", put_bulk_row, bench_bulk_rows_made },
     { "bulk_rows_written", 1000000, "bulk row, made, built into requests and written", put_bulk_row, bench_bulk_rows_written },
+    { "bulk_rows_iterated", 1000000, "bulk row, made, built into a request at a time and written", put_bulk_row, bench_bulk_rows_iterated },
     /* (so many that they go into one request: of several, glibc puts the blocks of one together while the next is made) */
     { "bulk_rows_offered", 250000, "bulk row, made, offered as a slice, built into requests and written", put_bulk_row, bench_bulk_rows_offered },
     { "bulk_rows_offered_refs", 250000, "bulk row, offered as borrowed values, built into requests and written", put_bulk_row, bench_bulk_rows_offered_refs },
@@ -435,6 +437,7 @@ __attribute__((noinline)) uint64_t measured(call *run, const struct batch *batch
 int main(int argc, char **argv)
 {
     uint64_t sum = 1;
+    struct rusage held;
     /* a fixed bound for the blocks that stand alone: else glibc moves it with the sizes of those that are freed, and so
      * does a work of its own at one count of packets, to put together all the small blocks, and not at another */
     mallopt(M_MMAP_THRESHOLD, 128 * 1024);
@@ -447,7 +450,8 @@ int main(int argc, char **argv)
             for (size_t n = strtoul(argv[2], NULL, 10); n; n--)
                 it->put(&batch);
             sum = measured(it->run, &batch);
-            printf("%" PRIu64 "\n", sum);
+            getrusage(RUSAGE_SELF, &held);
+            printf("%" PRIu64 " %ld\n", sum, held.ru_maxrss);
         }
     }
     return sum == 0;

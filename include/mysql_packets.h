@@ -268,14 +268,15 @@ enum myp_kind { MYP_NULL, MYP_BYTES, MYP_INT, MYP_UINT, MYP_FLOAT, MYP_DOUBLE, M
  *
  * Initializer: MYP_VALUE_INIT, of each element of an array. Which fields a kind sets; the others are as they were:
  *
- *   every kind   number and bytes, which are 0 and empty where they are not named below
+ *   every kind   bytes, which are empty where they are not named below
+ *   MYP_NULL     number, which is 0
  *   MYP_BYTES    bytes
  *   MYP_INT      number, in two's complement
  *   MYP_UINT     number
  *   MYP_FLOAT    number: the 32 bits
  *   MYP_DOUBLE   number: the 64 bits
- *   MYP_DATE     days (the year), month, day, hour, minute, second, micros; is_negative is 0
- *   MYP_TIME     is_negative, days, hour, minute, second, micros; month and day are 0 */
+ *   MYP_DATE     days (the year), month, day, hour, minute, second, micros; number and is_negative are 0
+ *   MYP_TIME     is_negative, days, hour, minute, second, micros; number, month and day are 0 */
 typedef struct myp_value {
     uint8_t kind; /* of enum myp_kind */
     uint8_t is_negative, month, day, hour, minute, second;

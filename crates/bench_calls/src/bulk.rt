@@ -55,6 +55,28 @@ pub extern "C" fn bench_bulk_rows_written(alloc: Global, batch: &[u8]) -> u64 {
     sum
 }
 
+/// Makes rows of 28 bytes each, builds their requests one at a time, writes each before the next is built, and answers how many
+/// bytes were written.
+#[unsafe(no_mangle)]
+pub extern "C" fn bench_bulk_rows_iterated(alloc: Global, batch: &[u8]) -> u64 {
+    let Ok(rows) = rows_of(alloc, batch) else {
+        return 0;
+    };
+    let mut out = Vec::new(alloc);
+    let mut sum = 0u64;
+    let mut builder = ComStmtBulkExecuteRequestBuilder::new(alloc, 1, MAX_ALLOWED_PACKET);
+    for request in builder.build_iter(rows.into_iter()) {
+        let Ok(request) = request else {
+            return 0;
+        };
+        out.clear();
+        if request.serialize(&mut out).is_ok() {
+            sum = sum.wrapping_add(out.len() as u64);
+        }
+    }
+    sum
+}
+
 /// Builds a request of the rows that wait, writes it, and answers how many bytes were written.
 fn written(builder: &mut ComStmtBulkExecuteRequestBuilder<'_>, out: &mut Vec<u8>) -> u64 {
     out.clear();

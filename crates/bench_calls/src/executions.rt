@@ -52,19 +52,14 @@ pub extern "C" fn bench_executions_written(alloc: Global, batch: &[u8]) -> u64 {
     sum
 }
 
-/// Writes the execution with these borrowed values to an empty buffer, and answers how many bytes it has.
-fn written_by_reference(
-    alloc: Global,
-    values: &[ValueRef<'_>],
-    out: &mut Vec<u8>,
-) -> Result<u64, AllocError> {
-    let (request, _) = ComStmtExecuteRequestBuilder::new(1).build_ref(alloc, values)?;
+/// Writes the execution with these borrowed values to an empty buffer at once, and answers how many bytes it has.
+fn written_by_reference(values: &[ValueRef<'_>], out: &mut Vec<u8>) -> Result<u64, AllocError> {
     out.clear();
-    request.serialize(out)?;
+    let _leaves_out = ComStmtExecuteRequestBuilder::new(1).write_ref(values, out)?;
     Ok(out.len() as u64)
 }
 
-/// The same of borrowed values.
+/// The same of borrowed values, each written at once.
 #[unsafe(no_mangle)]
 pub extern "C" fn bench_executions_borrowed(alloc: Global, batch: &[u8]) -> u64 {
     let text = [b'a'; 20];
@@ -77,7 +72,7 @@ pub extern "C" fn bench_executions_borrowed(alloc: Global, batch: &[u8]) -> u64 
                 *value = ValueRef::Int(i64::from_le_bytes(*number));
             }
         }
-        sum = sum.wrapping_add(written_by_reference(alloc, &values, &mut out).unwrap_or(0));
+        sum = sum.wrapping_add(written_by_reference(&values, &mut out).unwrap_or(0));
     }
     sum
 }

@@ -5,17 +5,26 @@ use Rattle.std.proofs.lemmas.List.{append-nil, length-drop, length-map, map-appe
 use Rattle.std.proofs.lemmas.List.Folds.{length-flat_map-take}
 use Rattle.std.proofs.lemmas.Option.{get_or_from_slice_get, slice_get_within}
 use Rattle.std.specs.Cmp.Lexicographic.{pointwise}
+use Rattle.std.specs.List.{flat_map}
 use Rattle.std.specs.Prelude.{slice_get}
 use Rattle.mysql_wire.specs.declared.codes.mariadb_bulk_indicator.MariadbBulkIndicator.{MariadbBulkIndicator}
 use Rattle.mysql_values.specs.declared.value.Value.{Value}
 use Rattle.mysql_values.specs.Value.{Content, content_of, contents_of}
-use Rattle.mysql_bulk.specs.ParamValue.{ParamValue, indicator_of, with_indicator, contents, param_value_bytes, values_bytes}
+use Rattle.mysql_bulk.specs.ParamValue.{ParamValue, indicator_of, with_indicator, contents, cell, param_value_bytes, values_bytes}
 use Rattle.mysql_bulk.specs.SentValues.{sent_values}
 
 -- where none was read
 pub own_indicators : (values : List Content) → sent_values [] values ≡ map with_indicator values
 own_indicators [] = refl
 own_indicators (v ∷ values) = ap (λ (l : List ParamValue). with_indicator v ∷ l) (own_indicators values)
+
+own_cells : (values : List Value) → values_bytes (sent_values [] (contents_of values)) ≡ flat_map (λ v. cell (content_of v)) values
+own_cells [] = refl
+own_cells (v ∷ values) = ap (λ (l : List ℕ). cell (content_of v) ++ l) (own_cells values)
+
+pub cells_where_none : (indicators : List MariadbBulkIndicator) (values : List Value) → indicators ≡ []
+    → values_bytes (sent_values indicators (contents_of values)) ≡ flat_map (λ v. cell (content_of v)) values
+cells_where_none indicators values none = rw none (own_cells values)
 
 pub built_values : (indicators : List MariadbBulkIndicator) (held values : List Content) → indicators ≡ [] → held ≡ values → sent_values indicators held ≡ map with_indicator values
 built_values indicators held values none same = rw (none, same) (own_indicators values)

@@ -51,5 +51,9 @@ param_has_bytes (Err e) = false
 abbrev pub param_value_bytes : ParamValue → List ℕ
 param_value_bytes v = le_bytes 1 (mariadb_bulk_indicator_code v.indicator) ++ bin v.content
 
+-- the bytes of a value after its own indicator
+abbrev pub cell : Content → List ℕ
+cell value = param_value_bytes (with_indicator value)
+
 abbrev pub values_bytes : List ParamValue → List ℕ
 values_bytes values = flat_map param_value_bytes values

@@ -13,7 +13,7 @@ use Rattle.mysql_bulk.specs.declared.error.BulkRowRefusal.{BulkRowRefusal}
 use Rattle.mysql_bulk.specs.Builder.{BuilderState, packing, AddsCopy, BuildsRequest, Builds, Declares, after_request}
 use Rattle.mysql_bulk.specs.ColumnTypes.{TakesTypes, types_of_rows}
 use Rattle.mysql_bulk.specs.Head.{head}
-use Rattle.mysql_bulk.specs.ParamValue.{with_indicator, param_value_bytes}
+use Rattle.mysql_bulk.specs.ParamValue.{with_indicator, cell}
 use Rattle.mysql_bulk.specs.Request.{BulkRequest, request_flags, request_bytes}
 use Rattle.mysql_bulk.specs.Row.{row_size}
 
@@ -110,9 +110,8 @@ FinishesAsBuilder w u =
 
 -- ---- what is written of a row
 
--- the indicator's byte, and the value's binary form
 abbrev pub cell_bytes : ValueRef → List ℕ
-cell_bytes value = param_value_bytes (with_indicator (ref_content value))
+cell_bytes value = cell (ref_content value)
 
 abbrev pub cells_bytes : List ValueRef → List ℕ
 cells_bytes row = flat_map cell_bytes row

@@ -120,6 +120,7 @@ pub(crate) fn spell_row<V: RowValue>(types: &[ParamType], row: &[V]) -> bool
 
 /// The types of the columns after a further row, where they are due: those that were declared, or else those of its values
 /// with those of the rows before it.
+#[inline(always)]
 pub(crate) fn join_types<V: RowValue>(
     types: &mut Vec<ParamType>,
     types_due: bool,

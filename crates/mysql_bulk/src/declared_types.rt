@@ -25,6 +25,7 @@ fn join_value<V: RowValue>(kind: &mut ParamType, value: &V)
 }
 
 /// Writes down the types of the first row. There is capacity for them.
+#[inline(never)]
 #[tactic(auto, using(crate::proofs::DeclaredTypes::first_more))]
 fn first_types<V: RowValue>(types: &mut Vec<ParamType>, row: &[V])
     requires empty { types.old.items ≡ [] }
@@ -37,6 +38,7 @@ fn first_types<V: RowValue>(types: &mut Vec<ParamType>, row: &[V])
 }
 
 /// Joins the values of a further row to the types of their columns so far.
+#[inline(never)]
 fn further_types<V: RowValue>(types: &mut [ParamType], row: &[V])
     requires { length types.old ≡ length row.now }
     ensures { types.new ≡ types_with_row types.old (map V.content row.now) }
@@ -48,6 +50,7 @@ fn further_types<V: RowValue>(types: &mut [ParamType], row: &[V])
 
 /// Joins the values of a row to the types of their columns so far, where types are due. There are none before the first
 /// row.
+#[inline(always)]
 pub(crate) fn join_row<V: RowValue>(types: &mut Vec<ParamType>, types_due: bool, row: &[V])
     requires lengths { types_due ≡ true → (length types.old.items ≡ length row.now) ⊎ (types.old.items ≡ []) }
     requires capacity { types_due ≡ true → length row.now ≤ vec_capacity types.old }

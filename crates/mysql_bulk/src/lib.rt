@@ -3,6 +3,7 @@
 #![tactic(auto)]
 
 mod builder;
+mod cells;
 mod column_types;
 mod declared_types;
 mod error;

@@ -6,11 +6,11 @@ ghost use Rattle.mysql_values.specs.Value.{Content};
 ghost use Rattle.mysql_values.specs.ValueRef.{ref_content};
 ghost use Rattle.mysql_bulk.specs.Builder.{RowFits};
 ghost use Rattle.mysql_bulk.specs.Head.{head};
-ghost use Rattle.mysql_bulk.specs.ParamValue.{indicator_of};
-ghost use Rattle.mysql_bulk.specs.RequestWriter.{as_builder, Holds, StartsAsBuilder, AddsAsBuilder, IsBuilt, FinishesAsBuilder, cell_bytes, cells_bytes, head_bytes, with_row};
+ghost use Rattle.mysql_bulk.specs.RequestWriter.{as_builder, Holds, StartsAsBuilder, AddsAsBuilder, IsBuilt, FinishesAsBuilder, head_bytes, with_row};
 ghost use Rattle.mysql_bulk.specs.Row.{row_size};
 
 use crate::builder::{flags_of, size_with};
+use crate::cells::append_cells;
 use crate::column_types::{first_refused, spell_row};
 use crate::error::{BulkColumnTypeError, BulkRowRefusal};
 use crate::head::ComStmtBulkExecuteHeader;
@@ -18,11 +18,9 @@ use crate::size::request_len;
 use mysql_cuts::BulkRule;
 use mysql_values::{ParamType, ValueRef};
 use mysql_wire::{
-    Const, LeU16, LeU32, MariadbBulkIndicator, MySerialize, RawInt, Seq, StmtBulkExecuteFlags,
-    Unknown, parts,
+    Const, LeU16, LeU32, MySerialize, RawInt, Seq, StmtBulkExecuteFlags, Unknown, parts,
 };
 use std::marker::Model;
-use std::mem;
 
 /// Writes the rows of a bulk execution straight into the bytes of its requests, none of which is past the limit.
 ///
@@ -64,44 +62,6 @@ impl<'a> Model for BulkRequestWriter<'a> {
       size = a.size;
       bytes = a.bytes.items;
     } };
-}
-
-/// The indicator of a value: `BULK_INDICATOR_NULL` for `NULL`, else `BULK_INDICATOR_NONE`.
-#[inline(always)]
-fn indicator_of(value: &ValueRef<'_>) -> MariadbBulkIndicator
-    ensures { result ≡ indicator_of (ref_content value.now) }
-{
-    match value {
-        ValueRef::NULL => MariadbBulkIndicator::BULK_INDICATOR_NULL,
-        _ => MariadbBulkIndicator::BULK_INDICATOR_NONE,
-    }
-}
-
-/// Writes a value after its indicator, where there is capacity.
-#[inline(always)]
-fn append_cell(out: &mut Vec<u8>, value: &ValueRef<'_>)
-    requires { vec_len out.old + length (cell_bytes value.now) ≤ vec_capacity out.old }
-    ensures items { out.new.items ≡ out.old.items ++ cell_bytes value.now }
-    ensures capacity { vec_capacity out.old ≤ vec_capacity out.new }
-{
-    let indicator = Const::<MariadbBulkIndicator, u8>::new(indicator_of(value));
-    parts!(indicator, *value).append(out);
-}
-
-/// Writes the values of a row, each after its indicator, where there is capacity.
-// (the buffer is moved to a local one, whose place in memory no write to its bytes can change: so those of a number are one
-// store)
-#[inline(always)]
-fn append_cells(out: &mut Vec<u8>, row: &[ValueRef<'_>])
-    requires { vec_len out.old + length (cells_bytes row.now) ≤ vec_capacity out.old }
-    ensures { out.new.items ≡ out.old.items ++ cells_bytes row.now }
-{
-    let none = Vec::new(*out.allocator());
-    let mut bytes = mem::replace(out, none);
-    for value in row {
-        append_cell(&mut bytes, value);
-    }
-    *out = bytes;
 }
 
 /// Writes what stands before the values of a request, where there is capacity.

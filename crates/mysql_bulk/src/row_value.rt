@@ -1,13 +1,32 @@
 //! The values of a row that is offered, whoever keeps their bytes.
 
-ghost use Rattle.std.specs.Prelude.{◌≡◌, ◌+◌, ◌≤◌, ◌++◌, ◌∷◌, [], take, IfSome, IfNone, OnSome, vec_len, vec_capacity};
+ghost use Rattle.std.specs.Prelude.{◌≡◌, ◌+◌, ◌≤◌, ◌++◌, ◌∷◌, [], length, take, IfSome, IfNone, OnSome, vec_len, vec_capacity};
+ghost use Rattle.mysql_wire.specs.declared.codes.mariadb_bulk_indicator.MariadbBulkIndicator.TheVariants.{BULK_INDICATOR_NONE, BULK_INDICATOR_NULL};
 ghost use Rattle.mysql_values.specs.ParamType.{type_of};
 ghost use Rattle.mysql_values.specs.SentType.{is_uint};
 ghost use Rattle.mysql_values.specs.Value.{bin_size, content_of, contents_of, size_of};
 ghost use Rattle.mysql_values.specs.ValueRef.{ref_content};
+ghost use Rattle.mysql_bulk.specs.ParamValue.{cell};
 
 use mysql_values::{ParamType, Value, ValueRef};
+use mysql_wire::{Const, MariadbBulkIndicator, MySerialize, parts};
 use std::alloc::Global;
+
+/// The indicator of `NULL`, after which no value stands.
+#[inline(always)]
+fn sent_null() -> Const<MariadbBulkIndicator, u8>
+    ensures { result.0 ≡ BULK_INDICATOR_NULL }
+{
+    Const::new(MariadbBulkIndicator::BULK_INDICATOR_NULL)
+}
+
+/// The indicator of a value that stands after it.
+#[inline(always)]
+fn sent_value() -> Const<MariadbBulkIndicator, u8>
+    ensures { result.0 ≡ BULK_INDICATOR_NONE }
+{
+    Const::new(MariadbBulkIndicator::BULK_INDICATOR_NONE)
+}
 
 /// A value of a row that is offered.
 pub(crate) trait RowValue {
@@ -31,6 +50,12 @@ pub(crate) trait RowValue {
     /// Whether it is an unsigned number.
     fn is_unsigned_number(&self) -> bool
         ensures value { result ≡ is_uint (content self.now) };
+
+    /// Writes it after its indicator, where there is capacity.
+    fn append_cell(&self, out: &mut Vec<u8>)
+        requires { vec_len out.old + length (cell (content self.now)) ≤ vec_capacity out.old }
+        ensures items { out.new.items ≡ out.old.items ++ cell (content self.now) }
+        ensures capacity { vec_capacity out.old ≤ vec_capacity out.new };
 
     /// Puts a copy at the end of values that have capacity for it, and answers its bytes in a request: no more than `most`.
     ///
@@ -69,6 +94,15 @@ impl RowValue for Value {
     #[inline(always)]
     fn is_unsigned_number(&self) -> bool {
         self.is_uint()
+    }
+
+    #[inline(always)]
+    fn append_cell(&self, out: &mut Vec<u8>) {
+        if let Value::NULL = self {
+            sent_null().append(out);
+            return;
+        }
+        parts!(sent_value(), *self).append(out);
     }
 
     // (each kind is pushed where it is known: one value for all kinds would be taken apart again)
@@ -135,6 +169,15 @@ impl RowValue for ValueRef<'_> {
     #[inline(always)]
     fn is_unsigned_number(&self) -> bool {
         self.is_uint()
+    }
+
+    #[inline(always)]
+    fn append_cell(&self, out: &mut Vec<u8>) {
+        if let ValueRef::NULL = self {
+            sent_null().append(out);
+            return;
+        }
+        parts!(sent_value(), *self).append(out);
     }
 
     #[inline(always)]

@@ -7,6 +7,7 @@ ghost use Rattle.mysql_values.specs.Value.{contents_of};
 ghost use Rattle.mysql_bulk.specs.Row.{row_size};
 ghost use Rattle.mysql_bulk.specs.SentValues.{sent_values};
 
+use crate::cells::append_cells;
 use crate::param_value::{StmtBulkExecuteParamValue, indicator_of};
 use mysql_values::Value;
 use mysql_wire::{Const, MariadbBulkIndicator, MySerialize, Parts, Sink, items_len, parts};
@@ -131,6 +132,10 @@ impl<'a> MySerialize for SentValues<'a> {
     // (the buffer is moved to a local one, whose place in memory no write to its bytes can change: so those of a number
     // are one store)
     fn append(&self, out: &mut Vec<u8>) {
+        if self.indicators.is_empty() {
+            append_cells(out, self.values);
+            return;
+        }
         let none = Vec::new(*out.allocator());
         let mut bytes = mem::replace(out, none);
         for place in 0..self.values.len() {

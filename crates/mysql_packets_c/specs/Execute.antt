@@ -1,9 +1,8 @@
 -- An execution, as C asks for it.
-use Rattle.std.specs.Prelude.{◌≡◌, ◌<◌, ◌↔◌, ℕ, IsTrue, List, length, None, if◌then◌else◌}
-use Rattle.mysql_stmt.specs.ExecuteParam.{MarksNullsOf, Param, Sent}
+use Rattle.std.specs.Prelude.{◌≡◌, ◌<◌, ◌↔◌, ℕ, Bool, false, IsTrue, List, if◌then◌else◌}
+use Rattle.mysql_stmt.specs.ExecuteParam.{Param, Sent}
 use Rattle.mysql_stmt.specs.ExecuteParams.{max_payload}
-use Rattle.mysql_stmt.specs.ExecuteWithOptions as request
-use Rattle.mysql_stmt.specs.declared.execute_with_options.ComStmtExecuteWithOptions.{ComStmtExecuteWithOptions}
+use Rattle.mysql_stmt.specs.WrittenExecution.{IsExecutionBytes, execution_size}
 use Rattle.mysql_values.specs.Value.{NULL}
 use Rattle.mysql_packets_c.specs.CValue.{is_value, value_content}
 use Rattle.mysql_packets_c.specs.Output.{Puts}
@@ -13,19 +12,12 @@ use Rattle.mysql_packets_c.specs.declared.value.CValue.{CValue}
 abbrev pub param : CValue → Param
 param v = Sent (if is_value v then value_content v else NULL)
 
--- the library's request that executes the statement with these values
-pub record IsExecution (statement_id : ℕ) (values : List CValue) (r : ComStmtExecuteWithOptions CValue) : Type 0 where
-  pub stmt_id : request.stmt_id r ≡ statement_id
-  pub flags : request.flags r ≡ 0
-  pub bitmap : MarksNullsOf (request.values param r) (request.bitmap r)
-  pub params : request.params r ≡ values
-  pub attributes : request.attributes r ≡ None
-  -- byte strings are left out where the request with them is past one packet
-  pub as_long_data : IsTrue (request.as_long_data r) ↔ (max_payload < length (request.whole_bytes param r))
-
--- that request is written, and whether it leaves byte strings out is answered
+-- an execution of the statement with these values is written, and whether it leaves byte strings out is answered
 pub record Executes (statement_id : ℕ) (values : List CValue) (code : ℕ) (old new : List ℕ) (written as_long_data : ℕ) : Type 0 where
-  pub request_of : ComStmtExecuteWithOptions CValue
-  pub is_theirs : IsExecution statement_id values request_of
-  pub bytes : Puts (request.request_bytes param request_of) code old new written
-  pub leaves_out : as_long_data ≡ (if request.as_long_data request_of then 1 else 0)
+  pub bytes : List ℕ
+  pub is_long : Bool
+  pub is_theirs : IsExecutionBytes param statement_id values is_long bytes
+  -- byte strings are left out where the request with them is past one packet
+  pub where_long : IsTrue is_long ↔ (max_payload < execution_size param values false)
+  pub puts : Puts bytes code old new written
+  pub leaves_out : as_long_data ≡ (if is_long then 1 else 0)

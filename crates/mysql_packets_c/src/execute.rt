@@ -7,12 +7,13 @@ ghost use Rattle.mysql_packets_c.specs.CValue.{is_value};
 ghost use Rattle.mysql_packets_c.specs.Execute.{Executes};
 
 use crate::code::{INVALID_INPUT, NO_MEMORY};
-use crate::output::put_packet;
-use crate::value::{CValue, are_values, to_ref};
+use crate::output::put;
+use crate::value::{CValue, are_values, is_value, to_ref};
 use mysql_stmt::{AsExecuteParam, ComStmtExecuteRequestBuilder, ExecuteParam};
-use mysql_values::ValueRef;
+use mysql_values::{ParamType, ValueRef};
 use std::alloc::Global;
 
+/// The kind alone says the rest, so that a value is made once, where its bytes are written.
 impl AsExecuteParam for CValue<'_> {
     ghost use Rattle.mysql_packets_c.specs.Execute.{param};
 
@@ -23,6 +24,47 @@ impl AsExecuteParam for CValue<'_> {
         match to_ref(self) {
             Some(value) => ExecuteParam::Value(value),
             None => ExecuteParam::Value(ValueRef::NULL),
+        }
+    }
+
+    #[inline(always)]
+    fn is_null(&self) -> bool {
+        self.kind == 0 || !is_value(self)
+    }
+
+    #[inline(always)]
+    fn sent_type(&self) -> ParamType {
+        let of_kind = match self.kind {
+            1 => ValueRef::Bytes(&[]),
+            2 => ValueRef::Int(0),
+            3 => ValueRef::UInt(0),
+            4 if is_value(self) => ValueRef::Float(0),
+            5 => ValueRef::Double(0),
+            6 if is_value(self) => ValueRef::Date(0, 0, 0, 0, 0, 0, 0),
+            7 => ValueRef::Time(false, 0, 0, 0, 0, 0),
+            _ => ValueRef::NULL,
+        };
+        ParamType::from_value_ref(&of_kind)
+    }
+
+    #[inline(always)]
+    fn sent_len(&self, as_long_data: bool) -> usize {
+        match self.kind {
+            2 => ValueRef::Int(self.number.cast_signed()).sent_len(as_long_data),
+            3 => ValueRef::UInt(self.number).sent_len(as_long_data),
+            5 => ValueRef::Double(self.number).sent_len(as_long_data),
+            _ => self.as_execute_param().sent_len(as_long_data),
+        }
+    }
+
+    #[inline(always)]
+    fn append_sent(&self, as_long_data: bool, out: &mut Vec<u8>) {
+        match self.kind {
+            1 => ValueRef::Bytes(self.bytes).append_sent(as_long_data, out),
+            2 => ValueRef::Int(self.number.cast_signed()).append_sent(as_long_data, out),
+            3 => ValueRef::UInt(self.number).append_sent(as_long_data, out),
+            5 => ValueRef::Double(self.number).append_sent(as_long_data, out),
+            _ => self.as_execute_param().append_sent(as_long_data, out),
         }
     }
 }
@@ -46,13 +88,11 @@ pub extern "C" fn myp_write_execute(
     if !are_values(values) {
         return INVALID_INPUT;
     }
-    match ComStmtExecuteRequestBuilder::new(statement_id).build_ref(alloc, values) {
-        Ok((request, leaves_out)) => {
-            let code = put_packet(alloc, &request, out, written);
-            if code != NO_MEMORY {
-                *as_long_data = leaves_out as u8;
-            }
-            code
+    let mut bytes = Vec::new(alloc);
+    match ComStmtExecuteRequestBuilder::new(statement_id).write_ref(values, &mut bytes) {
+        Ok(leaves_out) => {
+            *as_long_data = leaves_out as u8;
+            put(bytes.as_slice(), out, written)
         }
         Err(_) => NO_MEMORY,
     }

@@ -49,7 +49,6 @@ pub(crate) fn put_ref<'a>(place: &mut CValue<'a>, value: ValueRef<'a>)
         ValueRef::NULL => put_number(place, 0, 0),
         ValueRef::Bytes(bytes) => {
             place.kind = 1;
-            place.number = 0;
             place.bytes = bytes;
         }
         ValueRef::Int(n) => put_number(place, 2, n.cast_unsigned()),

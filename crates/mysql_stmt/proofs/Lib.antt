@@ -21,3 +21,4 @@ pub mod RowBytes
 pub mod BinaryRowAgain
 pub mod ParamViews
 pub mod ExecutionAgain
+mod WrittenExecution

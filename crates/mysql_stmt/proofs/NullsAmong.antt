@@ -1,10 +1,13 @@
 -- A bitmap of NULLs, as it is filled item by item, after the bits of other items.
-use Rattle.std.proofs.Common.{◌≡◌, ◌≢◌, ◌+◌, ◌<◌, ℕ, List, [], ◌∷◌, ◌++◌, length, map, take, get_or, append_assoc, sym, ◌∙◌, ap, arith, refl}
+use Rattle.std.proofs.Common.{◌≡◌, ◌≢◌, if◌then◌else◌, ◌+◌, ◌<◌, ℕ, List, [], ◌∷◌, ◌++◌, length, map, take, get_or, append_assoc, sym, ◌∙◌, ap, arith, refl}
 use Rattle.std.proofs.lemmas.List.{take_more, length-take-le, length-append, length-map, map-append}
 use Rattle.mysql_values.specs.declared.value_ref.ValueRef.{ValueRef}
 use Rattle.mysql_values.specs.declared.value_ref.ValueRef.TheVariants as variant
+use Rattle.mysql_values.specs.Value as content
+use Rattle.mysql_values.specs.Value.{Content}
 use Rattle.mysql_values.specs.ValueRef.{ref_content}
 use Rattle.mysql_stmt.specs.Bitmap.{cell}
+use Rattle.mysql_stmt.specs.ExecuteParam.{is_null}
 use Rattle.mysql_stmt.specs.ExecuteParams.{null_bit}
 use Rattle.mysql_stmt.proofs.Nulls.{bits_at, marked_at, unmarked_at}
 
@@ -42,6 +45,16 @@ module _ {A B : Type 0} (bit : B → ℕ) (f : A → B) (front : List B) (items 
       → (k : ℕ) → cell bytes k ≡ bits_at bit (front ++ map f (take (i + 1) items)) k
   next_unmarked bytes within is cells not k =
       unmarked_at bit so_far (f item) bytes cells not k ∙ ap (λ (l : List B). bits_at bit l k) (sym (one_more within is))
+
+pub null_bit-is : (value : Content) → null_bit value ≡ (if is_null value then 1 else 0)
+null_bit-is content.NULL = refl
+null_bit-is (content.Bytes bytes) = refl
+null_bit-is (content.Int n) = refl
+null_bit-is (content.UInt n) = refl
+null_bit-is (content.Float bits) = refl
+null_bit-is (content.Double bits) = refl
+null_bit-is (content.Date date) = refl
+null_bit-is (content.Time time) = refl
 
 pub ref_not_null : (value : ValueRef) → value ≢ variant.NULL → null_bit (ref_content value) ≡ 0
 ref_not_null variant.NULL other = absurd (other refl)

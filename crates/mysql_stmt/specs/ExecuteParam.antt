@@ -1,10 +1,10 @@
 -- What an execution sends of its parameters and attributes.
-use Rattle.std.specs.Prelude.{◌≡◌, ℕ, Bool, true, if◌then◌else◌, List, [], ◌++◌, length, map, slice_get}
+use Rattle.std.specs.Prelude.{◌≡◌, ℕ, Bool, true, false, if◌then◌else◌, List, [], ◌++◌, length, map, slice_get}
 use Rattle.std.specs.List.{flat_map}
 use Rattle.std.specs.Option.{option_map_or}
 use Rattle.mysql_wire.specs.LenEnc.{lenenc_string_bytes}
 use Rattle.mysql_values.specs.ParamType.{param_type, type_of}
-use Rattle.mysql_values.specs.Value.{Content, Bytes, bin}
+use Rattle.mysql_values.specs.Value.{Content, NULL, Bytes, bin}
 use Rattle.mysql_values.specs.ValueRef.{ref_content}
 use Rattle.mysql_stmt.specs.Bitmap.{bytes_for, cell}
 use Rattle.mysql_stmt.specs.ExecuteParams.{null_bit, sent}
@@ -25,6 +25,10 @@ param_of param.SentAhead = SentAhead
 abbrev pub value_of : Param → Content
 value_of (Sent value) = value
 value_of SentAhead = Bytes []
+
+abbrev pub is_null : Content → Bool
+is_null NULL = true
+is_null value = false
 
 -- 1 where the value at that place is NULL; 0 where it is not, and where there is none
 abbrev pub null_among : List Content → ℕ → ℕ

@@ -14,6 +14,7 @@ pub mod RowView
 pub mod StmtWithMetadata
 pub mod PlainExecution
 pub mod TextRow
+pub mod WrittenExecution
 pub mod BinaryRow
 pub mod ExecuteHead
 pub mod ExecuteRead

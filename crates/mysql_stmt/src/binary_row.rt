@@ -213,7 +213,7 @@ fn mark_nulls(nulls: &mut [u8], values: &[ValueRef<'_>])
 }
 
 /// Writes so many zeros.
-fn append_zeros(count: usize, out: &mut Vec<u8>)
+pub(crate) fn append_zeros(count: usize, out: &mut Vec<u8>)
     requires { vec_len out.old + count ≤ vec_capacity out.old }
     ensures items { out.new.items ≡ out.old.items ++ replicate count 0 }
     ensures capacity { vec_capacity out.old ≤ vec_capacity out.new }

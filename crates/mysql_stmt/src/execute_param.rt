@@ -1,9 +1,13 @@
 //! What an execution sends of a parameter.
 
-ghost use Rattle.std.specs.Prelude.{◌≡◌};
+ghost use Rattle.std.specs.Prelude.{◌≡◌, ◌+◌, ◌++◌, ◌≤◌, length, vec_len, vec_capacity};
+ghost use Rattle.mysql_wire.specs.Writing.{saturated};
+ghost use Rattle.mysql_values.specs.ParamType.{type_of};
 ghost use Rattle.mysql_stmt.specs.ExecuteParam as spec;
 
-use mysql_values::{Value, ValueRef};
+use crate::sent_params::{append_sent, sent_len, typed_value};
+use mysql_values::{ParamType, Value, ValueRef};
+use mysql_wire::MySerialize;
 
 /// A parameter of an execution: a value, or one whose data was sent ahead.
 #[derive(Clone, Copy, Debug, PartialEq)]
@@ -16,6 +20,9 @@ pub enum ExecuteParam<'a> {
 }
 
 /// A type whose values are parameters of an execution.
+///
+/// [`as_execute_param`](Self::as_execute_param) says all of them. A type that knows some of the rest without it, as by a kind
+/// of its own, may say so by the other methods.
 pub trait AsExecuteParam {
     ghost use Rattle.mysql_stmt.specs.ExecuteParam.{Param};
 
@@ -24,6 +31,40 @@ pub trait AsExecuteParam {
     /// The parameter.
     fn as_execute_param(&self) -> ExecuteParam<'_>
         ensures value { spec.param_of result ≡ param self.now };
+
+    /// Whether it is NULL, which one that was sent ahead is not.
+    #[inline(always)]
+    fn is_null(&self) -> bool
+        ensures value { result ≡ spec.is_null (spec.value_of (param self.now)) }
+    {
+        matches!(typed_value(self.as_execute_param()), ValueRef::NULL)
+    }
+
+    /// The type that it is sent as: that of a byte string, where it was sent ahead.
+    #[inline(always)]
+    fn sent_type(&self) -> ParamType
+        ensures value { result ≡ type_of (spec.value_of (param self.now)) }
+    {
+        ParamType::from_value_ref(&typed_value(self.as_execute_param()))
+    }
+
+    /// How many bytes of it the request has, where byte strings are long data or not; or `usize::MAX` where that is less.
+    #[inline(always)]
+    fn sent_len(&self, as_long_data: bool) -> usize
+        ensures value { result ≡ saturated (length (spec.param_bytes as_long_data (param self.now))) }
+    {
+        sent_len(self.as_execute_param(), as_long_data)
+    }
+
+    /// Writes the bytes of it that the request has, for which there is capacity.
+    #[inline(always)]
+    fn append_sent(&self, as_long_data: bool, out: &mut Vec<u8>)
+        requires { vec_len out.old + length (spec.param_bytes as_long_data (param self.now)) ≤ vec_capacity out.old }
+        ensures items { out.new.items ≡ out.old.items ++ spec.param_bytes as_long_data (param self.now) }
+        ensures capacity { vec_capacity out.old ≤ vec_capacity out.new }
+    {
+        append_sent(self.as_execute_param(), as_long_data, out);
+    }
 }
 
 impl AsExecuteParam for ExecuteParam<'_> {
@@ -47,6 +88,33 @@ impl AsExecuteParam for ValueRef<'_> {
     fn as_execute_param(&self) -> ExecuteParam<'_> {
         ExecuteParam::Value(*self)
     }
+
+    #[inline(always)]
+    fn is_null(&self) -> bool {
+        matches!(self, ValueRef::NULL)
+    }
+
+    #[inline(always)]
+    fn sent_type(&self) -> ParamType {
+        ParamType::from_value_ref(self)
+    }
+
+    #[inline(always)]
+    #[tactic(auto, unfolding(mysql_wire::specs::Writing::saturated))]
+    fn sent_len(&self, as_long_data: bool) -> usize {
+        match self {
+            ValueRef::Bytes(_) if as_long_data => 0,
+            value => value.defined_len(),
+        }
+    }
+
+    #[inline(always)]
+    fn append_sent(&self, as_long_data: bool, out: &mut Vec<u8>) {
+        match self {
+            ValueRef::Bytes(_) if as_long_data => {}
+            value => value.append(out),
+        }
+    }
 }
 
 impl AsExecuteParam for Value {
@@ -58,6 +126,16 @@ impl AsExecuteParam for Value {
     #[inline(always)]
     fn as_execute_param(&self) -> ExecuteParam<'_> {
         ExecuteParam::Value(self.as_ref())
+    }
+
+    #[inline(always)]
+    fn is_null(&self) -> bool {
+        matches!(self, Value::NULL)
+    }
+
+    #[inline(always)]
+    fn sent_type(&self) -> ParamType {
+        ParamType::from_value(self)
     }
 }
 

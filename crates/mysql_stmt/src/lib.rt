@@ -29,6 +29,7 @@ mod stmt_with_metadata;
 mod text_row;
 mod text_row_view;
 mod typed_column;
+mod write_execution;
 
 pub use binary_row::{BinaryRowError, write_binary_row};
 pub use binary_row_view::BinaryRowView;

@@ -7,8 +7,7 @@ ghost use Rattle.mysql_stmt.specs.ExecuteParam.{value_of, all_values, null_among
 
 use crate::execute_param::{AsExecuteParam, QueryAttribute};
 use crate::null_bitmap::NullBitmap;
-use crate::sent_params::typed_value;
-use mysql_values::{ClientSide, ValueRef};
+use mysql_values::ClientSide;
 use std::alloc::{AllocError, Global};
 
 /// Sets the bit of each parameter that is NULL, after the bits of so many others.
@@ -25,7 +24,7 @@ fn mark_nulls<V: AsExecuteParam>(
         → OnOk result ((k : ℕ) → cell bitmap.new.bytes k ≡ null_among (front ++ map (λ p. value_of (V.param p)) params.now) k) }
 {
     for (i, param) in params.iter().enumerate() {
-        if let ValueRef::NULL = typed_value(param) {
+        if param.is_null() {
             bitmap.set(alloc, before + i, true)?;
         }
     }

@@ -1,9 +1,10 @@
 //! The types and the values of an execution's parameters and attributes, as they are sent.
 #![tactic(auto, using(crate::proofs::OptionLengths::written), unfolding(mysql_wire::specs::Writing::saturated))]
 
-ghost use Rattle.std.specs.Prelude.{◌≡◌, [], true};
+ghost use Rattle.std.specs.Prelude.{◌≡◌, ◌+◌, ◌++◌, ◌≤◌, [], true, length, vec_len, vec_capacity};
+ghost use Rattle.mysql_wire.specs.Writing.{saturated};
 ghost use Rattle.mysql_values.specs.ValueRef.{ref_content};
-ghost use Rattle.mysql_stmt.specs.ExecuteParam.{value_of};
+ghost use Rattle.mysql_stmt.specs.ExecuteParam.{param_bytes, param_of, value_of};
 
 use crate::execute_param::{AsExecuteParam, ExecuteParam, QueryAttribute};
 use crate::items::ItemForm;
@@ -12,12 +13,39 @@ use mysql_wire::{BytesRepr, LenEnc, MySerialize};
 
 /// As which value the bitmap and the types have a parameter: one that was sent ahead is a byte string.
 #[inline(always)]
-pub(crate) fn typed_value<V: AsExecuteParam>(param: &V) -> ValueRef<'_>
-    ensures value { ref_content result ≡ value_of (V.param param.now) }
+pub(crate) fn typed_value(param: ExecuteParam<'_>) -> ValueRef<'_>
+    ensures value { ref_content result ≡ value_of (param_of param.entry) }
 {
-    match param.as_execute_param() {
+    match param {
         ExecuteParam::Value(value) => value,
         ExecuteParam::SentAhead => ValueRef::Bytes(&[]),
+    }
+}
+
+/// How many bytes of a parameter are sent, or `usize::MAX` where that is less: none of one that was sent ahead, nor of a byte
+/// string that is long data.
+#[inline(always)]
+pub(crate) fn sent_len(param: ExecuteParam<'_>, as_long_data: bool) -> usize
+    ensures value { result ≡ saturated (length (param_bytes as_long_data (param_of param.entry))) }
+{
+    match param {
+        ExecuteParam::Value(ValueRef::Bytes(_)) if as_long_data => 0,
+        ExecuteParam::Value(value) => value.defined_len(),
+        ExecuteParam::SentAhead => 0,
+    }
+}
+
+/// Writes the bytes of a parameter that are sent, for which there is capacity.
+#[inline(always)]
+pub(crate) fn append_sent(param: ExecuteParam<'_>, as_long_data: bool, out: &mut Vec<u8>)
+    requires { vec_len out.old + length (param_bytes as_long_data (param_of param)) ≤ vec_capacity out.old }
+    ensures items { out.new.items ≡ out.old.items ++ param_bytes as_long_data (param_of param.entry) }
+    ensures capacity { vec_capacity out.old ≤ vec_capacity out.new }
+{
+    match param {
+        ExecuteParam::Value(ValueRef::Bytes(_)) if as_long_data => {}
+        ExecuteParam::Value(value) => value.append(out),
+        ExecuteParam::SentAhead => {}
     }
 }
 
@@ -39,7 +67,7 @@ impl<V: AsExecuteParam> ItemForm<V> for AsParamTypes {
 
     #[inline(always)]
     fn append_item(&self, param: &V, out: &mut Vec<u8>) {
-        ParamType::from_value_ref(&typed_value(param)).append(out);
+        param.sent_type().append(out);
         if self.has_names {
             <LenEnc as BytesRepr>::append(&[], out);
         }
@@ -82,19 +110,11 @@ impl<V: AsExecuteParam> ItemForm<V> for AsParamValues {
 
     #[inline(always)]
     fn item_len(&self, param: &V) -> usize {
-        match param.as_execute_param() {
-            ExecuteParam::Value(ValueRef::Bytes(_)) if self.as_long_data => 0,
-            ExecuteParam::Value(value) => value.defined_len(),
-            ExecuteParam::SentAhead => 0,
-        }
+        param.sent_len(self.as_long_data)
     }
 
     #[inline(always)]
     fn append_item(&self, param: &V, out: &mut Vec<u8>) {
-        match param.as_execute_param() {
-            ExecuteParam::Value(ValueRef::Bytes(_)) if self.as_long_data => {}
-            ExecuteParam::Value(value) => value.append(out),
-            ExecuteParam::SentAhead => {}
-        }
+        param.append_sent(self.as_long_data, out);
     }
 }

@@ -1,5 +1,6 @@
 //! `execute_with ID CURSOR ATTRIBUTES PARAMETERS`: an execution with a cursor, or `-`; with attributes, `-` for none agreed to, `()`
 //! for none, else `NAME=VALUE` with `/` between them, names in hexadecimal; and with parameters, of which `ahead` is one sent ahead.
+//! `execute_at_once KIND ID PARAMETERS`: one that is written at once, of `params`, of borrowed `refs`, or of `values`.
 
 use crate::prelude::*;
 use mysql_stmt::*;
@@ -101,4 +102,43 @@ pub fn execute_with(out: &mut Out, request: &Request<'_>) -> Result {
     let attributes = attributes_of(alloc, named.as_slice())?;
     let made = made(request, params.as_slice(), attributes.as_slice());
     show(out, made)
+}
+
+/// Writes an execution after a byte, and tells the bytes; or that memory ran out, and the buffer then.
+fn written_at_once<V: AsExecuteParam>(out: &mut Out, id: u32, params: &[V]) -> Result {
+    let alloc = out.alloc();
+    let mut buffer = Vec::from_slice(alloc, b"\xaa")?;
+    let builder = ComStmtExecuteRequestBuilder::new(id);
+    match counted!(alloc; builder.write_ref(params, &mut buffer)) {
+        Ok(as_long_data) => {
+            let written = buffer.as_slice().strip_prefix(b"\xaa").unwrap_or(b"");
+            out.show("written", written)?;
+            out.show("len", written.len())?;
+            out.show("as_long_data", as_long_data)
+        }
+        Err(AllocError) => {
+            out.field("written", "Memory")?;
+            out.show("buffer", buffer.as_slice())
+        }
+    }
+}
+
+pub fn at_once(out: &mut Out, request: &Request<'_>) -> Result {
+    let alloc = out.alloc();
+    let id = request.number(2);
+    let values = Vec::<Value>::from_word(alloc, request.word(3))?;
+    match request.word(1) {
+        "values" => written_at_once(out, id, values.as_slice()),
+        "refs" => {
+            let mut refs = Vec::new(alloc);
+            for value in &values {
+                refs.push(value.as_ref())?;
+            }
+            written_at_once(out, id, refs.as_slice())
+        }
+        _ => {
+            let params = params_of(alloc, request.word(3), values.as_slice())?;
+            written_at_once(out, id, params.as_slice())
+        }
+    }
 }

@@ -1,13 +1,12 @@
-use Rattle.std.proofs.Common.{◌≡◌, ◌≢◌, ◌+◌, ◌<◌, ℕ, List, ◌++◌, length, map, take, arith, sym, ap, ◌∙◌}
+use Rattle.std.proofs.Common.{◌≡◌, ◌≢◌, ◌+◌, ◌<◌, Bool, if◌then◌else◌, ℕ, List, ◌++◌, length, map, take, arith, sym, ap, ◌∙◌}
 use Rattle.std.proofs.lemmas.List.{append-nil, take_all}
-use Rattle.mysql_values.specs.ValueRef.{ref_content}
 use Rattle.mysql_values.specs.Value.{Content}
 use Rattle.mysql_stmt.specs.Bitmap.{cell}
 use Rattle.mysql_stmt.specs.ExecuteParam.{value_of, null_among}
 use Rattle.mysql_stmt.specs.ExecuteParams.{null_bit}
-use Rattle.mysql_stmt.proofs.NullsAmong.{next_marked, next_unmarked, ref_not_null}
+use Rattle.mysql_stmt.proofs.NullsAmong.{next_marked, next_unmarked, null_bit-is}
 use Rattle.mysql_stmt.proofs.param_nulls.mark_nulls.Goals as goal
-use Rattle.mysql_stmt.proofs.param_nulls.mark_nulls.Goals.{in-NULL+in_ok-set, in_default}
+use Rattle.mysql_stmt.proofs.param_nulls.mark_nulls.Goals.{then-is_null+in_ok-set, else-is_null}
 
 pub loop-i-preserved : goal.loop-i-preserved
 loop-i-preserved g c =
@@ -16,11 +15,11 @@ loop-i-preserved g c =
     let i = c.loop-i.i in
     let param = c.index-params-i.result in
     let old = c.loop-i.bitmap.bytes in
-    let typed : ref_content c.typed_value.result ≡ f param = c.typed_value.ensures.value in
-    elim c.match-typed_value.branch [
-      | in-NULL+in_ok-set w ↦
+    let bit : null_bit (f param) ≡ (if c.is_null.result then 1 else 0) = null_bit-is (f param) ∙ ap (λ (b : Bool). if b then 1 else 0) (sym c.is_null.ensures.value) in
+    elim c.if-is_null.branch [
+      | then-is_null+in_ok-set w ↦
           let new = w.set.new.self.bytes in
-          let null : null_bit (f param) ≡ 1 = ap null_bit (sym typed) ∙ ap (λ v. null_bit (ref_content v)) w.in-NULL.is in
+          let null : null_bit (f param) ≡ 1 = bit ∙ ap (λ (b : Bool). if b then 1 else 0) w.if-is_null.true in
           rw (w.bitmap-is) (record {
             len = w.in_ok-set.ensures.len ∙ c.loop-i.invariant.len;
             cells = λ front long start.
@@ -30,13 +29,13 @@ loop-i-preserved g c =
                 (ap (cell new) (sym place) ∙ w.in_ok-set.ensures.this ∙ sym null)
                 (λ k other. w.in_ok-set.ensures.others k (λ e. other (e ∙ place)));
           })
-      | in_default w ↦
+      | else-is_null w ↦
           rw (w.bitmap-is) (record {
             len = c.loop-i.invariant.len;
             cells = λ front long start.
                 next_unmarked null_bit f front params i param old c.loop-i-test.true c.index-params-i.is
                 (c.loop-i.invariant.cells front long start)
-                (ap null_bit (sym typed) ∙ ref_not_null c.typed_value.result w.in_default.not-NULL);
+                (bit ∙ ap (λ (b : Bool). if b then 1 else 0) w.if-is_null.false);
           })
     ]
 

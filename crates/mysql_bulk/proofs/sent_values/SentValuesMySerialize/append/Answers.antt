@@ -1,10 +1,25 @@
-use Rattle.std.proofs.Common.{◌++◌, ℕ, List, length, take, sym, ◌∙◌, ap, arith, append_assoc, length-append}
-use Rattle.std.proofs.lemmas.List.{take_all}
+use Rattle.std.proofs.Common.{rules, ◌≡◌, ◌+◌, ◌≤◌, ◌++◌, ℕ, List, [], length, take, vec_len, vec_capacity, sym, subst, ◌∙◌, ap, arith, append_assoc, length-append}
+use Rattle.std.proofs.lemmas.List.{nil_from_length, take_all}
 use Rattle.mysql_values.specs.Value.{contents_of}
 use Rattle.mysql_bulk.specs.ParamValue.{ParamValue, param_value_bytes, values_bytes}
 use Rattle.mysql_bulk.specs.SentValues.{sent_values}
-use Rattle.mysql_bulk.proofs.SentValues.{sent_length, bytes_more, bytes_fit}
+use Rattle.mysql_bulk.proofs.SentValues.{sent_length, bytes_more, bytes_fit, cells_where_none}
 use Rattle.mysql_bulk.proofs.sent_values.SentValuesMySerialize.append.Goals as goal
+
+pub append_cells-requires : goal.append_cells-requires
+append_cells-requires c =
+    let counted : length c.args.self.now.indicators.now ≡ 0 = search rules in
+    let none = nil_from_length c.args.self.now.indicators.now counted in
+    subst (λ (l : List ℕ). vec_len c.args.out.now + length l ≤ vec_capacity c.args.out.now)
+    (cells_where_none c.args.self.now.indicators.now c.args.self.now.values.now none)
+    c.requires
+
+pub returns-then-is_empty-clause-items : goal.returns-then-is_empty-clause-items
+returns-then-is_empty-clause-items c =
+    let counted : length c.args.self.now.indicators.now ≡ 0 = search rules in
+    let none = nil_from_length c.args.self.now.indicators.now counted in
+    c.append_cells.ensures.items
+    ∙ ap (λ (l : List ℕ). c.args.out.now.items ++ l) (sym (cells_where_none c.args.self.now.indicators.now c.args.self.now.values.now none))
 
 pub append-requires : goal.append-requires
 append-requires c =
