@@ -413,8 +413,8 @@ static const struct operation {
     { "executions_borrowed", 10000, "execution of 10 borrowed values, written at once", put_numbers, bench_executions_borrowed },
     { "bulk_rows_made", 1000000, "bulk row, made and dropped", put_bulk_row, bench_bulk_rows_made },
     { "bulk_rows_written", 1000000, "bulk row, made, built into requests and written", put_bulk_row, bench_bulk_rows_written },
-    { "bulk_rows_iterated", 1000000, "bulk row, made, built into a request at a time and written", put_bulk_row, bench_bulk_rows_iterated },
     /* (so many that they go into one request: of several, glibc puts the blocks of one together while the next is made) */
+    { "bulk_rows_iterated", 250000, "bulk row, made, built into a request at a time and written", put_bulk_row, bench_bulk_rows_iterated },
     { "bulk_rows_offered", 250000, "bulk row, made, offered as a slice, built into requests and written", put_bulk_row, bench_bulk_rows_offered },
     { "bulk_rows_offered_refs", 250000, "bulk row, offered as borrowed values, built into requests and written", put_bulk_row, bench_bulk_rows_offered_refs },
     { "bulk_rows_streamed", 1000000, "bulk row, written straight into requests", put_bulk_row, bench_bulk_rows_streamed },

@@ -20,31 +20,18 @@ fn string_ref<'s, 'de>(buf: &mut ParseBuf<'de>) -> Result<ValueRef<'de>, FaultOf
     Ok(ValueRef::Bytes(content.eat_all()))
 }
 
-/// The same, by a call.
-#[inline(never)]
-fn long_string_ref<'s, 'de>(buf: &mut ParseBuf<'de>) -> Result<ValueRef<'de>, FaultOf<'s>>
-    ensures value { Answers false (refs_contents result) buf.new (string_value.reads buf.old) }
-    ensures tail { OnErr result (IsTail buf.new buf.old) }
-{
-    string_ref(buf)
-}
-
 /// Reads a value of a text row, which takes no memory: fb, or a length-encoded string.
-// (most are strings whose length is one byte: that is asked first)
 #[inline(always)]
 #[tactic(auto, using(mysql_wire::proofs::Tails::tails), unfolding(crate::specs::ValueDeserializer::text_value, mysql_wire::specs::Form::bytes))]
 pub fn read_text_ref<'s, 'de>(buf: &mut ParseBuf<'de>) -> Result<ValueRef<'de>, FaultOf<'s>>
     ensures value { Answers false (refs_contents result) buf.new (text_value.reads buf.old) }
     ensures tail { OnErr result (IsTail buf.new buf.old) }
 {
-    match buf.first() {
-        Some(0..0xfb) => string_ref(buf),
-        Some(0xfb) => {
-            buf.skip(1);
-            Ok(ValueRef::NULL)
-        }
-        _ => long_string_ref(buf),
+    if buf.first() == Some(0xfb) {
+        buf.skip(1);
+        return Ok(ValueRef::NULL);
     }
+    string_ref(buf)
 }
 
 #[inline(never)]
