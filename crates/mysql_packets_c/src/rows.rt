@@ -129,7 +129,7 @@ fn text_row<'a>(alloc: Global, packet: &'a [u8], values: &mut [CValue<'a>]) -> R
 {
     let mut row = TextRowView::new(values.len(), ParseBuf::new(alloc, packet));
     fill_text(&mut row, values)?;
-    Ok(packet.len().saturating_sub(row.rest().len()))
+    Ok(packet.len() - row.rest().len())
 }
 
 /// Reads `ProtocolText::ResultsetRow` into values, one of each column: 0; or 1 or 2, and the values before the faulty one are
