@@ -1,7 +1,9 @@
 #!/usr/bin/env python3
 """Tries the mutants of the libraries: the prover must refuse each, by the name of the function that it changes.
 
-mutants.py [CRATE ..]
+mutants.py [--beside LOG] [CRATE ..]
+
+LOG is what rt ci writes while it runs: the mutants of a library are tried as soon as it says that those below are proved.
 
 A mutant is a file crates/NAME/mutants/*.edit: a line 'fn: NAME' with the function as a check names it, and then, for each
 file that it changes, a line 'file: src/FILE.rt' and pairs of lines 'old: TEXT' and 'new: TEXT'. Each old text stands in
@@ -36,6 +38,13 @@ def below(name, listed):
     """The libraries of the repository below a crate."""
     own = [it for it in listed[name] if it in listed]
     return {*own, *(lower for it in own for lower in below(it, listed))}
+
+
+def wait_for(names, log):
+    """Waits until rt ci, which writes to the file, has proved these crates, or has ended."""
+    said = "".join(rf"(?=[^\0]*^rt: {it} (?:proved|is kept))" for it in names)
+    while not re.search(rf"\A{said}|^\d+ passed, ", Path(log).read_text(errors="replace"), re.M):
+        time.sleep(1)
 
 
 def build(name, listed):
@@ -108,8 +117,11 @@ def verdict(mutant, said, text):
     return False, f"{mutant.function}: {line}"
 
 
-def tried(name, listed):
+def tried(name, listed, log):
     """What came of the mutants of a crate: their names, whether each is refused, and why."""
+    if log:
+        wait_for(below(name, listed), log)
+        build(name, listed)
     began = time.time()
     mutants = [Mutant(it) for it in sorted((TOP / "crates" / name / "mutants").glob("*.edit"))]
     if len({it.function for it in mutants}) < len(mutants):
@@ -129,12 +141,14 @@ def tried(name, listed):
 
 
 def main(*names):
+    log, names = (names[1], names[2:]) if names[:1] == ("--beside",) else (None, names)
     listed = crates()
     chosen = names or [it for it in listed if any((TOP / "crates" / it / "mutants").glob("*.edit"))]
-    for name in chosen:
+    for name in () if log else chosen:
         build(name, listed)
-    with ThreadPoolExecutor(len(os.sched_getaffinity(0))) as pool:
-        found = [it for outcome in pool.map(lambda name: tried(name, listed), chosen) for it in outcome]
+    # (beside proofs each takes its share of memory)
+    with ThreadPoolExecutor(len(os.sched_getaffinity(0)) // (2 if log else 1) or 1) as pool:
+        found = [it for outcome in pool.map(lambda name: tried(name, listed, log), chosen) for it in outcome]
     for name, is_refused, why in found:
         print(f"{name}: {'refused' if is_refused else 'NOT REFUSED'}: {why[:200]}")
     failed = sum(not ok for _, ok, _ in found)

@@ -11,7 +11,6 @@ use Rattle.mysql_wire.specs.Form.{Form, ◌>>=◌, give, either, looking, block}
 use Rattle.mysql_wire.specs.Int.{le_u16, raw}
 use Rattle.mysql_wire.specs.LenEnc.{lenenc, lenenc_string}
 use Rattle.mysql_replies.specs.declared.ok_kind.OkPacketBody.{OkPacketBody}
-use Rattle.mysql_replies.specs.declared.ok_kind.OkTail.{OkTail}
 
 -- changes of the session are tracked
 abbrev pub tracks : CapabilityFlags → Bool
@@ -25,6 +24,11 @@ state_changed status = has status.0 SERVER_SESSION_STATE_CHANGED
 abbrev pub begins_with_no_zero : List ℕ → Bool
 begins_with_no_zero [] = false
 begins_with_no_zero (b ∷ bytes) = not (b == 0)
+
+-- the end of a body
+pub record OkTail : Type 0 where
+  pub info : List ℕ
+  pub session_state_info : List ℕ
 
 abbrev pub tail_of : List ℕ → List ℕ → OkTail
 tail_of info state = record { info = info; session_state_info = state }

@@ -7,10 +7,9 @@ use Rattle.mysql_wire.specs.declared.little_endian.LeU16.{LeU16}
 use Rattle.mysql_wire.specs.Codecs.{Fields, ◌>>=◌, give, field, block, flags, u16, int_lenenc, raw_int}
 use Rattle.mysql_wire.specs.Writing.{le_bytes}
 use Rattle.mysql_replies.specs.declared.ok_kind.OkPacketBody.{OkPacketBody}
-use Rattle.mysql_replies.specs.declared.ok_kind.OkTail.{OkTail}
 use Rattle.mysql_replies.specs.declared.ok_packet.OkPacket.{OkPacket}
 use Rattle.mysql_replies.specs.declared.ok_packet.OkPacketDeserializer.{OkPacketDeserializer}
-use Rattle.mysql_replies.specs.OkKind.{tracks, state_changed, ok_tail, tail_of, body_of}
+use Rattle.mysql_replies.specs.OkKind.{OkTail, body_of, ok_tail, state_changed, tail_of, tracks}
 use Rattle.mysql_replies.specs.OkPacket.{affected_rows, last_insert_id, status_flags, warnings, info, session_state, state_bytes, bytes_or_none}
 use Rattle.mysql_replies.specs.OkTailSent.{sends_state, tail_bytes, TailFits, tail-again}
 

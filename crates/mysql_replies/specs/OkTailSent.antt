@@ -9,9 +9,8 @@ use Rattle.mysql_wire.specs.Flags.{CapabilityFlags, StatusFlags}
 use Rattle.mysql_wire.specs.Form.{Form, ◌>>=◌, give, either, looking}
 use Rattle.mysql_wire.specs.LenEnc.{lenenc_string, lenenc_bytes, lenenc_string_bytes}
 use Rattle.mysql_wire.specs.Optional.{optional_bytes}
-use Rattle.mysql_replies.specs.declared.ok_kind.OkTail.{OkTail}
 use Rattle.mysql_replies.specs.declared.ok_packet.OkPacket.{OkPacket}
-use Rattle.mysql_replies.specs.OkKind.{tracks, state_changed, ok_tail, tail_of, begins_with_no_zero}
+use Rattle.mysql_replies.specs.OkKind.{OkTail, begins_with_no_zero, ok_tail, state_changed, tail_of, tracks}
 use Rattle.mysql_replies.specs.OkPacket.{status_flags, info, session_state, state_bytes, bytes_or_none}
 
 -- the state is sent: changes are tracked, and the status says that there are some

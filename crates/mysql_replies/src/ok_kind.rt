@@ -1,16 +1,13 @@
 //! The kinds of OK packets, and their bodies.
 
-ghost use Rattle.std.specs.Prelude.{false, ◌≡◌, ℕ, OnErr};
+ghost use Rattle.std.specs.Prelude.{false, ℕ, OnErr};
 ghost use Rattle.mysql_wire.specs.Flags as flags;
 ghost use Rattle.mysql_wire.specs.Form.{Form};
 ghost use Rattle.mysql_wire.specs.Reading.{Answers, IsTail};
-ghost use Rattle.mysql_replies.specs.OkKind.{common_ok_body, terminator_body, old_eof_body, ok_end, ok_tail, size-ok_tail};
+ghost use Rattle.mysql_replies.specs.OkKind.{common_ok_body, terminator_body, old_eof_body};
 
-use bitflags::Flags;
-use mysql_wire::{
-    AnyWidth, CapabilityFlags, Const, FaultOf, LeU16, LenEnc, MyDeserialize, ParseBuf, RawBytes,
-    RawInt, StatusFlags,
-};
+use crate::ok_kind_ref::OkPacketRefKind;
+use mysql_wire::{CapabilityFlags, FaultOf, LenEnc, ParseBuf, RawBytes, StatusFlags};
 
 /// The body of an OK packet: what stands after its header, as its kind reads it.
 ///
@@ -58,85 +55,6 @@ pub trait OkPacketKind {
         ensures tail { OnErr result (IsTail buf.new buf.old) };
 }
 
-/// The end of an OK packet: an info and the session's changes, each empty where it is not sent.
-#[derive(Drop)]
-pub struct OkTail<'a> {
-    pub(crate) info: RawBytes<'a, LenEnc>,
-    pub(crate) session_state_info: RawBytes<'a, LenEnc>,
-}
-
-impl<'de> MyDeserialize<'de> for OkTail<'de> {
-    const SIZE: Option<usize> = None;
-
-    type Size = AnyWidth;
-
-    type Ctx = (CapabilityFlags, StatusFlags);
-
-    ghost form = { λ ctx. ok_tail ctx.0 ctx.1 };
-
-    #[tactic(auto, using(mysql_wire::proofs::Tails::tails), unfolding(crate::specs::OkKind::ok_tail))]
-    fn deserialize<'s>(
-        ctx: (CapabilityFlags, StatusFlags),
-        buf: &mut ParseBuf<'de>,
-    ) -> Result<Self, FaultOf<'s>> {
-        let (capabilities, status_flags) = ctx;
-        let tracks = capabilities.contains(CapabilityFlags::CLIENT_SESSION_TRACK);
-        let state_changed = status_flags.contains(StatusFlags::SERVER_SESSION_STATE_CHANGED);
-        if tracks && !buf.is_empty() {
-            let info = buf.parse(())?;
-            let session_state_info = if state_changed {
-                buf.parse(())?
-            } else {
-                RawBytes::default()
-            };
-            Ok(OkTail {
-                info,
-                session_state_info,
-            })
-        } else if buf.first().is_some_and(|first| first != 0) {
-            Ok(OkTail {
-                info: buf.parse(())?,
-                session_state_info: RawBytes::default(),
-            })
-        } else {
-            Ok(OkTail {
-                info: RawBytes::default(),
-                session_state_info: RawBytes::default(),
-            })
-        }
-    }
-
-    ghost size_is = { λ ctx. size-ok_tail ctx.0 ctx.1 };
-}
-
-/// Reads the end of a body: two bytes of status flags, a count of warnings of two bytes, each the
-/// little-endian, and the tail.
-#[tactic(auto, using(mysql_wire::proofs::Blocks::blocks), unfolding(crate::specs::OkKind::ok_end))]
-fn parse_end<'s, 'de>(
-    capabilities: CapabilityFlags,
-    affected_rows: u64,
-    last_insert_id: u64,
-    buf: &mut ParseBuf<'de>,
-) -> Result<OkPacketBody<'de>, FaultOf<'s>>
-    ensures value { Answers false result buf.new ((ok_end capabilities affected_rows last_insert_id).reads buf.old) }
-    ensures err { OnErr result (buf.new ≡ buf.old) }
-{
-    let mut rest = buf.rest();
-    let mut numbers: ParseBuf<'de> = rest.parse(4)?;
-    let status_flags: Const<StatusFlags, LeU16> = numbers.parse_unchecked(())?;
-    let warnings: RawInt<LeU16> = numbers.parse_unchecked(())?;
-    let tail: OkTail<'de> = rest.parse((capabilities, status_flags.0))?;
-    *buf = rest;
-    Ok(OkPacketBody {
-        affected_rows,
-        last_insert_id,
-        status_flags: status_flags.0,
-        warnings: warnings.0,
-        info: tail.info,
-        session_state_info: tail.session_state_info,
-    })
-}
-
 /// The OK packet that ends a result set, where the old end packet is deprecated: header `fe`. Its
 /// rows and insert id are read, and answered as 0.
 #[derive(Clone, Copy, Debug, PartialEq, Eq, Hash)]
@@ -149,16 +67,12 @@ impl OkPacketKind for ResultSetTerminator {
 
     ghost body = { terminator_body };
 
+    #[inline]
     fn parse_body<'s, 'de>(
         capabilities: CapabilityFlags,
         buf: &mut ParseBuf<'de>,
     ) -> Result<OkPacketBody<'de>, FaultOf<'s>> {
-        let mut rest = buf.rest();
-        let _affected_rows: RawInt<LenEnc> = rest.parse(())?;
-        let _last_insert_id: RawInt<LenEnc> = rest.parse(())?;
-        let body = parse_end(capabilities, 0, 0, &mut rest)?;
-        *buf = rest;
-        Ok(body)
+        Ok(Self::parse_body_ref(capabilities, buf)?.into_body())
     }
 }
 
@@ -174,22 +88,12 @@ impl OkPacketKind for OldEofPacket {
 
     ghost body = { old_eof_body };
 
-    #[tactic(auto, using(mysql_wire::proofs::Blocks::blocks))]
+    #[inline]
     fn parse_body<'s, 'de>(
-        _capabilities: CapabilityFlags,
+        capabilities: CapabilityFlags,
         buf: &mut ParseBuf<'de>,
     ) -> Result<OkPacketBody<'de>, FaultOf<'s>> {
-        let mut numbers: ParseBuf<'de> = buf.parse(4)?;
-        let warnings: RawInt<LeU16> = numbers.parse_unchecked(())?;
-        let status_flags: Const<StatusFlags, LeU16> = numbers.parse_unchecked(())?;
-        Ok(OkPacketBody {
-            affected_rows: 0,
-            last_insert_id: 0,
-            status_flags: status_flags.0,
-            warnings: warnings.0,
-            info: RawBytes::default(),
-            session_state_info: RawBytes::default(),
-        })
+        Ok(Self::parse_body_ref(capabilities, buf)?.into_body())
     }
 }
 
@@ -204,11 +108,12 @@ impl OkPacketKind for NetworkStreamTerminator {
 
     ghost body = { old_eof_body };
 
+    #[inline]
     fn parse_body<'s, 'de>(
         capabilities: CapabilityFlags,
         buf: &mut ParseBuf<'de>,
     ) -> Result<OkPacketBody<'de>, FaultOf<'s>> {
-        OldEofPacket::parse_body(capabilities, buf)
+        Ok(Self::parse_body_ref(capabilities, buf)?.into_body())
     }
 }
 
@@ -225,15 +130,11 @@ impl OkPacketKind for CommonOkPacket {
 
     ghost body = { common_ok_body };
 
+    #[inline(always)]
     fn parse_body<'s, 'de>(
         capabilities: CapabilityFlags,
         buf: &mut ParseBuf<'de>,
     ) -> Result<OkPacketBody<'de>, FaultOf<'s>> {
-        let mut rest = buf.rest();
-        let affected_rows: RawInt<LenEnc> = rest.parse(())?;
-        let last_insert_id: RawInt<LenEnc> = rest.parse(())?;
-        let body = parse_end(capabilities, affected_rows.0, last_insert_id.0, &mut rest)?;
-        *buf = rest;
-        Ok(body)
+        Ok(Self::parse_body_ref(capabilities, buf)?.into_body())
     }
 }

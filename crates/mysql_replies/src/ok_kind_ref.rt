@@ -5,13 +5,15 @@ ghost use Rattle.mysql_wire.specs.Reading.{Answers};
 ghost use Rattle.mysql_replies.specs.OkKind.{ok_end, ok_tail, size-ok_tail};
 
 use crate::ok_kind::{
-    CommonOkPacket, NetworkStreamTerminator, OkPacketKind, OldEofPacket, ResultSetTerminator,
+    CommonOkPacket, NetworkStreamTerminator, OkPacketBody, OkPacketKind, OldEofPacket,
+    ResultSetTerminator,
 };
 use bitflags::Flags;
 use mysql_wire::{
     AnyWidth, BytesRepr, CapabilityFlags, Const, FaultOf, LeU16, LenEnc, MyDeserialize, ParseBuf,
-    RawInt, StatusFlags,
+    RawBytes, RawInt, StatusFlags,
 };
+use std::borrow::CowSlice;
 use std::marker::Model;
 
 /// The body of an OK packet whose texts stay in the packet: an [`OkPacketBody`](crate::OkPacketBody) for as long as the
@@ -37,6 +39,24 @@ impl<'a> Model for OkPacketBodyRef<'a> {
     ghost view = { λ b. body_of b.affected_rows b.last_insert_id b.status_flags b.warnings b.info b.session_state_info };
 }
 
+impl<'a> OkPacketBodyRef<'a> {
+    /// The body, with its texts where they are.
+    #[inline(always)]
+    pub(crate) fn into_body(self) -> OkPacketBody<'a>
+        ensures value { result ≡ self.entry }
+    {
+        let (mut info, mut session_state_info) = (self.info, self.session_state_info);
+        OkPacketBody {
+            affected_rows: self.affected_rows,
+            last_insert_id: self.last_insert_id,
+            status_flags: self.status_flags,
+            warnings: self.warnings,
+            info: RawBytes::new(CowSlice::Borrowed(info.eat_all())),
+            session_state_info: RawBytes::new(CowSlice::Borrowed(session_state_info.eat_all())),
+        }
+    }
+}
+
 /// A kind of OK packet whose body is read where it lies. It is open, as [`OkPacketKind`] is.
 pub trait OkPacketRefKind: OkPacketKind {
     ghost use Rattle.std.specs.Prelude.{false, OnErr};
@@ -51,7 +71,8 @@ pub trait OkPacketRefKind: OkPacketKind {
         ensures tail { OnErr result (IsTail buf.new buf.old) };
 }
 
-/// The end of an OK packet. In a clause it is an `OkTail`.
+/// The end of an OK packet: an info and the session's changes, each empty where it is not sent. In a clause it is an
+/// `OkTail`.
 #[derive(Drop)]
 struct OkTailRef<'a> {
     info: ParseBuf<'a>,
@@ -59,8 +80,7 @@ struct OkTailRef<'a> {
 }
 
 impl<'a> Model for OkTailRef<'a> {
-    ghost use Rattle.mysql_replies.specs.declared.ok_kind.OkTail.{OkTail};
-    ghost use Rattle.mysql_replies.specs.OkKind.{tail_of};
+    ghost use Rattle.mysql_replies.specs.OkKind.{OkTail, tail_of};
 
     ghost Value = { OkTail };
 
@@ -124,7 +144,7 @@ impl<'de> MyDeserialize<'de> for OkTailRef<'de> {
 
 /// Reads the end of a body: two bytes of status flags, a count of warnings of two bytes, each the
 /// little-endian, and the tail.
-#[inline]
+#[inline(always)]
 #[tactic(auto, using(mysql_wire::proofs::Blocks::blocks), unfolding(crate::specs::OkKind::ok_end))]
 fn parse_end<'s, 'de>(
     capabilities: CapabilityFlags,
@@ -195,6 +215,7 @@ impl OkPacketRefKind for NetworkStreamTerminator {
 }
 
 impl OkPacketRefKind for CommonOkPacket {
+    #[inline(always)]
     fn parse_body_ref<'s, 'de>(
         capabilities: CapabilityFlags,
         buf: &mut ParseBuf<'de>,

@@ -33,6 +33,7 @@ pub struct OkPacket<'a> {
 }
 
 /// The content, where it is not empty.
+#[inline(always)]
 fn unless_empty<'a>(content: RawBytes<'a, LenEnc>) -> Option<RawBytes<'a, LenEnc>>
     ensures value { result ≡ spec.unless_empty content.entry }
 {
@@ -102,6 +103,7 @@ impl<'a> OkPacket<'a> {
     }
 
     /// The packet with this body.
+    #[inline(always)]
     pub(crate) fn from_body(body: OkPacketBody<'a>) -> Self
         ensures value { result ≡ spec.packet_of body.entry }
     {
@@ -285,6 +287,8 @@ impl<'de, T: OkPacketKind> MyDeserialize<'de> for OkPacketDeserializer<'de, T> {
 
     ghost form = { λ capabilities. spec.ok_packet T.HEADER (T.body capabilities) };
 
+    // (a caller that has it in line knows that the texts are borrowed, and need not be released)
+    #[inline(always)]
     #[tactic(auto, unfolding(crate::specs::OkPacket::ok_packet))]
     fn deserialize<'s>(
         capabilities: CapabilityFlags,

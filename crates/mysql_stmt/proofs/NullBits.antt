@@ -5,6 +5,7 @@ use Rattle.mysql_wire.specs.Form.{map, either, bytes}
 use Rattle.mysql_wire.specs.Bare.{bare}
 use Rattle.mysql_stmt.specs.Bitmap.{Bitmap, bytes_for}
 use Rattle.mysql_stmt.specs.NullBitmap.{null_bitmap, borrowed, missing}
+use Rattle.mysql_stmt.specs.RowView.{HasBits}
 
 either-length : (b : Bool) (n : ℕ) (v : Bitmap) (input rest : List ℕ) → (either b (map borrowed (bare n)) missing).Spells v input rest → length v.bytes ≡ n
 unfolding bytes
@@ -24,3 +25,11 @@ has-bits offset count v input rest e i lt =
 -- the test of a bit
 pub is-one : (b : Bool) (n : ℕ) → IsTrue b ↔ (n ≡ 1) → b ≡ (n == 1)
 is-one b n h = grind (arith, nat_tests, h)
+
+-- the bits of the values after one that was read
+pub bits-after : (offset : ℕ) (nulls : List ℕ) (none : Bool) (place left more : ℕ) → HasBits nulls offset none place left → left ≡ more + 1 → HasBits nulls offset none (place + 1) more
+bits-after offset nulls none place left more h one = record {
+  bits = λ i lt. let b : place + (i + 1) + offset < 8 * length nulls = h.bits (i + 1) (omega (arith, lt, one)) in omega (arith, b);
+  clear = h.clear;
+  counted = omega (arith, h.counted, one);
+}

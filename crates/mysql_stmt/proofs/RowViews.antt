@@ -1,10 +1,11 @@
 -- A row that is read value by value: one value, and what is read after it.
-use Rattle.std.proofs.Common.{◌≡◌, ◌∙◌, sym, ap, zero, suc, ℕ, ◌+◌, List, [], ◌∷◌, Result, Ok, Err, Some, Option, false, length, refl, arith}
+use Rattle.std.proofs.Common.{◌≡◌, ◌∙◌, sym, ap, subst, zero, suc, ℕ, ◌+◌, ◌==◌, List, [], ◌∷◌, Result, Ok, Err, Some, Option, Bool, false, length, refl, arith}
 use Rattle.std.specs.Prelude.{replicate}
 use Rattle.std.proofs.lemmas.List.{length-replicate}
 use Rattle.mysql_wire.specs.declared.fault.FaultOf.{FaultOf}
 use Rattle.mysql_wire.specs.declared.fault.FaultOf.TheVariants as fault
 use Rattle.mysql_wire.specs.declared.fault.FaultKind.{FaultKind}
+use Rattle.mysql_wire.specs.declared.codes.column_type.ColumnType.{ColumnType}
 use Rattle.mysql_wire.specs.FlagMasks.{UNSIGNED_FLAG}
 use Rattle.mysql_wire.specs.Flags.{has}
 use Rattle.mysql_wire.specs.Reading.{Reading, Faults, then_read}
@@ -16,7 +17,8 @@ use Rattle.mysql_values.specs.ValueDeserializer.{text_value}
 use Rattle.mysql_replies.specs.declared.column.Column.{Column}
 use Rattle.mysql_replies.specs.Column.{column_type, flags}
 use Rattle.mysql_stmt.specs.RowForm.{there, bin_row, text_row}
-use Rattle.mysql_stmt.specs.RowView.{RowLeft, Values, values_in, then_values, row_left, text_row_left, read_to, read_of, RefusesNext, bin_row_of, text_row_of}
+use Rattle.mysql_stmt.specs.Bitmap.{cell}
+use Rattle.mysql_stmt.specs.RowView.{RowLeft, Values, values_in, then_values, row_left, text_row_left, read_to, read_of, RefusesNext, bin_row_of, ref_cell, ref_unless, text_row_of}
 
 -- no value is good before this kind of fault
 abbrev RowFails : FaultKind → RowLeft → Type 0
@@ -55,6 +57,29 @@ no-value f place (c ∷ cs) bytes e = absurd (omega (arith, e))
 pub no-text : (f : ℕ → Unit {0} → Form Content) (left : ℕ) (bytes : List ℕ) → left ≡ 0 → ((values_in f 0 (replicate left tt) bytes).values ≡ []) × ((values_in f 0 (replicate left tt) bytes).end ≡ Ok bytes)
 unfolding values_in
 no-text f left bytes e = (rw e refl, rw e refl)
+
+-- ---- one value of a binary row, which the bitmap may say is NULL
+
+module _ {C : Type 0} (type_of : C → ColumnType) (unsigned : C → Bool) (nulls : List ℕ) (offset place : ℕ) (c : C) (cs : List C) (bytes : List ℕ)
+    (is_null : Bool) (test : is_null ≡ (cell nulls (place + offset) == 1)) where
+  -- it is the first of those that are left
+  pub first-value : (left : List C) → left ≡ c ∷ cs → (x : Content) (after : List ℕ) → (ref_unless type_of unsigned is_null c).reads bytes ≡ Ok (x, after)
+      → let now = row_left (ref_cell type_of unsigned nulls offset) (place + 1) cs after in let was = row_left (ref_cell type_of unsigned nulls offset) place left bytes in
+      (was.left ≡ suc now.left) × (was.values ≡ x ∷ now.values) × (now.end ≡ was.end)
+  first-value left cut x after h =
+      let f = ref_cell type_of unsigned nulls offset in
+      let here = subst (λ (b : Bool). (ref_unless type_of unsigned b c).reads bytes ≡ Ok (x, after)) test h in
+      let now = row_left f (place + 1) cs after in
+      subst (λ (l : List C). let was = row_left f place l bytes in (was.left ≡ suc now.left) × (was.values ≡ x ∷ now.values) × (now.end ≡ was.end)) (sym cut)
+      (refl, one-value f place c cs bytes x after here, same-end f place c cs bytes x after here)
+
+  -- its fault is that of the row
+  pub first-fault : (left : List C) → left ≡ c ∷ cs → (e : FaultOf) → Faults false e ((ref_unless type_of unsigned is_null c).reads bytes)
+      → RefusesNext e (row_left (ref_cell type_of unsigned nulls offset) place left bytes)
+  first-fault left cut e h =
+      let f = ref_cell type_of unsigned nulls offset in
+      let here = subst (λ (b : Bool). Faults false e ((ref_unless type_of unsigned b c).reads bytes)) test h in
+      subst (λ (l : List C). RefusesNext e (row_left f place l bytes)) (sym cut) (one-fault f place c cs bytes e here)
 
 -- ---- all values of a row
 

@@ -1,15 +1,16 @@
 //! Binary rows that are read value by value, without memory.
 
-ghost use Rattle.std.specs.Prelude.{false, ◌≡◌, ◌≤◌, Ok, length, IfOk, IfErr, OnOk};
+ghost use Rattle.std.specs.Prelude.{false, ◌≡◌, ◌<◌, ◌≤◌, Ok, Some, length, IfOk, IfErr, OnOk, OnErr};
 ghost use Rattle.mysql_wire.specs.Reading.{Answers, Faults};
-ghost use Rattle.mysql_values.specs.ValueRef.{refs_contents};
+ghost use Rattle.mysql_values.specs.ValueRef.{ref_content, refs_contents};
+ghost use Rattle.mysql_values.specs.ValueDeserializer.{bin_value};
 ghost use Rattle.mysql_stmt.specs.RowView.{Fills, GivesOne, IsBinaryRow, IsDone, RefusesNext, bin_row_of, read_of, ref_unless};
 
 use crate::null_bitmap::NullBitmap;
 use crate::row_values::is_null_at;
 use crate::typed_column::TypedColumn;
 use mysql_values::{SerializationSide, ValueRef, read_bin_ref};
-use mysql_wire::{FaultOf, MyDeserialize, ParseBuf, Skip};
+use mysql_wire::{ColumnType, FaultOf, MyDeserialize, ParseBuf, Skip};
 use std::marker::Model;
 
 /// The value of a column: NULL where it is that, which takes no bytes.
@@ -25,6 +26,87 @@ fn read_unless<'s, 'de, C: TypedColumn>(
         return Ok(ValueRef::NULL);
     }
     read_bin_ref(column.value_type(), column.is_unsigned(), buf)
+}
+
+/// Puts a value of this type into its place.
+#[inline(always)]
+fn put_value<'s, 'de>(
+    column_type: ColumnType,
+    is_unsigned: bool,
+    buf: &mut ParseBuf<'de>,
+    place: &mut ValueRef<'de>,
+) -> Result<(), FaultOf<'s>>
+    ensures value { OnOk result ((bin_value column_type is_unsigned).reads buf.old ≡ Ok (ref_content place.new, buf.new)) }
+    ensures fault { IfErr result (λ e. Faults false e ((bin_value column_type is_unsigned).reads buf.old)) }
+    ensures place { OnErr result (place.new ≡ place.old) }
+{
+    *place = read_bin_ref(column_type, is_unsigned, buf)?;
+    Ok(())
+}
+
+/// The same, for a type that is seldom met.
+#[inline(never)]
+fn put_seldom<'s, 'de>(
+    column_type: ColumnType,
+    is_unsigned: bool,
+    buf: &mut ParseBuf<'de>,
+    place: &mut ValueRef<'de>,
+) -> Result<(), FaultOf<'s>>
+    ensures value { OnOk result ((bin_value column_type is_unsigned).reads buf.old ≡ Ok (ref_content place.new, buf.new)) }
+    ensures fault { IfErr result (λ e. Faults false e ((bin_value column_type is_unsigned).reads buf.old)) }
+    ensures place { OnErr result (place.new ≡ place.old) }
+{
+    put_value(column_type, is_unsigned, buf, place)
+}
+
+/// The same, with a buffer of its own, so that the caller's need not stand in memory.
+#[inline(always)]
+fn put_apart<'s, 'de>(
+    column_type: ColumnType,
+    is_unsigned: bool,
+    buf: &mut ParseBuf<'de>,
+    place: &mut ValueRef<'de>,
+) -> Result<(), FaultOf<'s>>
+    ensures value { OnOk result ((bin_value column_type is_unsigned).reads buf.old ≡ Ok (ref_content place.new, buf.new)) }
+    ensures fault { IfErr result (λ e. Faults false e ((bin_value column_type is_unsigned).reads buf.old)) }
+    ensures place { OnErr result (place.new ≡ place.old) }
+{
+    let mut rest = buf.rest();
+    put_seldom(column_type, is_unsigned, &mut rest, place)?;
+    *buf = rest;
+    Ok(())
+}
+
+/// Puts a value of one of the types that rows mostly have by code of that type alone, and any other by a call: so a place gets
+/// the fields of its own kind, and no value of all kinds is put together first.
+macro_rules! put_by_type {
+    ($column_type:expr, $is_unsigned:expr, $buf:expr, $place:expr; $($often:ident,)*) => {
+        match $column_type {
+            $(ColumnType::$often => put_value(ColumnType::$often, $is_unsigned, $buf, $place),)*
+            other => put_apart(other, $is_unsigned, $buf, $place),
+        }
+    };
+}
+
+/// Puts the value of a column into its place: NULL where it is that, which takes no bytes.
+#[inline(always)]
+fn put_unless<'s, 'de, C: TypedColumn>(
+    is_null: bool,
+    column: &C,
+    buf: &mut ParseBuf<'de>,
+    place: &mut ValueRef<'de>,
+) -> Result<(), FaultOf<'s>>
+    ensures value { OnOk result ((ref_unless C.type_of C.unsigned is_null column.now).reads buf.old ≡ Ok (ref_content place.new, buf.new)) }
+    ensures fault { IfErr result (λ e. Faults false e ((ref_unless C.type_of C.unsigned is_null column.now).reads buf.old)) }
+    ensures place { OnErr result (place.new ≡ place.old) }
+{
+    if is_null {
+        *place = ValueRef::NULL;
+        return Ok(());
+    }
+    put_by_type!(column.value_type(), column.is_unsigned(), buf, place;
+        MYSQL_TYPE_TINY, MYSQL_TYPE_SHORT, MYSQL_TYPE_LONG, MYSQL_TYPE_LONGLONG, MYSQL_TYPE_DOUBLE, MYSQL_TYPE_NEWDECIMAL,
+        MYSQL_TYPE_VAR_STRING, MYSQL_TYPE_STRING, MYSQL_TYPE_BLOB,)
 }
 
 /// A binary row (`ProtocolBinary::ResultsetRow`) that is read value by value, of the columns `C` and written by the side `S`.
@@ -81,6 +163,7 @@ impl<'a, 'c, S: SerializationSide, C: TypedColumn> BinaryRowView<'a, 'c, S, C> {
     #[inline(always)]
     pub fn left(&self) -> usize
         ensures value { result ≡ self.now.left }
+        ensures done { result ≡ 0 → IsDone self.now }
     {
         self.columns.len()
     }
@@ -110,6 +193,27 @@ impl<'a, 'c, S: SerializationSide, C: TypedColumn> BinaryRowView<'a, 'c, S, C> {
         Ok(Some(value))
     }
 
+    /// Puts the next value, of which there is one, into a place. After a refusal the row and the place are as they were.
+    #[inline(always)]
+    fn put_next<'s>(&mut self, place: &mut ValueRef<'a>) -> Result<(), FaultOf<'s>>
+        requires { 0 < self.old.left }
+        ensures value { OnOk result (GivesOne self.old (Ok (Some place.new)) self.new) }
+        ensures refused { IfErr result (λ e. RefusesNext e self.old) }
+        ensures row { OnErr result (self.new ≡ self.old) }
+        ensures place { OnErr result (place.new ≡ place.old) }
+    {
+        let Some((column, columns)) = self.columns.split_first() else {
+            return Ok(());
+        };
+        let is_null = is_null_at(&self.nulls, self.none, self.place);
+        let mut rest = self.buf.rest();
+        put_unless(is_null, column, &mut rest, place)?;
+        self.buf = rest;
+        self.columns = columns;
+        self.place += 1;
+        Ok(())
+    }
+
     /// Reads the values that are left into the first of these places, of which there is one for each at least.
     ///
     /// After a refusal the values before the one that is refused are good: they are as many as there are fewer
@@ -122,8 +226,8 @@ impl<'a, 'c, S: SerializationSide, C: TypedColumn> BinaryRowView<'a, 'c, S, C> {
         ensures refused { IfErr result (λ e. RefusesNext e self.new) }
     {
         let mut place = 0;
-        while let Some(value) = self.next_value()? {
-            values[place] = value;
+        while self.left() > 0 {
+            self.put_next(&mut values[place])?;
             place += 1;
         }
         Ok(())

@@ -44,6 +44,7 @@ impl<'a> TextRowView<'a> {
     #[inline(always)]
     pub fn left(&self) -> usize
         ensures value { result ≡ self.now.left }
+        ensures done { result ≡ 0 → IsDone self.now }
     {
         self.left
     }

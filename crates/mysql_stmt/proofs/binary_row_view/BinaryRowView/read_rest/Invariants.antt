@@ -2,8 +2,8 @@ use Rattle.std.proofs.Common.{◌≡◌, ◌+◌, ◌++◌, length, take, drop}
 use Rattle.mysql_stmt.specs.RowView.{refs_held}
 use Rattle.mysql_stmt.proofs.binary_row_view.BinaryRowView.read_rest.Given as goal
 
-abbrev pub invariant-loop-value : goal.invariant-loop-value
-invariant-loop-value g l = record {
+abbrev pub invariant-loop-self : goal.invariant-loop-self
+invariant-loop-self g l = record {
   count : l.place + l.self.left ≡ l.fn.self.left;
   good : l.fn.self.values ≡ refs_held (take l.place l.values) ++ l.self.values;
   end : l.self.end ≡ l.fn.self.end;
@@ -11,5 +11,5 @@ invariant-loop-value g l = record {
   len : length l.values ≡ length l.fn.values;
 }
 
-abbrev pub decreases-loop-value : goal.decreases-loop-value
-decreases-loop-value g l = l.self.left
+abbrev pub decreases-loop-self : goal.decreases-loop-self
+decreases-loop-self g l = l.self.left
