@@ -16,8 +16,8 @@ sys.path[:0] = [str(TOP / "tests/probe"), str(TOP / "examples/python")]
 import malformed
 from describe import lossy, x
 from describe_connections import plugin
-from described import describer
-from describe_replies import bound_of
+from described import READS, describer
+from describe_statements import bound_of
 from describe_values import columns_of
 from lines import summary, vectors
 from mysql_packets import Library
@@ -220,7 +220,7 @@ READ = {*STRUCTS, *SINGLE, "row", "row_text", "com_execute"}
 
 def rows_read():
     """How the request of each row begins, and its bytes."""
-    for probe in ("statements", "connections"):
+    for probe in READS:
         for it in vectors(probe):
             head, _, digits = it.request.rpartition(" ")
             if head.split(" ")[0] in READ and describer(it.request):
@@ -233,7 +233,7 @@ def main(library, count="100000"):
         return 0
     packets = Library(library=library, header=TOP / "include/mysql_packets.h")
     calls, rows, inputs = Calls(packets), list(rows_read()), []
-    for probe in ("statements", "connections"):
+    for probe in READS:
         inputs += [it for it in malformed.inputs(probe, int(count), 0) if it[0].split(" ")[0] in READ]
     inputs = random.Random(3).sample(inputs, min(len(inputs), int(count)))
     failures, describers = [], {}

@@ -66,7 +66,7 @@ def is_same(text, word):
 class Sessions(Recipes):
     def __init__(self, port):
         self.port, self.passed, self.failures = port, 0, []
-        self.probes = Probe("connections"), Probe("statements")
+        self.probes = Probe("connections"), Probe("replies"), Probe("statements")
 
     def check(self, what, holds, seen=""):
         if holds:

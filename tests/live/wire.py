@@ -49,8 +49,8 @@ def data(word):
 
 
 class Connection:
-    def __init__(self, port, connections, statements):
-        self.connections, self.statements = connections, statements
+    def __init__(self, port, connections, replies, statements):
+        self.connections, self.replies, self.statements = connections, replies, statements
         self.socket = socket.create_connection(("127.0.0.1", port), 60)
         self.sequence, self.flags, self.infile, self.changes = 0, 0, b"", []
         first = self.receive()
@@ -97,7 +97,7 @@ class Connection:
         self.socket.close()
 
     def raise_error(self, packet):
-        error = self.statements.fields(f"err {self.flags} {packet.hex()}")
+        error = self.replies.fields(f"err {self.flags} {packet.hex()}")
         raise Refused(int(error["error"]), data(error["message"]).decode())
 
     # login
@@ -136,12 +136,12 @@ class Connection:
 
     def ok(self, kind, packet):
         """The fields of an OK packet, and the words of its changes."""
-        words = self.statements.ask(f"{kind} {self.flags} {packet.hex()}")
+        words = self.replies.ask(f"{kind} {self.flags} {packet.hex()}")
         self.changes = [it for it in words if it.split("=")[0] in ("schema", "name", "value", "is_tracked", "state", "characteristics")]
         return dict(reversed([it.split("=", 1) for it in words if "=" in it]))
 
     def column(self):
-        return self.statements.fields(f"column {self.receive().hex()}")
+        return self.replies.fields(f"column {self.receive().hex()}")
 
     def result(self, binary=False):
         """The fields of the OK packet, or the rows, each a list of words."""
@@ -151,7 +151,7 @@ class Connection:
         if packet[0] == 0:
             return self.ok("ok", packet)
         if packet[0] == 0xFB:
-            self.infile_name = data(self.statements.fields(f"local_infile {packet.hex()}")["file_name"])
+            self.infile_name = data(self.replies.fields(f"local_infile {packet.hex()}")["file_name"])
             self.send(self.infile)
             self.send(b"")
             return self.result()

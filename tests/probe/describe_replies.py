@@ -1,8 +1,7 @@
-"""What is shown of replies, of session changes, of statements and of rows, by the reference decoder."""
+"""What is shown of replies, of session changes and of constant fields, by the reference decoder."""
 from describe import READERS, by, lossy, numbers, x
-from describe_values import cell, columns_of, word_of
 
-from reference_decoder import replies, values
+from reference_decoder import replies
 from reference_decoder.buf import Buf, Eof, Invalid, to_the_end
 
 
@@ -108,59 +107,6 @@ def ok_body(capabilities):
     return lambda buf: describe_ok(replies.ok_packet(buf, int(capabilities), b"", True))
 
 
-def describe_stmt(record):
-    (statement, columns, params), warnings = record
-    return numbers(("statement_id", "num_columns", "num_params", "warning_count"), (statement, columns, params, warnings))
-
-
-def describe_stmt_with_metadata(record):
-    packet, metadata = record
-    return describe_stmt(packet) + [f"metadata={'none' if metadata is None else metadata}"]
-
-
-def describe_long_data(record):
-    statement, param, content = record
-    return numbers(("stmt_id", "param_index"), (statement, param)) + [f"data_ref={x(content)}"]
-
-
-def describe_execution(record):
-    head, sends_types, params = record
-    words = numbers(("stmt_id", "flags"), head) + [f"types={'yes' if sends_types else 'no'}"]
-    for kind, flags, is_sent_ahead, value in params:
-        word = word_of(value, bool(flags & 128) and kind == 8)
-        if value is not None and kind in (4, 5):
-            word = ("f" if kind == 4 else "d") + str(value[1])
-        words.append(f"{kind}-{flags}={'ahead' if is_sent_ahead else word}")
-    return words
-
-
-def bound_of(text):
-    """The types of an earlier execution, and whether each parameter was sent ahead."""
-    def one(word):
-        kind = word.rstrip("+")
-        return int(kind.rstrip("u")), 128 if kind.endswith("u") else 0, word.endswith("+")
-    return [] if text == "()" else [one(word) for word in text.split(",")]
-
-
-def binary_row(buf, columns, offset):
-    buf.take(1)
-    bits = int.from_bytes(buf.take((len(columns) + 7 + offset) // 8), "little") >> offset
-    return ["N" if bits >> i & 1 else cell(buf, column) for i, column in enumerate(columns)]
-
-
-def text_row(buf, columns):
-    return [word_of(values.text_value(buf)) for _ in columns]
-
-
-def bitmap(side, count):
-    reader, offset = {"client": ("ClientBitmap", 0), "server": ("ServerBitmap", 2)}[side]
-
-    def describe(content):
-        bits = int.from_bytes(content, "little") >> offset
-        return [f"bytes={x(content)}"] + [f"null={i}" for i in range(64) if bits >> i & 1]
-    return by(reader, describe, int(count))
-
-
 # constant fields, by their names
 MARKERS = {"ColumnDefinitionCatalog": b"\x03def", "FixedLengthFieldsLen": b"\x0c", "ErrPacketHeader": b"\xff",
            "SqlStateMarker": b"#", "LocalInfileHeader": b"\xfb", "ComStmtExecuteHeader": b"\x17",
@@ -188,16 +134,5 @@ DESCRIBERS = {
     "unsupported": lambda: by("Unsupported", describe_text),
     "variable": lambda: by("SystemVariable", describe_variable),
     "variables": lambda: by("SystemVariables", lambda it: describe_change(0, it)),
-    "stmt": lambda: by("StmtPacket", describe_stmt),
-    "stmt_metadata": lambda caps: by("StmtPacketWithMetadata", describe_stmt_with_metadata, int(caps)),
-    "com_close": lambda: by("ComStmtClose", lambda it: numbers(("stmt_id",), (it,))),
-    "com_execute_head": lambda: by("ComStmtExecuteHead", lambda it: numbers(("stmt_id", "flags"), it)),
-    "com_execute": lambda bound: by("ComStmtExecute", describe_execution, bound_of(bound)),
-    "com_long_data": lambda: by("ComStmtSendLongData", describe_long_data),
-    "row": lambda columns: lambda buf: binary_row(buf, columns_of(columns), 2),
-    "row_client": lambda columns: lambda buf: binary_row(buf, columns_of(columns), 0),
-    "row_text": lambda columns: lambda buf: text_row(buf, columns_of(columns)),
-    "row_text_client": lambda columns: lambda buf: text_row(buf, columns_of(columns)),
-    "bitmap": bitmap,
     "marker": lambda name: lambda buf: buf.const(MARKERS[name]) or [],
 }

@@ -6,11 +6,14 @@ from reference_decoder.buf import Buf, Eof, Invalid  # noqa: F401
 import describe_connections
 import describe_forms
 import describe_replies
+import describe_statements
 import describe_values
 
 # the words of each probe that read bytes
-READS = {"statements": [*describe_replies.DESCRIBERS, *describe_values.DESCRIBERS], "connections": [*describe_connections.DESCRIBERS, *describe_forms.DESCRIBERS]}
-DESCRIBERS = {**describe_replies.DESCRIBERS, **describe_values.DESCRIBERS, **describe_connections.DESCRIBERS, **describe_forms.DESCRIBERS}
+READS = {"replies": [*describe_replies.DESCRIBERS], "statements": [*describe_statements.DESCRIBERS, *describe_values.DESCRIBERS],
+         "connections": [*describe_connections.DESCRIBERS, *describe_forms.DESCRIBERS]}
+DESCRIBERS = {**describe_replies.DESCRIBERS, **describe_statements.DESCRIBERS, **describe_values.DESCRIBERS, **describe_connections.DESCRIBERS,
+              **describe_forms.DESCRIBERS}
 
 
 def describer(request):

@@ -6,7 +6,7 @@ from pathlib import Path
 TOP = Path(__file__).resolve().parent.parent.parent
 VECTORS = TOP / "tests/vectors"
 # the programs that answer rows, by their folder of vectors
-PROBES = {"statements": "test_probe_statements", "connections": "test_probe_connections", "program": "test_probe_program"}
+PROBES = {"replies": "test_probe_replies", "statements": "test_probe_statements", "connections": "test_probe_connections", "program": "test_calls"}
 
 # What goes without saying in a file of vectors: all bytes are read, they are written as they were, and so on.
 AS_IT_MUST_BE = ("rest=0", "made=same", "written=same", "again=same")

@@ -9,7 +9,7 @@ import random
 import sys
 
 from lines import answers, built, summary, vectors
-from described import Buf, Eof, Invalid, describer
+from described import READS, Buf, Eof, Invalid, describer
 
 EDGES = [0x00, 0x7F, 0xFB, 0xFC, 0xFD, 0xFE, 0xFF]
 # What may be written longer than it was: a state of tracking always has one digit, and texts with a bare length get their own.
@@ -139,8 +139,9 @@ def part(task):
 
 
 def main(count="2000000"):
-    tasks = [(probe, seed, PART) for probe in ("statements", "connections") for seed in range(max(1, int(count) // PART // 2))]
-    print(f"malformed input: {len(tasks)} parts of {PART} inputs at random, of each probe the seeds 0 to {len(tasks) // 2 - 1}; "
+    # (as many parts of each probe, so that they are COUNT at least)
+    tasks = [(probe, seed, PART) for probe in READS for seed in range(max(1, -(-int(count) // PART // len(READS))))]
+    print(f"malformed input: {len(tasks)} parts of {PART} inputs at random, of each probe the seeds 0 to {len(tasks) // len(READS) - 1}; "
           "those of seed 0 have all cuts, turned bits and edges before them", flush=True)
     whole, failures, kinds = 0, [], {}
     with multiprocessing.Pool() as pool:

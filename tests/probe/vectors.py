@@ -2,7 +2,7 @@
 """Compares what the probes answer to the requests of tests/vectors/ with the lines below them.
 
 vectors.py                       asks the builds that rt ci left; the last line is 'N passed, N failed'
-vectors.py --unproved PROBE ..   asks these probes, built without proof: statements, connections
+vectors.py --unproved PROBE ..   asks these probes, built without proof: replies, statements, connections, program
 vectors.py --write PROBE FILE    prints the requests of a file with their answers, by a build without proof, to begin a file
                                  with; what is wanted must come from elsewhere than from the probe"""
 import sys

@@ -24,14 +24,6 @@ pub fn is_alike(alloc: Global, value: &Value) -> Result<bool> {
     Ok(is_alike && ParamType::from_value_ref(&borrowed) == ParamType::from_value(value))
 }
 
-/// Adds a word where what was read or made in another way is something else.
-pub fn or_other(out: &mut Out, name: &str, is_same: bool) -> Result {
-    if is_same {
-        return Ok(());
-    }
-    out.field(name, "other")
-}
-
 /// Adds a word unless a reader that borrows gave what the other did, and left as much.
 fn compare<T>(
     out: &mut Out,
@@ -44,7 +36,7 @@ fn compare<T>(
         (Err(owned), Err(borrowed)) => owned == borrowed,
         _ => false,
     };
-    or_other(out, "ref", is_same)
+    out.or_other("ref", is_same)
 }
 
 pub fn value_text(out: &mut Out, request: &Request<'_>) -> Result {
@@ -146,5 +138,5 @@ pub fn converts<'a, T: FromValueRef<'a> + Converted + Drop, D: Display>(
         }
         _ => false,
     };
-    or_other(out, "ref", is_same)
+    out.or_other("ref", is_same)
 }

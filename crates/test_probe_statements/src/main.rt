@@ -1,4 +1,4 @@
-//! Answers rows of replies, statements, values and builders: a line for each line of its input.
+//! Answers rows of statements, values and builders: a line for each line of its input.
 #![tactic(auto)]
 
 mod bitmaps;
@@ -9,12 +9,8 @@ mod execute_read;
 mod execute_with;
 mod forms;
 mod params;
-mod places;
 mod prelude;
-mod replies;
 mod rows;
-mod sent;
-mod session;
 mod stmt;
 mod texts;
 mod values;
@@ -22,32 +18,12 @@ mod values;
 use crate::prelude::{Out, Request, Result, answers};
 use crate::rows::{views, written};
 use mysql_bulk::*;
-use mysql_replies::*;
-use mysql_session::*;
 use mysql_stmt::*;
 use mysql_values::*;
 use std::io;
 use test_probe::{Answers, run};
 
 struct Statements;
-
-fn of_replies(out: &mut Out, request: &Request<'_>) -> Result<bool> {
-    answers!(Statements, out, request, request.word(0);
-        with () => "local_infile": LocalInfilePacket<'_>,
-        call "ok": places::ok, "ok_end": places::ok_end,
-            "ok_eof": places::ok_eof, "ok_stream": places::ok_stream,
-            "sql_state": places::sql_state, "progress": places::progress, "session_info": places::session_info,
-            "err": places::err, "server_error": places::server_error, "ok_body": replies::ok_body, "column": replies::column,
-            "ok_sent": sent::common, "ok_end_sent": sent::end,
-            "ok_eof_sent": sent::old_end, "ok_stream_sent": sent::stream_end,)
-}
-
-fn of_session(out: &mut Out, request: &Request<'_>) -> Result<bool> {
-    answers!(Statements, out, request, request.word(0);
-        with () => "schema": Schema<'_>, "gtids": Gtids<'_>, "characteristics": TransactionCharacteristics<'_>,
-            "state": TransactionState<'_>, "unsupported": Unsupported<'_>,
-        call "change": session::change, "variable": places::variable, "variables": places::variables,)
-}
 
 fn of_statements(out: &mut Out, request: &Request<'_>) -> Result<bool> {
     answers!(Statements, out, request, request.word(0);
@@ -60,7 +36,7 @@ fn of_statements(out: &mut Out, request: &Request<'_>) -> Result<bool> {
             "close": stmt::close, "bitmap": bitmaps::bitmap, "bits": bitmaps::bits, "row_equal": rows::row_equal,
             "write_row_text": written::text, "write_row": written::binary,
             "row_text_again": written::text_again, "row_again": written::binary_again,
-            "new_row": rows::made_row, "new_row_raw": rows::made_row_raw, "unwrap": rows::unwrap,)
+            "new_row": rows::made_row, "new_row_raw": rows::made_row_raw, "unwrap": rows::unwrap, "column_typed": rows::column_typed,)
 }
 
 fn of_values(out: &mut Out, request: &Request<'_>) -> Result<bool> {
@@ -84,9 +60,7 @@ fn of_bulk(out: &mut Out, request: &Request<'_>) -> Result<bool> {
 impl Answers for Statements {
     fn answer(out: &mut Out, request: &Request<'_>) -> Result<bool> {
         Ok(
-            of_replies(out, request)?
-                || of_session(out, request)?
-                || of_statements(out, request)?
+            of_statements(out, request)?
                 || of_values(out, request)?
                 || of_bulk(out, request)?
                 || texts::answer(out, request)?,

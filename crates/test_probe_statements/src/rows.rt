@@ -9,6 +9,8 @@
 //! Made: `new_row COLUMNS VALUES CALL ..`, and `new_row_raw ..`, where `-` stands for a value that was taken; and
 //! `unwrap COLUMNS VALUES`, of two values. Their columns are names with types, as `a:8,b:253`. The calls stand in
 //! `rows/calls.rt`.
+//!
+//! `column_typed BYTES` reads a column, and says whether the one that stays in its packet types values as it does.
 
 mod calls;
 pub mod views;
@@ -16,8 +18,8 @@ pub mod written;
 
 use crate::prelude::*;
 use crate::rows::calls::call;
-use mysql_replies::Column;
-use mysql_stmt::{Row, RowDeserializer, new_row, new_row_raw};
+use mysql_replies::{Column, ColumnRef};
+use mysql_stmt::{Row, RowDeserializer, TypedColumn, new_row, new_row_raw};
 use mysql_values::{ServerSide, Text};
 use mysql_wire::{ColumnType, ConstValue};
 use std::rc::RcSlice;
@@ -143,4 +145,21 @@ pub fn unwrap(out: &mut Out, request: &Request<'_>) -> Result {
         Ok(values) => out.show("values", SpelledRow(values.as_slice())),
         Err(AllocError) => out.field("values", "Memory"),
     }
+}
+
+/// The type of a column's values, and whether they have no sign.
+fn typed<C: TypedColumn>(column: &C) -> (ColumnType, bool) {
+    (column.value_type(), column.is_unsigned())
+}
+
+pub fn column_typed(out: &mut Out, request: &Request<'_>) -> Result {
+    let (alloc, bytes) = (request.alloc, request.bytes.as_slice());
+    let (mut buf, mut place) = (ParseBuf::new(alloc, bytes), ParseBuf::new(alloc, bytes));
+    let owned: Result<Column, Fault> = buf.parse(());
+    let borrowed: Result<ColumnRef<'_>, Fault> = place.parse(());
+    let is_same = match (owned, borrowed) {
+        (Ok(owned), Ok(borrowed)) => typed(&owned) == typed(&borrowed),
+        _ => false,
+    };
+    out.same("typed", Ok(is_same))
 }

@@ -1,8 +1,7 @@
-//! Constant fields of replies and statements: `marker NAME BYTES`, and the texts of errors: `text NAME`.
+//! Constant fields of statements: `marker NAME BYTES`, and the texts of errors: `text NAME`.
 
 use crate::prelude::*;
 use mysql_bulk::*;
-use mysql_replies::*;
 use mysql_stmt::*;
 use mysql_values::{FromValueError, ParamsError};
 use test_probe::error_texts;
@@ -18,9 +17,7 @@ pub fn answer(out: &mut Out, request: &Request<'_>) -> Result<bool> {
 
 fn marker(out: &mut Out, request: &Request<'_>) -> Result<bool> {
     answers!(Statements, out, request, request.word(1);
-        with () => "ColumnDefinitionCatalog": ColumnDefinitionCatalog, "FixedLengthFieldsLen": FixedLengthFieldsLen,
-            "ErrPacketHeader": ErrPacketHeader, "SqlStateMarker": SqlStateMarker, "LocalInfileHeader": LocalInfileHeader,
-            "ComStmtExecuteHeader": ComStmtExecuteHeader, "IterationCount": IterationCount,
+        with () => "ComStmtExecuteHeader": ComStmtExecuteHeader, "IterationCount": IterationCount,
             "ComStmtSendLongDataHeader": ComStmtSendLongDataHeader, "ComStmtCloseHeader": ComStmtCloseHeader,)
 }
 
@@ -28,8 +25,7 @@ fn marker(out: &mut Out, request: &Request<'_>) -> Result<bool> {
 fn text(out: &mut Out, name: &str) -> Result<bool> {
     let alloc = out.alloc();
     error_texts!(out, name;
-        InvalidCatalog, InvalidFixedLengthFieldsLen, InvalidOkPacketHeader, InvalidErrPacketHeader, InvalidSqlStateMarker,
-        InvalidLocalInfileHeader, InvalidStmtPacketStatus, InvalidIterationCount, InvalidComStmtExecuteHeader,
+        InvalidStmtPacketStatus, InvalidIterationCount, InvalidComStmtExecuteHeader,
         InvalidComStmtSendLongDataHeader, InvalidComStmtCloseHeader, InvalidComStmtBulkExecuteHeader,;
         "FromValueError": FromValueError(Value::NULL),
         "ParamsError::Missing": ParamsError::Missing(Vec::new(alloc)),

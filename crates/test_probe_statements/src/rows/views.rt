@@ -1,7 +1,6 @@
 //! Rows by their views, value by value and in places: where they give something else than `RowDeserializer`, the answer to a
 //! row says `view=other`.
 
-use crate::borrowed::or_other;
 use crate::prelude::*;
 use crate::rows::columns;
 use mysql_replies::Column;
@@ -96,7 +95,7 @@ fn compare<S: SerializationSide, P: RowProtocol>(
     let mut buf = ParseBuf::new(request.alloc, bytes);
     let owned: Result<RowDeserializer<S, P>, Fault> = buf.parse(columns(request)?);
     let is_same = is_read(&one_by_one, owned, buf.len()) && one_by_one == in_places;
-    or_other(out, "view", is_same)
+    out.or_other("view", is_same)
 }
 
 pub fn text<S: SerializationSide>(out: &mut Out, request: &Request<'_>) -> Result {

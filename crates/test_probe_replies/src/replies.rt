@@ -4,19 +4,18 @@
 //! byte of `ok`), `session_info BYTES`; `column BYTES`, `local_infile BYTES`, `err CAPABILITIES BYTES`; and the parts of an error, each alone: `server_error CODE
 //! STATE BYTES` (STATE is 1 where an SQL state stands there), `sql_state BYTES`, `progress BYTES`.
 
-use crate::borrowed::or_other;
-use crate::prelude::*;
+use crate::Server;
 use mysql_replies::*;
 use mysql_session::SessionStateChange;
-use mysql_stmt::TypedColumn;
 use std::fmt::Display;
+use test_probe::prelude::*;
 
 /// The context of an error: its code, and whether an SQL state follows.
 pub fn of_error(request: &Request<'_>) -> (u16, bool) {
     ((request.number(1) & 0xffff) as u16, request.number(2) == 1)
 }
 
-impl Shows<Column> for Statements {
+impl Shows<Column> for Server {
     fn fields(record: &Column, out: &mut Out) -> Result {
         fields!(out, record; schema = schema_ref, table = table_ref, org_table = org_table_ref,
             name = name_ref, org_name = org_name_ref, character_set, column_length)?;
@@ -46,36 +45,7 @@ fn made_column(column: &Column, alloc: Global) -> Result<Column> {
     )
 }
 
-/// Whether a column that stays in its packet is this one.
-fn is_column(column: &ColumnRef<'_>, owned: &Column, alloc: Global) -> Result<bool> {
-    let (mut one, mut other) = (Out::new(alloc), Out::new(alloc));
-    fields!(one, column; schema, table, org_table, name, org_name, character_set, column_length, flags, decimals,
-        is_unsigned)?;
-    fields!(other, owned; schema = schema_ref, table = table_ref, org_table = org_table_ref, name = name_ref,
-        org_name = org_name_ref, character_set, column_length, flags, decimals, is_unsigned)?;
-    let is_typed = column.column_type() == owned.column_type()
-        && column.value_type() == owned.value_type();
-    let is_shown = one.into_text() == other.into_text();
-    Ok(is_shown && is_typed && counted!(alloc; column.to_column(alloc))? == *owned)
-}
-
-/// A column; and a word where the one that stays in its packet is another.
-pub fn column(out: &mut Out, request: &Request<'_>) -> Result {
-    round_trip::<Statements, Column>(out, request, (), ())?;
-    let (alloc, bytes) = (request.alloc, request.bytes.as_slice());
-    let mut buf = ParseBuf::new(alloc, bytes);
-    let borrowed: Result<ColumnRef<'_>, Fault> = buf.parse(());
-    let mut rest = ParseBuf::new(alloc, bytes);
-    let owned: Result<Column, Fault> = rest.parse(());
-    let is_same = match (&borrowed, &owned) {
-        (Ok(borrowed), Ok(owned)) => is_column(borrowed, owned, alloc)?,
-        (Err(borrowed), Err(owned)) => borrowed == owned,
-        _ => false,
-    };
-    or_other(out, "borrowed", is_same && buf.len() == rest.len())
-}
-
-impl<'a> Shows<LocalInfilePacket<'a>> for Statements {
+impl<'a> Shows<LocalInfilePacket<'a>> for Server {
     fn fields(record: &LocalInfilePacket<'a>, out: &mut Out) -> Result {
         fields!(out, record; file_name = file_name_ref; texts file_name_str = file_name_str)
     }
@@ -92,7 +62,7 @@ fn displayed<T: Display>(record: &T, out: &mut Out) -> Result {
     out.show("shown", text.as_str().as_bytes())
 }
 
-impl<'a> Shows<ErrPacket<'a>> for Statements {
+impl<'a> Shows<ErrPacket<'a>> for Server {
     fn fields(record: &ErrPacket<'a>, out: &mut Out) -> Result {
         if record.is_error() {
             show_error(record.server_error(), out)?;
@@ -112,7 +82,7 @@ impl<'a> Shows<ErrPacket<'a>> for Statements {
     }
 }
 
-impl<'a> Shows<ServerError<'a>> for Statements {
+impl<'a> Shows<ServerError<'a>> for Server {
     fn fields(record: &ServerError<'a>, out: &mut Out) -> Result {
         show_error(record, out)?;
         displayed(record, out)
@@ -139,7 +109,7 @@ fn made_error(error: &ServerError<'_>, alloc: Global) -> Result<ServerError<'sta
     counted!(alloc; made.into_owned(alloc))
 }
 
-impl Shows<SqlState> for Statements {
+impl Shows<SqlState> for Server {
     fn fields(record: &SqlState, out: &mut Out) -> Result {
         out.show("sql_state", record.as_bytes().as_slice())?;
         fields!(out, record; ; texts sql_state_str = as_str)
@@ -150,7 +120,7 @@ impl Shows<SqlState> for Statements {
     }
 }
 
-impl<'a> Shows<ProgressReport<'a>> for Statements {
+impl<'a> Shows<ProgressReport<'a>> for Server {
     fn fields(record: &ProgressReport<'a>, out: &mut Out) -> Result {
         show_progress(record, out)?;
         displayed(record, out)
@@ -173,7 +143,7 @@ fn made_progress(report: &ProgressReport<'_>, alloc: Global) -> Result<ProgressR
     counted!(alloc; made.into_owned(alloc))
 }
 
-impl<'a, K> Shows<OkPacketDeserializer<'a, K>> for Statements {
+impl<'a, K> Shows<OkPacketDeserializer<'a, K>> for Server {
     fn fields(record: &OkPacketDeserializer<'a, K>, out: &mut Out) -> Result {
         show_packet(&record.clone()?.into_inner(), out)
     }
@@ -196,7 +166,7 @@ fn show_packet(packet: &OkPacket<'_>, out: &mut Out) -> Result {
         Ok(changes) => {
             out.show("changes", changes.len())?;
             for change in changes.as_slice() {
-                Statements::fields(change, out)?;
+                Server::fields(change, out)?;
                 let next = counted!(alloc; value sent.next());
                 same_change(next, change.decode_as_sent(alloc), out)?;
             }
@@ -235,7 +205,7 @@ fn show_change(name: &str, change: Result<SessionStateChange<'_>, Fault>, out: &
     match change {
         Ok(change) => {
             out.field(name, "read")?;
-            Statements::fields(&change, out)
+            Server::fields(&change, out)
         }
         Err(fault) => out.show(name, Variant(&fault.kind())),
     }
@@ -272,7 +242,7 @@ fn show_body(body: OkPacketBody<'_>, out: &mut Out) -> Result {
 }
 
 /// An entry of a state string, and the change that its data begins with.
-impl<'a> Shows<SessionStateInfo<'a>> for Statements {
+impl<'a> Shows<SessionStateInfo<'a>> for Server {
     fn fields(record: &SessionStateInfo<'a>, out: &mut Out) -> Result {
         let alloc = out.alloc();
         out.show("data_type", u8::from(record.data_type()))?;

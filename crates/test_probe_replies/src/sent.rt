@@ -3,8 +3,8 @@
 //! The packet that the bytes are read as is put together anew, and written as its kind under the same flags. The state
 //! string is put together of the changes that its entries are decoded as.
 
-use crate::prelude::*;
 use mysql_replies::*;
+use test_probe::prelude::*;
 use test_probe::record::again;
 
 /// Reads a packet of a kind, and writes it as that kind.

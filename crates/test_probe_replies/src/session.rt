@@ -4,10 +4,10 @@
 //! and the parts of changes, each alone: `schema BYTES`, `gtids BYTES`, `characteristics BYTES`, `state BYTES`,
 //! `unsupported BYTES`, `variable BYTES`, `variables BYTES`.
 
-use crate::places;
-use crate::prelude::*;
+use crate::{Server, places};
 use mysql_session::*;
 use mysql_wire::{BytesRepr, ConstValue, SessionStateType};
+use test_probe::prelude::*;
 
 pub fn change(out: &mut Out, request: &Request<'_>) -> Result {
     if request.word(1) == "other" {
@@ -23,21 +23,21 @@ pub fn change(out: &mut Out, request: &Request<'_>) -> Result {
 /// A change of a kind that has no type of its own: no bytes are read as it.
 fn other_change(out: &mut Out, request: &Request<'_>) -> Result {
     let bytes = request.bytes.as_slice();
-    if let Some(text) = read::<Statements, Unsupported<'_>>(out, bytes, ())? {
+    if let Some(text) = read::<Server, Unsupported<'_>>(out, bytes, ())? {
         let change = SessionStateChange::Unsupported(text);
-        Statements::fields(&change, out)?;
-        out.same("change", Statements::is_made(&change, out.alloc()))?;
+        Server::fields(&change, out)?;
+        out.same("change", Server::is_made(&change, out.alloc()))?;
         let _ = write(out, &change, bytes)?;
     }
     Ok(())
 }
 
-impl<'a> Shows<SessionStateChange<'a>> for Statements {
+impl<'a> Shows<SessionStateChange<'a>> for Server {
     fn fields(record: &SessionStateChange<'a>, out: &mut Out) -> Result {
         match record {
             SessionStateChange::IsTracked(is_tracked) => out.show("is_tracked", *is_tracked),
             SessionStateChange::Schema(text) => show_text("schema", text, out),
-            SessionStateChange::SystemVariables(variables) => Statements::fields(variables, out),
+            SessionStateChange::SystemVariables(variables) => Server::fields(variables, out),
             SessionStateChange::Gtids(text) => show_text("gtids", text, out),
             SessionStateChange::TransactionCharacteristics(text) => {
                 show_text("characteristics", text, out)
@@ -57,7 +57,7 @@ fn show_text<N, R: BytesRepr>(name: &str, text: &SessionText<'_, N, R>, out: &mu
     fields!(out, text; ; texts as_str = as_str)
 }
 
-impl<'a, N, R: BytesRepr> Shows<SessionText<'a, N, R>> for Statements {
+impl<'a, N, R: BytesRepr> Shows<SessionText<'a, N, R>> for Server {
     fn fields(record: &SessionText<'a, N, R>, out: &mut Out) -> Result {
         show_text("bytes", record, out)
     }
@@ -74,7 +74,7 @@ fn made_variable<'a>(variable: &'a SystemVariable<'_>) -> SystemVariable<'a> {
     SystemVariable::new(name, CowSlice::Borrowed(variable.value_bytes()))
 }
 
-impl<'a> Shows<SystemVariable<'a>> for Statements {
+impl<'a> Shows<SystemVariable<'a>> for Server {
     fn fields(record: &SystemVariable<'a>, out: &mut Out) -> Result {
         fields!(out, record; name = name_bytes, value = value_bytes;
             texts name_str = name_str, value_str = value_str)
@@ -85,11 +85,11 @@ impl<'a> Shows<SystemVariable<'a>> for Statements {
     }
 }
 
-impl<'a> Shows<SystemVariables<'a>> for Statements {
+impl<'a> Shows<SystemVariables<'a>> for Server {
     fn fields(record: &SystemVariables<'a>, out: &mut Out) -> Result {
         out.show("variables", record.as_slice().len())?;
         for variable in record.as_slice() {
-            Statements::fields(variable, out)?;
+            Server::fields(variable, out)?;
             out.same("variable", Ok(made_variable(variable) == *variable))?;
         }
         Ok(())

@@ -1,12 +1,12 @@
 //! Replies that stay in their packet: each row of a reply is read so too, and an answer says `borrowed=other` where that gives
 //! something else.
 
-use crate::borrowed::or_other;
-use crate::prelude::*;
+use crate::Server;
 use crate::replies::of_error;
 use mysql_replies::*;
 use mysql_session::*;
 use mysql_wire::SessionStateType;
+use test_probe::prelude::*;
 
 /// Reads the bytes once more in both ways, and adds a word unless both give the same and leave as much.
 macro_rules! compare {
@@ -20,8 +20,24 @@ macro_rules! compare {
             (Err(borrowed), Err(owned)) => borrowed == owned,
             _ => false,
         };
-        or_other($out, "borrowed", is_same && buf.len() == place.len())
+        $out.or_other("borrowed", is_same && buf.len() == place.len())
     }};
+}
+
+fn is_column(column: &ColumnRef<'_>, owned: &Column, alloc: Global) -> Result<bool> {
+    let (mut one, mut other) = (Out::new(alloc), Out::new(alloc));
+    fields!(one, column; schema, table, org_table, name, org_name, character_set, column_length, flags, decimals)?;
+    fields!(other, owned; schema = schema_ref, table = table_ref, org_table = org_table_ref, name = name_ref,
+        org_name = org_name_ref, character_set, column_length, flags, decimals)?;
+    let is_same = one.into_text() == other.into_text()
+        && column.column_type() == owned.column_type();
+    Ok(is_same && counted!(alloc; column.to_column(alloc))? == *owned)
+}
+
+/// A column.
+pub fn column(out: &mut Out, request: &Request<'_>) -> Result {
+    round_trip::<Server, Column>(out, request, (), ())?;
+    compare!(out, request, (); Column, ColumnRef<'_>, is_column)
 }
 
 fn is_state(state: &SqlStateRef<'_>, owned: &SqlState, _alloc: Global) -> Result<bool> {
@@ -30,7 +46,7 @@ fn is_state(state: &SqlStateRef<'_>, owned: &SqlState, _alloc: Global) -> Result
 
 /// An SQL state.
 pub fn sql_state(out: &mut Out, request: &Request<'_>) -> Result {
-    round_trip::<Statements, SqlState>(out, request, (), ())?;
+    round_trip::<Server, SqlState>(out, request, (), ())?;
     compare!(out, request, (); SqlState, SqlStateRef<'_>, is_state)
 }
 
@@ -47,7 +63,7 @@ fn is_report(
 
 /// A progress report.
 pub fn progress(out: &mut Out, request: &Request<'_>) -> Result {
-    round_trip::<Statements, ProgressReport<'_>>(out, request, (), ())?;
+    round_trip::<Server, ProgressReport<'_>>(out, request, (), ())?;
     compare!(out, request, (); ProgressReport<'_>, ProgressReportRef<'_>, is_report)
 }
 
@@ -64,7 +80,7 @@ fn is_error(error: &ServerErrorRef<'_>, owned: &ServerError<'_>, alloc: Global) 
 /// An error without its packet.
 pub fn server_error(out: &mut Out, request: &Request<'_>) -> Result {
     let context = of_error(request);
-    round_trip::<Statements, ServerError<'_>>(out, request, context, context)?;
+    round_trip::<Server, ServerError<'_>>(out, request, context, context)?;
     compare!(out, request, context; ServerError<'_>, ServerErrorRef<'_>, is_error)
 }
 
@@ -83,7 +99,7 @@ fn is_packet(packet: &ErrPacketRef<'_>, owned: &ErrPacket<'_>, alloc: Global) ->
 /// An error or a progress report.
 pub fn err(out: &mut Out, request: &Request<'_>) -> Result {
     let capabilities = request.capabilities();
-    round_trip::<Statements, ErrPacket<'_>>(out, request, capabilities, capabilities)?;
+    round_trip::<Server, ErrPacket<'_>>(out, request, capabilities, capabilities)?;
     compare!(out, request, capabilities; ErrPacket<'_>, ErrPacketRef<'_>, is_packet)
 }
 
@@ -98,7 +114,7 @@ fn is_variable(
 
 /// A system variable.
 pub fn variable(out: &mut Out, request: &Request<'_>) -> Result {
-    round_trip::<Statements, SystemVariable<'_>>(out, request, (), ())?;
+    round_trip::<Server, SystemVariable<'_>>(out, request, (), ())?;
     compare!(out, request, (); SystemVariable<'_>, SystemVariableRef<'_>, is_variable)
 }
 
@@ -121,7 +137,7 @@ fn are_variables(
 
 /// System variables.
 pub fn variables(out: &mut Out, request: &Request<'_>) -> Result {
-    round_trip::<Statements, SystemVariables<'_>>(out, request, (), ())?;
+    round_trip::<Server, SystemVariables<'_>>(out, request, (), ())?;
     compare!(out, request, (); SystemVariables<'_>, SystemVariablesRef<'_>, are_variables)
 }
 
@@ -155,7 +171,7 @@ fn is_change(
 
 /// A change of this kind.
 pub fn change(out: &mut Out, request: &Request<'_>, kind: SessionStateType) -> Result {
-    round_trip::<Statements, SessionStateChange<'_>>(out, request, kind, kind)?;
+    round_trip::<Server, SessionStateChange<'_>>(out, request, kind, kind)?;
     compare!(out, request, kind; SessionStateChange<'_>, SessionStateChangeRef<'_>, is_change)
 }
 
@@ -193,7 +209,7 @@ fn is_info(
 
 /// An entry of a state string.
 pub fn session_info(out: &mut Out, request: &Request<'_>) -> Result {
-    round_trip::<Statements, SessionStateInfo<'_>>(out, request, (), ())?;
+    round_trip::<Server, SessionStateInfo<'_>>(out, request, (), ())?;
     compare!(out, request, (); SessionStateInfo<'_>, SessionStateInfoRef<'_>, is_info)
 }
 
@@ -224,7 +240,7 @@ macro_rules! ok_of {
     ($out:expr, $request:expr, $kind:ty) => {{
         let (alloc, bytes) = ($request.alloc, $request.bytes.as_slice());
         let capabilities = $request.capabilities();
-        let _ = read::<Statements, OkPacketDeserializer<'_, $kind>>($out, bytes, capabilities)?;
+        let _ = read::<Server, OkPacketDeserializer<'_, $kind>>($out, bytes, capabilities)?;
         let (mut buf, mut place) = (ParseBuf::new(alloc, bytes), ParseBuf::new(alloc, bytes));
         let owned: Result<OkPacketDeserializer<'_, $kind>, Fault> = buf.parse(capabilities);
         let borrowed: Result<OkPacketRefDeserializer<'_, $kind>, Fault> =
@@ -234,7 +250,7 @@ macro_rules! ok_of {
             (Err(borrowed), Err(owned)) => borrowed == owned,
             _ => false,
         };
-        or_other($out, "borrowed", is_same && buf.len() == place.len())
+        $out.or_other("borrowed", is_same && buf.len() == place.len())
     }};
 }
 

@@ -3,7 +3,24 @@
 //! A request is the program's words, and after ` < ` its input, in which `/` stands for a line feed; after ` <x ` the
 //! input stands in hexadecimal digits. A word `""` is empty, in a word `\` stands for a line feed, and `(none)` stands for
 //! no words. The answer is `status N` and the lines that are written, with `; ` in front of each.
+//!
+//! The tests are calls that no row of text can say: a user's own types, readers and writers that fail, and the sizes of
+//! generic types. They stand in this crate alone, since a crate with tests is proved twice.
 #![tactic(auto)]
+
+#[cfg(test)]
+mod ends;
+#[cfg(test)]
+mod ok_kinds;
+#[cfg(test)]
+mod own_types;
+#[cfg(test)]
+mod premises;
+#[cfg(test)]
+mod sizes;
+pub mod switch;
+#[cfg(test)]
+mod tour;
 
 use mysql_packets::run;
 use std::alloc::{AllocError, Global};

@@ -1,0 +1,18 @@
+//! Constant fields of replies: `marker NAME BYTES`, and the texts of errors: `text NAME`.
+
+use crate::Server;
+use mysql_replies::*;
+use test_probe::error_texts;
+use test_probe::prelude::*;
+
+pub fn marker(out: &mut Out, request: &Request<'_>) -> Result<bool> {
+    answers!(Server, out, request, request.word(1);
+        with () => "ColumnDefinitionCatalog": ColumnDefinitionCatalog, "FixedLengthFieldsLen": FixedLengthFieldsLen,
+            "ErrPacketHeader": ErrPacketHeader, "SqlStateMarker": SqlStateMarker, "LocalInfileHeader": LocalInfileHeader,)
+}
+
+pub fn text(out: &mut Out, name: &str) -> Result<bool> {
+    error_texts!(out, name;
+        InvalidCatalog, InvalidFixedLengthFieldsLen, InvalidOkPacketHeader, InvalidErrPacketHeader, InvalidSqlStateMarker,
+        InvalidLocalInfileHeader,;)
+}
