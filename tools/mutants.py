@@ -13,7 +13,7 @@ A function is proved from the contracts of what it calls. So all mutants of a li
 asks for their functions alone: each must be said to be not proved, by a goal or a proof of its own. That it calls a function
 which is not proved is no refusal. At most one mutant changes a function, and none a constant or a type.
 
-The libraries below are those that rt ci leaves, or are built. The last line is 'N passed, M failed'."""
+The libraries below are those that rt ci leaves, or are built. The last line counts what passed and failed."""
 import os
 import re
 import shutil
@@ -24,38 +24,9 @@ import time
 from concurrent.futures import ThreadPoolExecutor
 from pathlib import Path
 
-TOP = Path(__file__).resolve().parent.parent
+from libraries import TOP, below, build, crates, wait_for
+
 LINE = re.compile(r"^fn \w+::(\S+): (.*)$", re.M)
-
-
-def crates():
-    """The crates of crates.txt, each with what it stands on."""
-    lines = [line.partition("#")[0].partition(":") for line in (TOP / "crates.txt").read_text().splitlines()]
-    return {head.split()[0]: words.split() for head, _, words in lines if head.strip()}
-
-
-def below(name, listed):
-    """The libraries of the repository below a crate."""
-    own = [it for it in listed[name] if it in listed]
-    return {*own, *(lower for it in own for lower in below(it, listed))}
-
-
-def wait_for(names, log):
-    """Waits until rt ci, which writes to the file, has proved these crates, or has ended."""
-    said = "".join(rf"(?=[^\0]*^rt: {it} (?:proved|is kept))" for it in names)
-    while not re.search(rf"\A{said}|^\d+ passed, ", Path(log).read_text(errors="replace"), re.M):
-        time.sleep(1)
-
-
-def build(name, listed):
-    """Builds the libraries below a crate, but those that rt ci left since their sources changed: these have no stamp."""
-    for it in sorted(below(name, listed), key=lambda lower: len(below(lower, listed))):
-        crate = TOP / "crates" / it
-        made = crate / "out/rlib"
-        sources = [file.stat().st_mtime for part in ("src", "specs") for file in (crate / part).rglob("*.*t")]
-        if not made.exists() or (made / "stamp").exists() or made.stat().st_ctime < max(sources):
-            # (it does nothing where the stamp is that of the sources)
-            subprocess.run(["rt", "lib"], cwd=crate, stdin=subprocess.DEVNULL, stdout=subprocess.DEVNULL, check=True)
 
 
 class Mutant:
@@ -88,10 +59,10 @@ class Mutant:
 
 
 def words(name, listed, functions):
-    """The check of these functions of a crate alone."""
+    """The check of these functions of a crate alone, in a copy of it beside its libraries."""
     page = subprocess.run(["rt", "doc"], capture_output=True, text=True, check=True).stdout.strip()
     kit = os.path.dirname(page)
-    library = {it: TOP / f"crates/{it}/out/rlib/{it}.rlib" for it in below(name, listed)}
+    library = {it: Path(f"libraries/{it}/{it}.rlib") for it in below(name, listed)}
     command = [f"{kit}/bin/rattle", "check", "--crate-name", name, "src/lib.rt", "-L", f"dependency={kit}/rlibs"]
     for it in ["std", *listed[name]]:
         command += ["--extern", f"{it}={library.get(it, f'{kit}/rlibs/{it}.rlib')}"]
@@ -121,7 +92,7 @@ def tried(name, listed, log):
     """What came of the mutants of a crate: their names, whether each is refused, and why."""
     if log:
         wait_for(below(name, listed), log)
-        build(name, listed)
+    build(name, listed)
     began = time.time()
     mutants = [Mutant(it) for it in sorted((TOP / "crates" / name / "mutants").glob("*.edit"))]
     if len({it.function for it in mutants}) < len(mutants):
@@ -131,6 +102,9 @@ def tried(name, listed, log):
         for part in ("src", "specs", "proofs"):
             if (TOP / "crates" / name / part).is_dir():
                 shutil.copytree(TOP / "crates" / name / part, copy / part)
+        # (rt ci may put other builds of the libraries in their places when it ends)
+        for it in below(name, listed):
+            shutil.copytree(TOP / "crates" / it / "out/rlib", copy / "libraries" / it)
         unfit = {it.name: it.put_into(copy) for it in mutants}
         ran = subprocess.run(words(name, listed, [it.function for it in mutants]), cwd=copy, capture_output=True, text=True, errors="replace")
     text = ran.stdout + ran.stderr
@@ -144,8 +118,6 @@ def main(*names):
     log, names = (names[1], names[2:]) if names[:1] == ("--beside",) else (None, names)
     listed = crates()
     chosen = names or [it for it in listed if any((TOP / "crates" / it / "mutants").glob("*.edit"))]
-    for name in () if log else chosen:
-        build(name, listed)
     # (beside proofs each takes its share of memory)
     with ThreadPoolExecutor(len(os.sched_getaffinity(0)) // (2 if log else 1) or 1) as pool:
         found = [it for outcome in pool.map(lambda name: tried(name, listed, log), chosen) for it in outcome]
