@@ -29,7 +29,7 @@ fn read_unless<'s, 'de, C: TypedColumn>(
 }
 
 /// Puts a value of this type into its place.
-#[inline(always)]
+#[inline]
 fn put_value<'s, 'de>(
     column_type: ColumnType,
     is_unsigned: bool,
@@ -78,11 +78,11 @@ fn put_apart<'s, 'de>(
 }
 
 /// Puts a value of one of the types that rows mostly have by code of that type alone, and any other by a call: so a place gets
-/// the fields of its own kind, and no value of all kinds is put together first.
+/// the fields of its own kind, and no value of all kinds is put together first. Types of one form are one.
 macro_rules! put_by_type {
-    ($column_type:expr, $is_unsigned:expr, $buf:expr, $place:expr; $($often:ident,)*) => {
+    ($column_type:expr, $is_unsigned:expr, $buf:expr, $place:expr; $($often:ident $(| $alike:ident)*,)*) => {
         match $column_type {
-            $(ColumnType::$often => put_value(ColumnType::$often, $is_unsigned, $buf, $place),)*
+            $(ColumnType::$often $(| ColumnType::$alike)* => put_value(ColumnType::$often, $is_unsigned, $buf, $place),)*
             other => put_apart(other, $is_unsigned, $buf, $place),
         }
     };
@@ -105,8 +105,10 @@ fn put_unless<'s, 'de, C: TypedColumn>(
         return Ok(());
     }
     put_by_type!(column.value_type(), column.is_unsigned(), buf, place;
-        MYSQL_TYPE_TINY, MYSQL_TYPE_SHORT, MYSQL_TYPE_LONG, MYSQL_TYPE_LONGLONG, MYSQL_TYPE_DOUBLE, MYSQL_TYPE_NEWDECIMAL,
-        MYSQL_TYPE_VAR_STRING, MYSQL_TYPE_STRING, MYSQL_TYPE_BLOB,)
+        MYSQL_TYPE_TINY, MYSQL_TYPE_SHORT | MYSQL_TYPE_YEAR, MYSQL_TYPE_LONG | MYSQL_TYPE_INT24, MYSQL_TYPE_LONGLONG,
+        MYSQL_TYPE_DOUBLE, MYSQL_TYPE_VAR_STRING | MYSQL_TYPE_STRING | MYSQL_TYPE_VARCHAR | MYSQL_TYPE_DECIMAL | MYSQL_TYPE_NEWDECIMAL
+            | MYSQL_TYPE_TINY_BLOB | MYSQL_TYPE_BLOB | MYSQL_TYPE_MEDIUM_BLOB | MYSQL_TYPE_LONG_BLOB | MYSQL_TYPE_JSON | MYSQL_TYPE_ENUM
+            | MYSQL_TYPE_SET | MYSQL_TYPE_BIT | MYSQL_TYPE_GEOMETRY | MYSQL_TYPE_VECTOR,)
 }
 
 /// A binary row (`ProtocolBinary::ResultsetRow`) that is read value by value, of the columns `C` and written by the side `S`.
