@@ -27,26 +27,33 @@ use std::alloc::{AllocError, Global};
 use std::io;
 use test_probe::out::Out;
 use test_probe::request::Request;
-use test_probe::{Answers, counted};
+use test_probe::{Answers, Ends, counted};
 
 struct Program;
 
 impl Answers for Program {
-    fn answer(out: &mut Out, request: &Request<'_>) -> Result<bool, AllocError> {
-        let (call, input) = call_and_input(request)?;
-        let words = words(request.alloc, call)?;
-        // (capacity for the lines, so that the growths that are met are the program's own)
-        let mut written = Vec::with_capacity(request.alloc, 8192)?;
-        let mut reader = input.as_slice();
-        let status =
-            counted!(request.alloc; value run(request.alloc, words.as_slice(), &mut reader, &mut written));
-        out.word(format!(in request.alloc; "status {status}")?.as_str())?;
-        for line in str::from_utf8(written.as_slice()).unwrap_or("?").lines() {
-            out.push(";")?;
-            out.word(line)?;
-        }
-        Ok(true)
+    fn answer(out: &mut Out, request: &Request<'_>) -> bool {
+        ran(out, request).end(out);
+        true
     }
+}
+
+/// Runs the program, and adds its status and its lines.
+fn ran(out: &mut Out, request: &Request<'_>) -> Result<(), AllocError> {
+    let (call, input) = call_and_input(request)?;
+    let words = words(request.alloc, call)?;
+    // (capacity for the lines, so that the growths that are met are the program's own)
+    let mut written = Vec::with_capacity(request.alloc, 8192)?;
+    let mut reader = input.as_slice();
+    let status =
+        counted!(request.alloc; value run(request.alloc, words.as_slice(), &mut reader, &mut written));
+    out.word("status ");
+    out.display(&status);
+    for line in str::from_utf8(written.as_slice()).unwrap_or("?").lines() {
+        out.push(";");
+        out.word(line);
+    }
+    Ok(())
 }
 
 /// The words of a request's call, and its input.

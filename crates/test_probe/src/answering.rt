@@ -10,7 +10,24 @@ use std::io::{BufRead, BufReader};
 /// The requests that a program knows.
 pub trait Answers {
     /// Adds the answer to a request, and says whether it is one of these.
-    fn answer(out: &mut Out, request: &Request<'_>) -> Result<bool, AllocError>;
+    fn answer(out: &mut Out, request: &Request<'_>) -> bool;
+}
+
+/// What a call of a program leaves beside what it adds: nothing, or that the program ran out of memory.
+pub trait Ends {
+    fn end(self, out: &mut Out);
+}
+
+impl Ends for () {
+    fn end(self, _out: &mut Out) {}
+}
+
+impl Ends for Result<(), AllocError> {
+    fn end(self, out: &mut Out) {
+        if self.is_err() {
+            out.lose();
+        }
+    }
 }
 
 /// The answer to a name: the record that it stands for is read, of a context, and shown, and made anew where it does not
@@ -23,13 +40,13 @@ macro_rules! answers {
         $(call $($called:literal: $call:path,)*)?) => {{
         match $name {
             $($($read => {
-                let _ = $crate::record::read::<$shows, $read_type>($out, $request.bytes.as_slice(), $of)?;
+                let _ = $crate::record::read::<$shows, $read_type>($out, $request.bytes.as_slice(), $of);
             })*)*
-            $($($record => $crate::record::round_trip::<$shows, $type>($out, $request, $context, $context)?,)*)*
-            $($($called => $call($out, $request)?,)*)?
-            _ => return Ok(false),
+            $($($record => $crate::record::round_trip::<$shows, $type>($out, $request, $context, $context),)*)*
+            $($($called => $crate::Ends::end($call($out, $request), $out),)*)?
+            _ => return false,
         }
-        Ok(true)
+        true
     }};
 }
 
@@ -38,11 +55,11 @@ macro_rules! answers {
 macro_rules! error_texts {
     ($out:expr, $name:expr; $($plain:ident,)*; $($other:literal: $error:expr,)*) => {{
         match $name {
-            $(name if name == stringify!($plain) => $out.text("text", &$plain)?,)*
-            $($other => $out.text("text", &$error)?,)*
-            _ => return Ok(false),
+            $(name if name == stringify!($plain) => $out.text("text", &$plain),)*
+            $($other => $out.text("text", &$error),)*
+            _ => return false,
         }
-        Ok(true)
+        true
     }};
 }
 
@@ -50,10 +67,10 @@ macro_rules! error_texts {
 fn line<A: Answers>(alloc: Global, line: &str) -> Result<String, AllocError> {
     let request = Request::of(alloc, line)?;
     let mut out = Out::new(alloc);
-    if !A::answer(&mut out, &request)? {
-        out.word("unknown")?;
+    if !A::answer(&mut out, &request) {
+        out.word("unknown");
     }
-    Ok(out.into_text())
+    out.into_text()
 }
 
 /// The line without the number of the growth that is to be refused in it.

@@ -13,4 +13,4 @@ pub mod record;
 pub mod request;
 pub mod shown;
 
-pub use answering::{Answers, run};
+pub use answering::{Answers, Ends, run};

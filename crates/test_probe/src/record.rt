@@ -11,9 +11,7 @@ use std::alloc::{AllocError, Global};
 /// How a program shows a record in words, and makes it anew.
 pub trait Shows<T> {
     /// Adds its fields.
-    fn fields(_record: &T, _out: &mut Out) -> Result<(), AllocError> {
-        Ok(())
-    }
+    fn fields(_record: &T, _out: &mut Out) {}
 
     /// Whether the record that is made of what its getters answer, copied and made owned, is the same.
     fn is_made(_record: &T, _alloc: Global) -> Result<bool, AllocError> {
@@ -45,58 +43,56 @@ pub fn read<'a, P: Shows<T>, T: MyDeserialize<'a> + Drop>(
     out: &mut Out,
     bytes: &'a [u8],
     ctx: T::Ctx,
-) -> Result<Option<T>, AllocError> {
+) -> Option<T> {
     let alloc = out.alloc();
     let mut buf = ParseBuf::new(alloc, bytes);
     let answer: Result<T, Fault> = counted!(alloc; buf.parse(ctx));
     match answer {
         Ok(record) => {
-            out.word("read")?;
-            P::fields(&record, out)?;
-            out.show("rest", buf.len())?;
+            out.word("read");
+            P::fields(&record, out);
+            out.show("rest", buf.len());
             let made = P::is_made(&record, alloc);
-            out.same("made", made)?;
-            Ok(Some(record))
+            out.same("made", made);
+            Some(record)
         }
         Err(fault) => {
-            out.refused(fault, buf.len() == bytes.len())?;
-            Ok(None)
+            out.refused(fault, buf.len() == bytes.len());
+            None
         }
     }
 }
 
-/// Writes a record after a byte, and tells the bytes, which are the `same` where those that were read begin so; or that
-/// memory ran out, and the buffer then. The answer is what is written.
-pub fn write<T: MySerialize>(
-    out: &mut Out,
-    record: &T,
-    bytes: &[u8],
-) -> Result<Option<Vec<u8>>, AllocError> {
+/// Writes a record, and tells the bytes, which are the `same` where those that were read begin so; or that memory ran out, and
+/// the buffer then, in which a byte stood before. The answer is what is written.
+pub fn write<T: MySerialize>(out: &mut Out, record: &T, bytes: &[u8]) -> Option<Vec<u8>> {
     let alloc = out.alloc();
-    let mut buffer = Vec::from_slice(alloc, b"\xaa")?;
+    let Ok(mut buffer) = Vec::from_slice(alloc, b"\xaa") else {
+        out.lose();
+        return None;
+    };
     match counted!(alloc; record.serialize(&mut buffer)) {
         Ok(()) => {
-            let written = buffer.as_slice().strip_prefix(b"\xaa").unwrap_or(b"");
-            if bytes.starts_with(written) {
-                out.field("written", "same")?;
+            buffer.remove(0);
+            if bytes.starts_with(buffer.as_slice()) {
+                out.field("written", "same");
             } else {
-                out.show("written", written)?;
+                out.show("written", buffer.as_slice());
             }
-            out.show("len", record.defined_len())?;
-            Ok(Some(Vec::from_slice(alloc, written)?))
+            out.show("len", record.defined_len());
+            Some(buffer)
         }
         Err(AllocError) => {
-            out.field("written", "Memory")?;
-            out.show("buffer", buffer.as_slice())?;
-            Ok(None)
+            out.field("written", "Memory");
+            out.show("buffer", buffer.as_slice());
+            None
         }
     }
 }
 
 /// The same of a record that was made.
-pub fn write_made<T: MySerialize>(out: &mut Out, record: &T) -> Result<(), AllocError> {
-    let _ = write(out, record, b"")?;
-    Ok(())
+pub fn write_made<T: MySerialize>(out: &mut Out, record: &T) {
+    let _ = write(out, record, b"");
 }
 
 /// Whether what was written of a record is read again as the same.
@@ -105,7 +101,7 @@ pub fn again<'a, T: MyDeserialize<'a> + PartialEq + Drop>(
     record: &T,
     written: &'a [u8],
     ctx: T::Ctx,
-) -> Result<(), AllocError> {
+) {
     let mut buf = ParseBuf::new(out.alloc(), written);
     let answer: Result<T, FaultOf<'_>> = buf.parse(ctx);
     match answer {
@@ -120,10 +116,9 @@ pub fn write_and_read<'a, T: MyDeserialize<'a> + MySerialize + PartialEq + Drop>
     record: &T,
     request: &'a Request<'_>,
     ctx: T::Ctx,
-) -> Result<(), AllocError> {
-    match write(out, record, b"")? {
-        Some(written) => again(out, record, request.keep(written), ctx),
-        None => Ok(()),
+) {
+    if let Some(written) = write(out, record, b"") {
+        again(out, record, request.keep(written), ctx);
     }
 }
 
@@ -153,13 +148,11 @@ pub fn round_trip<'a, P: Shows<T>, T: MyDeserialize<'a> + MySerialize + PartialE
     request: &'a Request<'_>,
     ctx: T::Ctx,
     again_ctx: T::Ctx,
-) -> Result<(), AllocError> {
+) {
     let bytes = request.bytes.as_slice();
-    let Some(record) = read::<P, T>(out, bytes, ctx)? else {
-        return Ok(());
-    };
-    match write(out, &record, bytes)? {
-        Some(written) => again(out, &record, request.keep(written), again_ctx),
-        None => Ok(()),
+    if let Some(record) = read::<P, T>(out, bytes, ctx) {
+        if let Some(written) = write(out, &record, bytes) {
+            again(out, &record, request.keep(written), again_ctx);
+        }
     }
 }

@@ -9,78 +9,74 @@ use std::fmt::{Debug, Display};
 /// A value that an answer shows.
 pub trait Shown {
     /// Adds it to the last word.
-    fn shown(self, out: &mut Out) -> Result<(), AllocError>;
-}
-
-/// Adds a number to the last word.
-fn number<D: Display + Drop>(number: D, out: &mut Out) -> Result<(), AllocError> {
-    let digits = format!(in out.alloc(); "{number}")?;
-    out.push(digits.as_str())
+    fn shown(self, out: &mut Out);
 }
 
 impl Shown for u8 {
-    fn shown(self, out: &mut Out) -> Result<(), AllocError> {
-        number(self, out)
+    fn shown(self, out: &mut Out) {
+        out.display(&self);
     }
 }
 
 impl Shown for u16 {
-    fn shown(self, out: &mut Out) -> Result<(), AllocError> {
-        number(self, out)
+    fn shown(self, out: &mut Out) {
+        out.display(&self);
     }
 }
 
 impl Shown for u32 {
-    fn shown(self, out: &mut Out) -> Result<(), AllocError> {
-        number(self, out)
+    fn shown(self, out: &mut Out) {
+        out.display(&self);
     }
 }
 
 impl Shown for u64 {
-    fn shown(self, out: &mut Out) -> Result<(), AllocError> {
-        number(self, out)
+    fn shown(self, out: &mut Out) {
+        out.display(&self);
     }
 }
 
 impl Shown for usize {
-    fn shown(self, out: &mut Out) -> Result<(), AllocError> {
-        number(self, out)
+    fn shown(self, out: &mut Out) {
+        out.display(&self);
     }
 }
 
 /// The bits.
 impl<N, B: Shown + Drop> Shown for FlagWord<N, B> {
-    fn shown(self, out: &mut Out) -> Result<(), AllocError> {
-        self.0.shown(out)
+    fn shown(self, out: &mut Out) {
+        self.0.shown(out);
     }
 }
 
 impl Shown for bool {
-    fn shown(self, out: &mut Out) -> Result<(), AllocError> {
-        out.push(if self { "yes" } else { "no" })
+    fn shown(self, out: &mut Out) {
+        out.push(if self { "yes" } else { "no" });
     }
 }
 
 /// A word.
 impl Shown for &str {
-    fn shown(self, out: &mut Out) -> Result<(), AllocError> {
-        out.push(self)
+    fn shown(self, out: &mut Out) {
+        out.push(self);
     }
 }
 
 /// `x` and hexadecimal digits.
 impl Shown for &[u8] {
-    fn shown(self, out: &mut Out) -> Result<(), AllocError> {
-        out.push("x")?;
-        let digits = hex::encode(out.alloc(), self)?;
-        out.push(digits.as_str())
+    fn shown(self, out: &mut Out) {
+        out.push("x");
+        match hex::encode(out.alloc(), self) {
+            Ok(digits) => out.push(digits.as_str()),
+            Err(AllocError) => out.lose(),
+        }
     }
 }
 
 /// The bytes of a text.
 impl Shown for CowStr<'_> {
-    fn shown(self, out: &mut Out) -> Result<(), AllocError> {
-        self.as_str().as_bytes().shown(out)
+    fn shown(self, out: &mut Out) {
+        self.as_str().as_bytes().shown(out);
     }
 }
 
@@ -89,17 +85,21 @@ impl Shown for CowStr<'_> {
 pub struct Variant<'v, T>(pub &'v T);
 
 impl<T: Debug> Shown for Variant<'_, T> {
-    fn shown(self, out: &mut Out) -> Result<(), AllocError> {
+    fn shown(self, out: &mut Out) {
         let value = self.0;
-        let text = format!(in out.alloc(); "{value:?}")?;
-        let name = text.as_str().split(' ').next().unwrap_or("");
-        out.push(name.split('(').next().unwrap_or(""))
+        match format!(in out.alloc(); "{value:?}") {
+            Ok(text) => {
+                let name = text.as_str().split(' ').next().unwrap_or("");
+                out.push(name.split('(').next().unwrap_or(""));
+            }
+            Err(AllocError) => out.lose(),
+        }
     }
 }
 
 /// The value, or `none`.
 impl<T: Shown + Drop> Shown for Option<T> {
-    fn shown(self, out: &mut Out) -> Result<(), AllocError> {
+    fn shown(self, out: &mut Out) {
         match self {
             Some(value) => value.shown(out),
             None => out.push("none"),
@@ -109,7 +109,7 @@ impl<T: Shown + Drop> Shown for Option<T> {
 
 /// What a call made, or that memory ran out.
 impl<T: Shown + Drop> Shown for Result<T, AllocError> {
-    fn shown(self, out: &mut Out) -> Result<(), AllocError> {
+    fn shown(self, out: &mut Out) {
         match self {
             Ok(value) => value.shown(out),
             Err(AllocError) => out.push("Memory"),
@@ -123,11 +123,10 @@ macro_rules! fields {
     (@get $record:expr, $name:ident) => { $record.$name() };
     (@get $record:expr, $name:ident $getter:ident) => { $record.$getter() };
     ($out:expr, $record:expr; $($name:ident $(= $getter:ident)?),* $(; texts $($text:ident = $taken:ident),*)?) => {{
-        $($out.show(stringify!($name), $crate::fields!(@get $record, $name $($getter)?))?;)*
+        $($out.show(stringify!($name), $crate::fields!(@get $record, $name $($getter)?));)*
         $($(
             let alloc = $out.alloc();
-            $out.show(stringify!($text), $crate::counted!(alloc; $record.$taken(alloc)))?;
+            $out.show(stringify!($text), $crate::counted!(alloc; $record.$taken(alloc)));
         )*)?
-        Ok::<(), std::alloc::AllocError>(())
     }};
 }

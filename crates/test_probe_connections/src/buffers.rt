@@ -7,16 +7,16 @@ use mysql_auth::EofName;
 use mysql_wire::*;
 
 /// Calls of a buffer, one after another. None of them takes memory.
-pub fn calls(out: &mut Out, request: &Request<'_>) -> Result {
+pub fn calls(out: &mut Out, request: &Request<'_>) {
     let mut buf = ParseBuf::new(out.alloc(), request.bytes.as_slice());
     for name in request.word(1).split(',') {
-        take(out, name, &mut buf)?;
+        take(out, name, &mut buf);
     }
     out.show("rest", buf.len())
 }
 
 /// A call of a buffer. Some take bytes from it, and two bytes must be there for the last three.
-fn take(out: &mut Out, name: &str, buf: &mut ParseBuf<'_>) -> Result {
+fn take(out: &mut Out, name: &str, buf: &mut ParseBuf<'_>) {
     match name {
         "rest" => out.show(name, buf.rest().len()),
         "is_empty" => out.show(name, buf.is_empty()),
@@ -37,15 +37,15 @@ fn take(out: &mut Out, name: &str, buf: &mut ParseBuf<'_>) -> Result {
 }
 
 /// Adds how much is kept of a content, and how it is written.
-fn show_kept<R: BytesRepr>(out: &mut Out, content: &[u8]) -> Result {
+fn show_kept<R: BytesRepr>(out: &mut Out, content: &[u8]) {
     let content: RawBytes<'_, R> = RawBytes::new(CowSlice::Borrowed(content));
-    out.show("kept", content.len())?;
-    out.show("empty", content.is_empty())?;
-    out.show("default", content == RawBytes::default())?;
+    out.show("kept", content.len());
+    out.show("empty", content.is_empty());
+    out.show("default", content == RawBytes::default());
     out.same(
         "with_capacity",
         is_written_with_capacity(out.alloc(), &content),
-    )?;
+    );
     write_made(out, &content)
 }
 
@@ -60,7 +60,7 @@ fn is_written_with_capacity<R: BytesRepr>(
 }
 
 /// A content, as a form writes it.
-pub fn content(out: &mut Out, request: &Request<'_>) -> Result {
+pub fn content(out: &mut Out, request: &Request<'_>) {
     let content = request.bytes.as_slice();
     match request.word(1) {
         "lenenc_bytes" => show_kept::<LenEnc>(out, content),
@@ -74,16 +74,16 @@ pub fn content(out: &mut Out, request: &Request<'_>) -> Result {
 }
 
 /// A number of varying length, by the functions that read, measure and write one.
-pub fn varlen(out: &mut Out, request: &Request<'_>) -> Result {
+pub fn varlen(out: &mut Out, request: &Request<'_>) {
     let alloc = out.alloc();
     let bytes = request.bytes.as_slice();
     let mut buf = ParseBuf::new(alloc, bytes);
     let answer: Result<u64, Fault> = counted!(alloc; read_varlen_uint(&mut buf));
     match answer {
         Ok(value) => {
-            out.word("read")?;
-            out.show("value", value)?;
-            out.show("rest", buf.len())?;
+            out.word("read");
+            out.show("value", value);
+            out.show("rest", buf.len());
             show_varlen(out, value)
         }
         Err(fault) => out.refused(fault, buf.len() == bytes.len()),
@@ -91,14 +91,20 @@ pub fn varlen(out: &mut Out, request: &Request<'_>) -> Result {
 }
 
 /// Adds how long a number of varying length is, and how it is written.
-fn show_varlen(out: &mut Out, value: u64) -> Result {
+fn show_varlen(out: &mut Out, value: u64) {
     let alloc = out.alloc();
-    out.show("size", varlen_uint_size(value))?;
-    let mut buffer = Vec::from_slice(alloc, b"\xaa")?;
-    let Ok(()) = counted!(alloc; write_varlen_uint(&mut buffer, value)) else {
-        out.field("written", "Memory")?;
-        return out.show("buffer", buffer.as_slice());
+    out.show("size", varlen_uint_size(value));
+    let Ok(mut buffer) = Vec::from_slice(alloc, b"\xaa") else {
+        return out.lose();
     };
-    let written = buffer.as_slice().strip_prefix(b"\xaa");
-    out.show("shortest", written.unwrap_or(b""))
+    match counted!(alloc; write_varlen_uint(&mut buffer, value)) {
+        Ok(()) => {
+            let written = buffer.as_slice().strip_prefix(b"\xaa");
+            out.show("shortest", written.unwrap_or(b""))
+        }
+        Err(AllocError) => {
+            out.field("written", "Memory");
+            out.show("buffer", buffer.as_slice())
+        }
+    }
 }

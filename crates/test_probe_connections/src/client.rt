@@ -11,9 +11,9 @@ use mysql_auth::{AuthPlugin, ComChangeUser, ComChangeUserMoreData, HandshakeResp
 use mysql_wire::MariadbCapabilities;
 
 impl<'a> Shows<HandshakeResponse<'a>> for Connections {
-    fn fields(record: &HandshakeResponse<'a>, out: &mut Out) -> Result {
-        fields!(out, record; capabilities, collation, mariadb = mariadb_ext_capabilities, user, scramble_buf, db_name)?;
-        show_plugin(record.auth_plugin(), out)?;
+    fn fields(record: &HandshakeResponse<'a>, out: &mut Out) {
+        fields!(out, record; capabilities, collation, mariadb = mariadb_ext_capabilities, user, scramble_buf, db_name);
+        show_plugin(record.auth_plugin(), out);
         show_attributes(record, out)
     }
 
@@ -29,16 +29,15 @@ impl<'a> Shows<HandshakeResponse<'a>> for Connections {
     }
 }
 
-fn show_attributes(packet: &HandshakeResponse<'_>, out: &mut Out) -> Result {
+fn show_attributes(packet: &HandshakeResponse<'_>, out: &mut Out) {
     let alloc = out.alloc();
     match counted!(alloc; packet.connect_attributes(alloc)) {
         Ok(Some(attributes)) => {
-            out.show("attributes", attributes.len())?;
+            out.show("attributes", attributes.len());
             for (key, value) in attributes.iter() {
-                out.show("key", key.as_str().as_bytes())?;
-                out.show("value", value.as_str().as_bytes())?;
+                out.show("key", key.as_str().as_bytes());
+                out.show("value", value.as_str().as_bytes());
             }
-            Ok(())
         }
         Ok(None) => out.field("attributes", "none"),
         Err(AllocError) => out.field("attributes", "Memory"),
@@ -63,49 +62,56 @@ fn response_again<'b>(
     )
 }
 
-/// A response that is made of words, with MariaDB's flags, as it is shown, written and read again. The first word is the server's
-/// version, or `c` and the collation's number.
+/// A response that is made of words, as it is shown, written and read again.
 pub fn make_response(out: &mut Out, request: &Request<'_>) -> Result {
-    let alloc = out.alloc();
+    let attributes = words::attributes(out.alloc(), request.word(9))?;
+    match response_of_words(request, attributes) {
+        Ok(packet) => {
+            out.word("made");
+            Connections::fields(&packet, out);
+            write_and_read(out, &packet, request, ());
+        }
+        Err(AllocError) => out.error(&"Memory"),
+    }
+    Ok(())
+}
+
+/// The response of the words, with MariaDB's flags. The first word is the server's version, or `c` and the collation's number.
+fn response_of_words<'a>(
+    request: &Request<'a>,
+    attributes: Option<IndexMap<String, String>>,
+) -> Result<HandshakeResponse<'a>> {
     let part = |place: usize| words::number(request.word(1).split('.').nth(place).unwrap_or(""));
     let version: (u16, u16, u16) = (part(0), part(1), part(2));
-    let plugin = words::bytes(request.word(8)).map(|name| AuthPlugin::from_bytes(name));
-    let attributes = words::attributes(alloc, request.word(9))?;
-    let made = counted!(alloc; HandshakeResponse::new(
-        alloc,
+    let made = counted!(request.alloc; HandshakeResponse::new(
+        request.alloc,
         words::borrowed(request.word(5)),
         version,
         words::borrowed(request.word(6)),
         words::borrowed(request.word(7)),
-        plugin,
+        words::bytes(request.word(8)).map(|name| AuthPlugin::from_bytes(name)),
         CapabilityFlags::from_bits_retain(request.number(2)),
         attributes,
         request.number(4),
-    ));
-    let Ok(packet) = made else {
-        return out.error(&"Memory");
-    };
+    ))?;
     let flags = MariadbCapabilities::from_bits_retain(request.number(3));
-    let packet = packet.with_mariadb_ext_capabilities(flags);
-    let packet = match request.word(1).strip_prefix('c') {
-        Some(collation) => packet.with_collation(words::number(collation)),
-        None => packet,
-    };
-    out.word("made")?;
-    Connections::fields(&packet, out)?;
-    write_and_read(out, &packet, request, ())
+    let made = made.with_mariadb_ext_capabilities(flags);
+    Ok(match request.word(1).strip_prefix('c') {
+        Some(collation) => made.with_collation(words::number(collation)),
+        None => made,
+    })
 }
 
 /// The request for TLS that goes before a response, as it is shown, written and read again.
-pub fn tls_of(out: &mut Out, request: &Request<'_>) -> Result {
+pub fn tls_of(out: &mut Out, request: &Request<'_>) {
     let mut buf = ParseBuf::new(out.alloc(), request.bytes.as_slice());
     let answer: Result<HandshakeResponse<'_>, Fault> = buf.parse(());
     let Ok(response) = answer else {
         return out.word("refused");
     };
     let packet = response.ssl_request();
-    out.word("made")?;
-    Connections::fields(&packet, out)?;
+    out.word("made");
+    Connections::fields(&packet, out);
     write_and_read(out, &packet, request, ())
 }
 
@@ -141,14 +147,24 @@ fn more_of_words<'a>(
 pub fn make_change_user(out: &mut Out, request: &Request<'_>) -> Result {
     let alloc = out.alloc();
     let attributes = words::attributes(alloc, request.word(7))?;
-    let Ok(more) = counted!(alloc; more_of_words(alloc, request, attributes)) else {
-        return out.error(&"Memory");
-    };
-    let change = ComChangeUser::new()
+    match counted!(alloc; more_of_words(alloc, request, attributes)) {
+        Ok(more) => {
+            out.word("made");
+            let change = change_of_words(request, more);
+            write_and_read(out, &change, request, request.capabilities());
+        }
+        Err(AllocError) => out.error(&"Memory"),
+    }
+    Ok(())
+}
+
+fn change_of_words<'a>(
+    request: &Request<'a>,
+    more: Option<ComChangeUserMoreData<'a>>,
+) -> ComChangeUser<'a> {
+    ComChangeUser::new()
         .with_user(words::borrowed(request.word(2)))
         .with_auth_plugin_data(words::borrowed(request.word(3)))
         .with_database(words::borrowed(request.word(4)))
-        .with_more_data(more);
-    out.word("made")?;
-    write_and_read(out, &change, request, request.capabilities())
+        .with_more_data(more)
 }

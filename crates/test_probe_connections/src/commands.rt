@@ -9,7 +9,7 @@ use mysql_repl::{BinlogRequest, ComBinlogDump, ComRegisterSlave, ComTableDump, S
 use mysql_wire::BinlogDumpFlags;
 
 impl<'a> Shows<ComRegisterSlave<'a>> for Connections {
-    fn fields(record: &ComRegisterSlave<'a>, out: &mut Out) -> Result {
+    fn fields(record: &ComRegisterSlave<'a>, out: &mut Out) {
         fields!(out, record; server_id, hostname = hostname_raw, user = user_raw, password = password_raw, port,
             replication_rank, master_id; texts hostname_str = hostname, user_str = user, password_str = password)
     }
@@ -27,7 +27,7 @@ impl<'a> Shows<ComRegisterSlave<'a>> for Connections {
 }
 
 impl<'a> Shows<ComTableDump<'a>> for Connections {
-    fn fields(record: &ComTableDump<'a>, out: &mut Out) -> Result {
+    fn fields(record: &ComTableDump<'a>, out: &mut Out) {
         fields!(out, record; database = database_raw, table = table_raw;
             texts database_str = database, table_str = table)
     }
@@ -40,7 +40,7 @@ impl<'a> Shows<ComTableDump<'a>> for Connections {
 }
 
 impl<'a> Shows<ComBinlogDump<'a>> for Connections {
-    fn fields(record: &ComBinlogDump<'a>, out: &mut Out) -> Result {
+    fn fields(record: &ComBinlogDump<'a>, out: &mut Out) {
         fields!(out, record; pos, flags, server_id, filename = filename_raw; texts filename_str = filename)
     }
 
@@ -55,7 +55,7 @@ impl<'a> Shows<ComBinlogDump<'a>> for Connections {
 }
 
 impl<'a> Shows<SemiSyncAckPacket<'a>> for Connections {
-    fn fields(record: &SemiSyncAckPacket<'a>, out: &mut Out) -> Result {
+    fn fields(record: &SemiSyncAckPacket<'a>, out: &mut Out) {
         fields!(out, record; position, filename = filename_raw; texts filename_str = filename)
     }
 
@@ -70,16 +70,16 @@ impl<'a> Shows<SemiSyncAckPacket<'a>> for Connections {
 }
 
 /// Shows a request, its copy, and the command that it is sent as.
-fn show_request(out: &mut Out, request: &BinlogRequest<'_>) -> Result {
+fn show_request(out: &mut Out, request: &BinlogRequest<'_>) {
     let alloc = out.alloc();
-    fields!(out, request; server_id, use_gtid, flags, filename = filename_raw, filename_again = filename, pos)?;
-    out.show("sids", request.sids().len())?;
-    out.same("copy", is_cloned(alloc, request, request))?;
+    fields!(out, request; server_id, use_gtid, flags, filename = filename_raw, filename_again = filename, pos);
+    out.show("sids", request.sids().len());
+    out.same("copy", is_cloned(alloc, request, request));
     let command = counted!(alloc; value request.as_cmd());
     write_made(out, &command)
 }
 
-pub fn new_request(out: &mut Out, request: &Request<'_>) -> Result {
+pub fn new_request(out: &mut Out, request: &Request<'_>) {
     show_request(out, &BinlogRequest::new(request.number(1)))
 }
 
@@ -96,5 +96,6 @@ pub fn request(out: &mut Out, request: &Request<'_>) -> Result {
         .with_pos(words::number(request.word(4)))
         .with_filename(filename)
         .with_sids(sids);
-    show_request(out, &made)
+    show_request(out, &made);
+    Ok(())
 }

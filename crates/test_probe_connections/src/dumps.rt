@@ -10,14 +10,13 @@ use mysql_wire::{BinlogDumpFlags, MySerialize};
 use test_probe::record::again;
 
 impl<'a> Shows<ComBinlogDumpGtid<'a>> for Connections {
-    fn fields(record: &ComBinlogDumpGtid<'a>, out: &mut Out) -> Result {
-        fields!(out, record; server_id, flags, filename = filename_raw; texts filename_str = filename)?;
-        fields!(out, record; pos)?;
-        out.show("sids", record.sids().len())?;
+    fn fields(record: &ComBinlogDumpGtid<'a>, out: &mut Out) {
+        fields!(out, record; server_id, flags, filename = filename_raw; texts filename_str = filename);
+        fields!(out, record; pos);
+        out.show("sids", record.sids().len());
         for sid in record.sids() {
-            show_sid(sid, out)?;
+            show_sid(sid, out);
         }
-        Ok(())
     }
 
     fn is_made(record: &ComBinlogDumpGtid<'a>, alloc: Global) -> Result<bool> {
@@ -32,7 +31,7 @@ impl<'a> Shows<ComBinlogDumpGtid<'a>> for Connections {
 }
 
 /// A dump by the strict reader.
-pub fn strict(out: &mut Out, request: &Request<'_>) -> Result {
+pub fn strict(out: &mut Out, request: &Request<'_>) {
     let alloc = out.alloc();
     let bytes = request.bytes.as_slice();
     let mut buf = ParseBuf::new(alloc, bytes);
@@ -40,43 +39,56 @@ pub fn strict(out: &mut Out, request: &Request<'_>) -> Result {
         counted!(alloc; ComBinlogDumpGtid::parse_strict(&mut buf));
     match answer {
         Ok(dump) => {
-            out.word("read")?;
-            Connections::fields(&dump, out)?;
-            out.show("rest", buf.len())?;
-            let _ = write(out, &dump, bytes)?;
-            Ok(())
+            out.word("read");
+            Connections::fields(&dump, out);
+            out.show("rest", buf.len());
+            let _ = write(out, &dump, bytes);
         }
         Err(fault) => out.refused(fault, buf.len() == bytes.len()),
     }
 }
 
 /// The dump with a further sid, as it counts them, or that memory ran out.
-fn show_counts(out: &mut Out, name: &str, answer: Result<ComBinlogDumpGtid<'_>>) -> Result {
+fn show_counts(out: &mut Out, name: &str, answer: Result<ComBinlogDumpGtid<'_>>) {
     let Ok(dump) = answer else {
         return out.field(name, "Memory");
     };
-    out.show(name, dump.sids().len())?;
+    out.show(name, dump.sids().len());
     out.show("flags", dump.flags())
 }
 
 /// Adds a sid to a dump, and to one that borrows the sids of the first.
 pub fn with_sid(out: &mut Out, request: &Request<'_>) -> Result {
     let alloc = out.alloc();
+    let (one, other) = (one_sid(alloc)?, one_sid(alloc)?);
     let mut buf = ParseBuf::new(alloc, request.bytes.as_slice());
     let answer: Result<ComBinlogDumpGtid<'_>, Fault> = buf.parse(());
-    let Ok(dump) = answer else {
-        return out.word("refused");
-    };
-    let lent = ComBinlogDumpGtid::new(7).with_sids(CowSlice::Borrowed(dump.sids()));
-    fields!(out, lent; flags_of_sids = flags)?;
+    match answer {
+        Ok(dump) => {
+            with_sid_borrowed(out, dump.sids(), one);
+            show_counts(
+                out,
+                "of_owned",
+                counted!(alloc; dump.with_sid(alloc, other)),
+            );
+        }
+        Err(_) => out.word("refused"),
+    }
+    Ok(())
+}
+
+fn with_sid_borrowed<'a>(out: &mut Out, sids: &'a [Sid<'a>], sid: Sid<'a>) {
+    let alloc = out.alloc();
+    let lent = ComBinlogDumpGtid::new(7).with_sids(CowSlice::Borrowed(sids));
+    fields!(out, lent; flags_of_sids = flags);
     let emptied = lent.with_sids(CowSlice::Borrowed(&[]));
-    fields!(out, emptied; flags_of_none = flags)?;
-    let lent = emptied.with_sids(CowSlice::Borrowed(dump.sids()));
-    let sid = one_sid(alloc)?;
-    let with_sid = counted!(alloc; lent.with_sid(alloc, sid));
-    show_counts(out, "of_borrowed", with_sid)?;
-    let sid = one_sid(alloc)?;
-    show_counts(out, "of_owned", counted!(alloc; dump.with_sid(alloc, sid)))
+    fields!(out, emptied; flags_of_none = flags);
+    let lent = emptied.with_sids(CowSlice::Borrowed(sids));
+    show_counts(
+        out,
+        "of_borrowed",
+        counted!(alloc; lent.with_sid(alloc, sid)),
+    )
 }
 
 /// The dump that takes in one sid after another.
@@ -99,23 +111,29 @@ pub fn make(out: &mut Out, request: &Request<'_>) -> Result {
         .with_server_id(request.number(1))
         .with_pos(words::number(request.word(3)))
         .with_filename(words::name(request.word(4)));
-    let Ok(dump) = counted!(alloc; with_each(alloc, dump, sids)) else {
-        return out.error(&"Memory");
-    };
-    let flags = BinlogDumpFlags::from_bits_retain(words::number(request.word(2)));
-    let dump = dump.with_flags(flags);
-    out.word("made")?;
-    Connections::fields(&dump, out)?;
-    out.same("copy", is_cloned(alloc, &dump, &dump))?;
-    match write(out, &dump, b"")? {
-        Some(written) => show_again(out, &dump, &written),
-        None => Ok(()),
+    match counted!(alloc; with_each(alloc, dump, sids)) {
+        Ok(dump) => {
+            let flags = BinlogDumpFlags::from_bits_retain(words::number(request.word(2)));
+            show_made(out, &dump.with_flags(flags));
+        }
+        Err(AllocError) => out.error(&"Memory"),
+    }
+    Ok(())
+}
+
+fn show_made(out: &mut Out, dump: &ComBinlogDumpGtid<'_>) {
+    out.word("made");
+    Connections::fields(dump, out);
+    let is_same = is_cloned(out.alloc(), dump, dump);
+    out.same("copy", is_same);
+    if let Some(written) = write(out, dump, b"") {
+        show_again(out, dump, written.as_slice());
     }
 }
 
 /// Shows what both readers make of a dump's bytes.
-fn show_again(out: &mut Out, dump: &ComBinlogDumpGtid<'_>, written: &[u8]) -> Result {
-    again::<ComBinlogDumpGtid<'_>>(out, &*dump, written, ())?;
+fn show_again(out: &mut Out, dump: &ComBinlogDumpGtid<'_>, written: &[u8]) {
+    again::<ComBinlogDumpGtid<'_>>(out, &*dump, written, ());
     let mut buf = ParseBuf::new(out.alloc(), written);
     let strict = ComBinlogDumpGtid::parse_strict(&mut buf);
     out.same("strict", Ok(strict.is_ok_and(|again| again == *dump)))
@@ -129,23 +147,26 @@ pub fn of_count(out: &mut Out, request: &Request<'_>) -> Result {
         .with_filename(CowSlice::Borrowed(b"bin.7"))
         .with_sids(CowSlice::Owned(sids));
     let mut written = Vec::new(alloc);
-    let Ok(()) = counted!(alloc; dump.serialize(&mut written)) else {
-        return out.field("len", "Memory");
-    };
-    out.show("len", written.len())?;
-    show_again(out, &dump, &written)
+    match counted!(alloc; dump.serialize(&mut written)) {
+        Ok(()) => {
+            out.show("len", written.len());
+            show_again(out, &dump, written.as_slice());
+        }
+        Err(AllocError) => out.field("len", "Memory"),
+    }
+    Ok(())
 }
 
 /// A dump of the sids of a GTID set's text, as it is written.
-pub fn of_set(out: &mut Out, request: &Request<'_>) -> Result {
+pub fn of_set(out: &mut Out, request: &Request<'_>) {
     let alloc = out.alloc();
     let dump = ComBinlogDumpGtid::new(77).with_pos(4);
     let answer: Result<ComBinlogDumpGtid<'_>, InvalidSid> =
         counted!(alloc; dump.with_gtid_set(alloc, text_of(request)));
     match answer {
         Ok(dump) => {
-            out.word("made")?;
-            fields!(out, dump; flags, as_servers = is_as_servers_write)?;
+            out.word("made");
+            fields!(out, dump; flags, as_servers = is_as_servers_write);
             write_made(out, &dump)
         }
         Err(fault) => out.error(&fault),

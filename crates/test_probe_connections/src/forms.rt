@@ -16,12 +16,12 @@ type Bytes<'a> = Seq<'a, RawInt<u8>, Unknown>;
 type Strings<'a> = Seq<'a, RawBytes<'a, LenEnc>, LeU64>;
 
 /// The answer, where the request is a form.
-pub fn form(out: &mut Out, request: &Request<'_>) -> Result<bool> {
-    Ok(number_or_list(out, request)? || string(out, request)? || constant(out, request)?)
+pub fn form(out: &mut Out, request: &Request<'_>) -> bool {
+    number_or_list(out, request) || string(out, request) || constant(out, request)
 }
 
 /// Numbers and lists.
-fn number_or_list(out: &mut Out, request: &Request<'_>) -> Result<bool> {
+fn number_or_list(out: &mut Out, request: &Request<'_>) -> bool {
     answers!(Connections, out, request, request.word(1);
         with () => "u8": RawInt<u8>, "le_u16": RawInt<LeU16>, "le_u24": RawInt<LeU24>, "le_u32": RawInt<LeU32>,
             "le_u64": RawInt<LeU64>, "lenenc": RawInt<LenEnc>, "varlen": RawInt<VarLen>, "seq": Numbers<'_>,
@@ -33,7 +33,7 @@ fn number_or_list(out: &mut Out, request: &Request<'_>) -> Result<bool> {
 }
 
 /// Byte strings, and bytes that are skipped.
-fn string(out: &mut Out, request: &Request<'_>) -> Result<bool> {
+fn string(out: &mut Out, request: &Request<'_>) -> bool {
     answers!(Connections, out, request, request.word(1);
         with () => "lenenc_bytes": RawBytes<'_, LenEnc>, "null_bytes": RawBytes<'_, NullBytes>,
             "eof_bytes": RawBytes<'_, EofBytes>, "u8_bytes": RawBytes<'_, U8Bytes>,
@@ -44,7 +44,7 @@ fn string(out: &mut Out, request: &Request<'_>) -> Result<bool> {
 }
 
 /// Constants, coded bytes, and flag words.
-fn constant(out: &mut Out, request: &Request<'_>) -> Result<bool> {
+fn constant(out: &mut Out, request: &Request<'_>) -> bool {
     answers!(Connections, out, request, request.word(1);
         with () => "const_u8": ConstU8<Marker, 0>, "const_u32": ConstU32<Marker, 1>, "const_bytes": ConstBytes<Marker, 4>,
             "column_type": Const<ColumnType, u8>, "bulk_indicator": Const<MariadbBulkIndicator, u8>,
@@ -56,20 +56,19 @@ fn constant(out: &mut Out, request: &Request<'_>) -> Result<bool> {
 }
 
 /// A block of so many bytes, which is no record: it is its bytes.
-fn block(out: &mut Out, request: &Request<'_>) -> Result {
+fn block(out: &mut Out, request: &Request<'_>) {
     let bytes = request.bytes.as_slice();
-    let _ = read::<Connections, ParseBuf<'_>>(out, bytes, words::count(request))?;
-    Ok(())
+    let _ = read::<Connections, ParseBuf<'_>>(out, bytes, words::count(request));
 }
 
 impl<'a> Shows<ParseBuf<'a>> for Connections {
-    fn fields(record: &ParseBuf<'a>, out: &mut Out) -> Result {
+    fn fields(record: &ParseBuf<'a>, out: &mut Out) {
         out.show("content", record.rest().eat_all())
     }
 }
 
 impl<'a, R: BytesRepr> Shows<RawBytes<'a, R>> for Connections {
-    fn fields(record: &RawBytes<'a, R>, out: &mut Out) -> Result {
+    fn fields(record: &RawBytes<'a, R>, out: &mut Out) {
         fields!(out, record; content = as_bytes; texts content_str = as_str)
     }
 
@@ -84,7 +83,7 @@ impl<'a, R: BytesRepr> Shows<RawBytes<'a, R>> for Connections {
 }
 
 impl<const N: usize> Shows<[u8; N]> for Connections {
-    fn fields(record: &[u8; N], out: &mut Out) -> Result {
+    fn fields(record: &[u8; N], out: &mut Out) {
         out.show("content", record.as_slice())
     }
 }
@@ -116,10 +115,9 @@ impl ConstBytesValue<4> for Marker {
 }
 
 impl<R: IntRepr> Shows<RawInt<R>> for Connections {
-    fn fields(record: &RawInt<R>, out: &mut Out) -> Result {
+    fn fields(record: &RawInt<R>, out: &mut Out) {
         let value = record.0;
-        let text = format!(in out.alloc(); "{value:?}")?;
-        out.field("value", text.as_str())
+        out.text("value", &format_args!("{value:?}"))
     }
 
     fn is_made(record: &RawInt<R>, alloc: Global) -> Result<bool> {
@@ -129,10 +127,9 @@ impl<R: IntRepr> Shows<RawInt<R>> for Connections {
 
 impl<T: ConstValue<U::Primitive> + Copy + PartialEq, U: IntRepr> Shows<Const<T, U>>
     for Connections {
-    fn fields(record: &Const<T, U>, out: &mut Out) -> Result {
+    fn fields(record: &Const<T, U>, out: &mut Out) {
         let code = record.0.code();
-        let text = format!(in out.alloc(); "{code:?}")?;
-        out.field("code", text.as_str())
+        out.text("code", &format_args!("{code:?}"))
     }
 
     fn is_made(record: &Const<T, U>, _alloc: Global) -> Result<bool> {
@@ -141,7 +138,7 @@ impl<T: ConstValue<U::Primitive> + Copy + PartialEq, U: IntRepr> Shows<Const<T, 
 }
 
 /// Adds the code of a value, or why there is none.
-fn coded<T: ConstValue<u8> + Drop, E: Display + Drop>(out: &mut Out, code: Result<T, E>) -> Result {
+fn coded<T: ConstValue<u8> + Drop, E: Display + Drop>(out: &mut Out, code: Result<T, E>) {
     match code {
         Ok(value) => out.show("code", value.code()),
         Err(error) => out.error(&error),
@@ -149,7 +146,7 @@ fn coded<T: ConstValue<u8> + Drop, E: Display + Drop>(out: &mut Out, code: Resul
 }
 
 /// What a number is the code of.
-pub fn code(out: &mut Out, request: &Request<'_>) -> Result {
+pub fn code(out: &mut Out, request: &Request<'_>) {
     let number: u8 = words::number(request.word(2));
     match request.word(1) {
         "column_type" => coded(out, ColumnType::try_from(number)),
@@ -162,23 +159,22 @@ pub fn code(out: &mut Out, request: &Request<'_>) -> Result {
 struct InLists;
 
 impl<'a> Shows<RawBytes<'a, LenEnc>> for InLists {
-    fn fields(record: &RawBytes<'a, LenEnc>, out: &mut Out) -> Result {
+    fn fields(record: &RawBytes<'a, LenEnc>, out: &mut Out) {
         out.show("value", record.as_bytes())
     }
 }
 
 /// Adds how many values there are, and each of them.
-fn show_items<P: Shows<T>, T>(out: &mut Out, items: &[T]) -> Result {
-    out.show("count", items.len())?;
+fn show_items<P: Shows<T>, T>(out: &mut Out, items: &[T]) {
+    out.show("count", items.len());
     for item in items {
-        P::fields(item, out)?;
+        P::fields(item, out);
     }
-    Ok(())
 }
 
 /// Numbers of eight bytes, after their count, and bytes of a count that is passed.
 impl<'a> Shows<Numbers<'a>> for Connections {
-    fn fields(record: &Numbers<'a>, out: &mut Out) -> Result {
+    fn fields(record: &Numbers<'a>, out: &mut Out) {
         show_items::<Connections, RawInt<LeU64>>(out, record.as_slice())
     }
 
@@ -190,7 +186,7 @@ impl<'a> Shows<Numbers<'a>> for Connections {
 }
 
 impl<'a> Shows<Bytes<'a>> for Connections {
-    fn fields(record: &Bytes<'a>, out: &mut Out) -> Result {
+    fn fields(record: &Bytes<'a>, out: &mut Out) {
         show_items::<Connections, RawInt<u8>>(out, record.as_slice())
     }
 
@@ -201,7 +197,7 @@ impl<'a> Shows<Bytes<'a>> for Connections {
 }
 
 impl<'a> Shows<Strings<'a>> for Connections {
-    fn fields(record: &Strings<'a>, out: &mut Out) -> Result {
+    fn fields(record: &Strings<'a>, out: &mut Out) {
         show_items::<InLists, RawBytes<'_, LenEnc>>(out, record.as_slice())
     }
 
@@ -214,16 +210,16 @@ impl<'a> Shows<Strings<'a>> for Connections {
 fn all<'a, P: Shows<T>, T: MyDeserialize<'a, Ctx = ()> + Drop>(
     out: &mut Out,
     request: &'a Request<'_>,
-) -> Result {
+) {
     let alloc = out.alloc();
     let bytes = request.bytes.as_slice();
     let mut buf = ParseBuf::new(alloc, bytes);
     let answer: Result<Vec<T>, Fault> = counted!(alloc; read_all(&mut buf));
     match answer {
         Ok(values) => {
-            out.word("read")?;
+            out.word("read");
             let list: Seq<'_, T, Unknown> = Seq::owned(values);
-            show_items::<P, T>(out, list.as_slice())?;
+            show_items::<P, T>(out, list.as_slice());
             out.show("rest", buf.len())
         }
         Err(fault) => out.refused(fault, buf.len() == bytes.len()),
@@ -231,35 +227,35 @@ fn all<'a, P: Shows<T>, T: MyDeserialize<'a, Ctx = ()> + Drop>(
 }
 
 /// The list of the bytes, and one that borrows its numbers, once the number 7 is pushed to each.
-pub fn push(out: &mut Out, request: &Request<'_>) -> Result {
+pub fn push(out: &mut Out, request: &Request<'_>) {
     let alloc = out.alloc();
     let mut buf = ParseBuf::new(alloc, request.bytes.as_slice());
     let answer: Result<Numbers<'_>, Fault> = buf.parse(());
     let Ok(mut list) = answer else {
         return out.word("refused");
     };
-    push_to_borrowed(out, &list)?;
+    push_to_borrowed(out, &list);
     let before = list.len();
     let pushed = counted!(alloc; list.push(alloc, RawInt::new(7)));
-    show_push(out, "owned", pushed, &list, before)?;
+    show_push(out, "owned", pushed, &list, before);
     out.show("default", Numbers::default().is_empty())
 }
 
 /// (the numbers are copied first, and the list that they stand in stays as it was)
-fn push_to_borrowed(out: &mut Out, list: &Numbers<'_>) -> Result {
+fn push_to_borrowed(out: &mut Out, list: &Numbers<'_>) {
     let alloc = out.alloc();
     let mut lent: Numbers<'_> = Seq::borrowed(list.as_slice());
     let copy = counted!(alloc; lent.clone());
-    out.same("copy", copy.map(|copy| copy == lent))?;
+    out.same("copy", copy.map(|copy| copy == lent));
     let pushed = counted!(alloc; lent.push(alloc, RawInt::new(7)));
     show_push(out, "borrowed", pushed, &lent, list.len())
 }
 
 /// Adds the numbers of a list that one was pushed to; or that memory ran out, and where it is not as it was, that too.
-fn show_push(out: &mut Out, name: &str, push: Result, list: &Numbers<'_>, before: usize) -> Result {
+fn show_push(out: &mut Out, name: &str, push: Result, list: &Numbers<'_>, before: usize) {
     match push {
         Ok(()) => {
-            out.field(name, "pushed")?;
+            out.field(name, "pushed");
             show_items::<Connections, RawInt<LeU64>>(out, list.as_slice())
         }
         Err(AllocError) if list.len() == before => out.field(name, "Memory"),

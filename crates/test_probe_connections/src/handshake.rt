@@ -9,30 +9,30 @@ use mysql_wire::StatusFlags;
 use test_probe::record::round_trip;
 
 /// The versions that a server's version says.
-pub fn version(out: &mut Out, request: &Request<'_>) -> Result {
+pub fn version(out: &mut Out, request: &Request<'_>) {
     let given = [request.word(1), "none", "none"];
     show_versions(&made(given, CapabilityFlags::empty()), out)
 }
 
 /// The flags that may be agreed to.
-pub fn supported(out: &mut Out, _request: &Request<'_>) -> Result {
+pub fn supported(out: &mut Out, _request: &Request<'_>) {
     out.show("flags", supported_capabilities())
 }
 
 /// A handshake that is made of words, as it is written.
-pub fn make(out: &mut Out, request: &Request<'_>) -> Result {
+pub fn make(out: &mut Out, request: &Request<'_>) {
     let given = [request.word(2), request.word(3), request.word(4)];
     write_made(out, &made(given, request.capabilities()))
 }
 
 impl<'a> Shows<HandshakePacket<'a>> for Connections {
-    fn fields(record: &HandshakePacket<'a>, out: &mut Out) -> Result {
+    fn fields(record: &HandshakePacket<'a>, out: &mut Out) {
         fields!(out, record; protocol_version, server_version = server_version_ref, connection_id,
             scramble_1 = scramble_1_ref, scramble_2 = scramble_2_ref, capabilities, default_collation, status_flags,
-            mariadb = mariadb_ext_capabilities, auth_plugin_name = auth_plugin_name_ref)?;
-        show_versions(record, out)?;
-        fields!(out, record; ; texts server_version_str = server_version_str, auth_plugin_name_str = auth_plugin_name_str)?;
-        show_plugin(record.auth_plugin().as_ref(), out)?;
+            mariadb = mariadb_ext_capabilities, auth_plugin_name = auth_plugin_name_ref);
+        show_versions(record, out);
+        fields!(out, record; ; texts server_version_str = server_version_str, auth_plugin_name_str = auth_plugin_name_str);
+        show_plugin(record.auth_plugin().as_ref(), out);
         let alloc = out.alloc();
         match counted!(alloc; record.nonce(alloc)) {
             Ok(nonce) => out.show("nonce", nonce.as_slice()),
@@ -45,51 +45,57 @@ impl<'a> Shows<HandshakePacket<'a>> for Connections {
     }
 }
 
+fn show_place(packet: &HandshakePacketRef<'_>, out: &mut Out) {
+    fields!(out, packet; protocol_version, server_version, connection_id, scramble_1, scramble_2, capabilities,
+        default_collation, status_flags, mariadb_ext_capabilities, auth_plugin_name);
+}
+
+fn show_owned(packet: &HandshakePacket<'_>, out: &mut Out) {
+    fields!(out, packet; protocol_version, server_version = server_version_ref, connection_id, scramble_1 = scramble_1_ref,
+        scramble_2 = scramble_2_ref, capabilities, default_collation, status_flags, mariadb_ext_capabilities,
+        auth_plugin_name = auth_plugin_name_ref);
+}
+
 /// Whether a handshake that stays in its packet is this one.
 fn is_handshake(
     packet: &HandshakePacketRef<'_>,
     owned: &HandshakePacket<'_>,
     alloc: Global,
-) -> Result<bool> {
+) -> bool {
     let (mut one, mut other) = (Out::new(alloc), Out::new(alloc));
-    fields!(one, packet; protocol_version, server_version, connection_id, scramble_1, scramble_2, capabilities,
-        default_collation, status_flags, mariadb_ext_capabilities, auth_plugin_name)?;
-    fields!(other, owned; protocol_version, server_version = server_version_ref, connection_id,
-        scramble_1 = scramble_1_ref, scramble_2 = scramble_2_ref, capabilities, default_collation, status_flags,
-        mariadb_ext_capabilities, auth_plugin_name = auth_plugin_name_ref)?;
-    let is_same = one.into_text() == other.into_text();
-    Ok(is_same && packet.auth_plugin() == owned.auth_plugin() && packet.to_packet() == *owned)
+    show_place(packet, &mut one);
+    show_owned(owned, &mut other);
+    one.is_same(&other)
+        && packet.auth_plugin() == owned.auth_plugin()
+        && packet.to_packet() == *owned
 }
 
 /// A handshake; and a word where the one that stays in its packet is another.
-pub fn handshake(out: &mut Out, request: &Request<'_>) -> Result {
-    round_trip::<Connections, HandshakePacket<'_>>(out, request, (), ())?;
+pub fn handshake(out: &mut Out, request: &Request<'_>) {
+    round_trip::<Connections, HandshakePacket<'_>>(out, request, (), ());
     let (alloc, bytes) = (request.alloc, request.bytes.as_slice());
     let (mut buf, mut place) = (ParseBuf::new(alloc, bytes), ParseBuf::new(alloc, bytes));
     let owned: Result<HandshakePacket<'_>, Fault> = buf.parse(());
     let borrowed: Result<HandshakePacketRef<'_>, Fault> = counted!(alloc; value place.parse(()));
     let is_same = match (&borrowed, &owned) {
-        (Ok(borrowed), Ok(owned)) => is_handshake(borrowed, owned, alloc)?,
+        (Ok(borrowed), Ok(owned)) => is_handshake(borrowed, owned, alloc),
         (Err(borrowed), Err(owned)) => borrowed == owned,
         _ => false,
     };
-    if is_same && buf.len() == place.len() {
-        return Ok(());
-    }
-    out.field("borrowed", "other")
+    out.or_other("borrowed", Ok(is_same && buf.len() == place.len()))
 }
 
-fn show_version(name: &str, version: Option<(u16, u16, u16)>, out: &mut Out) -> Result {
+fn show_version(name: &str, version: Option<(u16, u16, u16)>, out: &mut Out) {
     let Some((major, minor, patch)) = version else {
         return out.field(name, "none");
     };
-    out.show(name, major)?;
-    out.show("minor", minor)?;
+    out.show(name, major);
+    out.show("minor", minor);
     out.show("patch", patch)
 }
 
-fn show_versions(packet: &HandshakePacket<'_>, out: &mut Out) -> Result {
-    show_version("version", packet.server_version_parsed(), out)?;
+fn show_versions(packet: &HandshakePacket<'_>, out: &mut Out) {
+    show_version("version", packet.server_version_parsed(), out);
     show_version("maria_db", packet.maria_db_server_version_parsed(), out)
 }
 

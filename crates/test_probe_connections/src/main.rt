@@ -13,7 +13,7 @@ mod sids;
 mod texts;
 mod words;
 
-use crate::prelude::{Out, Request, Result};
+use crate::prelude::{Out, Request};
 use mysql_auth::*;
 use mysql_repl::*;
 use std::io;
@@ -22,7 +22,7 @@ use test_probe::{Answers, answers, run};
 struct Connections;
 
 /// The requests of authentication.
-fn of_authentication(out: &mut Out, request: &Request<'_>) -> Result<bool> {
+fn of_authentication(out: &mut Out, request: &Request<'_>) -> bool {
     answers!(Connections, out, request, request.word(0);
         with () => "response": HandshakeResponse<'_>,
             "auth_switch": AuthSwitchRequest<'_>, "old_switch": OldAuthSwitchRequest, "auth_more_data": AuthMoreData<'_>,
@@ -35,7 +35,7 @@ fn of_authentication(out: &mut Out, request: &Request<'_>) -> Result<bool> {
 }
 
 /// The requests of replication.
-fn of_replication(out: &mut Out, request: &Request<'_>) -> Result<bool> {
+fn of_replication(out: &mut Out, request: &Request<'_>) -> bool {
     answers!(Connections, out, request, request.word(0);
         with () => "register_slave": ComRegisterSlave<'_>, "table_dump": ComTableDump<'_>,
             "binlog_dump": ComBinlogDump<'_>, "semi_sync_ack": SemiSyncAckPacket<'_>, "gtid": ComBinlogDumpGtid<'_>,
@@ -47,7 +47,7 @@ fn of_replication(out: &mut Out, request: &Request<'_>) -> Result<bool> {
 }
 
 /// The requests of wire forms, of buffers, and of texts.
-fn of_wire_forms(out: &mut Out, request: &Request<'_>) -> Result<bool> {
+fn of_wire_forms(out: &mut Out, request: &Request<'_>) -> bool {
     match request.word(0) {
         "form" => forms::form(out, request),
         "text" => texts::text(out, request.word(1)),
@@ -58,12 +58,10 @@ fn of_wire_forms(out: &mut Out, request: &Request<'_>) -> Result<bool> {
 }
 
 impl Answers for Connections {
-    fn answer(out: &mut Out, request: &Request<'_>) -> Result<bool> {
-        Ok(
-            of_authentication(out, request)?
-                || of_replication(out, request)?
-                || of_wire_forms(out, request)?,
-        )
+    fn answer(out: &mut Out, request: &Request<'_>) -> bool {
+        of_authentication(out, request)
+            || of_replication(out, request)
+            || of_wire_forms(out, request)
     }
 }
 

@@ -10,7 +10,7 @@ use mysql_wire::{MariadbCapabilities, RawBytes};
 use test_probe::shown::Variant;
 
 /// Adds a plugin's name, where there is one, and whether it is one that the client knows.
-pub fn show_plugin(plugin: Option<&AuthPlugin<'_>>, out: &mut Out) -> Result {
+pub fn show_plugin(plugin: Option<&AuthPlugin<'_>>, out: &mut Out) {
     match plugin {
         Some(AuthPlugin::Other(name)) => out.show("other_plugin", name.as_bytes()),
         Some(plugin) => out.show("plugin", plugin.as_bytes()),
@@ -19,22 +19,21 @@ pub fn show_plugin(plugin: Option<&AuthPlugin<'_>>, out: &mut Out) -> Result {
 }
 
 /// Adds the rounds and the salt of `parsec`.
-fn show_rounds(plugin: &AuthPlugin<'_>, out: &mut Out) -> Result {
+fn show_rounds(plugin: &AuthPlugin<'_>, out: &mut Out) {
     if let AuthPlugin::MariadbParsec {
         iterations,
         ext_salt,
     } = plugin
     {
-        out.show("iterations", *iterations)?;
-        out.show("salt", ext_salt.as_slice())?;
+        out.show("iterations", *iterations);
+        out.show("salt", ext_salt.as_slice());
     }
-    Ok(())
 }
 
 impl<'a> Shows<AuthPlugin<'a>> for Connections {
-    fn fields(record: &AuthPlugin<'a>, out: &mut Out) -> Result {
-        show_plugin(Some(record), out)?;
-        out.show("variant", Variant(record))?;
+    fn fields(record: &AuthPlugin<'a>, out: &mut Out) {
+        show_plugin(Some(record), out);
+        out.show("variant", Variant(record));
         show_rounds(record, out)
     }
 
@@ -47,18 +46,18 @@ impl<'a> Shows<AuthPlugin<'a>> for Connections {
 }
 
 /// Hands a plugin what a server tells beside the scramble.
-pub fn add_data(out: &mut Out, request: &Request<'_>) -> Result {
+pub fn add_data(out: &mut Out, request: &Request<'_>) {
     let mut plugin = AuthPlugin::from_bytes(request.word(1).as_bytes());
     let is_taken = plugin.read_add_data(request.bytes.as_slice()).is_some();
-    out.show("taken", is_taken)?;
-    show_plugin(Some(&plugin), out)?;
+    out.show("taken", is_taken);
+    show_plugin(Some(&plugin), out);
     show_rounds(&plugin, out)
 }
 
-pub fn parsec(out: &mut Out, request: &Request<'_>) -> Result {
+pub fn parsec(out: &mut Out, request: &Request<'_>) {
     match parse_parsec_salt(request.bytes.as_slice()) {
         Some((rounds, salt)) => {
-            out.show("rounds", rounds)?;
+            out.show("rounds", rounds);
             out.show("salt", salt.as_slice())
         }
         None => out.word("none"),
@@ -86,17 +85,17 @@ fn is_answer_made(answer: &AuthPluginData<'_>, alloc: Global) -> Result<bool> {
     is_owned!(alloc; answer, answer)
 }
 
-pub fn plugin_data(out: &mut Out, request: &Request<'_>) -> Result {
+pub fn plugin_data(out: &mut Out, request: &Request<'_>) {
     let answer = answer_of(request.word(1), request.bytes.as_slice());
-    out.show("bytes", answer.as_bytes())?;
-    out.same("made", is_answer_made(&answer, request.alloc))?;
+    out.show("bytes", answer.as_bytes());
+    out.same("made", is_answer_made(&answer, request.alloc));
     write_made(out, &answer)
 }
 
 impl<'a> Shows<AuthSwitchRequest<'a>> for Connections {
-    fn fields(record: &AuthSwitchRequest<'a>, out: &mut Out) -> Result {
-        show_plugin(Some(&record.auth_plugin()), out)?;
-        out.show("plugin_data", record.plugin_data())?;
+    fn fields(record: &AuthSwitchRequest<'a>, out: &mut Out) {
+        show_plugin(Some(&record.auth_plugin()), out);
+        out.show("plugin_data", record.plugin_data());
         out.show("raw", record.plugin_data_raw())
     }
 
@@ -106,14 +105,14 @@ impl<'a> Shows<AuthSwitchRequest<'a>> for Connections {
 }
 
 /// A switch that is made of words, as it is written and read again.
-pub fn make_switch(out: &mut Out, request: &Request<'_>) -> Result {
+pub fn make_switch(out: &mut Out, request: &Request<'_>) {
     let packet = AuthSwitchRequest::new(words::name(request.word(1)), words::name(request.word(2)));
-    out.word("made")?;
+    out.word("made");
     write_and_read(out, &packet, request, ())
 }
 
 impl Shows<OldAuthSwitchRequest> for Connections {
-    fn fields(record: &OldAuthSwitchRequest, out: &mut Out) -> Result {
+    fn fields(record: &OldAuthSwitchRequest, out: &mut Out) {
         show_plugin(Some(&record.auth_plugin()), out)
     }
 
@@ -123,7 +122,7 @@ impl Shows<OldAuthSwitchRequest> for Connections {
 }
 
 impl<'a> Shows<AuthMoreData<'a>> for Connections {
-    fn fields(record: &AuthMoreData<'a>, out: &mut Out) -> Result {
+    fn fields(record: &AuthMoreData<'a>, out: &mut Out) {
         out.show("data", record.data())
     }
 
@@ -141,7 +140,7 @@ impl Shows<PublicKeyRequest> for Connections {
 
 /// The key is shown as text alone: there is no other way to it.
 impl<'a> Shows<PublicKeyResponse<'a>> for Connections {
-    fn fields(record: &PublicKeyResponse<'a>, out: &mut Out) -> Result {
+    fn fields(record: &PublicKeyResponse<'a>, out: &mut Out) {
         fields!(out, record; ; texts rsa_key = rsa_key)
     }
 
@@ -158,7 +157,7 @@ impl<'a> Shows<PublicKeyResponse<'a>> for Connections {
 }
 
 impl Shows<SslRequest> for Connections {
-    fn fields(record: &SslRequest, out: &mut Out) -> Result {
+    fn fields(record: &SslRequest, out: &mut Out) {
         fields!(out, record; capabilities, max_packet_size, character_set)
     }
 
@@ -169,10 +168,10 @@ impl Shows<SslRequest> for Connections {
 }
 
 /// A request for TLS that is made of words, as it is written and read again.
-pub fn make_tls(out: &mut Out, request: &Request<'_>) -> Result {
+pub fn make_tls(out: &mut Out, request: &Request<'_>) {
     let character_set = words::number(request.word(3));
     let packet = SslRequest::new(request.capabilities(), request.number(2), character_set);
     let flags = MariadbCapabilities::from_bits_retain(request.number(4));
-    out.word("made")?;
+    out.word("made");
     write_and_read(out, &packet.with_mariadb_capabilities(flags), request, ())
 }

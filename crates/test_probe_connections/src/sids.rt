@@ -8,19 +8,18 @@ use std::borrow::CowStr;
 use std::str;
 
 /// Adds a sid, but for its text.
-pub fn show_sid(sid: &Sid<'_>, out: &mut Out) -> Result {
-    out.show("uuid", sid.uuid().as_slice())?;
-    out.show("tag", sid.tag().map(|tag| tag.as_str()))?;
-    out.show("intervals", sid.intervals().len())?;
+pub fn show_sid(sid: &Sid<'_>, out: &mut Out) {
+    out.show("uuid", sid.uuid().as_slice());
+    out.show("tag", sid.tag().map(|tag| tag.as_str()));
+    out.show("intervals", sid.intervals().len());
     for interval in sid.intervals() {
-        fields!(out, interval; start, end)?;
+        fields!(out, interval; start, end);
     }
-    Ok(())
 }
 
 impl<'a> Shows<Sid<'a>> for Connections {
-    fn fields(record: &Sid<'a>, out: &mut Out) -> Result {
-        show_sid(record, out)?;
+    fn fields(record: &Sid<'a>, out: &mut Out) {
+        show_sid(record, out);
         out.text("shown", record)
     }
 
@@ -36,14 +35,14 @@ impl<'a> Shows<Sid<'a>> for Connections {
 }
 
 /// A sid of a text, and its text again.
-pub fn of_text(out: &mut Out, request: &Request<'_>) -> Result {
+pub fn of_text(out: &mut Out, request: &Request<'_>) {
     let alloc = out.alloc();
     let answer: Result<Sid<'static>, InvalidSid> =
         counted!(alloc; Sid::from_str(alloc, request.word(1)));
     match answer {
         Ok(sid) => {
-            out.word("read")?;
-            Connections::fields(&sid, out)?;
+            out.word("read");
+            Connections::fields(&sid, out);
             write_made(out, &sid)
         }
         Err(fault) => out.error(&fault),
@@ -70,25 +69,28 @@ fn is_read_as(alloc: Global, text: &str, sids: &[Sid<'static>]) -> Result<bool> 
 }
 
 /// Adds the text of sids, and whether it is read as the same.
-fn show_set(out: &mut Out, sids: &[Sid<'static>]) -> Result {
-    let set = GtidSetText(sids);
-    let text = format!(in out.alloc(); "{set}")?;
-    out.show("text", text.as_str().as_bytes())?;
-    let again = is_read_as(out.alloc(), text.as_str(), sids);
-    out.same("again", again)
+fn show_set(out: &mut Out, sids: &[Sid<'static>]) {
+    let (alloc, set) = (out.alloc(), GtidSetText(sids));
+    match format!(in alloc; "{set}") {
+        Ok(text) => {
+            out.show("text", text.as_str().as_bytes());
+            out.same("again", is_read_as(alloc, text.as_str(), sids))
+        }
+        Err(AllocError) => out.lose(),
+    }
 }
 
 /// The sids of a text, each with its own text, and whether its intervals are as servers write them.
-pub fn of_set(out: &mut Out, request: &Request<'_>) -> Result {
+pub fn of_set(out: &mut Out, request: &Request<'_>) {
     let alloc = out.alloc();
     let answer: Result<Vec<Sid<'static>>, InvalidSid> =
         counted!(alloc; sids_from_text(alloc, text_of(request)));
     match answer {
         Ok(sids) => {
-            out.word("read")?;
+            out.word("read");
             for sid in &sids {
-                out.text("sid", sid)?;
-                out.show("as_servers", sid.is_as_servers_write())?;
+                out.text("sid", sid);
+                out.show("as_servers", sid.is_as_servers_write());
             }
             show_set(out, sids.as_slice())
         }
@@ -118,16 +120,16 @@ fn with_tag<'a>(sid: Sid<'a>, word: &'a str) -> Sid<'a> {
 }
 
 /// A sid that is made of words, as it is shown, written and read again: it is the same where it has no tag.
-pub fn make(out: &mut Out, request: &Request<'_>) -> Result {
+pub fn make(out: &mut Out, request: &Request<'_>) {
     let alloc = out.alloc();
     let sid = Sid::new([0x11; 16]);
     let Ok(sid) = counted!(alloc; with_intervals(alloc, sid, request.word(2))) else {
         return out.error(&"Memory");
     };
     let sid = with_tag(sid, request.word(1));
-    out.word("made")?;
-    Connections::fields(&sid, out)?;
-    out.same("copy", is_cloned(alloc, &sid, &sid))?;
+    out.word("made");
+    Connections::fields(&sid, out);
+    out.same("copy", is_cloned(alloc, &sid, &sid));
     write_and_read(out, &sid, request, ())
 }
 
@@ -136,11 +138,14 @@ pub fn merge(out: &mut Out, request: &Request<'_>) -> Result {
     let alloc = out.alloc();
     let sid = with_intervals(alloc, Sid::new([0x11; 16]), request.word(2))?;
     let sid = with_tag(sid, request.word(1));
-    let Ok(sid) = counted!(alloc; sid.with_merged_intervals(alloc)) else {
-        return out.error(&"Memory");
-    };
-    out.text("merged", &sid)?;
-    out.show("as_servers", sid.is_as_servers_write())
+    match counted!(alloc; sid.with_merged_intervals(alloc)) {
+        Ok(sid) => {
+            out.text("merged", &sid);
+            out.show("as_servers", sid.is_as_servers_write());
+        }
+        Err(AllocError) => out.error(&"Memory"),
+    }
+    Ok(())
 }
 
 /// A sid with the interval of the transactions 1 to 5.
@@ -177,7 +182,7 @@ pub fn numbered_sids<'a>(alloc: Global, count: u8, tag: &'a str) -> Result<Vec<S
 }
 
 impl Shows<GnoInterval> for Connections {
-    fn fields(record: &GnoInterval, out: &mut Out) -> Result {
+    fn fields(record: &GnoInterval, out: &mut Out) {
         fields!(out, record; start, end)
     }
 
@@ -187,11 +192,11 @@ impl Shows<GnoInterval> for Connections {
 }
 
 /// An interval of two numbers, if they are one.
-pub fn check_interval(out: &mut Out, request: &Request<'_>) -> Result {
+pub fn check_interval(out: &mut Out, request: &Request<'_>) {
     let start: u64 = words::number(request.word(1));
     match GnoInterval::check_and_new(start, words::number(request.word(2))) {
         Ok(interval) => {
-            out.word("made")?;
+            out.word("made");
             Connections::fields(&interval, out)
         }
         Err(fault) => out.error(&fault),
@@ -199,17 +204,17 @@ pub fn check_interval(out: &mut Out, request: &Request<'_>) -> Result {
 }
 
 /// The tag of a text, if it is one: `()` stands for no text.
-pub fn tag(out: &mut Out, request: &Request<'_>) -> Result {
+pub fn tag(out: &mut Out, request: &Request<'_>) {
     let alloc = out.alloc();
     let word = request.word(1);
     let text = if word == "()" { "" } else { word };
     let answer: Result<Tag<'_>, InvalidTag> = counted!(alloc; Tag::new(CowStr::Borrowed(text)));
     match answer {
         Ok(tag) => {
-            out.word("read")?;
-            out.field("text", tag.as_str())?;
-            out.text("shown", &tag)?;
-            out.same("made", is_tag_made(alloc, &tag))?;
+            out.word("read");
+            out.field("text", tag.as_str());
+            out.text("shown", &tag);
+            out.same("made", is_tag_made(alloc, &tag));
             out.same("of_text", is_of_text(alloc, &tag))
         }
         Err(fault) => out.error(&fault),

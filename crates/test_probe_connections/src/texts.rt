@@ -1,13 +1,13 @@
 //! The texts of errors: `text NAME`.
 
-use crate::prelude::{Out, Result};
+use crate::prelude::Out;
 use mysql_auth::*;
 use mysql_repl::*;
 use mysql_wire::*;
 use test_probe::error_texts;
 
 /// The answer, where there is an error of that name.
-pub fn text(out: &mut Out, name: &str) -> Result<bool> {
+pub fn text(out: &mut Out, name: &str) -> bool {
     error_texts!(out, name;
         InvalidPublicKeyRequest, InvalidPublicKeyResponse, InvalidAuthMoreDataHeader,
         InvalidAuthSwitchRequestHeader, InvalidComChangeUserHeader, InvalidSemiSyncAckPacketPacketHeader,

@@ -15,7 +15,7 @@ use test_probe::{Answers, run};
 
 struct Server;
 
-fn of_replies(out: &mut Out, request: &Request<'_>) -> Result<bool> {
+fn of_replies(out: &mut Out, request: &Request<'_>) -> bool {
     match request.word(0) {
         "marker" => texts::marker(out, request),
         "text" => texts::text(out, request.word(1)),
@@ -30,7 +30,7 @@ fn of_replies(out: &mut Out, request: &Request<'_>) -> Result<bool> {
     }
 }
 
-fn of_session(out: &mut Out, request: &Request<'_>) -> Result<bool> {
+fn of_session(out: &mut Out, request: &Request<'_>) -> bool {
     answers!(Server, out, request, request.word(0);
         with () => "schema": Schema<'_>, "gtids": Gtids<'_>, "characteristics": TransactionCharacteristics<'_>,
             "state": TransactionState<'_>, "unsupported": Unsupported<'_>,
@@ -38,8 +38,8 @@ fn of_session(out: &mut Out, request: &Request<'_>) -> Result<bool> {
 }
 
 impl Answers for Server {
-    fn answer(out: &mut Out, request: &Request<'_>) -> Result<bool> {
-        Ok(of_replies(out, request)? || of_session(out, request)?)
+    fn answer(out: &mut Out, request: &Request<'_>) -> bool {
+        of_replies(out, request) || of_session(out, request)
     }
 }
 

@@ -5,49 +5,63 @@ use crate::Server;
 use crate::replies::of_error;
 use mysql_replies::*;
 use mysql_session::*;
-use mysql_wire::SessionStateType;
+use mysql_wire::{MyDeserialize, SessionStateType};
 use test_probe::prelude::*;
 
-/// Reads the bytes once more in both ways, and adds a word unless both give the same and leave as much.
-macro_rules! compare {
-    ($out:expr, $request:expr, $context:expr; $owned:ty, $borrowed:ty, $is_same:path) => {{
-        let (alloc, bytes) = ($request.alloc, $request.bytes.as_slice());
-        let (mut buf, mut place) = (ParseBuf::new(alloc, bytes), ParseBuf::new(alloc, bytes));
-        let owned: Result<$owned, Fault> = buf.parse($context);
-        let borrowed: Result<$borrowed, Fault> = counted!(alloc; value place.parse($context));
-        let is_same = match (&borrowed, &owned) {
-            (Ok(borrowed), Ok(owned)) => $is_same(borrowed, owned, alloc)?,
-            (Err(borrowed), Err(owned)) => borrowed == owned,
-            _ => false,
-        };
-        $out.or_other("borrowed", is_same && buf.len() == place.len())
-    }};
+/// A record that stays in its packet, beside one that is read of the same bytes.
+trait InPlace<T> {
+    /// Whether it is that record.
+    fn is(self, owned: T, alloc: Global) -> Result<bool>;
 }
 
-fn is_column(column: &ColumnRef<'_>, owned: &Column, alloc: Global) -> Result<bool> {
-    let (mut one, mut other) = (Out::new(alloc), Out::new(alloc));
-    fields!(one, column; schema, table, org_table, name, org_name, character_set, column_length, flags, decimals)?;
-    fields!(other, owned; schema = schema_ref, table = table_ref, org_table = org_table_ref, name = name_ref,
-        org_name = org_name_ref, character_set, column_length, flags, decimals)?;
-    let is_same = one.into_text() == other.into_text()
-        && column.column_type() == owned.column_type();
-    Ok(is_same && counted!(alloc; column.to_column(alloc))? == *owned)
+/// Reads the bytes of a request once more in both ways, and adds a word unless both give the same and leave as much.
+fn compare<'a, T: MyDeserialize<'a> + Drop, R: MyDeserialize<'a> + InPlace<T> + Drop>(
+    out: &mut Out,
+    request: &'a Request<'_>,
+    ctx: T::Ctx,
+    place_ctx: R::Ctx,
+) {
+    let (alloc, bytes) = (request.alloc, request.bytes.as_slice());
+    let (mut buf, mut place) = (ParseBuf::new(alloc, bytes), ParseBuf::new(alloc, bytes));
+    let owned: Result<T, Fault> = buf.parse(ctx);
+    let borrowed: Result<R, Fault> = counted!(alloc; value place.parse(place_ctx));
+    let is_same = match (borrowed, owned) {
+        (Ok(borrowed), Ok(owned)) => borrowed.is(owned, alloc),
+        (Err(borrowed), Err(owned)) => Ok(borrowed == owned),
+        _ => Ok(false),
+    };
+    out.or_other("borrowed", is_same);
+    out.or_other("left", Ok(buf.len() == place.len()));
+}
+
+impl InPlace<Column> for ColumnRef<'_> {
+    fn is(self, owned: Column, alloc: Global) -> Result<bool> {
+        let (mut one, mut other) = (Out::new(alloc), Out::new(alloc));
+        fields!(one, self; schema, table, org_table, name, org_name, character_set, column_length, flags, decimals);
+        fields!(other, owned; schema = schema_ref, table = table_ref, org_table = org_table_ref, name = name_ref,
+            org_name = org_name_ref, character_set, column_length, flags, decimals);
+        let is_same = one.is_same(&other) && self.column_type() == owned.column_type();
+        let made = counted!(alloc; self.to_column(alloc));
+        made.map(|made| is_same && made == owned)
+    }
 }
 
 /// A column.
-pub fn column(out: &mut Out, request: &Request<'_>) -> Result {
-    round_trip::<Server, Column>(out, request, (), ())?;
-    compare!(out, request, (); Column, ColumnRef<'_>, is_column)
+pub fn column(out: &mut Out, request: &Request<'_>) {
+    round_trip::<Server, Column>(out, request, (), ());
+    compare::<Column, ColumnRef<'_>>(out, request, (), ())
 }
 
-fn is_state(state: &SqlStateRef<'_>, owned: &SqlState, _alloc: Global) -> Result<bool> {
-    Ok(state.as_bytes() == owned.as_bytes().as_slice() && state.to_state() == *owned)
+impl InPlace<SqlState> for SqlStateRef<'_> {
+    fn is(self, owned: SqlState, _alloc: Global) -> Result<bool> {
+        Ok(self.as_bytes() == owned.as_bytes().as_slice() && self.to_state() == owned)
+    }
 }
 
 /// An SQL state.
-pub fn sql_state(out: &mut Out, request: &Request<'_>) -> Result {
-    round_trip::<Server, SqlState>(out, request, (), ())?;
-    compare!(out, request, (); SqlState, SqlStateRef<'_>, is_state)
+pub fn sql_state(out: &mut Out, request: &Request<'_>) {
+    round_trip::<Server, SqlState>(out, request, (), ());
+    compare::<SqlState, SqlStateRef<'_>>(out, request, (), ())
 }
 
 fn is_report(
@@ -56,51 +70,67 @@ fn is_report(
     alloc: Global,
 ) -> Result<bool> {
     let (mut one, mut other) = (Out::new(alloc), Out::new(alloc));
-    fields!(one, report; stage, max_stage, progress, stage_info)?;
-    fields!(other, owned; stage, max_stage, progress, stage_info = stage_info_ref)?;
-    Ok(one.into_text() == other.into_text() && report.to_report() == *owned)
+    fields!(one, report; stage, max_stage, progress, stage_info);
+    fields!(other, owned; stage, max_stage, progress, stage_info = stage_info_ref);
+    Ok(one.is_same(&other) && report.to_report() == *owned)
+}
+
+impl<'a> InPlace<ProgressReport<'a>> for ProgressReportRef<'a> {
+    fn is(self, owned: ProgressReport<'a>, alloc: Global) -> Result<bool> {
+        is_report(&self, &owned, alloc)
+    }
 }
 
 /// A progress report.
-pub fn progress(out: &mut Out, request: &Request<'_>) -> Result {
-    round_trip::<Server, ProgressReport<'_>>(out, request, (), ())?;
-    compare!(out, request, (); ProgressReport<'_>, ProgressReportRef<'_>, is_report)
+pub fn progress(out: &mut Out, request: &Request<'_>) {
+    round_trip::<Server, ProgressReport<'_>>(out, request, (), ());
+    compare::<ProgressReport<'_>, ProgressReportRef<'_>>(out, request, (), ())
 }
 
 fn is_error(error: &ServerErrorRef<'_>, owned: &ServerError<'_>, alloc: Global) -> Result<bool> {
     let (mut one, mut other) = (Out::new(alloc), Out::new(alloc));
-    fields!(one, error; error_code, sql_state, message)?;
+    fields!(one, error; error_code, sql_state, message);
     let state = owned.sql_state_ref().copied().map(|state| state.as_bytes());
-    fields!(other, owned; error_code)?;
-    other.show("sql_state", state.as_ref().map(|state| state.as_slice()))?;
-    fields!(other, owned; message = message_ref)?;
-    Ok(one.into_text() == other.into_text() && error.to_error() == *owned)
+    fields!(other, owned; error_code);
+    other.show("sql_state", state.as_ref().map(|state| state.as_slice()));
+    fields!(other, owned; message = message_ref);
+    Ok(one.is_same(&other) && error.to_error() == *owned)
+}
+
+impl<'a> InPlace<ServerError<'a>> for ServerErrorRef<'a> {
+    fn is(self, owned: ServerError<'a>, alloc: Global) -> Result<bool> {
+        is_error(&self, &owned, alloc)
+    }
 }
 
 /// An error without its packet.
-pub fn server_error(out: &mut Out, request: &Request<'_>) -> Result {
+pub fn server_error(out: &mut Out, request: &Request<'_>) {
     let context = of_error(request);
-    round_trip::<Server, ServerError<'_>>(out, request, context, context)?;
-    compare!(out, request, context; ServerError<'_>, ServerErrorRef<'_>, is_error)
+    round_trip::<Server, ServerError<'_>>(out, request, context, context);
+    compare::<ServerError<'_>, ServerErrorRef<'_>>(out, request, context, context)
 }
 
-fn is_packet(packet: &ErrPacketRef<'_>, owned: &ErrPacket<'_>, alloc: Global) -> Result<bool> {
-    let is_same = match owned {
-        ErrPacket::Error(error) => {
-            packet.is_error() && is_error(packet.server_error(), error, alloc)?
-        }
-        ErrPacket::Progress(report) => {
-            packet.is_progress_report() && is_report(packet.progress_report(), report, alloc)?
-        }
-    };
-    Ok(is_same && packet.to_packet() == *owned)
+impl<'a> InPlace<ErrPacket<'a>> for ErrPacketRef<'a> {
+    fn is(self, owned: ErrPacket<'a>, alloc: Global) -> Result<bool> {
+        let is_same = match &owned {
+            ErrPacket::Error(error) if self.is_error() => {
+                is_error(self.server_error(), error, alloc)
+            }
+            ErrPacket::Progress(report) if self.is_progress_report() => {
+                is_report(self.progress_report(), report, alloc)
+            }
+            _ => Ok(false),
+        };
+        let is_made = self.to_packet() == owned;
+        is_same.map(|is_same| is_same && is_made)
+    }
 }
 
 /// An error or a progress report.
-pub fn err(out: &mut Out, request: &Request<'_>) -> Result {
+pub fn err(out: &mut Out, request: &Request<'_>) {
     let capabilities = request.capabilities();
-    round_trip::<Server, ErrPacket<'_>>(out, request, capabilities, capabilities)?;
-    compare!(out, request, capabilities; ErrPacket<'_>, ErrPacketRef<'_>, is_packet)
+    round_trip::<Server, ErrPacket<'_>>(out, request, capabilities, capabilities);
+    compare::<ErrPacket<'_>, ErrPacketRef<'_>>(out, request, capabilities, capabilities)
 }
 
 fn is_variable(
@@ -112,10 +142,16 @@ fn is_variable(
     Ok(is_same && variable.to_variable() == *owned)
 }
 
+impl<'a> InPlace<SystemVariable<'a>> for SystemVariableRef<'a> {
+    fn is(self, owned: SystemVariable<'a>, alloc: Global) -> Result<bool> {
+        is_variable(&self, &owned, alloc)
+    }
+}
+
 /// A system variable.
-pub fn variable(out: &mut Out, request: &Request<'_>) -> Result {
-    round_trip::<Server, SystemVariable<'_>>(out, request, (), ())?;
-    compare!(out, request, (); SystemVariable<'_>, SystemVariableRef<'_>, is_variable)
+pub fn variable(out: &mut Out, request: &Request<'_>) {
+    round_trip::<Server, SystemVariable<'_>>(out, request, (), ());
+    compare::<SystemVariable<'_>, SystemVariableRef<'_>>(out, request, (), ())
 }
 
 fn are_variables(
@@ -135,10 +171,16 @@ fn are_variables(
     Ok(left.next().is_none())
 }
 
+impl<'a> InPlace<SystemVariables<'a>> for SystemVariablesRef<'a> {
+    fn is(self, owned: SystemVariables<'a>, alloc: Global) -> Result<bool> {
+        are_variables(&self, &owned, alloc)
+    }
+}
+
 /// System variables.
-pub fn variables(out: &mut Out, request: &Request<'_>) -> Result {
-    round_trip::<Server, SystemVariables<'_>>(out, request, (), ())?;
-    compare!(out, request, (); SystemVariables<'_>, SystemVariablesRef<'_>, are_variables)
+pub fn variables(out: &mut Out, request: &Request<'_>) {
+    round_trip::<Server, SystemVariables<'_>>(out, request, (), ());
+    compare::<SystemVariables<'_>, SystemVariablesRef<'_>>(out, request, (), ())
 }
 
 /// Whether a change that stays in its packet is this one.
@@ -169,10 +211,16 @@ fn is_change(
     })
 }
 
+impl<'a> InPlace<SessionStateChange<'a>> for SessionStateChangeRef<'a> {
+    fn is(self, owned: SessionStateChange<'a>, alloc: Global) -> Result<bool> {
+        is_change(&self, &owned, alloc)
+    }
+}
+
 /// A change of this kind.
-pub fn change(out: &mut Out, request: &Request<'_>, kind: SessionStateType) -> Result {
-    round_trip::<Server, SessionStateChange<'_>>(out, request, kind, kind)?;
-    compare!(out, request, kind; SessionStateChange<'_>, SessionStateChangeRef<'_>, is_change)
+pub fn change(out: &mut Out, request: &Request<'_>, kind: SessionStateType) {
+    round_trip::<Server, SessionStateChange<'_>>(out, request, kind, kind);
+    compare::<SessionStateChange<'_>, SessionStateChangeRef<'_>>(out, request, kind, kind)
 }
 
 /// Whether both are the same change, or the same fault.
@@ -194,23 +242,22 @@ fn same_answer(
     }
 }
 
-fn is_info(
-    info: &SessionStateInfoRef<'_>,
-    owned: &SessionStateInfo<'_>,
-    alloc: Global,
-) -> Result<bool> {
-    let is_same = info.data_type() == owned.data_type() && info.data_bytes() == owned.data_ref();
-    let decoded = counted!(alloc; value info.decode());
-    let sent = counted!(alloc; value info.decode_as_sent());
-    let is_same = is_same && same_answer(decoded, owned.decode(alloc), alloc)?;
-    let is_same = is_same && same_answer(sent, owned.decode_as_sent(alloc), alloc)?;
-    Ok(is_same && info.to_info() == *owned)
+impl<'a> InPlace<SessionStateInfo<'a>> for SessionStateInfoRef<'a> {
+    fn is(self, owned: SessionStateInfo<'a>, alloc: Global) -> Result<bool> {
+        let decoded = counted!(alloc; value self.decode());
+        let sent = counted!(alloc; value self.decode_as_sent());
+        let is_same = self.data_type() == owned.data_type()
+            && self.data_bytes() == owned.data_ref()
+            && same_answer(decoded, owned.decode(alloc), alloc)?
+            && same_answer(sent, owned.decode_as_sent(alloc), alloc)?;
+        Ok(is_same && self.to_info() == owned)
+    }
 }
 
 /// An entry of a state string.
-pub fn session_info(out: &mut Out, request: &Request<'_>) -> Result {
-    round_trip::<Server, SessionStateInfo<'_>>(out, request, (), ())?;
-    compare!(out, request, (); SessionStateInfo<'_>, SessionStateInfoRef<'_>, is_info)
+pub fn session_info(out: &mut Out, request: &Request<'_>) {
+    round_trip::<Server, SessionStateInfo<'_>>(out, request, (), ());
+    compare::<SessionStateInfo<'_>, SessionStateInfoRef<'_>>(out, request, (), ())
 }
 
 /// Whether both give the same changes, one after another.
@@ -229,47 +276,47 @@ fn are_changes(packet: &OkPacketRef<'_>, owned: &OkPacket<'_>, alloc: Global) ->
 
 fn is_ok(packet: &OkPacketRef<'_>, owned: &OkPacket<'_>, alloc: Global) -> Result<bool> {
     let (mut one, mut other) = (Out::new(alloc), Out::new(alloc));
-    fields!(one, packet; affected_rows, last_insert_id, status_flags, warnings, info, session_state_info)?;
+    fields!(one, packet; affected_rows, last_insert_id, status_flags, warnings, info, session_state_info);
     fields!(other, owned; affected_rows, last_insert_id, status_flags, warnings, info = info_ref,
-        session_state_info = session_state_info_ref)?;
-    Ok(one.into_text() == other.into_text() && are_changes(packet, owned, alloc)?)
+        session_state_info = session_state_info_ref);
+    Ok(one.is_same(&other) && are_changes(packet, owned, alloc)?)
 }
 
-/// Whether both are the same packet.
-macro_rules! ok_of {
-    ($out:expr, $request:expr, $kind:ty) => {{
-        let (alloc, bytes) = ($request.alloc, $request.bytes.as_slice());
-        let capabilities = $request.capabilities();
-        let _ = read::<Server, OkPacketDeserializer<'_, $kind>>($out, bytes, capabilities)?;
-        let (mut buf, mut place) = (ParseBuf::new(alloc, bytes), ParseBuf::new(alloc, bytes));
-        let owned: Result<OkPacketDeserializer<'_, $kind>, Fault> = buf.parse(capabilities);
-        let borrowed: Result<OkPacketRefDeserializer<'_, $kind>, Fault> =
-            counted!(alloc; value place.parse(capabilities));
-        let is_same = match (borrowed, owned) {
-            (Ok(borrowed), Ok(owned)) => is_ok(&borrowed.into_inner(), &owned.into_inner(), alloc)?,
-            (Err(borrowed), Err(owned)) => borrowed == owned,
-            _ => false,
-        };
-        $out.or_other("borrowed", is_same && buf.len() == place.len())
-    }};
+impl<'a, K> InPlace<OkPacketDeserializer<'a, K>> for OkPacketRefDeserializer<'a, K> {
+    fn is(self, owned: OkPacketDeserializer<'a, K>, alloc: Global) -> Result<bool> {
+        let (packet, owned) = (self.into_inner(), owned.into_inner());
+        is_ok(&packet, &owned, alloc)
+    }
+}
+
+/// An OK packet of a kind.
+fn ok_of<'a, K: OkPacketRefKind>(out: &mut Out, request: &'a Request<'_>) {
+    let (bytes, capabilities) = (request.bytes.as_slice(), request.capabilities());
+    let _ = read::<Server, OkPacketDeserializer<'a, K>>(out, bytes, capabilities);
+    compare::<OkPacketDeserializer<'a, K>, OkPacketRefDeserializer<'a, K>>(
+        out,
+        request,
+        capabilities,
+        capabilities,
+    )
 }
 
 /// An OK packet.
-pub fn ok(out: &mut Out, request: &Request<'_>) -> Result {
-    ok_of!(out, request, CommonOkPacket)
+pub fn ok(out: &mut Out, request: &Request<'_>) {
+    ok_of::<CommonOkPacket>(out, request)
 }
 
 /// The end of a result set.
-pub fn ok_end(out: &mut Out, request: &Request<'_>) -> Result {
-    ok_of!(out, request, ResultSetTerminator)
+pub fn ok_end(out: &mut Out, request: &Request<'_>) {
+    ok_of::<ResultSetTerminator>(out, request)
 }
 
 /// The old end.
-pub fn ok_eof(out: &mut Out, request: &Request<'_>) -> Result {
-    ok_of!(out, request, OldEofPacket)
+pub fn ok_eof(out: &mut Out, request: &Request<'_>) {
+    ok_of::<OldEofPacket>(out, request)
 }
 
 /// The end of a stream of events.
-pub fn ok_stream(out: &mut Out, request: &Request<'_>) -> Result {
-    ok_of!(out, request, NetworkStreamTerminator)
+pub fn ok_stream(out: &mut Out, request: &Request<'_>) {
+    ok_of::<NetworkStreamTerminator>(out, request)
 }

@@ -16,10 +16,10 @@ pub fn of_error(request: &Request<'_>) -> (u16, bool) {
 }
 
 impl Shows<Column> for Server {
-    fn fields(record: &Column, out: &mut Out) -> Result {
+    fn fields(record: &Column, out: &mut Out) {
         fields!(out, record; schema = schema_ref, table = table_ref, org_table = org_table_ref,
-            name = name_ref, org_name = org_name_ref, character_set, column_length)?;
-        out.show("column_type", u8::from(record.column_type()))?;
+            name = name_ref, org_name = org_name_ref, character_set, column_length);
+        out.show("column_type", u8::from(record.column_type()));
         fields!(out, record; flags, decimals; texts schema_str = schema_str, table_str = table_str,
             org_table_str = org_table_str, name_str = name_str, org_name_str = org_name_str)
     }
@@ -46,7 +46,7 @@ fn made_column(column: &Column, alloc: Global) -> Result<Column> {
 }
 
 impl<'a> Shows<LocalInfilePacket<'a>> for Server {
-    fn fields(record: &LocalInfilePacket<'a>, out: &mut Out) -> Result {
+    fn fields(record: &LocalInfilePacket<'a>, out: &mut Out) {
         fields!(out, record; file_name = file_name_ref; texts file_name_str = file_name_str)
     }
 
@@ -57,18 +57,20 @@ impl<'a> Shows<LocalInfilePacket<'a>> for Server {
 }
 
 /// Adds the text that a record is displayed as.
-fn displayed<T: Display>(record: &T, out: &mut Out) -> Result {
-    let text = format!(in out.alloc(); "{record}")?;
-    out.show("shown", text.as_str().as_bytes())
+fn displayed<T: Display>(record: &T, out: &mut Out) {
+    match format!(in out.alloc(); "{record}") {
+        Ok(text) => out.show("shown", text.as_str().as_bytes()),
+        Err(AllocError) => out.lose(),
+    }
 }
 
 impl<'a> Shows<ErrPacket<'a>> for Server {
-    fn fields(record: &ErrPacket<'a>, out: &mut Out) -> Result {
+    fn fields(record: &ErrPacket<'a>, out: &mut Out) {
         if record.is_error() {
-            show_error(record.server_error(), out)?;
+            show_error(record.server_error(), out);
         }
         if record.is_progress_report() {
-            show_progress(record.progress_report(), out)?;
+            show_progress(record.progress_report(), out);
         }
         displayed(record, out)
     }
@@ -83,8 +85,8 @@ impl<'a> Shows<ErrPacket<'a>> for Server {
 }
 
 impl<'a> Shows<ServerError<'a>> for Server {
-    fn fields(record: &ServerError<'a>, out: &mut Out) -> Result {
-        show_error(record, out)?;
+    fn fields(record: &ServerError<'a>, out: &mut Out) {
+        show_error(record, out);
         displayed(record, out)
     }
 
@@ -93,11 +95,11 @@ impl<'a> Shows<ServerError<'a>> for Server {
     }
 }
 
-fn show_error(error: &ServerError<'_>, out: &mut Out) -> Result {
-    fields!(out, error; error = error_code)?;
+fn show_error(error: &ServerError<'_>, out: &mut Out) {
+    fields!(out, error; error = error_code);
     match error.sql_state_ref() {
-        Some(state) => out.show("sql_state", state.as_bytes().as_slice())?,
-        None => out.field("sql_state", "none")?,
+        Some(state) => out.show("sql_state", state.as_bytes().as_slice()),
+        None => out.field("sql_state", "none"),
     }
     fields!(out, error; message = message_ref; texts message_str = message_str)
 }
@@ -110,8 +112,8 @@ fn made_error(error: &ServerError<'_>, alloc: Global) -> Result<ServerError<'sta
 }
 
 impl Shows<SqlState> for Server {
-    fn fields(record: &SqlState, out: &mut Out) -> Result {
-        out.show("sql_state", record.as_bytes().as_slice())?;
+    fn fields(record: &SqlState, out: &mut Out) {
+        out.show("sql_state", record.as_bytes().as_slice());
         fields!(out, record; ; texts sql_state_str = as_str)
     }
 
@@ -121,8 +123,8 @@ impl Shows<SqlState> for Server {
 }
 
 impl<'a> Shows<ProgressReport<'a>> for Server {
-    fn fields(record: &ProgressReport<'a>, out: &mut Out) -> Result {
-        show_progress(record, out)?;
+    fn fields(record: &ProgressReport<'a>, out: &mut Out) {
+        show_progress(record, out);
         displayed(record, out)
     }
 
@@ -131,7 +133,7 @@ impl<'a> Shows<ProgressReport<'a>> for Server {
     }
 }
 
-fn show_progress(report: &ProgressReport<'_>, out: &mut Out) -> Result {
+fn show_progress(report: &ProgressReport<'_>, out: &mut Out) {
     fields!(out, report; stage, max_stage, progress, stage_info = stage_info_ref;
         texts stage_info_str = stage_info_str)
 }
@@ -144,8 +146,11 @@ fn made_progress(report: &ProgressReport<'_>, alloc: Global) -> Result<ProgressR
 }
 
 impl<'a, K> Shows<OkPacketDeserializer<'a, K>> for Server {
-    fn fields(record: &OkPacketDeserializer<'a, K>, out: &mut Out) -> Result {
-        show_packet(&record.clone()?.into_inner(), out)
+    fn fields(record: &OkPacketDeserializer<'a, K>, out: &mut Out) {
+        match record.clone() {
+            Ok(record) => show_packet(&record.into_inner(), out),
+            Err(AllocError) => out.lose(),
+        }
     }
 
     fn is_made(record: &OkPacketDeserializer<'a, K>, alloc: Global) -> Result<bool> {
@@ -155,36 +160,35 @@ impl<'a, K> Shows<OkPacketDeserializer<'a, K>> for Server {
     }
 }
 
-fn show_packet(packet: &OkPacket<'_>, out: &mut Out) -> Result {
+fn show_packet(packet: &OkPacket<'_>, out: &mut Out) {
     let alloc = out.alloc();
     fields!(out, packet; affected_rows, last_insert_id, status_flags, warnings, info = info_ref,
-        session_state_info = session_state_info_ref; texts info_str = info_str)?;
+        session_state_info = session_state_info_ref; texts info_str = info_str);
     let changes: Result<Vec<SessionStateInfo<'_>>, Fault> =
         counted!(alloc; packet.session_state_info(alloc));
     let mut sent = packet.session_state_changes(alloc);
     match changes {
         Ok(changes) => {
-            out.show("changes", changes.len())?;
+            out.show("changes", changes.len());
             for change in changes.as_slice() {
-                Server::fields(change, out)?;
+                Server::fields(change, out);
                 let next = counted!(alloc; value sent.next());
-                same_change(next, change.decode_as_sent(alloc), out)?;
+                same_change(next, change.decode_as_sent(alloc), out);
             }
             same_change(sent.next(), Err(Fault::UnexpectedEof), out)
         }
         Err(fault) => {
-            out.show("changes", Variant(&fault.kind()))?;
+            out.show("changes", Variant(&fault.kind()));
             show_sent(sent, out)
         }
     }
 }
 
 /// Adds each change that is left, or the kind of its fault.
-fn show_sent(sent: SessionStateChanges<'_>, out: &mut Out) -> Result {
+fn show_sent(sent: SessionStateChanges<'_>, out: &mut Out) {
     for change in sent {
-        show_change("sent", change, out)?;
+        show_change("sent", change, out);
     }
-    Ok(())
 }
 
 /// Adds the next change of an iterator, where it is not this one. Where it ends, a fault stands for it.
@@ -192,19 +196,19 @@ fn same_change(
     next: Option<Result<SessionStateChange<'_>, Fault>>,
     wanted: Result<SessionStateChange<'_>, Fault>,
     out: &mut Out,
-) -> Result {
+) {
     let next = next.unwrap_or(Err(Fault::UnexpectedEof));
     if next == wanted {
-        return Ok(());
+        return;
     }
     show_change("sent", next, out)
 }
 
 /// Adds a change, or the kind of its fault.
-fn show_change(name: &str, change: Result<SessionStateChange<'_>, Fault>, out: &mut Out) -> Result {
+fn show_change(name: &str, change: Result<SessionStateChange<'_>, Fault>, out: &mut Out) {
     match change {
         Ok(change) => {
-            out.field(name, "read")?;
+            out.field(name, "read");
             Server::fields(&change, out)
         }
         Err(fault) => out.show(name, Variant(&fault.kind())),
@@ -212,7 +216,7 @@ fn show_change(name: &str, change: Result<SessionStateChange<'_>, Fault>, out: &
 }
 
 /// The body of an OK packet, and the packet with that body.
-pub fn ok_body(out: &mut Out, request: &Request<'_>) -> Result {
+pub fn ok_body(out: &mut Out, request: &Request<'_>) {
     let bytes = request.bytes.as_slice();
     let alloc = out.alloc();
     let mut buf = ParseBuf::new(alloc, bytes);
@@ -221,8 +225,8 @@ pub fn ok_body(out: &mut Out, request: &Request<'_>) -> Result {
         counted!(alloc; CommonOkPacket::parse_body(capabilities, &mut buf));
     match answer {
         Ok(body) => {
-            out.word("read")?;
-            show_body(body, out)?;
+            out.word("read");
+            show_body(body, out);
             out.show("rest", buf.len())
         }
         Err(fault) => out.refused(fault, buf.len() == bytes.len()),
@@ -230,7 +234,7 @@ pub fn ok_body(out: &mut Out, request: &Request<'_>) -> Result {
 }
 
 /// Adds the packet of a copy of the body.
-fn show_body(body: OkPacketBody<'_>, out: &mut Out) -> Result {
+fn show_body(body: OkPacketBody<'_>, out: &mut Out) {
     let alloc = out.alloc();
     match counted!(alloc; body.clone()) {
         Ok(copy) => match OkPacket::try_from(copy) {
@@ -243,16 +247,16 @@ fn show_body(body: OkPacketBody<'_>, out: &mut Out) -> Result {
 
 /// An entry of a state string, and the change that its data begins with.
 impl<'a> Shows<SessionStateInfo<'a>> for Server {
-    fn fields(record: &SessionStateInfo<'a>, out: &mut Out) -> Result {
+    fn fields(record: &SessionStateInfo<'a>, out: &mut Out) {
         let alloc = out.alloc();
-        out.show("data_type", u8::from(record.data_type()))?;
-        out.show("data", record.data_ref())?;
+        out.show("data_type", u8::from(record.data_type()));
+        out.show("data", record.data_ref());
         let change = counted!(alloc; record.decode(alloc));
         let sent = counted!(alloc; record.decode_as_sent(alloc));
         let is_same = sent == change;
-        show_change("change", change, out)?;
+        show_change("change", change, out);
         if is_same {
-            return Ok(());
+            return;
         }
         show_change("sent", sent, out)
     }

@@ -4,49 +4,71 @@
 //! string is put together of the changes that its entries are decoded as.
 
 use mysql_replies::*;
+use mysql_session::SessionStateChange;
+use mysql_wire::{FaultOf, MyDeserialize};
 use test_probe::prelude::*;
 use test_probe::record::again;
 
+/// What the bytes of a request are read as, and how many are left.
+fn parsed<'a, 's, T: MyDeserialize<'a> + Drop>(
+    request: &'a Request<'_>,
+    ctx: T::Ctx,
+) -> (Result<T, FaultOf<'s>>, usize) {
+    let mut buf = ParseBuf::new(request.alloc, request.bytes.as_slice());
+    let answer: Result<T, FaultOf<'s>> = counted!(request.alloc; buf.parse(ctx));
+    (answer, buf.len())
+}
+
 /// Reads a packet of a kind, and writes it as that kind.
-macro_rules! sent {
-    ($kind:ty, $out:expr, $request:expr) => {{
-        let (alloc, bytes) = ($request.alloc, $request.bytes.as_slice());
-        let capabilities = $request.capabilities();
-        let mut buf = ParseBuf::new(alloc, bytes);
-        let answer: Result<OkPacketDeserializer<'_, $kind>, Fault> =
-            counted!(alloc; buf.parse(capabilities));
-        match answer {
-            Ok(record) => {
-                $out.word("read")?;
-                let packet = record.clone()?.into_inner();
-                let made = made(&packet);
-                $out.same("made", Ok(made == packet))?;
-                let sent: OkPacketSerializer<'_, '_, $kind> =
-                    OkPacketSerializer::new(&made, capabilities);
-                if let Some(written) = write($out, &sent, bytes)? {
-                    again($out, &record, $request.keep(written), capabilities)?;
-                }
-                state(&packet, $out)
+fn sent<'a, K: OkPacketKind + OkPacketLayout>(out: &mut Out, request: &'a Request<'_>) {
+    let capabilities = request.capabilities();
+    let (answer, left): (Result<OkPacketDeserializer<'a, K>, Fault>, usize) = parsed(
+        request,
+        capabilities,
+    );
+    match answer {
+        Ok(record) => {
+            out.word("read");
+            if let Some(written) = write_packet::<K>(out, request, &record) {
+                again(out, &record, request.keep(written), capabilities);
             }
-            Err(fault) => $out.refused(fault, buf.len() == bytes.len()),
+            show_state(&record.into_inner(), out)
         }
-    }};
+        Err(fault) => out.refused(fault, left == request.bytes.len()),
+    }
 }
 
-pub fn common(out: &mut Out, request: &Request<'_>) -> Result {
-    sent!(CommonOkPacket, out, request)
+/// Writes a packet of the same fields.
+fn write_packet<'a, K: OkPacketLayout>(
+    out: &mut Out,
+    request: &Request<'_>,
+    record: &OkPacketDeserializer<'a, K>,
+) -> Option<Vec<u8>> {
+    let Ok(copy) = record.clone() else {
+        out.lose();
+        return None;
+    };
+    let packet = copy.into_inner();
+    let made = made(&packet);
+    out.same("made", Ok(made == packet));
+    let sent = OkPacketSerializer::<'_, '_, K>::new(&made, request.capabilities());
+    write(out, &sent, request.bytes.as_slice())
 }
 
-pub fn end(out: &mut Out, request: &Request<'_>) -> Result {
-    sent!(ResultSetTerminator, out, request)
+pub fn common(out: &mut Out, request: &Request<'_>) {
+    sent::<CommonOkPacket>(out, request)
 }
 
-pub fn old_end(out: &mut Out, request: &Request<'_>) -> Result {
-    sent!(OldEofPacket, out, request)
+pub fn end(out: &mut Out, request: &Request<'_>) {
+    sent::<ResultSetTerminator>(out, request)
 }
 
-pub fn stream_end(out: &mut Out, request: &Request<'_>) -> Result {
-    sent!(NetworkStreamTerminator, out, request)
+pub fn old_end(out: &mut Out, request: &Request<'_>) {
+    sent::<OldEofPacket>(out, request)
+}
+
+pub fn stream_end(out: &mut Out, request: &Request<'_>) {
+    sent::<NetworkStreamTerminator>(out, request)
 }
 
 /// The packet of the same fields.
@@ -64,25 +86,35 @@ fn made<'s>(packet: &'s OkPacket<'_>) -> OkPacket<'s> {
 }
 
 /// Adds the state string of the packet's changes, which is the `same` where the packet has it.
-fn state(packet: &OkPacket<'_>, out: &mut Out) -> Result {
-    let alloc = out.alloc();
-    let mut state: Vec<u8> = Vec::new(alloc);
-    for change in packet.session_state_changes(alloc) {
-        let Ok(change) = change else {
-            return out.field("state", "refused");
-        };
-        let info = counted!(alloc; SessionStateInfo::from_change(alloc, &change));
-        match info {
-            Ok(Some(info)) => {
-                let content = CowSlice::Borrowed(info.data_ref());
-                SessionStateInfo::new(info.data_type(), content).serialize(&mut state)?;
-            }
-            Ok(None) => return out.field("state", "none"),
-            Err(AllocError) => return out.field("state", "Memory"),
+fn show_state(packet: &OkPacket<'_>, out: &mut Out) {
+    let mut state: Vec<u8> = Vec::new(out.alloc());
+    for change in packet.session_state_changes(out.alloc()) {
+        if let Err(word) = append_change(&mut state, change, out.alloc()) {
+            return out.field("state", word);
         }
     }
     if packet.session_state_info_ref().unwrap_or(b"") == state.as_slice() {
         return out.field("state", "same");
     }
     out.show("state", state.as_slice())
+}
+
+/// Appends the entry of a change; or answers a word where there is none.
+fn append_change(
+    state: &mut Vec<u8>,
+    change: Result<SessionStateChange<'_>, Fault>,
+    alloc: Global,
+) -> Result<(), &'static str> {
+    let Ok(change) = change else {
+        return Err("refused");
+    };
+    match counted!(alloc; SessionStateInfo::from_change(alloc, &change)) {
+        Ok(Some(info)) => {
+            let content = CowSlice::Borrowed(info.data_ref());
+            let entry = SessionStateInfo::new(info.data_type(), content);
+            entry.serialize(state).map_err(|_| "lost")
+        }
+        Ok(None) => Err("none"),
+        Err(AllocError) => Err("Memory"),
+    }
 }

@@ -9,7 +9,7 @@ use mysql_session::*;
 use mysql_wire::{BytesRepr, ConstValue, SessionStateType};
 use test_probe::prelude::*;
 
-pub fn change(out: &mut Out, request: &Request<'_>) -> Result {
+pub fn change(out: &mut Out, request: &Request<'_>) {
     if request.word(1) == "other" {
         return other_change(out, request);
     }
@@ -21,19 +21,18 @@ pub fn change(out: &mut Out, request: &Request<'_>) -> Result {
 }
 
 /// A change of a kind that has no type of its own: no bytes are read as it.
-fn other_change(out: &mut Out, request: &Request<'_>) -> Result {
+fn other_change(out: &mut Out, request: &Request<'_>) {
     let bytes = request.bytes.as_slice();
-    if let Some(text) = read::<Server, Unsupported<'_>>(out, bytes, ())? {
+    if let Some(text) = read::<Server, Unsupported<'_>>(out, bytes, ()) {
         let change = SessionStateChange::Unsupported(text);
-        Server::fields(&change, out)?;
-        out.same("change", Server::is_made(&change, out.alloc()))?;
-        let _ = write(out, &change, bytes)?;
+        Server::fields(&change, out);
+        out.same("change", Server::is_made(&change, out.alloc()));
+        let _ = write(out, &change, bytes);
     }
-    Ok(())
 }
 
 impl<'a> Shows<SessionStateChange<'a>> for Server {
-    fn fields(record: &SessionStateChange<'a>, out: &mut Out) -> Result {
+    fn fields(record: &SessionStateChange<'a>, out: &mut Out) {
         match record {
             SessionStateChange::IsTracked(is_tracked) => out.show("is_tracked", *is_tracked),
             SessionStateChange::Schema(text) => show_text("schema", text, out),
@@ -52,13 +51,13 @@ impl<'a> Shows<SessionStateChange<'a>> for Server {
     }
 }
 
-fn show_text<N, R: BytesRepr>(name: &str, text: &SessionText<'_, N, R>, out: &mut Out) -> Result {
-    out.show(name, text.as_bytes())?;
+fn show_text<N, R: BytesRepr>(name: &str, text: &SessionText<'_, N, R>, out: &mut Out) {
+    out.show(name, text.as_bytes());
     fields!(out, text; ; texts as_str = as_str)
 }
 
 impl<'a, N, R: BytesRepr> Shows<SessionText<'a, N, R>> for Server {
-    fn fields(record: &SessionText<'a, N, R>, out: &mut Out) -> Result {
+    fn fields(record: &SessionText<'a, N, R>, out: &mut Out) {
         show_text("bytes", record, out)
     }
 
@@ -75,7 +74,7 @@ fn made_variable<'a>(variable: &'a SystemVariable<'_>) -> SystemVariable<'a> {
 }
 
 impl<'a> Shows<SystemVariable<'a>> for Server {
-    fn fields(record: &SystemVariable<'a>, out: &mut Out) -> Result {
+    fn fields(record: &SystemVariable<'a>, out: &mut Out) {
         fields!(out, record; name = name_bytes, value = value_bytes;
             texts name_str = name_str, value_str = value_str)
     }
@@ -86,13 +85,12 @@ impl<'a> Shows<SystemVariable<'a>> for Server {
 }
 
 impl<'a> Shows<SystemVariables<'a>> for Server {
-    fn fields(record: &SystemVariables<'a>, out: &mut Out) -> Result {
-        out.show("variables", record.as_slice().len())?;
+    fn fields(record: &SystemVariables<'a>, out: &mut Out) {
+        out.show("variables", record.as_slice().len());
         for variable in record.as_slice() {
-            Server::fields(variable, out)?;
-            out.same("variable", Ok(made_variable(variable) == *variable))?;
+            Server::fields(variable, out);
+            out.same("variable", Ok(made_variable(variable) == *variable));
         }
-        Ok(())
     }
 
     fn is_made(record: &SystemVariables<'a>, alloc: Global) -> Result<bool> {

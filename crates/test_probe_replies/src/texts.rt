@@ -5,13 +5,13 @@ use mysql_replies::*;
 use test_probe::error_texts;
 use test_probe::prelude::*;
 
-pub fn marker(out: &mut Out, request: &Request<'_>) -> Result<bool> {
+pub fn marker(out: &mut Out, request: &Request<'_>) -> bool {
     answers!(Server, out, request, request.word(1);
         with () => "ColumnDefinitionCatalog": ColumnDefinitionCatalog, "FixedLengthFieldsLen": FixedLengthFieldsLen,
             "ErrPacketHeader": ErrPacketHeader, "SqlStateMarker": SqlStateMarker, "LocalInfileHeader": LocalInfileHeader,)
 }
 
-pub fn text(out: &mut Out, name: &str) -> Result<bool> {
+pub fn text(out: &mut Out, name: &str) -> bool {
     error_texts!(out, name;
         InvalidCatalog, InvalidFixedLengthFieldsLen, InvalidOkPacketHeader, InvalidErrPacketHeader, InvalidSqlStateMarker,
         InvalidLocalInfileHeader,;)

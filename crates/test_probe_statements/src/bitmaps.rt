@@ -12,7 +12,7 @@ use crate::prelude::*;
 use mysql_stmt::NullBitmap;
 use mysql_values::{ClientSide, SerializationSide, ServerSide};
 
-pub fn bitmap(out: &mut Out, request: &Request<'_>) -> Result {
+pub fn bitmap(out: &mut Out, request: &Request<'_>) {
     let count = request.word(2).parse::<usize>().unwrap_or(0);
     match request.word(1) {
         "client" => round_trip::<Statements, NullBitmap<'_, ClientSide>>(
@@ -22,7 +22,7 @@ pub fn bitmap(out: &mut Out, request: &Request<'_>) -> Result {
     }
 }
 
-pub fn bits(out: &mut Out, request: &Request<'_>) -> Result {
+pub fn bits(out: &mut Out, request: &Request<'_>) {
     match request.word(1) {
         "client" => bits_of::<ClientSide>(out, request),
         _ => bits_of::<ServerSide>(out, request),
@@ -30,20 +30,19 @@ pub fn bits(out: &mut Out, request: &Request<'_>) -> Result {
 }
 
 /// Where a bitmap of NULLs has the first value's bit, on either side.
-pub fn bit_offsets(out: &mut Out, _request: &Request<'_>) -> Result {
-    out.show("client", ClientSide::BIT_OFFSET)?;
-    out.show("server", ServerSide::BIT_OFFSET)
+pub fn bit_offsets(out: &mut Out, _request: &Request<'_>) {
+    out.show("client", ClientSide::BIT_OFFSET);
+    out.show("server", ServerSide::BIT_OFFSET);
 }
 
 impl<'a, S: SerializationSide> Shows<NullBitmap<'a, S>> for Statements {
-    fn fields(record: &NullBitmap<'a, S>, out: &mut Out) -> Result {
-        out.show("bytes", record.as_bytes())?;
+    fn fields(record: &NullBitmap<'a, S>, out: &mut Out) {
+        out.show("bytes", record.as_bytes());
         for place in 0..64 {
             if is_there(record, place) && record.is_null(place) {
-                out.show("null", place)?;
+                out.show("null", place);
             }
         }
-        Ok(())
     }
 
     fn is_made(record: &NullBitmap<'a, S>, alloc: Global) -> Result<bool> {
@@ -68,15 +67,15 @@ fn count(digits: &str) -> usize {
     digits.parse::<usize>().unwrap_or(0).min(1_000_000)
 }
 
-fn bits_of<S: SerializationSide>(out: &mut Out, request: &Request<'_>) -> Result {
+fn bits_of<S: SerializationSide>(out: &mut Out, request: &Request<'_>) {
     let alloc = request.alloc;
     let (making, argument) = request.word(2).split_once(':').unwrap_or(("", ""));
     let (digits, spelled) = argument.split_once(':').unwrap_or((argument, argument));
-    let bytes = hex::decode(alloc, spelled).unwrap_or(Vec::new(alloc));
     let count = count(digits);
     if S::BIT_OFFSET > 8 || count > 1_000_000 {
         return out.word("?");
     }
+    let bytes = hex::decode(alloc, spelled).unwrap_or(Vec::new(alloc));
     match making {
         "new" => match counted!(alloc; NullBitmap::<'static, S>::new(alloc, count)) {
             Ok(bitmap) => answer_calls(out, bitmap, request),
@@ -84,20 +83,15 @@ fn bits_of<S: SerializationSide>(out: &mut Out, request: &Request<'_>) -> Result
         },
         "from" => {
             let bitmap = NullBitmap::<'_, S>::from_bytes(CowSlice::Borrowed(bytes.as_slice()));
-            answer_calls(out, bitmap, request)?;
-            out.show("borrowed", bytes.as_slice())
+            answer_calls(out, bitmap, request);
+            out.show("borrowed", bytes.as_slice());
         }
         _ => copied::<S>(out, request, bytes.as_slice(), count),
     }
 }
 
 /// The bitmap of the front of some bytes.
-fn copied<S: SerializationSide>(
-    out: &mut Out,
-    request: &Request<'_>,
-    bytes: &[u8],
-    count: usize,
-) -> Result {
+fn copied<S: SerializationSide>(out: &mut Out, request: &Request<'_>, bytes: &[u8], count: usize) {
     let mut input = bytes;
     if S::BIT_OFFSET > 8
         || count > 1_000_000
@@ -108,8 +102,8 @@ fn copied<S: SerializationSide>(
     match counted!(request.alloc; NullBitmap::<'static, S>::read(request.alloc, &mut input, count))
     {
         Ok(bitmap) => {
-            answer_calls(out, bitmap, request)?;
-            out.show("left", input.len())
+            answer_calls(out, bitmap, request);
+            out.show("left", input.len());
         }
         Err(AllocError) if input.len() == bytes.len() => out.field("bytes", "Memory"),
         Err(AllocError) => out.field("bytes", "TAKEN"),
@@ -121,14 +115,13 @@ fn answer_calls<S: SerializationSide>(
     out: &mut Out,
     bitmap: NullBitmap<'_, S>,
     request: &Request<'_>,
-) -> Result {
+) {
     let mut bitmap = bitmap;
-    out.show("bytes", bitmap.as_bytes())?;
+    out.show("bytes", bitmap.as_bytes());
     for word in request.line.split(' ').skip(3) {
         let (name, digits) = word.split_once(':').unwrap_or((word, ""));
-        call(out, &mut bitmap, name, count(digits))?;
+        call(out, &mut bitmap, name, count(digits));
     }
-    Ok(())
 }
 
 fn call<S: SerializationSide>(
@@ -136,7 +129,7 @@ fn call<S: SerializationSide>(
     bitmap: &mut NullBitmap<'_, S>,
     name: &str,
     place: usize,
-) -> Result {
+) {
     match name {
         "len" if S::BIT_OFFSET <= 8 && place <= 1_000_000 => {
             out.show("len", NullBitmap::<'static, S>::bitmap_len(place))
@@ -153,10 +146,10 @@ fn set<S: SerializationSide>(
     bitmap: &mut NullBitmap<'_, S>,
     place: usize,
     is_null: bool,
-) -> Result
+)
     requires { place + S.BIT_OFFSET < 8 * length bitmap.old.bytes }
 {
-    let before = Vec::from_slice(out.alloc(), bitmap.as_bytes())?;
+    let before = or_empty(out, Vec::from_slice(out.alloc(), bitmap.as_bytes()));
     match counted!(out.alloc(); bitmap.set(out.alloc(), place, is_null)) {
         Ok(()) => out.show("now", bitmap.as_bytes()),
         Err(AllocError) if bitmap.as_bytes() == before.as_slice() => out.field("now", "Memory"),

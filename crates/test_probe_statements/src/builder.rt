@@ -23,7 +23,9 @@ mod runs;
 pub mod settings;
 pub mod writer;
 
-use crate::builder::answers::{show_error, show_refusal, show_request, show_row_refusal};
+use crate::builder::answers::{
+    show_error, show_refusal, show_request, show_row_refusal, show_undeclared,
+};
 use crate::builder::runs::{run_of_params, run_of_rows};
 use crate::builder::settings::{builder_of, list_in};
 use crate::prelude::*;
@@ -32,32 +34,40 @@ use mysql_bulk::*;
 use mysql_values::Params;
 use std::mem;
 
-pub fn builder(out: &mut Out, request: &Request<'_>) -> Result {
+pub fn builder(out: &mut Out, request: &Request<'_>) {
     let settings = request.word(1);
-    let names = list_in::<Vec<u8>>(request.alloc, settings, "names=")?;
-    let types = list_in::<StmtBulkExecuteParamType>(request.alloc, settings, "columns=")?;
-    let (names, types) = (names.as_slice(), types.as_slice());
-    let builder = match builder_of(request.alloc, settings, names, types) {
-        Ok(builder) => builder,
-        Err(refused) => {
-            out.show("Refused", refused.place)?;
-            return out.text("text", &refused);
-        }
+    let names = list_in::<Vec<u8>>(out, settings, "names=");
+    let types = list_in::<StmtBulkExecuteParamType>(out, settings, "columns=");
+    match builder_of(request.alloc, settings, names.as_slice(), types.as_slice()) {
+        Ok(builder) => answer_calls(out, request, names.as_slice(), types.as_slice(), builder),
+        Err(refused) => show_undeclared(out, &refused),
+    }
+}
+
+/// Answers the calls that stand from the third word on.
+fn answer_calls<'a>(
+    out: &mut Out,
+    request: &Request<'_>,
+    names: &'a [Vec<u8>],
+    types: &'a [StmtBulkExecuteParamType],
+    builder: ComStmtBulkExecuteRequestBuilder<'a>,
+) {
+    let Ok(aside) = builder.clone() else {
+        return out.lose();
     };
     let mut session = Session {
         names,
         types,
-        aside: builder.clone()?,
         builder,
+        aside,
         carried: None,
     };
     for (place, call) in request.line.split(' ').skip(2).enumerate() {
         if place > 0 {
-            out.word(";")?;
+            out.word(";");
         }
-        session.answer(out, call)?;
+        session.answer(out, call);
     }
-    Ok(())
 }
 
 /// A builder, the one that is put aside, and the row that the last broken run carried.
@@ -72,95 +82,97 @@ pub struct Session<'a> {
 
 impl<'a> Session<'a> {
     /// Makes a call, and adds what it answered.
-    fn answer(&mut self, out: &mut Out, call: &str) -> Result {
+    fn answer(&mut self, out: &mut Out, call: &str) {
         let alloc = out.alloc();
         let (name, argument) = call.split_once(':').unwrap_or((call, ""));
         match name {
-            "add" => self.add(out, Vec::<Value>::from_word(alloc, argument)?),
-            "slice" => self.add_slice(out, Vec::<Value>::from_word(alloc, argument)?),
-            "refs" => self.add_refs(out, Vec::<Value>::from_word(alloc, argument)?),
-            "put" => {
-                let params = Params::from_word(alloc, argument)?;
-                added(out, counted!(alloc; self.builder.add_params(params)))
+            "add" => {
+                let row = Vec::<Value>::from_word(out, argument);
+                added(out, counted!(alloc; self.builder.add_row(row)));
             }
+            "slice" => {
+                let row = Vec::<Value>::from_word(out, argument);
+                let answer = counted!(alloc; self.builder.add_row_slice(row.as_slice()));
+                copied(out, answer);
+            }
+            "refs" => {
+                let row = Vec::<Value>::from_word(out, argument);
+                let values = refs(out, row.as_slice());
+                let answer = counted!(alloc; self.builder.add_row_refs(values.as_slice()));
+                copied(out, answer);
+            }
+            "put" => {
+                let params = Params::from_word(out, argument);
+                added(out, counted!(alloc; self.builder.add_params(params)));
+            }
+            "all" => self.all(out, argument),
+            "iter" => run_of_rows(out, self, argument).end(out),
+            "params" => run_of_params(out, self, argument).end(out),
+            _ => self.answer_of_one(out, name, argument),
+        }
+    }
+
+    /// The same of calls that take no rows.
+    fn answer_of_one(&mut self, out: &mut Out, name: &str, argument: &str) {
+        let alloc = out.alloc();
+        match name {
             "build" => match counted!(alloc; self.builder.build()) {
                 Ok(request) => show_request(out, &request),
                 Err(error) => show_error(out, &error),
             },
-            "all" => self.all(out, argument),
-            "iter" => run_of_rows(out, self, argument),
-            "params" => run_of_params(out, self, argument),
             "again" => match self.carried.take() {
-                Some(row) => self.add(out, row),
+                Some(row) => added(out, counted!(alloc; self.builder.add_row(row))),
                 None => out.word("nothing"),
             },
+            "has" => out.item(counted!(alloc; value self.builder.has_rows())),
+            "rule" => {
+                let rule = counted!(alloc; value self.builder.rule());
+                out.show("types_always", rule.types_always);
+                out.show("max_rows", rule.max_rows);
+            }
             _ => self.answer_of_two(out, name, argument),
         }
     }
 
-    /// The same of calls that ask of the builder, or take the one that is put aside.
-    fn answer_of_two(&mut self, out: &mut Out, name: &str, argument: &str) -> Result {
+    /// The same of calls that take the builder that is put aside.
+    fn answer_of_two(&mut self, out: &mut Out, name: &str, argument: &str) {
         let alloc = out.alloc();
         match name {
-            "has" => out.item(counted!(alloc; value self.builder.has_rows())),
-            "rule" => {
-                let rule = counted!(alloc; value self.builder.rule());
-                out.show("types_always", rule.types_always)?;
-                out.show("max_rows", rule.max_rows)
-            }
             "clone" => match counted!(alloc; self.builder.clone()) {
                 Ok(copy) => {
                     self.aside = copy;
-                    out.word("copied")
+                    out.word("copied");
                 }
                 Err(AllocError) => out.word("Memory"),
             },
-            "other" => {
-                match builder_of(alloc, argument, self.names, self.types) {
-                    Ok(other) => self.aside = other,
-                    Err(refused) => return out.show("Refused", refused.place),
+            "other" => match builder_of(alloc, argument, self.names, self.types) {
+                Ok(other) => {
+                    self.aside = other;
+                    out.word("aside");
                 }
-                out.word("aside")
-            }
+                Err(refused) => out.show("Refused", refused.place),
+            },
             "equal" => {
                 let is_same = counted!(alloc; value self.builder == self.aside);
-                out.word(if is_same { "same" } else { "other" })
+                out.word(if is_same { "same" } else { "other" });
             }
             "swap" => {
                 mem::swap(&mut self.builder, &mut self.aside);
-                out.word("swapped")
+                out.word("swapped");
             }
             _ => out.word("?"),
         }
     }
 
-    fn add(&mut self, out: &mut Out, row: Vec<Value>) -> Result {
-        added(out, counted!(out.alloc(); self.builder.add_row(row)))
-    }
-
-    fn add_slice(&mut self, out: &mut Out, row: Vec<Value>) -> Result {
-        let answer = counted!(out.alloc(); self.builder.add_row_slice(row.as_slice()));
-        copied(out, answer)
-    }
-
-    fn add_refs(&mut self, out: &mut Out, row: Vec<Value>) -> Result {
-        let mut values = Vec::new(out.alloc());
-        for value in row.as_slice() {
-            values.push(value.as_ref())?;
-        }
-        let answer = counted!(out.alloc(); self.builder.add_row_refs(values.as_slice()));
-        copied(out, answer)
-    }
-
     /// A whole run: its requests, where they end, and its refusal.
-    fn all(&mut self, out: &mut Out, argument: &str) -> Result {
-        let rows = rows(out.alloc(), argument)?;
+    fn all(&mut self, out: &mut Out, argument: &str) {
+        let rows = rows(out, argument);
         let run = counted!(out.alloc(); value self.builder.build_all(rows));
         for request in run.requests.as_slice() {
-            show_request(out, request)?;
+            show_request(out, request);
         }
         for end in run.ends.as_slice() {
-            out.show("end", *end)?;
+            out.show("end", *end);
         }
         match &run.refusal {
             Some(refusal) => show_refusal(out, refusal),
@@ -170,7 +182,7 @@ impl<'a> Session<'a> {
 }
 
 /// Adds what a call answered that adds a copy of a row.
-pub fn copied(out: &mut Out, answer: Result<bool, BulkRowRefusal>) -> Result {
+pub fn copied(out: &mut Out, answer: Result<bool, BulkRowRefusal>) {
     match answer {
         Ok(true) => out.word("taken"),
         Ok(false) => out.word("kept"),
@@ -179,10 +191,7 @@ pub fn copied(out: &mut Out, answer: Result<bool, BulkRowRefusal>) -> Result {
 }
 
 /// Adds what a call answered that adds a row.
-fn added(
-    out: &mut Out,
-    answer: Result<Option<Vec<Value>>, BulkExecuteRequestBuilderError>,
-) -> Result<()> {
+fn added(out: &mut Out, answer: Result<Option<Vec<Value>>, BulkExecuteRequestBuilderError>) {
     match answer {
         Ok(Some(row)) => out.show("back", SpelledRow(row.as_slice())),
         Ok(None) => out.word("taken"),

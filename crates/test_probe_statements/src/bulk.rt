@@ -13,6 +13,7 @@
 
 use crate::builder::answers::show_error;
 use crate::builder::settings::setting;
+use crate::forms::column;
 use crate::prelude::*;
 use crate::values::rows;
 use mysql_bulk::*;
@@ -20,22 +21,26 @@ use mysql_stmt::{BulkRule, cut_is_fewest};
 use mysql_wire::{ColumnFlags, ColumnType, FaultOf, StmtBulkExecuteFlags, StmtExecuteParamFlags};
 use std::convert::AsSlice;
 
+/// The columns of a request.
+fn columns(out: &mut Out, request: &Request<'_>) -> Vec<(ColumnType, ColumnFlags)> {
+    or_empty(out, request.columns())
+}
+
 /// The types, the values, and the indicators before them, up to the place that has none.
 impl Shows<ComStmtBulkExecuteRequest> for Statements {
-    fn fields(record: &ComStmtBulkExecuteRequest, out: &mut Out) -> Result {
-        fields!(out, record; stmt_id, bulk_flags)?;
+    fn fields(record: &ComStmtBulkExecuteRequest, out: &mut Out) {
+        fields!(out, record; stmt_id, bulk_flags);
         for column in record.types() {
-            Statements::fields(column, out)?;
+            Statements::fields(column, out);
         }
-        out.show("values", SpelledRow(record.values()))?;
-        out.field("indicators", "")?;
+        out.show("values", SpelledRow(record.values()));
+        out.field("indicators", "");
         for place in 0..record.values().len().saturating_add(1) {
             match counted!(out.alloc(); value record.indicator(place)) {
-                Some(indicator) => u8::from(indicator).shown(out)?,
-                None => out.push(".")?,
+                Some(indicator) => u8::from(indicator).shown(out),
+                None => out.push("."),
             }
         }
-        Ok(())
     }
 
     fn is_made(record: &ComStmtBulkExecuteRequest, alloc: Global) -> Result<bool> {
@@ -44,9 +49,9 @@ impl Shows<ComStmtBulkExecuteRequest> for Statements {
 }
 
 impl Shows<StmtBulkExecuteParamValue> for Statements {
-    fn fields(record: &StmtBulkExecuteParamValue, out: &mut Out) -> Result {
-        out.show("indicator", u8::from(record.indicator()))?;
-        out.show("value", Spelled(record.value().as_ref()))
+    fn fields(record: &StmtBulkExecuteParamValue, out: &mut Out) {
+        out.show("indicator", u8::from(record.indicator()));
+        out.show("value", Spelled(record.value().as_ref()));
     }
 
     fn is_made(record: &StmtBulkExecuteParamValue, alloc: Global) -> Result<bool> {
@@ -55,11 +60,10 @@ impl Shows<StmtBulkExecuteParamValue> for Statements {
 }
 
 impl Shows<StmtBulkExecuteParamValues> for Statements {
-    fn fields(record: &StmtBulkExecuteParamValues, out: &mut Out) -> Result {
+    fn fields(record: &StmtBulkExecuteParamValues, out: &mut Out) {
         for value in record.as_slice() {
-            Statements::fields(value, out)?;
+            Statements::fields(value, out);
         }
-        Ok(())
     }
 
     fn is_made(record: &StmtBulkExecuteParamValues, alloc: Global) -> Result<bool> {
@@ -68,36 +72,51 @@ impl Shows<StmtBulkExecuteParamValues> for Statements {
 }
 
 /// Shows a record that was made as one that is read, and writes it. The answer is what is written.
-fn show_made<P: Shows<T>, T: MySerialize>(out: &mut Out, made: &T) -> Result<Option<Vec<u8>>> {
-    P::fields(made, out)?;
-    out.same("made", P::is_made(made, out.alloc()))?;
+fn show_made<P: Shows<T>, T: MySerialize>(out: &mut Out, made: &T) -> Option<Vec<u8>> {
+    P::fields(made, out);
+    out.same("made", P::is_made(made, out.alloc()));
     write(out, made, b"")
 }
 
-pub fn bulk_rows(out: &mut Out, request: &Request<'_>) -> Result {
+pub fn bulk(out: &mut Out, request: &Request<'_>) {
+    let (columns, again) = (columns(out, request), columns(out, request));
+    round_trip::<Statements, ComStmtBulkExecuteRequest>(out, request, columns, again);
+}
+
+pub fn value(out: &mut Out, request: &Request<'_>) {
+    let column = column(out, request);
+    round_trip::<Statements, StmtBulkExecuteParamValue>(out, request, column, column);
+}
+
+pub fn values(out: &mut Out, request: &Request<'_>) {
+    let (columns, again) = (columns(out, request), columns(out, request));
+    round_trip::<Statements, StmtBulkExecuteParamValues>(out, request, columns, again);
+}
+
+pub fn bulk_rows(out: &mut Out, request: &Request<'_>) {
     let alloc = out.alloc();
     let bytes = request.bytes.as_slice();
-    let columns = request.columns()?;
+    let columns = columns(out, request);
     let mut buf = ParseBuf::new(alloc, bytes);
     let answer: Result<Vec<Vec<Value>>, Fault> =
         counted!(alloc; read_bulk_rows(columns.as_slice(), &mut buf));
     match answer {
         Ok(rows) => {
-            out.word("read")?;
+            out.word("read");
             for row in rows.as_slice() {
-                out.show("values", SpelledRow(row.as_slice()))?;
+                out.show("values", SpelledRow(row.as_slice()));
             }
-            out.show("rest", buf.len())
+            out.show("rest", buf.len());
         }
         Err(fault) => out.refused(fault, buf.len() == bytes.len()),
     }
 }
 
 /// The request of rows, or why there is none.
-pub fn bulk_new(out: &mut Out, request: &Request<'_>) -> Result {
+pub fn bulk_new(out: &mut Out, request: &Request<'_>) {
     let alloc = out.alloc();
     let flags = StmtBulkExecuteFlags::from_bits_retain((request.number(1) & 0xffff) as u16);
-    let handed = rows(alloc, request.word(2))?;
+    let handed = rows(out, request.word(2));
     match counted!(alloc; ComStmtBulkExecuteRequest::new(alloc, 1, flags, handed)) {
         Ok(made) => show_written(out, &made, request.word(2)),
         Err(BulkExecuteRequestError::Memory) => out.word("Memory"),
@@ -106,26 +125,25 @@ pub fn bulk_new(out: &mut Out, request: &Request<'_>) -> Result {
 }
 
 /// Shows a request of rows, and whether what is written is read as the same rows, and as the same request.
-fn show_written(out: &mut Out, made: &ComStmtBulkExecuteRequest, text: &str) -> Result {
-    let alloc = out.alloc();
-    let Some(written) = show_made::<Statements, _>(out, made)? else {
-        return Ok(());
+fn show_written(out: &mut Out, made: &ComStmtBulkExecuteRequest, text: &str) {
+    let Some(written) = show_made::<Statements, _>(out, made) else {
+        return;
     };
-    let handed = rows(alloc, text)?;
-    let columns = columns_of(alloc, handed.as_slice())?;
-    let mut buf = ParseBuf::new(alloc, written.as_slice());
+    let handed = rows(out, text);
+    let columns = columns_of(out, handed.as_slice());
+    let mut buf = ParseBuf::new(out.alloc(), written.as_slice());
     let again: Result<Vec<Vec<Value>>, Fault> = read_bulk_rows(columns.as_slice(), &mut buf);
     let are_again = again.is_ok_and(|again| again.as_slice() == handed.as_slice());
-    out.same("rows_again", Ok(are_again))?;
-    let mut buf = ParseBuf::new(alloc, written.as_slice());
+    out.same("rows_again", Ok(are_again));
+    let mut buf = ParseBuf::new(out.alloc(), written.as_slice());
     let again = read_one(&mut buf, columns);
-    out.same("again", Ok(again.is_some_and(|again| again == *made)))?;
-    out.show("left", buf.len())
+    out.same("again", Ok(again.is_some_and(|again| again == *made)));
+    out.show("left", buf.len());
 }
 
 /// The columns of the types of the first row.
-fn columns_of(alloc: Global, rows: &[Vec<Value>]) -> Result<Vec<(ColumnType, ColumnFlags)>> {
-    let mut columns = Vec::new(alloc);
+fn columns_of(out: &mut Out, rows: &[Vec<Value>]) -> Vec<(ColumnType, ColumnFlags)> {
+    let mut columns = Vec::new(out.alloc());
     if let Some(row) = rows.first() {
         for value in row {
             let sent = StmtBulkExecuteParamType::from_value(value);
@@ -134,10 +152,10 @@ fn columns_of(alloc: Global, rows: &[Vec<Value>]) -> Result<Vec<(ColumnType, Col
             } else {
                 ColumnFlags::empty()
             };
-            columns.push((sent.column_type(), flags))?;
+            push(out, &mut columns, (sent.column_type(), flags));
         }
     }
-    Ok(columns)
+    columns
 }
 
 /// The request of one row that bytes begin with, if they do.
@@ -150,83 +168,80 @@ fn read_one(
 }
 
 /// Whether both are read, and as the same request.
-pub fn are_same(out: &mut Out, request: &Request<'_>) -> Result {
+pub fn are_same(out: &mut Out, request: &Request<'_>) {
     let alloc = out.alloc();
     let first = hex::decode(alloc, request.word(2)).unwrap_or(Vec::new(alloc));
     let mut buf = ParseBuf::new(alloc, first.as_slice());
-    let one = read_one(&mut buf, request.columns()?);
+    let one = read_one(&mut buf, columns(out, request));
     let mut buf = ParseBuf::new(alloc, request.bytes.as_slice());
-    let other = read_one(&mut buf, request.columns()?);
+    let other = read_one(&mut buf, columns(out, request));
     match (one, other) {
         (Some(one), Some(other)) => {
             let are_same = counted!(alloc; value one == other);
-            out.word(if are_same { "same" } else { "other" })
+            out.word(if are_same { "same" } else { "other" });
         }
         _ => out.word("refused"),
     }
 }
 
 /// Copies an error of a builder that hands a row back.
-pub fn bulk_error(out: &mut Out, request: &Request<'_>) -> Result {
-    let row = Vec::<Value>::from_word(out.alloc(), request.word(2))?;
+pub fn bulk_error(out: &mut Out, request: &Request<'_>) {
+    let row = Vec::<Value>::from_word(out, request.word(2));
     let error = BulkExecuteRequestBuilderError::from(match request.word(1) {
         "RowTooLarge" => BulkExecuteRequestError::RowTooLarge(row),
         "MixedTypes" => BulkExecuteRequestError::MixedTypes(row),
         _ => BulkExecuteRequestError::MemoryRow(row),
     });
-    out.same("copy", is_cloned(out.alloc(), &error, &error))?;
-    out.text("text", &error)
+    out.same("copy", is_cloned(out.alloc(), &error, &error));
+    out.text("text", &error);
 }
 
-pub fn value_new(out: &mut Out, request: &Request<'_>) -> Result {
-    let value = Value::from_word(out.alloc(), request.word(1))?;
+pub fn value_new(out: &mut Out, request: &Request<'_>) {
+    let value = Value::from_word(out, request.word(1));
     let made = counted!(out.alloc(); value StmtBulkExecuteParamValue::new(value));
-    let _ = show_made::<Statements, _>(out, &made)?;
-    Ok(())
+    let _ = show_made::<Statements, _>(out, &made);
 }
 
-pub fn values_new(out: &mut Out, request: &Request<'_>) -> Result {
+pub fn values_new(out: &mut Out, request: &Request<'_>) {
     let alloc = out.alloc();
-    let values = Vec::<Value>::from_word(alloc, request.word(1))?;
+    let values = Vec::<Value>::from_word(out, request.word(1));
     match counted!(alloc; StmtBulkExecuteParamValues::new(alloc, values)) {
-        Ok(made) => drop(show_made::<Statements, _>(out, &made)?),
-        Err(AllocError) => out.word("Memory")?,
+        Ok(made) => drop(show_made::<Statements, _>(out, &made)),
+        Err(AllocError) => out.word("Memory"),
     }
-    Ok(())
 }
 
-pub fn row_size(out: &mut Out, request: &Request<'_>) -> Result {
-    let row = Vec::<Value>::from_word(out.alloc(), request.word(1))?;
+pub fn row_size(out: &mut Out, request: &Request<'_>) {
+    let row = Vec::<Value>::from_word(out, request.word(1));
     let size = counted!(out.alloc(); value bulk_row_size(row.as_slice()));
-    out.show("bytes", size)
+    out.show("bytes", size);
 }
 
 impl FromWord for u64 {
-    fn from_word(_alloc: Global, word: &str) -> Result<Self> {
-        Ok(word.parse::<u64>().unwrap_or(0))
+    fn from_word(_out: &mut Out, word: &str) -> Self {
+        word.parse::<u64>().unwrap_or(0)
     }
 }
 
 impl FromWord for usize {
-    fn from_word(_alloc: Global, word: &str) -> Result<Self> {
-        Ok(word.parse::<usize>().unwrap_or(0))
+    fn from_word(_out: &mut Out, word: &str) -> Self {
+        word.parse::<usize>().unwrap_or(0)
     }
 }
 
 /// Whether a cut of rows into requests is one of the fewest.
-pub fn fewest(out: &mut Out, request: &Request<'_>) -> Result {
-    let alloc = out.alloc();
+pub fn fewest(out: &mut Out, request: &Request<'_>) {
     let settings = request.word(1);
     let most = setting(settings, "rows=").and_then(|digits| digits.parse::<usize>().ok());
     let rule = BulkRule {
         types_always: setting(settings, "types").is_some(),
         max_rows: most,
     };
-    let limit = u64::from_word(alloc, setting(settings, "").unwrap_or(""))?;
-    let arity = usize::from_word(alloc, request.word(2))?;
-    let sizes = list::<u64>(alloc, request.word(3), "()", ',')?;
-    let ends = list::<usize>(alloc, request.word(4), "()", ',')?;
+    let limit = u64::from_word(out, setting(settings, "").unwrap_or(""));
+    let arity = usize::from_word(out, request.word(2));
+    let sizes = list::<u64>(out, request.word(3), "()", ',');
+    let ends = list::<usize>(out, request.word(4), "()", ',');
     let is_fewest =
-        counted!(alloc; value cut_is_fewest(rule, limit, arity, sizes.as_slice(), ends.as_slice()));
-    out.item(is_fewest)
+        counted!(out.alloc(); value cut_is_fewest(rule, limit, arity, sizes.as_slice(), ends.as_slice()));
+    out.item(is_fewest);
 }

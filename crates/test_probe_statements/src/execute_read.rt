@@ -6,8 +6,8 @@ use mysql_stmt::*;
 use mysql_values::ParamType;
 
 impl Shows<ComStmtExecuteHead> for Statements {
-    fn fields(record: &ComStmtExecuteHead, out: &mut Out) -> Result {
-        fields!(out, record; stmt_id, flags)
+    fn fields(record: &ComStmtExecuteHead, out: &mut Out) {
+        fields!(out, record; stmt_id, flags);
     }
 
     fn is_made(record: &ComStmtExecuteHead, alloc: Global) -> Result<bool> {
@@ -17,65 +17,58 @@ impl Shows<ComStmtExecuteHead> for Statements {
 }
 
 impl FromWord for BoundParam {
-    fn from_word(alloc: Global, word: &str) -> Result<Self> {
-        Ok(BoundParam {
-            param_type: ParamType::from_word(alloc, word.trim_end_matches('+'))?,
+    fn from_word(out: &mut Out, word: &str) -> Self {
+        BoundParam {
+            param_type: ParamType::from_word(out, word.trim_end_matches('+')),
             is_sent_ahead: word.ends_with('+'),
-        })
+        }
     }
 }
 
-/// What was read of an execution.
-#[derive(Drop)]
-struct Execution<'a> {
-    head: ComStmtExecuteHead,
-    sends_types: bool,
-    params: Vec<(ParamType, ExecuteParam<'a>)>,
-    rest: usize,
-}
-
-/// The parameters of an execution, one after another, which are fewer by one each time.
-fn read_execution<'a>(
-    alloc: Global,
-    bound: &[BoundParam],
-    bytes: &'a [u8],
-) -> Result<Execution<'a>, Fault> {
+/// Shows an execution whose parameters are read one after another, which are fewer by one each time; or says why it is refused.
+fn show_execution(out: &mut Out, bound: &[BoundParam], bytes: &[u8]) -> Result<(), Fault> {
+    let alloc = out.alloc();
     let mut buf = ParseBuf::new(alloc, bytes);
     let head: ComStmtExecuteHead = buf.parse(())?;
-    let mut view = ExecuteParamsView::new(bound, buf)?;
-    let mut params = Vec::new(alloc);
+    out.word("read");
+    fields!(out, head; stmt_id, flags);
+    let mut view = counted!(alloc; ExecuteParamsView::new(bound, buf))?;
+    out.show("types", view.sends_types());
+    let mut end = Ok(());
     for left in (0..view.left().saturating_add(1)).rev() {
-        match view.next_param()? {
-            Some(param) if left.checked_sub(1) == Some(view.left()) => params.push(param)?,
-            None if left == 0 => {}
-            _ => return Err(Fault::InvalidInput("left")),
+        match counted!(alloc; view.next_param()) {
+            Ok(Some((param_type, param))) if left.checked_sub(1) == Some(view.left()) => {
+                show_param(out, param_type, param);
+            }
+            Ok(None) if left == 0 => {}
+            Ok(_) => end = Err(Fault::InvalidInput("left")),
+            Err(fault) => end = Err(fault),
         }
     }
-    Ok(Execution {
-        head,
-        sends_types: view.sends_types(),
-        params,
-        rest: view.rest().len(),
-    })
+    out.show("rest", view.rest().len());
+    end
 }
 
-pub fn com_execute(out: &mut Out, request: &Request<'_>) -> Result {
-    let (alloc, bytes) = (request.alloc, request.bytes.as_slice());
-    let bound = list::<BoundParam>(alloc, request.word(1), "()", ',')?;
-    let read = match counted!(alloc; read_execution(alloc, bound.as_slice(), bytes)) {
-        Ok(read) => read,
-        Err(fault) => return out.refused(fault, true),
-    };
-    out.word("read")?;
-    fields!(out, read.head; stmt_id, flags)?;
-    out.show("types", read.sends_types)?;
-    for (param_type, param) in &read.params {
-        let (code, flags) = (param_type.column_type() as u8, param_type.flags().bits());
-        let name = format!(in alloc; "{code}-{flags}")?;
-        match param {
-            ExecuteParam::Value(value) => out.show(name.as_str(), Spelled(*value))?,
-            ExecuteParam::SentAhead => out.field(name.as_str(), "ahead")?,
-        }
+/// Adds a parameter after its type.
+fn show_param(out: &mut Out, param_type: ParamType, param: ExecuteParam<'_>) {
+    out.item(u8::from(param_type.column_type()));
+    out.push("-");
+    param_type.flags().shown(out);
+    out.push("=");
+    match param {
+        ExecuteParam::Value(value) => Spelled(value).shown(out),
+        ExecuteParam::SentAhead => out.push("ahead"),
     }
-    out.show("rest", read.rest)
+}
+
+pub fn com_execute(out: &mut Out, request: &Request<'_>) {
+    let bound = list::<BoundParam>(out, request.word(1), "()", ',');
+    let mut shown = Out::new(out.alloc());
+    match show_execution(&mut shown, bound.as_slice(), request.bytes.as_slice()) {
+        Ok(()) => match shown.into_text() {
+            Ok(text) => out.word(text.as_str()),
+            Err(AllocError) => out.lose(),
+        },
+        Err(fault) => out.refused(fault, true),
+    }
 }

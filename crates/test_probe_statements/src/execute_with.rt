@@ -13,12 +13,12 @@ struct Named {
 }
 
 impl FromWord for Named {
-    fn from_word(alloc: Global, word: &str) -> Result<Self> {
+    fn from_word(out: &mut Out, word: &str) -> Self {
         let (name, value) = word.split_once('=').unwrap_or((word, "N"));
-        Ok(Named {
-            name: hex::decode(alloc, name).unwrap_or(Vec::new(alloc)),
-            value: Value::from_word(alloc, value)?,
-        })
+        Named {
+            name: hex::decode(out.alloc(), name).unwrap_or(Vec::new(out.alloc())),
+            value: Value::from_word(out, value),
+        }
     }
 }
 
@@ -32,52 +32,52 @@ fn cursor_of(word: &str) -> Option<Cursor> {
 }
 
 /// The parameters that a text spells, of which these are the values.
-fn params_of<'v>(alloc: Global, text: &str, values: &'v [Value]) -> Result<Vec<ExecuteParam<'v>>> {
-    let mut params = Vec::new(alloc);
+fn params_of<'v>(out: &mut Out, text: &str, values: &'v [Value]) -> Vec<ExecuteParam<'v>> {
+    let mut params = Vec::new(out.alloc());
     let mut words = text.split(',');
     for value in values {
-        params.push(match words.next() {
+        let param = match words.next() {
             Some("ahead") => ExecuteParam::SentAhead,
             _ => ExecuteParam::Value(value.as_ref()),
-        })?;
+        };
+        push(out, &mut params, param);
     }
-    Ok(params)
+    params
 }
 
-fn attributes_of(alloc: Global, named: &[Named]) -> Result<Vec<QueryAttribute<'_>>> {
-    let mut attributes = Vec::new(alloc);
+fn attributes_of<'n>(out: &mut Out, named: &'n [Named]) -> Vec<QueryAttribute<'n>> {
+    let mut attributes = Vec::new(out.alloc());
     for each in named {
         let (name, value) = (each.name.as_slice(), each.value.as_ref());
-        attributes.push(QueryAttribute { name, value })?;
+        push(out, &mut attributes, QueryAttribute { name, value });
     }
-    Ok(attributes)
+    attributes
 }
 
 /// Shows an execution, and whether it says the same of long data as its builder.
-fn show<V: AsExecuteParam>(
-    out: &mut Out,
-    made: Result<(ComStmtExecuteWithOptions<'_, V>, bool)>,
-) -> Result {
-    let Ok((execution, as_long_data)) = made else {
-        return out.word("Memory");
-    };
-    fields!(out, execution; stmt_id, flags)?;
-    out.show("params", execution.params().len())?;
-    let attributes = execution.attributes();
-    out.show("attributes", attributes.map(|attributes| attributes.len()))?;
-    fields!(out, execution; as_long_data)?;
-    let is_said = as_long_data == execution.as_long_data();
-    out.same("as_long_data_said", Ok(is_said))?;
-    fields!(out, execution; bitmap)?;
-    write_made(out, &execution)
+fn show(out: &mut Out, made: Result<(ComStmtExecuteWithOptions<'_, ExecuteParam<'_>>, bool)>) {
+    match made {
+        Ok((execution, as_long_data)) => {
+            fields!(out, execution; stmt_id, flags);
+            out.show("params", execution.params().len());
+            let attributes = execution.attributes();
+            out.show("attributes", attributes.map(|attributes| attributes.len()));
+            fields!(out, execution; as_long_data);
+            let is_said = as_long_data == execution.as_long_data();
+            out.same("as_long_data_said", Ok(is_said));
+            fields!(out, execution; bitmap);
+            write_made(out, &execution);
+        }
+        Err(AllocError) => out.word("Memory"),
+    }
 }
 
 /// The execution that a request asks for, with these parameters and attributes.
-fn made<'a>(
+fn made<'a, 'v>(
     request: &Request<'_>,
-    params: &'a [ExecuteParam<'a>],
+    params: &'a [ExecuteParam<'v>],
     attributes: &'a [QueryAttribute<'a>],
-) -> Result<(ComStmtExecuteWithOptions<'a, ExecuteParam<'a>>, bool)> {
+) -> Result<(ComStmtExecuteWithOptions<'a, ExecuteParam<'v>>, bool)> {
     let alloc = request.alloc;
     let builder = ComStmtExecuteRequestBuilder::new(request.number(1));
     let has_attributes = request.word(3) != "-";
@@ -94,51 +94,44 @@ fn made<'a>(
     }
 }
 
-pub fn execute_with(out: &mut Out, request: &Request<'_>) -> Result {
-    let alloc = out.alloc();
-    let values = Vec::<Value>::from_word(alloc, request.word(4))?;
-    let params = params_of(alloc, request.word(4), values.as_slice())?;
-    let named = list::<Named>(alloc, request.word(3), "()", '/')?;
-    let attributes = attributes_of(alloc, named.as_slice())?;
-    let made = made(request, params.as_slice(), attributes.as_slice());
-    show(out, made)
+pub fn execute_with(out: &mut Out, request: &Request<'_>) {
+    let values = Vec::<Value>::from_word(out, request.word(4));
+    let params = params_of(out, request.word(4), values.as_slice());
+    let named = list::<Named>(out, request.word(3), "()", '/');
+    let attributes = attributes_of(out, named.as_slice());
+    show(out, made(request, params.as_slice(), attributes.as_slice()));
 }
 
 /// Writes an execution after a byte, and tells the bytes; or that memory ran out, and the buffer then.
-fn written_at_once<V: AsExecuteParam>(out: &mut Out, id: u32, params: &[V]) -> Result {
-    let alloc = out.alloc();
-    let mut buffer = Vec::from_slice(alloc, b"\xaa")?;
+fn written_at_once<V: AsExecuteParam>(out: &mut Out, id: u32, params: &[V]) {
+    let mut buffer = or_empty(out, Vec::from_slice(out.alloc(), b"\xaa"));
     let builder = ComStmtExecuteRequestBuilder::new(id);
-    match counted!(alloc; builder.write_ref(params, &mut buffer)) {
+    match counted!(out.alloc(); builder.write_ref(params, &mut buffer)) {
         Ok(as_long_data) => {
             let written = buffer.as_slice().strip_prefix(b"\xaa").unwrap_or(b"");
-            out.show("written", written)?;
-            out.show("len", written.len())?;
-            out.show("as_long_data", as_long_data)
+            out.show("written", written);
+            out.show("len", written.len());
+            out.show("as_long_data", as_long_data);
         }
         Err(AllocError) => {
-            out.field("written", "Memory")?;
-            out.show("buffer", buffer.as_slice())
+            out.field("written", "Memory");
+            out.show("buffer", buffer.as_slice());
         }
     }
 }
 
-pub fn at_once(out: &mut Out, request: &Request<'_>) -> Result {
-    let alloc = out.alloc();
+pub fn at_once(out: &mut Out, request: &Request<'_>) {
     let id = request.number(2);
-    let values = Vec::<Value>::from_word(alloc, request.word(3))?;
+    let values = Vec::<Value>::from_word(out, request.word(3));
     match request.word(1) {
         "values" => written_at_once(out, id, values.as_slice()),
         "refs" => {
-            let mut refs = Vec::new(alloc);
-            for value in &values {
-                refs.push(value.as_ref())?;
-            }
-            written_at_once(out, id, refs.as_slice())
+            let refs = refs(out, values.as_slice());
+            written_at_once(out, id, refs.as_slice());
         }
         _ => {
-            let params = params_of(alloc, request.word(3), values.as_slice())?;
-            written_at_once(out, id, params.as_slice())
+            let params = params_of(out, request.word(3), values.as_slice());
+            written_at_once(out, id, params.as_slice());
         }
     }
 }

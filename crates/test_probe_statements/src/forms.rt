@@ -12,16 +12,16 @@ use mysql_values::*;
 use mysql_wire::{ColumnFlags, ColumnType};
 
 /// The column of a request: a string where there is none.
-pub fn column(request: &Request<'_>) -> Result<(ColumnType, ColumnFlags)> {
-    let columns = request.columns()?;
+pub fn column(out: &mut Out, request: &Request<'_>) -> (ColumnType, ColumnFlags) {
+    let columns = or_empty(out, request.columns());
     let string = (ColumnType::MYSQL_TYPE_VAR_STRING, ColumnFlags::empty());
-    Ok(columns.as_slice().first().copied().unwrap_or(string))
+    columns.as_slice().first().copied().unwrap_or(string)
 }
 
 impl<T> Shows<ValueDeserializer<T>> for Statements {
-    fn fields(record: &ValueDeserializer<T>, out: &mut Out) -> Result {
-        out.item(Spelled(record.0.as_ref()))?;
-        out.show("bin_len", record.0.bin_len())
+    fn fields(record: &ValueDeserializer<T>, out: &mut Out) {
+        out.item(Spelled(record.0.as_ref()));
+        out.show("bin_len", record.0.bin_len());
     }
 
     fn is_made(record: &ValueDeserializer<T>, alloc: Global) -> Result<bool> {
@@ -30,9 +30,9 @@ impl<T> Shows<ValueDeserializer<T>> for Statements {
 }
 
 impl Shows<ParamType> for Statements {
-    fn fields(record: &ParamType, out: &mut Out) -> Result {
-        out.show("type", u8::from(record.column_type()))?;
-        out.show("flags", record.flags())
+    fn fields(record: &ParamType, out: &mut Out) {
+        out.show("type", u8::from(record.column_type()));
+        out.show("flags", record.flags());
     }
 
     fn is_made(record: &ParamType, alloc: Global) -> Result<bool> {
@@ -44,20 +44,20 @@ impl Shows<ParamType> for Statements {
 /// A value that is put into a cell. Where it is refused the cells are as before; nothing is said of the buffer then.
 pub fn cell(out: &mut Out, request: &Request<'_>) -> Result {
     let alloc = out.alloc();
-    let column = column(request)?;
-    let bytes = request.bytes.as_slice();
-    let mut buf = ParseBuf::new(alloc, bytes);
+    let column = column(out, request);
     let mut cells = Vec::with_capacity(alloc, 1)?;
+    let mut buf = ParseBuf::new(alloc, request.bytes.as_slice());
     let answer: Result<(), Fault> = counted!(alloc; read_bin_cell(column, &mut buf, &mut cells));
     match (answer, cells.as_slice()) {
         (Ok(()), [Some(value)]) => {
-            out.word("read")?;
-            out.item(Spelled(value.as_ref()))?;
-            out.show("rest", buf.len())
+            out.word("read");
+            out.item(Spelled(value.as_ref()));
+            out.show("rest", buf.len());
         }
         (Ok(()), _) => out.word("NONE"),
         (Err(fault), cells) => out.refused(fault, cells.is_empty()),
     }
+    Ok(())
 }
 
 /// Whether a copy of a value is the same, and the value that is borrowed too.
@@ -66,28 +66,28 @@ fn is_copied(alloc: Global, value: &Value) -> Result<bool> {
 }
 
 /// What a value is sent as, its copy, and its bytes.
-pub fn bin(out: &mut Out, request: &Request<'_>) -> Result {
+pub fn bin(out: &mut Out, request: &Request<'_>) {
     let alloc = out.alloc();
-    let value = Value::from_word(alloc, request.word(1))?;
-    out.show("sent", u8::from(counted!(alloc; value value.sent_type())))?;
-    out.show("uint", counted!(alloc; value value.is_uint()))?;
+    let value = Value::from_word(out, request.word(1));
+    out.show("sent", u8::from(counted!(alloc; value value.sent_type())));
+    out.show("uint", counted!(alloc; value value.is_uint()));
     let sent = counted!(alloc; value ParamType::from_value(&value));
-    Statements::fields(&sent, out)?;
-    out.show("bin_len", counted!(alloc; value value.bin_len()))?;
-    out.same("copy", is_copied(alloc, &value))?;
-    write_made(out, &value)
+    Statements::fields(&sent, out);
+    out.show("bin_len", counted!(alloc; value value.bin_len()));
+    out.same("copy", is_copied(alloc, &value));
+    write_made(out, &value);
 }
 
-pub fn bin_len(out: &mut Out, request: &Request<'_>) -> Result {
+pub fn bin_len(out: &mut Out, request: &Request<'_>) {
     let alloc = out.alloc();
-    let value = Value::from_word(alloc, request.word(1))?;
-    out.show("bin_len", counted!(alloc; value value.bin_len()))?;
-    out.show("len", counted!(alloc; value value.defined_len()))
+    let value = Value::from_word(out, request.word(1));
+    out.show("bin_len", counted!(alloc; value value.bin_len()));
+    out.show("len", counted!(alloc; value value.defined_len()));
 }
 
 /// A conversion to one of some types, and to one that may be NULL.
-pub fn from_value(out: &mut Out, request: &Request<'_>) -> Result {
-    let value = Value::from_word(request.alloc, request.word(2))?;
+pub fn from_value(out: &mut Out, request: &Request<'_>) {
+    let value = Value::from_word(out, request.word(2));
     match request.word(1) {
         "value" => convert::<Value, ValueRef<'_>>(out, &value),
         "i64" => convert::<i64, i64>(out, &value),
@@ -104,22 +104,25 @@ pub fn from_value(out: &mut Out, request: &Request<'_>) -> Result {
 }
 
 /// What a value is as another type, or the refusal, whose copy is the same; and the same of the borrowed value.
-fn convert<'a, T, R>(out: &mut Out, value: &'a Value) -> Result
+fn convert<'a, T, R>(out: &mut Out, value: &'a Value)
 where
     T: FromValue + Converted + Drop,
     R: FromValueRef<'a> + Converted + Drop,
 {
-    let (alloc, copy) = (out.alloc(), value.clone()?);
+    let alloc = out.alloc();
+    let Ok(copy) = value.clone() else {
+        return out.lose();
+    };
     match counted!(alloc; T::from_value_opt(copy)) {
         Ok(converted) => {
-            out.show("is", Spelled(converted.converted()))?;
-            converts::<R, FromValueError>(out, value, Ok(converted.converted()))
+            out.show("is", Spelled(converted.converted()));
+            converts::<R>(out, value, Ok(converted.converted()));
         }
         Err(refusal) => {
-            out.show("back", Spelled(refusal.0.as_ref()))?;
-            out.same("copy", is_cloned(alloc, &refusal, &refusal))?;
-            out.text("text", &refusal)?;
-            converts::<R, FromValueError>(out, value, Err(&refusal))
+            out.show("back", Spelled(refusal.0.as_ref()));
+            out.same("copy", is_cloned(alloc, &refusal, &refusal));
+            out.text("text", &refusal);
+            converts::<R>(out, value, Err(&refusal));
         }
     }
 }

@@ -15,7 +15,7 @@ mod stmt;
 mod texts;
 mod values;
 
-use crate::prelude::{Out, Request, Result, answers};
+use crate::prelude::{Out, Request, answers};
 use crate::rows::{views, written};
 use mysql_bulk::*;
 use mysql_stmt::*;
@@ -25,7 +25,7 @@ use test_probe::{Answers, run};
 
 struct Statements;
 
-fn of_statements(out: &mut Out, request: &Request<'_>) -> Result<bool> {
+fn of_statements(out: &mut Out, request: &Request<'_>) -> bool {
     answers!(Statements, out, request, request.word(0);
         with () => "stmt": StmtPacket, "com_close": ComStmtClose, "com_execute_head": ComStmtExecuteHead, "com_long_data": ComStmtSendLongData<'_>,
         with request.capabilities() => "stmt_metadata": StmtPacketWithMetadata,
@@ -39,32 +39,28 @@ fn of_statements(out: &mut Out, request: &Request<'_>) -> Result<bool> {
             "new_row": rows::made_row, "new_row_raw": rows::made_row_raw, "unwrap": rows::unwrap, "column_typed": rows::column_typed,)
 }
 
-fn of_values(out: &mut Out, request: &Request<'_>) -> Result<bool> {
+fn of_values(out: &mut Out, request: &Request<'_>) -> bool {
     answers!(Statements, out, request, request.word(0);
         with () => "param_type": ParamType,
         call "value_text": borrowed::value_text, "value": borrowed::value, "cell": forms::cell, "bin": forms::bin, "bin_len": forms::bin_len, "bit_offsets": bitmaps::bit_offsets,
             "from_value": forms::from_value, "params": params::into_values, "params_same": params::are_same,)
 }
 
-fn of_bulk(out: &mut Out, request: &Request<'_>) -> Result<bool> {
+fn of_bulk(out: &mut Out, request: &Request<'_>) -> bool {
     answers!(Statements, out, request, request.word(0);
         with () => "bulk_type": StmtBulkExecuteParamType,
-        with forms::column(request)? => "bulk_value": StmtBulkExecuteParamValue,
-        with request.columns()? => "bulk": ComStmtBulkExecuteRequest, "bulk_values": StmtBulkExecuteParamValues,
-        call "bulk_rows": bulk::bulk_rows, "bulk_new": bulk::bulk_new, "bulk_value_new": bulk::value_new,
-            "bulk_values_new": bulk::values_new, "bulk_same": bulk::are_same, "bulk_error": bulk::bulk_error,
-            "fewest": bulk::fewest, "row_size": bulk::row_size, "builder": builder::builder,
-            "writer": builder::writer::writer,)
+        call "bulk": bulk::bulk, "bulk_value": bulk::value, "bulk_values": bulk::values, "bulk_rows": bulk::bulk_rows,
+            "bulk_new": bulk::bulk_new, "bulk_value_new": bulk::value_new, "bulk_values_new": bulk::values_new,
+            "bulk_same": bulk::are_same, "bulk_error": bulk::bulk_error, "fewest": bulk::fewest, "row_size": bulk::row_size,
+            "builder": builder::builder, "writer": builder::writer::writer,)
 }
 
 impl Answers for Statements {
-    fn answer(out: &mut Out, request: &Request<'_>) -> Result<bool> {
-        Ok(
-            of_statements(out, request)?
-                || of_values(out, request)?
-                || of_bulk(out, request)?
-                || texts::answer(out, request)?,
-        )
+    fn answer(out: &mut Out, request: &Request<'_>) -> bool {
+        of_statements(out, request)
+            || of_values(out, request)
+            || of_bulk(out, request)
+            || texts::answer(out, request)
     }
 }
 

@@ -9,37 +9,44 @@ use mysql_values::{Params, ParamsError};
 
 /// A name.
 impl FromWord for Vec<u8> {
-    fn from_word(alloc: Global, word: &str) -> Result<Self> {
-        Vec::from_slice(alloc, word.as_bytes())
+    fn from_word(out: &mut Out, word: &str) -> Self {
+        or_empty(out, Vec::from_slice(out.alloc(), word.as_bytes()))
     }
 }
 
 impl FromWord for Params {
-    fn from_word(alloc: Global, word: &str) -> Result<Self> {
+    fn from_word(out: &mut Out, word: &str) -> Self {
         if word == "empty" {
-            return Ok(Params::Empty);
+            Params::Empty
+        } else if word == "named" || word.contains('=') {
+            Params::Named(named(out, word))
+        } else {
+            Params::Positional(Vec::from_word(out, word))
         }
-        if word != "named" && !word.contains('=') {
-            return Ok(Params::Positional(Vec::<Value>::from_word(alloc, word)?));
-        }
-        let mut values: IndexMap<Vec<u8>, Value> = IndexMap::new(alloc);
-        for word in word.split(',') {
-            if let Some((name, word)) = word.split_once('=') {
-                let name = Vec::from_slice(alloc, name.as_bytes())?;
-                values.insert(name, Value::from_word(alloc, word)?)?;
-            }
-        }
-        Ok(Params::Named(values))
     }
 }
 
+/// The values that a text gives by name.
+fn named(out: &mut Out, text: &str) -> IndexMap<Vec<u8>, Value> {
+    let mut values = IndexMap::new(out.alloc());
+    for word in text.split(',') {
+        if let Some((name, word)) = word.split_once('=') {
+            let (name, value) = (Vec::from_word(out, name), Value::from_word(out, word));
+            if values.insert(name, value).is_err() {
+                out.lose();
+            }
+        }
+    }
+    values
+}
+
 /// The copy of some parameters, and the values that they give.
-pub fn into_values(out: &mut Out, request: &Request<'_>) -> Result {
+pub fn into_values(out: &mut Out, request: &Request<'_>) {
     let alloc = out.alloc();
-    let names = list::<Vec<u8>>(alloc, request.word(1), "()", ',')?;
+    let names = list::<Vec<u8>>(out, request.word(1), "()", ',');
     let names = Some(names.as_slice()).filter(|_| request.word(1) != "none");
-    let params = Params::from_word(alloc, request.word(2))?;
-    out.same("copy", is_cloned(alloc, &params, &params))?;
+    let params = Params::from_word(out, request.word(2));
+    out.same("copy", is_cloned(alloc, &params, &params));
     match counted!(alloc; params.into_values(alloc, names)) {
         Ok(values) => out.show("values", SpelledRow(values.as_slice())),
         Err(refusal) => show_refusal(out, &refusal),
@@ -47,20 +54,20 @@ pub fn into_values(out: &mut Out, request: &Request<'_>) -> Result {
 }
 
 /// Adds why there are no values: the name that has none, the copy of the refusal, and its text.
-fn show_refusal(out: &mut Out, refusal: &ParamsError) -> Result {
-    out.show("values", Variant(refusal))?;
+fn show_refusal(out: &mut Out, refusal: &ParamsError) {
+    out.show("values", Variant(refusal));
     match refusal {
-        ParamsError::Memory => return Ok(()),
-        ParamsError::Missing(name) => out.show("name", name.as_slice())?,
+        ParamsError::Memory => return,
+        ParamsError::Missing(name) => out.show("name", name.as_slice()),
         _ => {}
     }
-    out.same("refusal_copy", is_cloned(out.alloc(), refusal, refusal))?;
-    out.text("text", refusal)
+    out.same("refusal_copy", is_cloned(out.alloc(), refusal, refusal));
+    out.text("text", refusal);
 }
 
-pub fn are_same(out: &mut Out, request: &Request<'_>) -> Result {
-    let one = Params::from_word(out.alloc(), request.word(1))?;
-    let other = Params::from_word(out.alloc(), request.word(2))?;
+pub fn are_same(out: &mut Out, request: &Request<'_>) {
+    let one = Params::from_word(out, request.word(1));
+    let other = Params::from_word(out, request.word(2));
     let are_same = counted!(out.alloc(); value one == other);
-    out.word(if are_same { "same" } else { "other" })
+    out.word(if are_same { "same" } else { "other" });
 }

@@ -20,7 +20,7 @@ use crate::prelude::*;
 use crate::rows::calls::call;
 use mysql_replies::{Column, ColumnRef};
 use mysql_stmt::{Row, RowDeserializer, TypedColumn, new_row, new_row_raw};
-use mysql_values::{ServerSide, Text};
+use mysql_values::{ServerSide, Text, ValueRef};
 use mysql_wire::{ColumnType, ConstValue};
 use std::rc::RcSlice;
 
@@ -38,7 +38,7 @@ pub fn columns(request: &Request<'_>) -> Result<RcSlice<Column>> {
 struct Cell<'v>(Option<&'v Value>);
 
 impl Shown for Cell<'_> {
-    fn shown(self, out: &mut Out) -> Result {
+    fn shown(self, out: &mut Out) {
         match self.0 {
             Some(value) => Spelled(value.as_ref()).shown(out),
             None => out.push("-"),
@@ -47,12 +47,16 @@ impl Shown for Cell<'_> {
 }
 
 impl<S, P> Shows<RowDeserializer<S, P>> for Statements {
-    fn fields(record: &RowDeserializer<S, P>, out: &mut Out) -> Result {
-        let row = record.clone()?.into_inner();
-        for place in 0..row.len() {
-            out.item(Cell(row.as_ref(place)))?;
+    fn fields(record: &RowDeserializer<S, P>, out: &mut Out) {
+        match record.clone() {
+            Ok(copy) => {
+                let row = copy.into_inner();
+                for place in 0..row.len() {
+                    out.item(Cell(row.as_ref(place)));
+                }
+            }
+            Err(AllocError) => out.lose(),
         }
-        Ok(())
     }
 
     fn is_made(record: &RowDeserializer<S, P>, alloc: Global) -> Result<bool> {
@@ -61,90 +65,111 @@ impl<S, P> Shows<RowDeserializer<S, P>> for Statements {
     }
 }
 
-/// A text row of one of the words.
+/// Whether a row has these values.
+fn has_values<S, P>(row: RowDeserializer<S, P>, values: &[ValueRef<'_>]) -> bool {
+    let cells = row.into_inner().unwrap_raw();
+    let mut is_same = cells.len() == values.len();
+    for (cell, value) in cells.as_slice().iter().zip(values) {
+        is_same = is_same && cell.as_ref().map(Value::as_ref) == Some(*value);
+    }
+    is_same
+}
+
+/// The text row that a word spells.
 fn text_row(
     request: &Request<'_>,
     place: usize,
-) -> Result<Option<RowDeserializer<ServerSide, Text>>> {
+    columns: RcSlice<Column>,
+) -> Option<RowDeserializer<ServerSide, Text>> {
     let bytes = hex::decode(request.alloc, request.word(place)).unwrap_or(Vec::new(request.alloc));
     let mut buf = ParseBuf::new(request.alloc, bytes.as_slice());
-    let read: Result<RowDeserializer<ServerSide, Text>, Fault> = buf.parse(columns(request)?);
-    Ok(read.ok())
+    let read: Result<RowDeserializer<ServerSide, Text>, Fault> = buf.parse(columns);
+    read.ok()
 }
 
 pub fn row_equal(out: &mut Out, request: &Request<'_>) -> Result {
-    match (text_row(request, 2)?, text_row(request, 3)?) {
+    let (first, second) = (columns(request)?, columns(request)?);
+    match (text_row(request, 2, first), text_row(request, 3, second)) {
         (Some(one), Some(other)) => {
-            out.same("equal", Ok(one == other))?;
-            out.same("not_unequal", Ok(!(one != other)))
+            out.same("equal", Ok(one == other));
+            out.same("not_unequal", Ok(!(one != other)));
         }
         _ => out.word("refused"),
-    }
-}
-
-/// A name and a type, as `a:8`.
-impl FromWord for Column {
-    fn from_word(alloc: Global, word: &str) -> Result<Self> {
-        let (name, digits) = word.split_once(':').unwrap_or((word, ""));
-        let column_type = ColumnType::from_code(digits.parse::<u8>().unwrap_or(253));
-        Column::new(column_type.unwrap_or(ColumnType::MYSQL_TYPE_VAR_STRING)).with_name(
-            alloc,
-            name.as_bytes(),
-        )
-    }
-}
-
-/// The columns with names that stand at place 1.
-fn named_columns(request: &Request<'_>) -> Result<RcSlice<Column>> {
-    RcSlice::from_vec(list(request.alloc, request.word(1), "()", ',')?)
-}
-
-/// Answers the calls that stand from the fourth word on.
-fn answer_calls(out: &mut Out, row: &mut Row, request: &Request<'_>) -> Result {
-    for word in request.line.split(' ').skip(3) {
-        call(out, row, word)?;
     }
     Ok(())
 }
 
-pub fn made_row(out: &mut Out, request: &Request<'_>) -> Result {
-    let alloc = request.alloc;
-    let columns = named_columns(request)?;
-    let values = Vec::<Value>::from_word(alloc, request.word(2))?;
-    if values.len() != columns.len() {
-        return out.word("?");
-    }
-    match counted!(alloc; new_row(alloc, values, columns)) {
-        Ok(mut row) => answer_calls(out, &mut row, request),
-        Err(AllocError) => out.word("Memory"),
+/// A name and a type, as `a:8`.
+impl FromWord for Column {
+    fn from_word(out: &mut Out, word: &str) -> Self {
+        let (name, digits) = word.split_once(':').unwrap_or((word, ""));
+        let column_type = ColumnType::from_code(digits.parse::<u8>().unwrap_or(253));
+        let column_type = column_type.unwrap_or(ColumnType::MYSQL_TYPE_VAR_STRING);
+        match Column::new(column_type).with_name(out.alloc(), name.as_bytes()) {
+            Ok(column) => column,
+            Err(AllocError) => {
+                out.lose();
+                Column::new(column_type)
+            }
+        }
     }
 }
 
-pub fn made_row_raw(out: &mut Out, request: &Request<'_>) -> Result {
-    let columns = named_columns(request)?;
-    let cells = list::<Option<Value>>(request.alloc, request.word(2), "()", ',')?;
-    if cells.len() != columns.len() {
-        return out.word("?");
+/// The columns with names that stand at place 1.
+fn named_columns(out: &mut Out, request: &Request<'_>) -> Result<RcSlice<Column>> {
+    RcSlice::from_vec(list(out, request.word(1), "()", ','))
+}
+
+/// Answers the calls that stand from the fourth word on.
+fn answer_calls(out: &mut Out, row: &mut Row, request: &Request<'_>) {
+    for word in request.line.split(' ').skip(3) {
+        call(out, row, word);
     }
-    let mut row = new_row_raw(cells, columns);
-    answer_calls(out, &mut row, request)
+}
+
+pub fn made_row(out: &mut Out, request: &Request<'_>) -> Result {
+    let alloc = request.alloc;
+    let columns = named_columns(out, request)?;
+    let values = Vec::<Value>::from_word(out, request.word(2));
+    if values.len() == columns.len() {
+        match counted!(alloc; new_row(alloc, values, columns)) {
+            Ok(mut row) => answer_calls(out, &mut row, request),
+            Err(AllocError) => out.word("Memory"),
+        }
+    } else {
+        out.word("?");
+    }
+    Ok(())
+}
+
+pub fn made_row_raw(out: &mut Out, request: &Request<'_>) -> Result {
+    let columns = named_columns(out, request)?;
+    let cells = list::<Option<Value>>(out, request.word(2), "()", ',');
+    if cells.len() == columns.len() {
+        let mut row = new_row_raw(cells, columns);
+        answer_calls(out, &mut row, request);
+    } else {
+        out.word("?");
+    }
+    Ok(())
 }
 
 pub fn unwrap(out: &mut Out, request: &Request<'_>) -> Result {
     let alloc = request.alloc;
-    let columns = named_columns(request)?;
-    let mut values = Vec::<Value>::from_word(alloc, request.word(2))?;
+    let columns = named_columns(out, request)?;
+    let mut values = Vec::<Value>::from_word(out, request.word(2));
     let second = values.pop().unwrap_or(Value::NULL);
     let first = values.pop().unwrap_or(Value::NULL);
     let cells = vec![in alloc; Some(first), Some(second)]?;
-    if cells.len() != columns.len() {
-        return out.word("?");
+    if cells.len() == columns.len() {
+        match counted!(alloc; new_row_raw(cells, columns).unwrap(alloc)) {
+            Ok(values) => out.show("values", SpelledRow(values.as_slice())),
+            Err(AllocError) => out.field("values", "Memory"),
+        }
+    } else {
+        out.word("?");
     }
-    let row = new_row_raw(cells, columns);
-    match counted!(alloc; row.unwrap(alloc)) {
-        Ok(values) => out.show("values", SpelledRow(values.as_slice())),
-        Err(AllocError) => out.field("values", "Memory"),
-    }
+    Ok(())
 }
 
 /// The type of a column's values, and whether they have no sign.
@@ -152,7 +177,7 @@ fn typed<C: TypedColumn>(column: &C) -> (ColumnType, bool) {
     (column.value_type(), column.is_unsigned())
 }
 
-pub fn column_typed(out: &mut Out, request: &Request<'_>) -> Result {
+pub fn column_typed(out: &mut Out, request: &Request<'_>) {
     let (alloc, bytes) = (request.alloc, request.bytes.as_slice());
     let (mut buf, mut place) = (ParseBuf::new(alloc, bytes), ParseBuf::new(alloc, bytes));
     let owned: Result<Column, Fault> = buf.parse(());
@@ -161,5 +186,5 @@ pub fn column_typed(out: &mut Out, request: &Request<'_>) -> Result {
         (Ok(owned), Ok(borrowed)) => typed(&owned) == typed(&borrowed),
         _ => false,
     };
-    out.same("typed", Ok(is_same))
+    out.same("typed", Ok(is_same));
 }

@@ -7,26 +7,22 @@ use crate::prelude::*;
 use mysql_stmt::*;
 
 impl Shows<StmtPacket> for Statements {
-    fn fields(record: &StmtPacket, out: &mut Out) -> Result {
-        fields!(out, record; statement_id, num_columns, num_params, warning_count)
+    fn fields(record: &StmtPacket, out: &mut Out) {
+        fields!(out, record; statement_id, num_columns, num_params, warning_count);
     }
 
     fn is_made(record: &StmtPacket, alloc: Global) -> Result<bool> {
         let (columns, params) = (record.num_columns(), record.num_params());
-        let made = StmtPacket::new(
-            record.statement_id(),
-            columns,
-            params,
-            record.warning_count(),
-        );
+        let (id, warnings) = (record.statement_id(), record.warning_count());
+        let made = StmtPacket::new(id, columns, params, warnings);
         is_cloned(alloc, &made, record)
     }
 }
 
 impl Shows<StmtPacketWithMetadata> for Statements {
-    fn fields(record: &StmtPacketWithMetadata, out: &mut Out) -> Result {
-        Self::fields(record.packet(), out)?;
-        fields!(out, record; metadata)
+    fn fields(record: &StmtPacketWithMetadata, out: &mut Out) {
+        Self::fields(record.packet(), out);
+        fields!(out, record; metadata);
     }
 
     fn is_made(record: &StmtPacketWithMetadata, alloc: Global) -> Result<bool> {
@@ -37,8 +33,8 @@ impl Shows<StmtPacketWithMetadata> for Statements {
 }
 
 impl Shows<ComStmtClose> for Statements {
-    fn fields(record: &ComStmtClose, out: &mut Out) -> Result {
-        out.show("stmt_id", record.stmt_id)
+    fn fields(record: &ComStmtClose, out: &mut Out) {
+        out.show("stmt_id", record.stmt_id);
     }
 
     fn is_made(record: &ComStmtClose, alloc: Global) -> Result<bool> {
@@ -47,8 +43,8 @@ impl Shows<ComStmtClose> for Statements {
 }
 
 impl Shows<ComStmtSendLongData<'_>> for Statements {
-    fn fields(record: &ComStmtSendLongData<'_>, out: &mut Out) -> Result {
-        fields!(out, record; stmt_id, param_index, data_ref)
+    fn fields(record: &ComStmtSendLongData<'_>, out: &mut Out) {
+        fields!(out, record; stmt_id, param_index, data_ref);
     }
 
     fn is_made(record: &ComStmtSendLongData<'_>, alloc: Global) -> Result<bool> {
@@ -58,72 +54,76 @@ impl Shows<ComStmtSendLongData<'_>> for Statements {
     }
 }
 
-/// An execution with values, by a copy of its builder, with its fields.
-fn built<'a>(
-    out: &mut Out,
+/// An execution with values, by a copy of its builder.
+fn made<'a>(
+    alloc: Global,
     stmt_id: u32,
     values: &'a [Value],
-) -> Result<ComStmtExecuteRequest<'a>> {
-    let alloc = out.alloc();
+) -> Result<(ComStmtExecuteRequest<'a>, bool)> {
     let builder = ComStmtExecuteRequestBuilder::new(stmt_id);
     let copy = counted!(alloc; builder.clone())?;
-    let (execution, as_long_data) = counted!(alloc; copy.build(alloc, values))?;
-    fields!(out, execution; stmt_id, flags, params_flags)?;
-    out.show("params", execution.params().len())?;
-    fields!(out, execution; as_long_data)?;
-    let is_said = as_long_data == execution.as_long_data();
-    out.same("as_long_data_said", Ok(is_said))?;
-    Ok(execution)
+    counted!(alloc; copy.build(alloc, values))
 }
 
-pub fn execute(out: &mut Out, request: &Request<'_>) -> Result {
+/// Shows an execution, and whether it says the same of long data as its builder.
+fn show(out: &mut Out, execution: &ComStmtExecuteRequest<'_>, as_long_data: bool) {
+    fields!(out, execution; stmt_id, flags, params_flags);
+    out.show("params", execution.params().len());
+    fields!(out, execution; as_long_data);
+    let is_said = as_long_data == execution.as_long_data();
+    out.same("as_long_data_said", Ok(is_said));
+}
+
+pub fn execute(out: &mut Out, request: &Request<'_>) {
     let alloc = out.alloc();
-    let values = Vec::<Value>::from_word(alloc, request.word(2))?;
-    match built(out, request.number(1), values.as_slice()) {
-        Ok(execution) => {
-            fields!(out, execution; bitmap)?;
-            out.same("made", is_cloned(alloc, &execution, &execution))?;
-            write_made(out, &execution)
+    let values = Vec::<Value>::from_word(out, request.word(2));
+    match made(alloc, request.number(1), values.as_slice()) {
+        Ok((execution, as_long_data)) => {
+            show(out, &execution, as_long_data);
+            fields!(out, execution; bitmap);
+            out.same("made", is_cloned(alloc, &execution, &execution));
+            write_made(out, &execution);
         }
         Err(AllocError) => out.word("Memory"),
     }
 }
 
 /// An execution with so many of one value: its sizes alone.
-pub fn execute_many(out: &mut Out, request: &Request<'_>) -> Result {
-    let alloc = out.alloc();
-    let mut values = Vec::new(alloc);
+pub fn execute_many(out: &mut Out, request: &Request<'_>) {
+    let mut values = Vec::new(out.alloc());
     for _ in 0..request.number(2) {
-        values.push(Value::from_word(alloc, request.word(3))?)?;
+        let value = Value::from_word(out, request.word(3));
+        push(out, &mut values, value);
     }
-    match built(out, request.number(1), values.as_slice()) {
-        Ok(execution) => {
+    match made(out.alloc(), request.number(1), values.as_slice()) {
+        Ok((execution, as_long_data)) => {
+            show(out, &execution, as_long_data);
             let offset = ComStmtExecuteRequestBuilder::NULL_BITMAP_OFFSET;
-            out.show("bitmap_at", offset)?;
-            out.show("bitmap_len", execution.bitmap().len())?;
-            out.show("len", execution.defined_len())?;
-            let mut written = Vec::new(alloc);
-            execution.serialize(&mut written)?;
-            out.show("written_len", written.len())
+            out.show("bitmap_at", offset);
+            out.show("bitmap_len", execution.bitmap().len());
+            out.show("len", execution.defined_len());
+            let mut written = Vec::new(out.alloc());
+            execution.serialize(&mut written).end(out);
+            out.show("written_len", written.len());
         }
         Err(AllocError) => out.word("Memory"),
     }
 }
 
-pub fn long_data(out: &mut Out, request: &Request<'_>) -> Result {
+pub fn long_data(out: &mut Out, request: &Request<'_>) {
     let data = CowSlice::Borrowed(request.bytes.as_slice());
     let parameter = (request.number(2) & 0xffff) as u16;
     let packet = ComStmtSendLongData::new(request.number(1), parameter, data);
-    out.same("made", is_long_data_made(&packet, request.alloc))?;
-    write_made(out, &packet)
+    out.same("made", is_long_data_made(&packet, request.alloc));
+    write_made(out, &packet);
 }
 
 fn is_long_data_made(packet: &ComStmtSendLongData<'_>, alloc: Global) -> Result<bool> {
     is_owned!(alloc; packet, packet)
 }
 
-pub fn close(out: &mut Out, request: &Request<'_>) -> Result {
+pub fn close(out: &mut Out, request: &Request<'_>) {
     let packet = ComStmtClose::new(request.number(1));
-    out.show("stmt_id", packet.stmt_id)?;
-    write_made(out, &packet)
+    out.show("stmt_id", packet.stmt_id);
+    write_made(out, &packet);
 }

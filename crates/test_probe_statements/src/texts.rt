@@ -7,22 +7,22 @@ use mysql_values::{FromValueError, ParamsError};
 use test_probe::error_texts;
 
 /// The answer, where the request is one of these.
-pub fn answer(out: &mut Out, request: &Request<'_>) -> Result<bool> {
+pub fn answer(out: &mut Out, request: &Request<'_>) -> bool {
     match request.word(0) {
         "marker" => marker(out, request),
         "text" => text(out, request.word(1)),
-        _ => Ok(false),
+        _ => false,
     }
 }
 
-fn marker(out: &mut Out, request: &Request<'_>) -> Result<bool> {
+fn marker(out: &mut Out, request: &Request<'_>) -> bool {
     answers!(Statements, out, request, request.word(1);
         with () => "ComStmtExecuteHeader": ComStmtExecuteHeader, "IterationCount": IterationCount,
             "ComStmtSendLongDataHeader": ComStmtSendLongDataHeader, "ComStmtCloseHeader": ComStmtCloseHeader,)
 }
 
 /// A builder's refusal has the text of what it holds.
-fn text(out: &mut Out, name: &str) -> Result<bool> {
+fn text(out: &mut Out, name: &str) -> bool {
     let alloc = out.alloc();
     error_texts!(out, name;
         InvalidStmtPacketStatus, InvalidIterationCount, InvalidComStmtExecuteHeader,

@@ -33,27 +33,11 @@ impl<T: Drop> Iterator for Odd<T> {
     }
 }
 
-impl<T: FromWord + Drop> Odd<T> {
-    /// The input that follows a count of calls.
-    fn new(alloc: Global, argument: &str, asked: Rc<Cell<u32>>) -> Result<Self> {
-        let (_, input) = argument.split_once(':').unwrap_or(("0", argument));
-        let mut answers = list::<Option<T>>(alloc, input, "", '/')?;
-        answers.reverse();
-        Ok(Odd { answers, asked })
-    }
-}
-
-/// How many requests are asked for.
-fn count_of(argument: &str) -> u8 {
-    let (count, _) = argument.split_once(':').unwrap_or(("0", argument));
-    count.parse().unwrap_or(0)
-}
-
 /// Shows one answer of a run.
 fn show_answer(
     out: &mut Out,
     answer: Option<Result<ComStmtBulkExecuteRequest, BulkExecuteRequestBuilderError>>,
-) -> Result {
+) {
     match answer {
         Some(Ok(request)) => show_request(out, &request),
         Some(Err(refusal)) => show_refusal(out, &refusal),
@@ -62,23 +46,30 @@ fn show_answer(
 }
 
 /// Shows the row that a run carried, and how often its input was asked.
-fn show_carried(out: &mut Out, asked: u32, carried: &Option<Vec<Value>>) -> Result {
-    out.show("asked", asked)?;
+fn show_carried(out: &mut Out, asked: u32, carried: &Option<Vec<Value>>) {
+    out.show("asked", asked);
     let row = carried.as_ref().map(|row| SpelledRow(row.as_slice()));
-    out.show("carried", row)
+    out.show("carried", row);
 }
 
-/// Shows a run over an input, and puts the row that it carried into a place.
+/// Shows a run over the input that follows a count of calls, and puts the row that it carried into a place.
 macro_rules! run {
     ($out:expr, $carried:expr, $argument:expr; $input:ident: $item:ty => $run:expr) => {{
+        let (count, input) = $argument.split_once(':').unwrap_or(("0", $argument));
+        let mut answers = list::<Option<$item>>($out, input, "", '/');
+        answers.reverse();
         let asked = Rc::new($out.alloc(), Cell::new(0))?;
-        let $input = Odd::<$item>::new($out.alloc(), $argument, asked.clone()?)?;
+        let $input = Odd {
+            answers,
+            asked: asked.clone()?,
+        };
         let mut run = $run;
-        for _ in 0..count_of($argument) {
-            show_answer($out, counted!($out.alloc(); value run.next()))?;
+        for _ in 0..count.parse::<u8>().unwrap_or(0) {
+            show_answer($out, counted!($out.alloc(); value run.next()));
         }
         $carried = counted!($out.alloc(); value run.into_carried());
-        show_carried($out, asked.get(), &$carried)
+        show_carried($out, asked.get(), &$carried);
+        Ok(())
     }};
 }
 

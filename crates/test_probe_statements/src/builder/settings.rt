@@ -23,14 +23,14 @@ pub fn number(settings: &str, mark: &str) -> usize {
 }
 
 /// What is listed after a mark among some settings, or none.
-pub fn list_in<T: FromWord + Drop>(alloc: Global, settings: &str, mark: &str) -> Result<Vec<T>> {
+pub fn list_in<T: FromWord + Drop>(out: &mut Out, settings: &str, mark: &str) -> Vec<T> {
     let items = setting(settings, mark).unwrap_or("()");
-    list(alloc, items, "()", '/')
+    list(out, items, "()", '/')
 }
 
 /// A type's code, with `u` after it where it is unsigned.
 impl FromWord for StmtBulkExecuteParamType {
-    fn from_word(_alloc: Global, word: &str) -> Result<Self> {
+    fn from_word(_out: &mut Out, word: &str) -> Self {
         let flags = if word.ends_with('u') {
             StmtExecuteParamFlags::UNSIGNED
         } else {
@@ -38,7 +38,7 @@ impl FromWord for StmtBulkExecuteParamType {
         };
         let code = word.trim_end_matches('u').parse::<u8>().unwrap_or(0);
         let column_type = ColumnType::from_code(code).unwrap_or(ColumnType::MYSQL_TYPE_NULL);
-        Ok(StmtBulkExecuteParamType::new(column_type, flags))
+        StmtBulkExecuteParamType::new(column_type, flags)
     }
 }
 

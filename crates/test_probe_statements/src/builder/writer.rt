@@ -5,27 +5,13 @@
 
 ghost use Rattle.std.specs.Prelude.{◌≡◌};
 
-use crate::builder::answers::show_error;
+use crate::builder::answers::{show_error, show_undeclared};
 use crate::builder::copied;
 use crate::builder::settings::{list_in, number, setting};
 use crate::prelude::*;
 use mysql_bulk::*;
 
-/// The writer with these settings. A limit below 4 is 4, and a bound of 0 rows is none.
-fn writer_of<'a>(
-    alloc: Global,
-    settings: &str,
-    types: &'a [StmtBulkExecuteParamType],
-) -> Result<BulkRequestWriter<'a>, BulkColumnTypeError> {
-    let limit = number(settings, "").max(4);
-    let buffer = Vec::new(alloc);
-    match counted!(alloc; BulkRequestWriter::new(buffer, 1, limit, types)) {
-        Ok(writer) => Ok(with_settings(alloc, settings, writer)),
-        Err(refused) => Err(refused),
-    }
-}
-
-/// The writer with the other settings.
+/// The writer with these settings. A bound of 0 rows is none.
 fn with_settings<'a>(
     alloc: Global,
     settings: &str,
@@ -62,45 +48,44 @@ fn with_rule<'a>(
     }
 }
 
-pub fn writer(out: &mut Out, request: &Request<'_>) -> Result {
-    let settings = request.word(1);
-    let types = list_in::<StmtBulkExecuteParamType>(request.alloc, settings, "columns=")?;
-    let mut writer = match writer_of(request.alloc, settings, types.as_slice()) {
-        Ok(writer) => writer,
-        Err(refused) => {
-            out.show("Refused", refused.place)?;
-            return out.text("text", &refused);
-        }
-    };
+/// A limit below 4 is 4.
+pub fn writer(out: &mut Out, request: &Request<'_>) {
+    let (alloc, settings) = (request.alloc, request.word(1));
+    let types = list_in::<StmtBulkExecuteParamType>(out, settings, "columns=");
+    let (buffer, limit) = (Vec::new(alloc), number(settings, "").max(4));
+    match counted!(alloc; BulkRequestWriter::new(buffer, 1, limit, types.as_slice())) {
+        Ok(writer) => answer_calls(out, with_settings(alloc, settings, writer), request),
+        Err(refused) => show_undeclared(out, &refused),
+    }
+}
+
+/// Answers the calls that stand from the third word on.
+fn answer_calls(out: &mut Out, writer: BulkRequestWriter<'_>, request: &Request<'_>) {
+    let mut writer = writer;
     for call in request.line.split(' ').skip(2) {
-        answer(out, &mut writer, call)?;
-        out.word(";")?;
+        answer(out, &mut writer, call);
+        out.word(";");
     }
     let left = counted!(request.alloc; value writer.into_buffer());
-    out.show("left", left.as_slice())
+    out.show("left", left.as_slice());
 }
 
 /// Makes a call, and adds what it answered.
-fn answer(out: &mut Out, writer: &mut BulkRequestWriter<'_>, call: &str) -> Result {
+fn answer(out: &mut Out, writer: &mut BulkRequestWriter<'_>, call: &str) {
     let alloc = out.alloc();
     let (name, argument) = call.split_once(':').unwrap_or((call, ""));
     match name {
         "refs" => {
-            let row = Vec::<Value>::from_word(alloc, argument)?;
-            let mut values = Vec::new(alloc);
-            for value in row.as_slice() {
-                values.push(value.as_ref())?;
-            }
-            let answer = counted!(alloc; writer.add_row_refs(values.as_slice()));
-            copied(out, answer)
+            let row = Vec::<Value>::from_word(out, argument);
+            let values = refs(out, row.as_slice());
+            copied(out, counted!(alloc; writer.add_row_refs(values.as_slice())));
         }
         "build" => {
             match counted!(alloc; value writer.request()) {
-                Some(bytes) => out.show("request", bytes)?,
-                None => show_error(out, &BulkExecuteRequestError::NoParams)?,
+                Some(bytes) => out.show("request", bytes),
+                None => show_error(out, &BulkExecuteRequestError::NoParams),
             }
             counted!(alloc; value writer.finish());
-            Ok(())
         }
         "has" => out.item(counted!(alloc; value writer.has_rows())),
         _ => out.word("?"),

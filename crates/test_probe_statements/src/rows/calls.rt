@@ -20,7 +20,7 @@ use mysql_stmt::{ColumnIndex, Row, new_row_raw};
 use mysql_values::{FromValue, FromValueError};
 
 /// Makes a call, and adds what it answered.
-pub fn call(out: &mut Out, row: &mut Row, word: &str) -> Result {
+pub fn call(out: &mut Out, row: &mut Row, word: &str) {
     let alloc = out.alloc();
     let (name, argument) = word.split_once(':').unwrap_or((word, ""));
     let (index, kind) = argument.split_once(':').unwrap_or((argument, ""));
@@ -31,15 +31,15 @@ pub fn call(out: &mut Out, row: &mut Row, word: &str) -> Result {
         "columns_ref" => out.show("columns_ref", row.columns_ref().len()),
         "columns" => {
             let columns = counted!(alloc; row.columns());
-            out.show("columns", columns.map(|columns| columns.len()))
+            out.show("columns", columns.map(|columns| columns.len()));
         }
         "ref" => {
             let value = row.as_ref(place.unwrap_or(0));
-            out.show("ref", value.map(Value::as_ref).map(Spelled))
+            out.show("ref", value.map(Value::as_ref).map(Spelled));
         }
         "clone" => out.same("clone", is_cloned(alloc, row, row)),
-        "equal" => equal(out, row, argument),
-        "cells" => cells(out, row),
+        "equal" => equal(out, row, argument).end(out),
+        "cells" => cells(out, row).end(out),
         "place" => put(out, row, place.unwrap_or(usize::MAX), kind),
         _ => match place {
             Ok(place) if name == "at" => at_place(out, row, place),
@@ -53,54 +53,49 @@ pub fn call(out: &mut Out, row: &mut Row, word: &str) -> Result {
 /// Whether the row of these values, in the same columns, is equal.
 fn equal(out: &mut Out, row: &Row, values: &str) -> Result {
     let columns = row.columns()?;
-    let values = list::<Option<Value>>(out.alloc(), values, "()", ',')?;
-    if values.len() != columns.len() {
-        return out.word("?");
-    }
-    out.same("equal", Ok(new_row_raw(values, columns) == *row))
-}
-
-fn cells(out: &mut Out, row: &Row) -> Result {
-    let cells = row.clone()?.unwrap_raw();
-    out.field("cells", "")?;
-    for (place, cell) in cells.as_slice().iter().enumerate() {
-        out.push(if place > 0 { "," } else { "" })?;
-        Cell(cell.as_ref()).shown(out)?;
+    let values = list::<Option<Value>>(out, values, "()", ',');
+    if values.len() == columns.len() {
+        out.same("equal", Ok(new_row_raw(values, columns) == *row));
+    } else {
+        out.word("?");
     }
     Ok(())
 }
 
-fn put(out: &mut Out, row: &mut Row, place: usize, word: &str) -> Result {
-    let value = Value::from_word(out.alloc(), word)?;
+fn cells(out: &mut Out, row: &Row) -> Result {
+    let cells = row.clone()?.unwrap_raw();
+    out.field("cells", "");
+    for (place, cell) in cells.as_slice().iter().enumerate() {
+        out.push(if place > 0 { "," } else { "" });
+        Cell(cell.as_ref()).shown(out);
+    }
+    Ok(())
+}
+
+fn put(out: &mut Out, row: &mut Row, place: usize, word: &str) {
     if place >= row.len() {
         return out.word("?");
     }
-    row.place(place, value);
-    out.word("placed")
+    row.place(place, Value::from_word(out, word));
+    out.word("placed");
 }
 
-fn at_place(out: &mut Out, row: &Row, place: usize) -> Result {
+fn at_place(out: &mut Out, row: &Row, place: usize) {
     if row.as_ref(place).is_some() {
-        out.show("at", Spelled(row[place].as_ref()))
+        out.show("at", Spelled(row[place].as_ref()));
     } else {
-        out.field("at", "none")
+        out.field("at", "none");
     }
 }
 
-fn at_name(out: &mut Out, row: &Row, name: &str) -> Result {
+fn at_name(out: &mut Out, row: &Row, name: &str) {
     match name.idx(row.columns_ref()) {
         Some(place) if row.as_ref(place).is_some() => out.show("at", Spelled(row[name].as_ref())),
         _ => out.field("at", "none"),
     }
 }
 
-fn by_index<I: ColumnIndex + Drop>(
-    out: &mut Out,
-    row: &mut Row,
-    name: &str,
-    index: I,
-    kind: &str,
-) -> Result {
+fn by_index<I: ColumnIndex + Drop>(out: &mut Out, row: &mut Row, name: &str, index: I, kind: &str) {
     match (name, kind) {
         ("idx", _) => out.show("idx", index.idx(row.columns_ref())),
         ("get", _) => match counted!(out.alloc(); row.get::<Value, _>(index)) {
@@ -109,7 +104,7 @@ fn by_index<I: ColumnIndex + Drop>(
         },
         ("take", _) => {
             let taken = counted!(out.alloc(); value row.take::<Value, _>(index));
-            out.show("take", taken.as_ref().map(Value::as_ref).map(Spelled))
+            out.show("take", taken.as_ref().map(Value::as_ref).map(Spelled));
         }
         (_, "i64") => converted::<i64, I>(out, row, name, index),
         (_, "u64") => converted::<u64, I>(out, row, name, index),
@@ -127,7 +122,7 @@ fn converted<T: FromValue + Converted + Drop, I: ColumnIndex + Drop>(
     row: &mut Row,
     name: &str,
     index: I,
-) -> Result {
+) {
     let answer = if name == "get_opt" {
         counted!(out.alloc(); row.get_opt::<T, _>(index))
     } else {
@@ -136,8 +131,8 @@ fn converted<T: FromValue + Converted + Drop, I: ColumnIndex + Drop>(
     match answer {
         Ok(Some(Ok(value))) => out.show(name, Spelled(value.converted())),
         Ok(Some(Err(FromValueError(value)))) => {
-            out.field(name, "refused:")?;
-            Spelled(value.as_ref()).shown(out)
+            out.field(name, "refused:");
+            Spelled(value.as_ref()).shown(out);
         }
         Ok(None) => out.field(name, "none"),
         Err(AllocError) => out.field(name, "Memory"),
