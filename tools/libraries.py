@@ -1,7 +1,5 @@
 """The crates of crates.txt, and their libraries as rt ci or rt lib builds them."""
-import re
 import subprocess
-import time
 from pathlib import Path
 
 TOP = Path(__file__).resolve().parent.parent
@@ -17,13 +15,6 @@ def below(name, listed):
     """The libraries of the repository below a crate."""
     own = [it for it in listed[name] if it in listed]
     return {*own, *(lower for it in own for lower in below(it, listed))}
-
-
-def wait_for(names, log):
-    """Waits until rt ci, which writes to the file, has proved these crates, or has ended."""
-    said = "".join(rf"(?=[^\0]*^rt: {it} (?:proved|is kept))" for it in names)
-    while not re.search(rf"\A{said}|^\d+ passed, ", Path(log).read_text(errors="replace"), re.M):
-        time.sleep(1)
 
 
 def build(name, listed):

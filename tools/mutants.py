@@ -1,9 +1,7 @@
 #!/usr/bin/env python3
 """Tries the mutants of the libraries: the prover must refuse each, by the name of the function that it changes.
 
-mutants.py [--beside LOG] [CRATE ..]
-
-LOG is what rt ci writes while it runs: the mutants of a library are tried as soon as it says that those below are proved.
+mutants.py [CRATE ..]
 
 A mutant is a file crates/NAME/mutants/*.edit: a line 'fn: NAME' with the function as a check names it, and then, for each
 file that it changes, a line 'file: src/FILE.rt' and pairs of lines 'old: TEXT' and 'new: TEXT'. Each old text stands in
@@ -24,7 +22,7 @@ import time
 from concurrent.futures import ThreadPoolExecutor
 from pathlib import Path
 
-from libraries import TOP, below, build, crates, wait_for
+from libraries import TOP, below, build, crates
 
 LINE = re.compile(r"^fn \w+::(\S+): (.*)$", re.M)
 
@@ -88,10 +86,13 @@ def verdict(mutant, said, text):
     return False, f"{mutant.function}: {line}"
 
 
-def tried(name, listed, log):
+def with_mutants(listed):
+    """The crates that have mutants."""
+    return [it for it in listed if any((TOP / "crates" / it / "mutants").glob("*.edit"))]
+
+
+def tried(name, listed):
     """What came of the mutants of a crate: their names, whether each is refused, and why."""
-    if log:
-        wait_for(below(name, listed), log)
     build(name, listed)
     began = time.time()
     mutants = [Mutant(it) for it in sorted((TOP / "crates" / name / "mutants").glob("*.edit"))]
@@ -114,19 +115,22 @@ def tried(name, listed, log):
     return [(f"{name}/{mutant}", ok, why) for mutant, ok, why in found]
 
 
-def main(*names):
-    log, names = (names[1], names[2:]) if names[:1] == ("--beside",) else (None, names)
+def tried_all(*names):
+    """What came of the mutants of these crates, or of all."""
     listed = crates()
-    chosen = names or [it for it in listed if any((TOP / "crates" / it / "mutants").glob("*.edit"))]
-    # (beside proofs each takes its share of memory)
-    with ThreadPoolExecutor(len(os.sched_getaffinity(0)) // (2 if log else 1) or 1) as pool:
-        found = [it for outcome in pool.map(lambda name: tried(name, listed, log), chosen) for it in outcome]
-    for name, is_refused, why in found:
-        print(f"{name}: {'refused' if is_refused else 'NOT REFUSED'}: {why[:200]}")
+    chosen = names or with_mutants(listed)
+    with ThreadPoolExecutor(len(os.sched_getaffinity(0))) as pool:
+        return [it for outcome in pool.map(lambda name: tried(name, listed), chosen) for it in outcome]
+
+
+def summary(found, out):
+    """Writes what came of mutants, and last how many passed and failed. The answer is whether none failed."""
+    for name, is_refused, why in sorted(found):
+        print(f"{name}: {'refused' if is_refused else 'NOT REFUSED'}: {why[:200]}", file=out)
     failed = sum(not ok for _, ok, _ in found)
-    print(f"{len(found) - failed} passed, {failed} failed")
-    return 1 if failed or not found else 0
+    print(f"{len(found) - failed} passed, {failed} failed", file=out)
+    return found and not failed
 
 
 if __name__ == "__main__":
-    sys.exit(main(*sys.argv[1:]))
+    sys.exit(0 if summary(tried_all(*sys.argv[1:]), sys.stdout) else 1)

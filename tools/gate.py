@@ -1,0 +1,124 @@
+#!/usr/bin/env python3
+"""Runs rt ci, with its checks in an order that leaves no processor idle, and tries the mutants on what the proofs leave of the
+processors. What it writes and its last line are rt ci's own.
+
+gate.py [FILE]: FILE gets what came of the mutants, as mutants.py says it; without it, none is tried.
+
+rt ci gives a check the processors that are idle when it begins, and begins none for which it reckons that memory could run short: where
+most crates wait for one library, most processors wait too, and the longest chain of crates ends alone. Here as many checks run at a
+time as there are processors, where memory allows, those with the longest chain after them first; a check gets more processors where
+they would be idle. More checks than processors would take more time in all: each would find its memory out of the caches.
+
+Each check, its flags and what counts as proved are rt's own: its function that orders the checks is replaced, and a static library is
+built by its check, which leaves the archive that the tests of the library for C take. Where this rt has no such function, or
+another form of it, rt ci runs as it is, and the mutants are tried after it."""
+import importlib.machinery
+import importlib.util
+import os
+import shutil
+import subprocess
+import sys
+from concurrent.futures import FIRST_COMPLETED, ThreadPoolExecutor, wait
+
+import mutants
+from libraries import TOP, below, crates
+
+# what a check may take of memory, in bytes: most take 2 GB, and the largest 3.5 GB
+CHECK = 4 << 30
+
+
+def loaded():
+    """rt, as a module."""
+    loader = importlib.machinery.SourceFileLoader("rt", os.path.realpath(shutil.which("rt")))
+    made = importlib.util.module_from_spec(importlib.util.spec_from_loader("rt", loader))
+    sys.modules["rt"] = made
+    loader.exec_module(made)
+    return made
+
+
+def work(key, lines):
+    """How much work a task is, by its lines: a program is built by two compilers too."""
+    return lines * (2 if (TOP / "crates" / key[0] / "src/main.rt").exists() else 1)
+
+
+def chains(tasks):
+    """How much work stands from the beginning of each task to the end of the last one that waits for it."""
+    chain = dict.fromkeys(tasks, 0)
+    # (a task comes after those that it waits for)
+    for key in reversed([*tasks]):
+        chain[key] += work(key, tasks[key][1])
+        for it in tasks[key][0]:
+            chain[it] = max(chain[it], chain[key])
+    return chain
+
+
+def in_lanes(tasks, processors, memory):
+    """Runs tasks side by side, each once those that it waits for have ended, and gives what each gave. A task is what it waits for, its
+    work in lines, its memory, and a call that gets what was given and how many processors it may use."""
+    chain = chains(tasks)
+    lanes = max(1, min(processors, memory // CHECK))
+    left, running, given = sorted(tasks, key=lambda it: -chain[it]), {}, {}
+    with ThreadPoolExecutor(len(tasks)) as pool:
+        while left or running:
+            ready = [it for it in left if all(lower in given for lower in tasks[it][0])]
+            # (mutants take what is left over)
+            waiting = sum(tasks[it][1] > 0 for it in ready if it[1] != "mutants")
+            for key in ready:
+                idle = lanes - sum(jobs for _, jobs in running.values())
+                # (what has no work ends at once)
+                if idle > 0 or not tasks[key][1]:
+                    waiting -= tasks[key][1] > 0 and key[1] != "mutants"
+                    jobs = max(1, min(4, idle - waiting))
+                    left.remove(key)
+                    running[pool.submit(tasks[key][3], given, jobs)] = key, jobs * (tasks[key][1] > 0)
+            for it in wait(running, return_when=FIRST_COMPLETED).done:
+                given[running.pop(it)[0]] = it.result()
+    return given
+
+
+def with_mutants(tasks, found):
+    """The tasks, and last one for the mutants of each library, which adds what came of them to a list."""
+    listed = crates()
+
+    def tried(name):
+        try:
+            found.extend(mutants.tried(name, listed))
+        except (SystemExit, subprocess.CalledProcessError) as error:
+            found.append((name, False, f"its mutants were not tried: {error}"))
+
+    for name in mutants.with_mutants(listed):
+        waits = [(it, "proof") for it in below(name, listed) if (it, "proof") in tasks]
+        tasks[name, "mutants"] = waits, 1, CHECK, lambda given, jobs, it=name: tried(it)
+    return tasks
+
+
+def main(*words):
+    rt, found = loaded(), None
+
+    def ordered(tasks):
+        nonlocal found
+        if any(len(it) != 4 for it in tasks.values()):
+            return lanes(tasks)
+        found = []
+        return in_lanes(with_mutants(tasks, found) if words else tasks, rt.processors(), rt.free())
+
+    def ci(crate, flags, tests, *more):
+        if tests or not crate.is_static:
+            return checked(crate, flags, tests, *more)
+        built = ["build", *crate.words(flags, keeps=False), "--toolchain", f"{rt.KIT}/toolchain", "--backend", "llvm"]
+        return crate.prove([*built, "-o", f"out/lib{crate.name}.a"])
+
+    if all(hasattr(rt, it) for it in ("in_lanes", "processors", "free", "KIT")) and hasattr(rt.Crate, "ci"):
+        lanes, checked = rt.in_lanes, rt.Crate.ci
+        rt.in_lanes, rt.Crate.ci = ordered, ci
+    status = rt.main(["ci"])
+    for file in words:
+        if found is None and status == 0:
+            found = mutants.tried_all()
+        with open(file, "w") as out:
+            mutants.summary(found or [], out)
+    return status
+
+
+if __name__ == "__main__":
+    sys.exit(main(*sys.argv[1:]))
