@@ -1,5 +1,5 @@
 //! Replies that stay in their packet: each row of a reply is read so too, and an answer says `borrowed=other` where that gives
-//! something else.
+//! something else, and `left=other` where it leaves another number of bytes.
 
 use crate::Server;
 use crate::replies::of_error;
