@@ -1,6 +1,7 @@
 -- Changes of a session, and their parts, are equal exactly where they are the same.
 use Rattle.std.proofs.Common.{◌≡◌, ◌↔◌, ◌&&◌, List, nat_eq, Decides, IsTrue, true, refl, ap, subst}
 use Rattle.std.proofs.lemmas.Bool.Decides.{Decides-and}
+use borrow.Author.Tests.{clash}
 use Rattle.std.proofs.lemmas.Slice.Eq.{slice_eq-Decides}
 use Rattle.std.specs.Cmp.{booleans_Decides}
 use Rattle.std.specs.Cmp.Lexicographic.{pointwise}
@@ -31,14 +32,28 @@ text-same a b =
     let bytes = and-true _ (bytes-same a.0 b.0) in
     (λ e. let s = bytes.0 e in λ i. text_of (s i), λ e. bytes.1 (ap text_bytes e))
 
+-- the test is true of a change and itself
+change-equals-itself : (a : SessionStateChange) → IsTrue (derived.ghosts.eq a a)
+change-equals-itself (change.IsTracked a) = (booleans_Decides a a).1 refl
+change-equals-itself (change.Schema a) = (text-same a a).1 refl
+change-equals-itself (change.SystemVariables a) = (lists-same a a).1 refl
+change-equals-itself (change.Gtids a) = (text-same a a).1 refl
+change-equals-itself (change.TransactionCharacteristics a) = (text-same a a).1 refl
+change-equals-itself (change.TransactionState a) = (text-same a a).1 refl
+change-equals-itself (change.Unsupported a) = (text-same a a).1 refl
+
+-- and false of two changes that differ
+equal-changes : (a b : SessionStateChange) → IsTrue (derived.ghosts.eq a b) → a ≡ b
+equal-changes (change.IsTracked a) (change.IsTracked b) e = ap change.IsTracked ((booleans_Decides a b).0 e)
+equal-changes (change.Schema a) (change.Schema b) e = ap change.Schema ((text-same a b).0 e)
+equal-changes (change.SystemVariables a) (change.SystemVariables b) e = ap change.SystemVariables ((lists-same a b).0 e)
+equal-changes (change.Gtids a) (change.Gtids b) e = ap change.Gtids ((text-same a b).0 e)
+equal-changes (change.TransactionCharacteristics a) (change.TransactionCharacteristics b) e = ap change.TransactionCharacteristics ((text-same a b).0 e)
+equal-changes (change.TransactionState a) (change.TransactionState b) e = ap change.TransactionState ((text-same a b).0 e)
+equal-changes (change.Unsupported a) (change.Unsupported b) e = ap change.Unsupported ((text-same a b).0 e)
+equal-changes _ _ e = absurd (clash e)
+
 pub changes-same : (a b : SessionStateChange) → IsTrue (derived.ghosts.eq a b) ↔ (a ≡ b)
-changes-same (change.IsTracked a) (change.IsTracked b) = (λ e. ap change.IsTracked ((booleans_Decides a b).0 e), λ e. (booleans_Decides a b).1 (let h : a ≡ b = cc in h))
-changes-same (change.Schema a) (change.Schema b) = (λ e. ap change.Schema ((text-same a b).0 e), λ e. (text-same a b).1 (let h : a ≡ b = cc in h))
-changes-same (change.SystemVariables a) (change.SystemVariables b) = (λ e. ap change.SystemVariables ((lists-same a b).0 e), λ e. (lists-same a b).1 (let h : a ≡ b = cc in h))
-changes-same (change.Gtids a) (change.Gtids b) = (λ e. ap change.Gtids ((text-same a b).0 e), λ e. (text-same a b).1 (let h : a ≡ b = cc in h))
-changes-same (change.TransactionCharacteristics a) (change.TransactionCharacteristics b) = (λ e. ap change.TransactionCharacteristics ((text-same a b).0 e), λ e. (text-same a b).1 (let h : a ≡ b = cc in h))
-changes-same (change.TransactionState a) (change.TransactionState b) = (λ e. ap change.TransactionState ((text-same a b).0 e), λ e. (text-same a b).1 (let h : a ≡ b = cc in h))
-changes-same (change.Unsupported a) (change.Unsupported b) = (λ e. ap change.Unsupported ((text-same a b).0 e), λ e. (text-same a b).1 (let h : a ≡ b = cc in h))
-changes-same _ _ = (λ e. absurd cc, λ e. absurd cc)
+changes-same a b = (equal-changes a b, λ e. subst (λ (c : SessionStateChange). IsTrue (derived.ghosts.eq a c)) e (change-equals-itself a))
 
 pub ruleset equal_changes = (variables-same, lists-same, changes-same)
