@@ -1,8 +1,10 @@
 #!/usr/bin/env python3
-"""Runs rt ci, with its checks in an order that leaves no processor idle, and tries the mutants on what the proofs leave of the
-processors. What it writes and its last line are rt ci's own.
+"""Runs rt ci, with its checks in an order that leaves no processor idle; and beside the last proofs the mutants, and the parts of ./check
+that take no rt. What it writes and its last line are rt ci's own.
 
-gate.py [FILE]: FILE gets what came of the mutants, as mutants.py says it; without it, none is tried.
+gate.py [FOLDER [PART ..]]: a part is a line 'NAME COMMAND CRATE ..', and is run once these crates are built. FOLDER/NAME gets what it
+wrote, and FOLDER/NAME.ended how many seconds it took and its status; FOLDER/mutants what came of the mutants, as mutants.py says it.
+Without FOLDER no mutant is tried.
 
 rt ci gives a check the processors that are idle when it begins, and begins none for which it reckons that memory could run short: where
 most crates wait for one library, most processors wait too, and the longest chain of crates ends alone. Here as many checks run at a
@@ -11,20 +13,24 @@ they would be idle. More checks than processors take more time in all: seven on 
 
 Each check, its flags and what counts as proved are rt's own: its function that orders the checks is replaced, and a static library is
 built by its check, which leaves the archive that the tests of the library for C take. Where this rt has no such function, or
-another form of it, rt ci runs as it is, and the mutants are tried after it."""
+another form of it, rt ci runs as it is, and the mutants and the parts follow."""
 import importlib.machinery
 import importlib.util
 import os
 import shutil
 import subprocess
 import sys
+import time
 from concurrent.futures import FIRST_COMPLETED, ThreadPoolExecutor, wait
+from pathlib import Path
 
 import mutants
 from libraries import TOP, below, crates
 
 # what a check may take of memory, in bytes: most take 2 GB, and the largest 3.5 GB
 CHECK = 4 << 30
+# tasks that are no checks of rt ci
+BESIDE = "mutants", "part"
 
 
 def loaded():
@@ -61,13 +67,13 @@ def in_lanes(tasks, processors, memory):
     with ThreadPoolExecutor(len(tasks)) as pool:
         while left or running:
             ready = [it for it in left if all(lower in given for lower in tasks[it][0])]
-            # (mutants take what is left over)
-            waiting = sum(tasks[it][1] > 0 for it in ready if it[1] != "mutants")
+            # (mutants and parts take what is left over)
+            waiting = sum(tasks[it][1] > 0 for it in ready if it[1] not in BESIDE)
             for key in ready:
                 idle = lanes - sum(jobs for _, jobs in running.values())
                 # (what has no work ends at once)
                 if idle > 0 or not tasks[key][1]:
-                    waiting -= tasks[key][1] > 0 and key[1] != "mutants"
+                    waiting -= tasks[key][1] > 0 and key[1] not in BESIDE
                     jobs = max(1, min(4, idle - waiting))
                     left.remove(key)
                     running[pool.submit(tasks[key][3], given, jobs)] = key, jobs * (tasks[key][1] > 0)
@@ -92,15 +98,43 @@ def with_mutants(tasks, found):
     return tasks
 
 
-def main(*words):
+class Part:
+    """A part of ./check, and where it writes."""
+
+    def __init__(self, line, folder):
+        self.name, self.command, *self.crates = line.split()
+        self.said = Path(folder) / self.name
+
+    def is_ready(self):
+        """Whether all is there that it takes: what a check builds."""
+        made = {it: (TOP / "crates" / it / "out" / it, TOP / "crates" / it / f"out/lib{it}.a") for it in self.crates}
+        return all(any(file.exists() for file in files) for files in made.values())
+
+    def run(self):
+        began = time.time()
+        with open(self.said, "w") as out:
+            ran = subprocess.run([TOP / self.command], stdin=subprocess.DEVNULL, stdout=out, stderr=subprocess.STDOUT)
+        self.said.with_name(f"{self.name}.ended").write_text(f"{time.time() - began:.0f} {ran.returncode}\n")
+
+
+def with_parts(tasks, parts):
+    """The tasks, and one for each part, which is left for later where a crate was not built."""
+    for part in parts:
+        waits = [(it, "proof") for it in part.crates if (it, "proof") in tasks]
+        tasks[part.name, "part"] = waits, 1, CHECK, lambda given, jobs, it=part: it.is_ready() and it.run()
+    return tasks
+
+
+def main(folder=None, *lines):
     rt, found = loaded(), None
+    parts = [Part(it, folder) for it in lines]
 
     def ordered(tasks):
         nonlocal found
         if any(len(it) != 4 for it in tasks.values()):
             return lanes(tasks)
         found = []
-        return in_lanes(with_mutants(tasks, found) if words else tasks, rt.processors(), rt.free())
+        return in_lanes(with_mutants(with_parts(tasks, parts), found) if folder else tasks, rt.processors(), rt.free())
 
     def ci(crate, flags, tests, *more):
         if tests or not crate.is_static:
@@ -112,10 +146,14 @@ def main(*words):
         lanes, checked = rt.in_lanes, rt.Crate.ci
         rt.in_lanes, rt.Crate.ci = ordered, ci
     status = rt.main(["ci"])
-    for file in words:
+    if folder:
+        with ThreadPoolExecutor() as pool:
+            for part in parts:
+                if not part.said.exists():
+                    pool.submit(part.run)
         if found is None and status == 0:
             found = mutants.tried_all()
-        with open(file, "w") as out:
+        with open(Path(folder) / "mutants", "w") as out:
             mutants.summary(found or [], out)
     return status
 
