@@ -4,10 +4,15 @@
 # tools/archive.sh CRATE
 set -euo pipefail
 top=$(cd -- "$(dirname -- "${BASH_SOURCE[0]}")/.." && pwd)
-archive=$top/crates/$1/out/lib$1.a
-if [[ ! -f $archive || $(find "$top/crates.txt" "$top"/crates/*/{src,specs,proofs} -newer "$archive" -print -quit) ]]; then
-    log=$(mktemp)
-    trap 'rm -f -- "$log"' EXIT
-    (cd -- "$top/crates/$1" && rt lib) </dev/null >"$log" 2>&1 || { cat -- "$log" >&2; exit 1; }
-fi
+out=$top/crates/$1/out
+# (tools/gate.py leaves the first one, and rt lib makes the second)
+for archive in "$out/$1.a" "$out/lib$1.a"; do
+    if [[ -f $archive && ! $(find "$top/crates.txt" "$top"/crates/*/{src,specs,proofs} -newer "$archive" -print -quit) ]]; then
+        printf '%s\n' "$archive"
+        exit
+    fi
+done
+log=$(mktemp)
+trap 'rm -f -- "$log"' EXIT
+(cd -- "$top/crates/$1" && rt lib) </dev/null >"$log" 2>&1 || { cat -- "$log" >&2; exit 1; }
 printf '%s\n' "$archive"

@@ -12,8 +12,8 @@ time as there are processors, where memory allows, those with the longest chain 
 they would be idle. More checks than processors take more time in all: seven on four processors a fifth more.
 
 Each check, its flags and what counts as proved are rt's own: its function that orders the checks is replaced, and a static library is
-built by its check, which leaves the archive that the tests of the library for C take. Where this rt has no such function, or
-another form of it, rt ci runs as it is, and the mutants and the parts follow."""
+built by its check, which leaves the archive that the tests of the library for C take, and is kept with its proof where rt keeps proofs. Where
+this rt has no such function, or another form of it, rt ci runs as it is, and the mutants and the parts follow."""
 import importlib.machinery
 import importlib.util
 import os
@@ -107,8 +107,8 @@ class Part:
 
     def is_ready(self):
         """Whether all is there that it takes: what a check builds."""
-        made = {it: (TOP / "crates" / it / "out" / it, TOP / "crates" / it / f"out/lib{it}.a") for it in self.crates}
-        return all(any(file.exists() for file in files) for files in made.values())
+        outs = {it: TOP / "crates" / it / "out" for it in self.crates}
+        return all((out / it).exists() or (out / f"{it}.a").exists() for it, out in outs.items())
 
     def run(self):
         began = time.time()
@@ -123,6 +123,11 @@ def with_parts(tasks, parts):
         waits = [(it, "proof") for it in part.crates if (it, "proof") in tasks]
         tasks[part.name, "part"] = waits, 1, CHECK, lambda given, jobs, it=part: it.is_ready() and it.run()
     return tasks
+
+
+def archive(crate):
+    """The archive of a static library, beside its folder's other builds. (rt keeps what begins with the crate's name.)"""
+    return f"{crate.name}.a"
 
 
 def main(folder=None, *lines):
@@ -140,11 +145,22 @@ def main(folder=None, *lines):
         if tests or not crate.is_static:
             return checked(crate, flags, tests, *more)
         built = ["build", *crate.words(flags, keeps=False), "--toolchain", f"{rt.KIT}/toolchain", "--backend", "llvm"]
-        return crate.prove([*built, "-o", f"out/lib{crate.name}.a"])
+        return crate.prove([*built, "-o", f"out/{archive(crate)}"])
+
+    def made(kept, crate, tests):
+        if tests or not crate.is_static:
+            return kept_files(kept, crate, tests)
+        return [it for it in [archive(crate)] if os.path.isfile(f"{crate.folder}/out/{it}")]
+
+    def is_whole(kept, crate, tests, files):
+        return files == [archive(crate)] if crate.is_static and not tests else is_kept_whole(kept, crate, tests, files)
 
     if all(hasattr(rt, it) for it in ("in_lanes", "processors", "free", "KIT")) and hasattr(rt.Crate, "ci"):
         lanes, checked = rt.in_lanes, rt.Crate.ci
         rt.in_lanes, rt.Crate.ci = ordered, ci
+        if all(hasattr(getattr(rt, "Kept", None), it) for it in ("made", "is_whole")):
+            kept_files, is_kept_whole = rt.Kept.made, rt.Kept.is_whole
+            rt.Kept.made, rt.Kept.is_whole = made, is_whole
     status = rt.main(["ci"])
     if folder:
         with ThreadPoolExecutor() as pool:
