@@ -1,9 +1,10 @@
 //! `ok KIND CAPS HEX`: an OK packet, with the session's changes that it carries.
 
-ghost use Rattle.std.specs.Prelude.{false, ◌≡◌, IfOk, string_bytes};
+ghost use Rattle.std.specs.Prelude.{false, ◌≡◌, ◌++◌, IfOk, OnOk, string_bytes};
 ghost use Rattle.mysql_wire.specs.Reading.{Answers};
 ghost use Rattle.mysql_replies.specs.OkPacket.{state_bytes};
 ghost use Rattle.mysql_replies.specs.SessionStateInfo.{state_string};
+ghost use Rattle.mysql_packets.specs.Change.{change_line};
 ghost use Rattle.mysql_packets.specs.Ok as spec;
 ghost use Rattle.mysql_packets.specs.OkKind.{kind_of};
 
@@ -14,6 +15,7 @@ use mysql_replies::{
     CommonOkPacket, NetworkStreamTerminator, OkPacket, OkPacketDeserializer, OldEofPacket,
     ResultSetTerminator, SessionStateInfo,
 };
+use mysql_session::SessionStateChange;
 use mysql_wire::{CapabilityFlags, FaultOf, ParseBuf};
 use std::alloc::{AllocError, Global};
 
@@ -132,13 +134,22 @@ fn with_changes(
 {
     for info in infos {
         match info.decode(alloc) {
-            Ok(change) => {
-                let value = change_value(alloc, &change)?;
-                append_lines(alloc, &mut text, &[Line::text("change", value.as_str())])?;
-            }
+            Ok(change) => append_change(alloc, &mut text, &change)?,
             Err(fault) => return Answer::refused(alloc, text, fault),
         }
     }
     append_lines(alloc, &mut text, &[Line::number("rest", rest as u64)])?;
     Ok(Answer::done(text))
+}
+
+/// Appends the line of a change.
+fn append_change(
+    alloc: Global,
+    text: &mut String,
+    change: &SessionStateChange<'_>,
+) -> Result<(), AllocError>
+    ensures ok { OnOk result (string_bytes text.new ≡ string_bytes text.old ++ change_line change.now) }
+{
+    let value = change_value(alloc, change)?;
+    append_lines(alloc, text, &[Line::text("change", value.as_str())])
 }
