@@ -6,11 +6,9 @@
 //! it copies), and calls `set:PLACE`, `clear:PLACE`, `is:PLACE`, `len:COUNT` (`bitmap_len`). The sides are `client` and
 //! `server`. `bit_offsets` says where their bitmaps have the first value's bit.
 
-ghost use Rattle.std.specs.Prelude.{true, ◌≡◌, ◌+◌, ◌*◌, ◌<◌, length, IsTrue};
+ghost use Rattle.std.specs.Prelude.{true, ◌≡◌, ◌+◌, ◌*◌, ◌<◌, ◌≤◌, length, IsTrue};
 
 use crate::prelude::*;
-use mysql_stmt::NullBitmap;
-use mysql_values::{ClientSide, SerializationSide, ServerSide};
 
 pub fn bitmap(out: &mut Out, request: &Request<'_>) {
     let count = request.word(2).parse::<usize>().unwrap_or(0);
@@ -63,96 +61,77 @@ fn is_there<S: SerializationSide>(bitmap: &NullBitmap<'_, S>, place: usize) -> b
 }
 
 /// A count of values that is small.
-fn count(digits: &str) -> usize {
+fn count(digits: &str) -> usize
+    ensures { result ≤ 1000000 }
+{
     digits.parse::<usize>().unwrap_or(0).min(1_000_000)
 }
 
 fn bits_of<S: SerializationSide>(out: &mut Out, request: &Request<'_>) {
-    let alloc = request.alloc;
+    let alloc = out.alloc();
     let (making, argument) = request.word(2).split_once(':').unwrap_or(("", ""));
     let (digits, spelled) = argument.split_once(':').unwrap_or((argument, argument));
-    let count = count(digits);
-    if S::BIT_OFFSET > 8 || count > 1_000_000 {
-        return out.word("?");
-    }
-    let bytes = hex::decode(alloc, spelled).unwrap_or(Vec::new(alloc));
+    let (count, bytes) = (count(digits), bytes(out, spelled));
     match making {
-        "new" => match counted!(alloc; NullBitmap::<'static, S>::new(alloc, count)) {
-            Ok(bitmap) => answer_calls(out, bitmap, request),
-            Err(AllocError) => out.field("bytes", "Memory"),
-        },
         "from" => {
-            let bitmap = NullBitmap::<'_, S>::from_bytes(CowSlice::Borrowed(bytes.as_slice()));
-            answer_calls(out, bitmap, request);
+            let bitmap = NullBitmap::<'_, S>::from_bytes(CowSlice::Borrowed(&bytes));
+            answer_calls(out, Ok(bitmap), request);
             out.show("borrowed", bytes.as_slice());
         }
-        _ => copied::<S>(out, request, bytes.as_slice(), count),
-    }
-}
-
-/// The bitmap of the front of some bytes.
-fn copied<S: SerializationSide>(out: &mut Out, request: &Request<'_>, bytes: &[u8], count: usize) {
-    let mut input = bytes;
-    if S::BIT_OFFSET > 8
-        || count > 1_000_000
-        || NullBitmap::<'static, S>::bitmap_len(count) > input.len()
-    {
-        return out.word("?");
-    }
-    match counted!(request.alloc; NullBitmap::<'static, S>::read(request.alloc, &mut input, count))
-    {
-        Ok(bitmap) => {
-            answer_calls(out, bitmap, request);
-            out.show("left", input.len());
+        _ if S::BIT_OFFSET > 8 => out.word("?"),
+        "new" => {
+            let made = counted!(alloc; NullBitmap::<'static, S>::new(alloc, count));
+            answer_calls(out, made, request);
         }
-        Err(AllocError) if input.len() == bytes.len() => out.field("bytes", "Memory"),
-        Err(AllocError) => out.field("bytes", "TAKEN"),
+        _ if NullBitmap::<'static, S>::bitmap_len(count) > bytes.len() => out.word("?"),
+        _ => {
+            let mut input = bytes.as_slice();
+            let made = counted!(alloc; NullBitmap::<'static, S>::read(alloc, &mut input, count));
+            let is_made = made.is_ok();
+            answer_calls(out, made, request);
+            if is_made {
+                out.show("left", input.len());
+            } else if input.len() != bytes.len() {
+                out.field("bytes", "TAKEN");
+            }
+        }
     }
 }
 
 /// Shows the bytes, and answers the calls that stand from the fourth word on.
 fn answer_calls<S: SerializationSide>(
     out: &mut Out,
-    bitmap: NullBitmap<'_, S>,
+    made: Result<NullBitmap<'_, S>>,
     request: &Request<'_>,
 ) {
-    let mut bitmap = bitmap;
+    let Ok(mut bitmap) = made else {
+        return out.field("bytes", "Memory");
+    };
     out.show("bytes", bitmap.as_bytes());
     for word in request.line.split(' ').skip(3) {
-        let (name, digits) = word.split_once(':').unwrap_or((word, ""));
-        call(out, &mut bitmap, name, count(digits));
+        call(out, &mut bitmap, word);
     }
 }
 
-fn call<S: SerializationSide>(
-    out: &mut Out,
-    bitmap: &mut NullBitmap<'_, S>,
-    name: &str,
-    place: usize,
-) {
+/// Makes a call, and adds what it answered. Where memory runs out, the bytes are as before.
+fn call<S: SerializationSide>(out: &mut Out, bitmap: &mut NullBitmap<'_, S>, word: &str) {
+    let (name, digits) = word.split_once(':').unwrap_or((word, ""));
+    let place = count(digits);
     match name {
-        "len" if S::BIT_OFFSET <= 8 && place <= 1_000_000 => {
+        "len" if S::BIT_OFFSET <= 8 => {
             out.show("len", NullBitmap::<'static, S>::bitmap_len(place))
         }
         "is" if is_there(bitmap, place) => out.show("is", bitmap.is_null(place)),
-        "set" | "clear" if is_there(bitmap, place) => set(out, bitmap, place, name == "set"),
+        "set" | "clear" if is_there(bitmap, place) => {
+            let before = or_empty(out, Vec::from_slice(out.alloc(), bitmap.as_bytes()));
+            match counted!(out.alloc(); bitmap.set(out.alloc(), place, name == "set")) {
+                Ok(()) => out.show("now", bitmap.as_bytes()),
+                Err(AllocError) if bitmap.as_bytes() == before.as_slice() => out.field(
+                    "now", "Memory",
+                ),
+                Err(AllocError) => out.field("now", "CHANGED"),
+            }
+        }
         _ => out.word("?"),
-    }
-}
-
-/// Says whether a value is NULL, and shows the bytes then. Where memory runs out, they are as before.
-fn set<S: SerializationSide>(
-    out: &mut Out,
-    bitmap: &mut NullBitmap<'_, S>,
-    place: usize,
-    is_null: bool,
-)
-    requires { place + S.BIT_OFFSET < 8 * length bitmap.old.bytes }
-{
-    let before = or_empty(out, Vec::from_slice(out.alloc(), bitmap.as_bytes()));
-    match counted!(out.alloc(); bitmap.set(out.alloc(), place, is_null)) {
-        Ok(()) => out.show("now", bitmap.as_bytes()),
-        Err(AllocError) if bitmap.as_bytes() == before.as_slice() => out.field("now", "Memory"),
-        Err(AllocError) => out.field("now", "CHANGED"),
     }
 }

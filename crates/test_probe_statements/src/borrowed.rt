@@ -5,8 +5,6 @@
 
 use crate::forms::column;
 use crate::prelude::*;
-use mysql_values::*;
-use mysql_wire::ColumnFlags;
 
 /// Whether a borrowed value is written as the value itself.
 fn is_written_alike(alloc: Global, borrowed: ValueRef<'_>, value: &Value) -> Result<bool> {
@@ -63,69 +61,6 @@ pub fn value(out: &mut Out, request: &Request<'_>) {
     compare(out, owned, borrowed, buf.len() == place.len());
 }
 
-/// What a value is converted to, owned or borrowed.
-pub trait Converted {
-    /// The value that converts to it.
-    fn converted(&self) -> ValueRef<'_>;
-}
-
-impl Converted for Value {
-    fn converted(&self) -> ValueRef<'_> {
-        self.as_ref()
-    }
-}
-
-impl Converted for ValueRef<'_> {
-    fn converted(&self) -> ValueRef<'_> {
-        *self
-    }
-}
-
-impl Converted for i64 {
-    fn converted(&self) -> ValueRef<'_> {
-        ValueRef::Int(*self)
-    }
-}
-
-impl Converted for u64 {
-    fn converted(&self) -> ValueRef<'_> {
-        ValueRef::UInt(*self)
-    }
-}
-
-impl Converted for Vec<u8> {
-    fn converted(&self) -> ValueRef<'_> {
-        ValueRef::Bytes(self.as_slice())
-    }
-}
-
-impl Converted for &[u8] {
-    fn converted(&self) -> ValueRef<'_> {
-        ValueRef::Bytes(self)
-    }
-}
-
-impl Converted for String {
-    fn converted(&self) -> ValueRef<'_> {
-        ValueRef::Bytes(self.as_bytes())
-    }
-}
-
-impl Converted for &str {
-    fn converted(&self) -> ValueRef<'_> {
-        ValueRef::Bytes(self.as_bytes())
-    }
-}
-
-impl<T: Converted> Converted for Option<T> {
-    fn converted(&self) -> ValueRef<'_> {
-        match self {
-            Some(some) => some.converted(),
-            None => ValueRef::NULL,
-        }
-    }
-}
-
 /// Whether a borrowed value is handed back as the value itself, with the same text.
 fn are_alike(alloc: Global, one: FromValueRefError<'_>, other: &FromValueError) -> Result<bool> {
     let text = format!(in alloc; "{one}")?;
@@ -133,7 +68,7 @@ fn are_alike(alloc: Global, one: FromValueRefError<'_>, other: &FromValueError) 
 }
 
 /// Adds a word unless a borrowed value converts to this, or is handed back as this refusal does.
-pub fn converts<'a, T: FromValueRef<'a> + Converted + Drop>(
+pub fn converts<'a, T: FromValueRef<'a> + AsValue + Drop>(
     out: &mut Out,
     value: &'a Value,
     wanted: Result<ValueRef<'_>, &FromValueError>,
@@ -141,7 +76,7 @@ pub fn converts<'a, T: FromValueRef<'a> + Converted + Drop>(
     let alloc = out.alloc();
     let answer = counted!(alloc; T::from_value_ref_opt(value.as_ref()));
     let is_same = match (answer, wanted) {
-        (Ok(converted), Ok(wanted)) => Ok(converted.converted() == wanted),
+        (Ok(converted), Ok(wanted)) => Ok(converted.as_value() == wanted),
         (Err(refusal), Err(wanted)) => are_alike(alloc, refusal, wanted),
         _ => Ok(false),
     };

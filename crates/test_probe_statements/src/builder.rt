@@ -23,41 +23,34 @@ mod runs;
 pub mod settings;
 pub mod writer;
 
-use crate::builder::answers::{
-    show_error, show_refusal, show_request, show_row_refusal, show_undeclared,
-};
+use crate::builder::answers::*;
 use crate::builder::runs::{run_of_params, run_of_rows};
-use crate::builder::settings::{builder_of, list_in};
+use crate::builder::settings::{Given, list_in};
 use crate::prelude::*;
-use crate::values::rows;
-use mysql_bulk::*;
-use mysql_values::Params;
+use mysql_bulk::ComStmtBulkExecuteRequestBuilder as Builder;
 use std::mem;
 
 pub fn builder(out: &mut Out, request: &Request<'_>) {
     let settings = request.word(1);
     let names = list_in::<Vec<u8>>(out, settings, "names=");
     let types = list_in::<StmtBulkExecuteParamType>(out, settings, "columns=");
-    match builder_of(request.alloc, settings, names.as_slice(), types.as_slice()) {
-        Ok(builder) => answer_calls(out, request, names.as_slice(), types.as_slice(), builder),
+    let given = Given {
+        names: &names,
+        types: &types,
+    };
+    match given.builder(out.alloc(), settings) {
+        Ok(builder) => answer_calls(out, request, given, builder),
         Err(refused) => show_undeclared(out, &refused),
     }
 }
 
 /// Answers the calls that stand from the third word on.
-fn answer_calls<'a>(
-    out: &mut Out,
-    request: &Request<'_>,
-    names: &'a [Vec<u8>],
-    types: &'a [StmtBulkExecuteParamType],
-    builder: ComStmtBulkExecuteRequestBuilder<'a>,
-) {
-    let Ok(aside) = builder.clone() else {
-        return out.lose();
+fn answer_calls<'a>(out: &mut Out, request: &Request<'_>, given: Given<'a>, builder: Builder<'a>) {
+    let Some(aside) = or_lost(out, builder.clone()) else {
+        return;
     };
     let mut session = Session {
-        names,
-        types,
+        given,
         builder,
         aside,
         carried: None,
@@ -73,10 +66,9 @@ fn answer_calls<'a>(
 /// A builder, the one that is put aside, and the row that the last broken run carried.
 #[derive(Drop)]
 pub struct Session<'a> {
-    names: &'a [Vec<u8>],
-    types: &'a [StmtBulkExecuteParamType],
-    builder: ComStmtBulkExecuteRequestBuilder<'a>,
-    aside: ComStmtBulkExecuteRequestBuilder<'a>,
+    given: Given<'a>,
+    builder: Builder<'a>,
+    aside: Builder<'a>,
     carried: Option<Vec<Value>>,
 }
 
@@ -88,22 +80,20 @@ impl<'a> Session<'a> {
         match name {
             "add" => {
                 let row = Vec::<Value>::from_word(out, argument);
-                added(out, counted!(alloc; self.builder.add_row(row)));
+                show_added(out, counted!(alloc; self.builder.add_row(row)));
             }
             "slice" => {
                 let row = Vec::<Value>::from_word(out, argument);
-                let answer = counted!(alloc; self.builder.add_row_slice(row.as_slice()));
-                copied(out, answer);
+                show_copied(out, counted!(alloc; self.builder.add_row_slice(&row)));
             }
             "refs" => {
                 let row = Vec::<Value>::from_word(out, argument);
-                let values = refs(out, row.as_slice());
-                let answer = counted!(alloc; self.builder.add_row_refs(values.as_slice()));
-                copied(out, answer);
+                let values = refs(out, &row);
+                show_copied(out, counted!(alloc; self.builder.add_row_refs(&values)));
             }
             "put" => {
                 let params = Params::from_word(out, argument);
-                added(out, counted!(alloc; self.builder.add_params(params)));
+                show_added(out, counted!(alloc; self.builder.add_params(params)));
             }
             "all" => self.all(out, argument),
             "iter" => run_of_rows(out, self, argument).end(out),
@@ -116,12 +106,12 @@ impl<'a> Session<'a> {
     fn answer_of_one(&mut self, out: &mut Out, name: &str, argument: &str) {
         let alloc = out.alloc();
         match name {
-            "build" => match counted!(alloc; self.builder.build()) {
-                Ok(request) => show_request(out, &request),
-                Err(error) => show_error(out, &error),
-            },
+            "build" => {
+                let built = counted!(alloc; self.builder.build());
+                show_built(out, built.map_err(Refusal::from));
+            }
             "again" => match self.carried.take() {
-                Some(row) => added(out, counted!(alloc; self.builder.add_row(row))),
+                Some(row) => show_added(out, counted!(alloc; self.builder.add_row(row))),
                 None => out.word("nothing"),
             },
             "has" => out.item(counted!(alloc; value self.builder.has_rows())),
@@ -138,24 +128,20 @@ impl<'a> Session<'a> {
     fn answer_of_two(&mut self, out: &mut Out, name: &str, argument: &str) {
         let alloc = out.alloc();
         match name {
-            "clone" => match counted!(alloc; self.builder.clone()) {
-                Ok(copy) => {
+            "clone" => {
+                if let Some(copy) = or_memory(out, counted!(alloc; self.builder.clone())) {
                     self.aside = copy;
                     out.word("copied");
                 }
-                Err(AllocError) => out.word("Memory"),
-            },
-            "other" => match builder_of(alloc, argument, self.names, self.types) {
+            }
+            "other" => match self.given.builder(alloc, argument) {
                 Ok(other) => {
                     self.aside = other;
                     out.word("aside");
                 }
                 Err(refused) => out.show("Refused", refused.place),
             },
-            "equal" => {
-                let is_same = counted!(alloc; value self.builder == self.aside);
-                out.word(if is_same { "same" } else { "other" });
-            }
+            "equal" => same_or_other(out, counted!(alloc; value self.builder == self.aside)),
             "swap" => {
                 mem::swap(&mut self.builder, &mut self.aside);
                 out.word("swapped");
@@ -168,33 +154,15 @@ impl<'a> Session<'a> {
     fn all(&mut self, out: &mut Out, argument: &str) {
         let rows = rows(out, argument);
         let run = counted!(out.alloc(); value self.builder.build_all(rows));
-        for request in run.requests.as_slice() {
+        for request in &run.requests {
             show_request(out, request);
         }
-        for end in run.ends.as_slice() {
+        for end in &run.ends {
             out.show("end", *end);
         }
         match &run.refusal {
             Some(refusal) => show_refusal(out, refusal),
             None => out.word("sent"),
         }
-    }
-}
-
-/// Adds what a call answered that adds a copy of a row.
-pub fn copied(out: &mut Out, answer: Result<bool, BulkRowRefusal>) {
-    match answer {
-        Ok(true) => out.word("taken"),
-        Ok(false) => out.word("kept"),
-        Err(refusal) => show_row_refusal(out, &refusal),
-    }
-}
-
-/// Adds what a call answered that adds a row.
-fn added(out: &mut Out, answer: Result<Option<Vec<Value>>, BulkExecuteRequestBuilderError>) {
-    match answer {
-        Ok(Some(row)) => out.show("back", SpelledRow(row.as_slice())),
-        Ok(None) => out.word("taken"),
-        Err(refusal) => show_refusal(out, &refusal),
     }
 }

@@ -12,19 +12,14 @@
 //! end with, with commas between them, or `()`. `row_size ROW` says the bytes of a row.
 
 use crate::builder::answers::show_error;
-use crate::builder::settings::setting;
+use crate::builder::settings::{number, setting};
 use crate::forms::column;
 use crate::prelude::*;
-use crate::values::rows;
-use mysql_bulk::*;
-use mysql_stmt::{BulkRule, cut_is_fewest};
-use mysql_wire::{ColumnFlags, ColumnType, FaultOf, StmtBulkExecuteFlags, StmtExecuteParamFlags};
+use mysql_wire::{MyDeserialize, StmtBulkExecuteFlags, StmtExecuteParamFlags};
 use std::convert::AsSlice;
 
-/// The columns of a request.
-fn columns(out: &mut Out, request: &Request<'_>) -> Vec<(ColumnType, ColumnFlags)> {
-    or_empty(out, request.columns())
-}
+/// Types of columns, and their flags.
+type Columns = Vec<(ColumnType, ColumnFlags)>;
 
 /// The types, the values, and the indicators before them, up to the place that has none.
 impl Shows<ComStmtBulkExecuteRequest> for Statements {
@@ -78,9 +73,15 @@ fn show_made<P: Shows<T>, T: MySerialize>(out: &mut Out, made: &T) -> Option<Vec
     write(out, made, b"")
 }
 
-pub fn bulk(out: &mut Out, request: &Request<'_>) {
-    let (columns, again) = (columns(out, request), columns(out, request));
-    round_trip::<Statements, ComStmtBulkExecuteRequest>(out, request, columns, again);
+/// A record that is read by the columns of the request.
+pub fn by_columns<'a, T>(out: &mut Out, request: &'a Request<'_>)
+where
+    Statements: Shows<T>,
+    T: MyDeserialize<'a, Ctx = Columns> + MySerialize + PartialEq + Drop,
+{
+    let columns = or_empty(out, request.columns());
+    let again = or_empty(out, request.columns());
+    round_trip::<Statements, T>(out, request, columns, again);
 }
 
 pub fn value(out: &mut Out, request: &Request<'_>) {
@@ -88,23 +89,17 @@ pub fn value(out: &mut Out, request: &Request<'_>) {
     round_trip::<Statements, StmtBulkExecuteParamValue>(out, request, column, column);
 }
 
-pub fn values(out: &mut Out, request: &Request<'_>) {
-    let (columns, again) = (columns(out, request), columns(out, request));
-    round_trip::<Statements, StmtBulkExecuteParamValues>(out, request, columns, again);
-}
-
 pub fn bulk_rows(out: &mut Out, request: &Request<'_>) {
     let alloc = out.alloc();
     let bytes = request.bytes.as_slice();
-    let columns = columns(out, request);
+    let columns = or_empty(out, request.columns());
     let mut buf = ParseBuf::new(alloc, bytes);
-    let answer: Result<Vec<Vec<Value>>, Fault> =
-        counted!(alloc; read_bulk_rows(columns.as_slice(), &mut buf));
+    let answer: Result<_, Fault> = counted!(alloc; read_bulk_rows(&columns, &mut buf));
     match answer {
         Ok(rows) => {
             out.word("read");
-            for row in rows.as_slice() {
-                out.show("values", SpelledRow(row.as_slice()));
+            for row in &rows {
+                out.show("values", SpelledRow(row));
             }
             out.show("rest", buf.len());
         }
@@ -130,56 +125,48 @@ fn show_written(out: &mut Out, made: &ComStmtBulkExecuteRequest, text: &str) {
         return;
     };
     let handed = rows(out, text);
-    let columns = columns_of(out, handed.as_slice());
-    let mut buf = ParseBuf::new(out.alloc(), written.as_slice());
-    let again: Result<Vec<Vec<Value>>, Fault> = read_bulk_rows(columns.as_slice(), &mut buf);
-    let are_again = again.is_ok_and(|again| again.as_slice() == handed.as_slice());
-    out.same("rows_again", Ok(are_again));
-    let mut buf = ParseBuf::new(out.alloc(), written.as_slice());
+    let columns = columns_of(out, &handed);
+    let mut buf = ParseBuf::new(out.alloc(), &written);
+    let again: Result<_, Fault> = read_bulk_rows(&columns, &mut buf);
+    out.same("rows_again", Ok(again.is_ok_and(|again| again == handed)));
+    let mut buf = ParseBuf::new(out.alloc(), &written);
     let again = read_one(&mut buf, columns);
     out.same("again", Ok(again.is_some_and(|again| again == *made)));
     out.show("left", buf.len());
 }
 
 /// The columns of the types of the first row.
-fn columns_of(out: &mut Out, rows: &[Vec<Value>]) -> Vec<(ColumnType, ColumnFlags)> {
+fn columns_of(out: &mut Out, rows: &[Vec<Value>]) -> Columns {
     let mut columns = Vec::new(out.alloc());
-    if let Some(row) = rows.first() {
-        for value in row {
-            let sent = StmtBulkExecuteParamType::from_value(value);
-            let flags = if sent.flags() == StmtExecuteParamFlags::UNSIGNED {
-                ColumnFlags::UNSIGNED_FLAG
-            } else {
-                ColumnFlags::empty()
-            };
-            push(out, &mut columns, (sent.column_type(), flags));
+    let Some(row) = rows.first() else {
+        return columns;
+    };
+    for value in row {
+        let sent = StmtBulkExecuteParamType::from_value(value);
+        let mut flags = ColumnFlags::empty();
+        if sent.flags() == StmtExecuteParamFlags::UNSIGNED {
+            flags = ColumnFlags::UNSIGNED_FLAG;
         }
+        push(out, &mut columns, (sent.column_type(), flags));
     }
     columns
 }
 
 /// The request of one row that bytes begin with, if they do.
-fn read_one(
-    buf: &mut ParseBuf<'_>,
-    columns: Vec<(ColumnType, ColumnFlags)>,
-) -> Option<ComStmtBulkExecuteRequest> {
-    let answer: Result<ComStmtBulkExecuteRequest, FaultOf<'_>> = buf.parse(columns);
+fn read_one(buf: &mut ParseBuf<'_>, columns: Columns) -> Option<ComStmtBulkExecuteRequest> {
+    let answer: Result<_, FaultOf<'_>> = buf.parse(columns);
     answer.ok()
 }
 
 /// Whether both are read, and as the same request.
 pub fn are_same(out: &mut Out, request: &Request<'_>) {
-    let alloc = out.alloc();
-    let first = hex::decode(alloc, request.word(2)).unwrap_or(Vec::new(alloc));
-    let mut buf = ParseBuf::new(alloc, first.as_slice());
-    let one = read_one(&mut buf, columns(out, request));
-    let mut buf = ParseBuf::new(alloc, request.bytes.as_slice());
-    let other = read_one(&mut buf, columns(out, request));
+    let first = bytes(out, request.word(2));
+    let mut buf = ParseBuf::new(out.alloc(), &first);
+    let one = read_one(&mut buf, or_empty(out, request.columns()));
+    let mut buf = ParseBuf::new(out.alloc(), &request.bytes);
+    let other = read_one(&mut buf, or_empty(out, request.columns()));
     match (one, other) {
-        (Some(one), Some(other)) => {
-            let are_same = counted!(alloc; value one == other);
-            out.word(if are_same { "same" } else { "other" });
-        }
+        (Some(one), Some(other)) => same_or_other(out, counted!(out.alloc(); value one == other)),
         _ => out.word("refused"),
     }
 }
@@ -205,16 +192,15 @@ pub fn value_new(out: &mut Out, request: &Request<'_>) {
 pub fn values_new(out: &mut Out, request: &Request<'_>) {
     let alloc = out.alloc();
     let values = Vec::<Value>::from_word(out, request.word(1));
-    match counted!(alloc; StmtBulkExecuteParamValues::new(alloc, values)) {
-        Ok(made) => drop(show_made::<Statements, _>(out, &made)),
-        Err(AllocError) => out.word("Memory"),
+    let made = counted!(alloc; StmtBulkExecuteParamValues::new(alloc, values));
+    if let Some(made) = or_memory(out, made) {
+        let _ = show_made::<Statements, _>(out, &made);
     }
 }
 
 pub fn row_size(out: &mut Out, request: &Request<'_>) {
     let row = Vec::<Value>::from_word(out, request.word(1));
-    let size = counted!(out.alloc(); value bulk_row_size(row.as_slice()));
-    out.show("bytes", size);
+    out.show("bytes", counted!(out.alloc(); value bulk_row_size(&row)));
 }
 
 impl FromWord for u64 {
@@ -232,16 +218,13 @@ impl FromWord for usize {
 /// Whether a cut of rows into requests is one of the fewest.
 pub fn fewest(out: &mut Out, request: &Request<'_>) {
     let settings = request.word(1);
-    let most = setting(settings, "rows=").and_then(|digits| digits.parse::<usize>().ok());
     let rule = BulkRule {
         types_always: setting(settings, "types").is_some(),
-        max_rows: most,
+        max_rows: setting(settings, "rows=").and_then(|digits| digits.parse::<usize>().ok()),
     };
-    let limit = u64::from_word(out, setting(settings, "").unwrap_or(""));
+    let limit = number(settings, "") as u64;
     let arity = usize::from_word(out, request.word(2));
     let sizes = list::<u64>(out, request.word(3), "()", ',');
     let ends = list::<usize>(out, request.word(4), "()", ',');
-    let is_fewest =
-        counted!(out.alloc(); value cut_is_fewest(rule, limit, arity, sizes.as_slice(), ends.as_slice()));
-    out.item(is_fewest);
+    out.item(counted!(out.alloc(); value cut_is_fewest(rule, limit, arity, &sizes, &ends)));
 }

@@ -2,8 +2,6 @@
 //! commas between them, each with `u` after it where it is unsigned and `+` at the end where it was sent ahead; or `()`.
 
 use crate::prelude::*;
-use mysql_stmt::*;
-use mysql_values::ParamType;
 
 impl Shows<ComStmtExecuteHead> for Statements {
     fn fields(record: &ComStmtExecuteHead, out: &mut Out) {
@@ -65,10 +63,11 @@ pub fn com_execute(out: &mut Out, request: &Request<'_>) {
     let bound = list::<BoundParam>(out, request.word(1), "()", ',');
     let mut shown = Out::new(out.alloc());
     match show_execution(&mut shown, bound.as_slice(), request.bytes.as_slice()) {
-        Ok(()) => match shown.into_text() {
-            Ok(text) => out.word(text.as_str()),
-            Err(AllocError) => out.lose(),
-        },
+        Ok(()) => {
+            if let Some(text) = or_lost(out, shown.into_text()) {
+                out.word(text.as_str());
+            }
+        }
         Err(fault) => out.refused(fault, true),
     }
 }

@@ -6,10 +6,8 @@
 //! `from_value TYPE VALUE` converts a value. The types are `value`, `i64`, `u64`, `bytes`, `text`, and each after `option_`.
 //! A refusal hands the value back.
 
-use crate::borrowed::{Converted, converts, is_alike};
+use crate::borrowed::{converts, is_alike};
 use crate::prelude::*;
-use mysql_values::*;
-use mysql_wire::{ColumnFlags, ColumnType};
 
 /// The column of a request: a string where there is none.
 pub fn column(out: &mut Out, request: &Request<'_>) -> (ColumnType, ColumnFlags) {
@@ -106,8 +104,8 @@ pub fn from_value(out: &mut Out, request: &Request<'_>) {
 /// What a value is as another type, or the refusal, whose copy is the same; and the same of the borrowed value.
 fn convert<'a, T, R>(out: &mut Out, value: &'a Value)
 where
-    T: FromValue + Converted + Drop,
-    R: FromValueRef<'a> + Converted + Drop,
+    T: FromValue + AsValue + Drop,
+    R: FromValueRef<'a> + AsValue + Drop,
 {
     let alloc = out.alloc();
     let Ok(copy) = value.clone() else {
@@ -115,8 +113,8 @@ where
     };
     match counted!(alloc; T::from_value_opt(copy)) {
         Ok(converted) => {
-            out.show("is", Spelled(converted.converted()));
-            converts::<R>(out, value, Ok(converted.converted()));
+            out.show("is", Spelled(converted.as_value()));
+            converts::<R>(out, value, Ok(converted.as_value()));
         }
         Err(refusal) => {
             out.show("back", Spelled(refusal.0.as_ref()));

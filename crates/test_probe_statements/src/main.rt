@@ -3,10 +3,11 @@
 
 mod bitmaps;
 mod borrowed;
+mod buffer;
 mod builder;
 mod bulk;
+mod execute;
 mod execute_read;
-mod execute_with;
 mod forms;
 mod params;
 mod prelude;
@@ -15,11 +16,8 @@ mod stmt;
 mod texts;
 mod values;
 
-use crate::prelude::{Out, Request, answers};
+use crate::prelude::*;
 use crate::rows::{views, written};
-use mysql_bulk::*;
-use mysql_stmt::*;
-use mysql_values::*;
 use std::io;
 use test_probe::{Answers, run};
 
@@ -31,8 +29,8 @@ fn of_statements(out: &mut Out, request: &Request<'_>) -> bool {
         with request.capabilities() => "stmt_metadata": StmtPacketWithMetadata,
         call "row_text": views::text::<ServerSide>, "row": views::binary::<ServerSide>,
             "row_text_client": views::text::<ClientSide>, "row_client": views::binary::<ClientSide>,
-            "execute": stmt::execute, "execute_many": stmt::execute_many,
-            "execute_with": execute_with::execute_with, "execute_at_once": execute_with::at_once, "com_execute": execute_read::com_execute, "long_data": stmt::long_data,
+            "execute": execute::execute, "execute_many": execute::execute_many,
+            "execute_with": execute::execute_with, "execute_at_once": execute::at_once, "com_execute": execute_read::com_execute, "long_data": stmt::long_data,
             "close": stmt::close, "bitmap": bitmaps::bitmap, "bits": bitmaps::bits, "row_equal": rows::row_equal,
             "write_row_text": written::text, "write_row": written::binary,
             "row_text_again": written::text_again, "row_again": written::binary_again,
@@ -49,7 +47,7 @@ fn of_values(out: &mut Out, request: &Request<'_>) -> bool {
 fn of_bulk(out: &mut Out, request: &Request<'_>) -> bool {
     answers!(Statements, out, request, request.word(0);
         with () => "bulk_type": StmtBulkExecuteParamType,
-        call "bulk": bulk::bulk, "bulk_value": bulk::value, "bulk_values": bulk::values, "bulk_rows": bulk::bulk_rows,
+        call "bulk": bulk::by_columns::<ComStmtBulkExecuteRequest>, "bulk_value": bulk::value, "bulk_values": bulk::by_columns::<StmtBulkExecuteParamValues>, "bulk_rows": bulk::bulk_rows,
             "bulk_new": bulk::bulk_new, "bulk_value_new": bulk::value_new, "bulk_values_new": bulk::values_new,
             "bulk_same": bulk::are_same, "bulk_error": bulk::bulk_error, "fewest": bulk::fewest, "row_size": bulk::row_size,
             "builder": builder::builder, "writer": builder::writer::writer,)
@@ -57,10 +55,11 @@ fn of_bulk(out: &mut Out, request: &Request<'_>) -> bool {
 
 impl Answers for Statements {
     fn answer(out: &mut Out, request: &Request<'_>) -> bool {
-        of_statements(out, request)
-            || of_values(out, request)
-            || of_bulk(out, request)
-            || texts::answer(out, request)
+        match request.word(0) {
+            "marker" => texts::marker(out, request),
+            "text" => texts::text(out, request.word(1)),
+            _ => of_statements(out, request) || of_values(out, request) || of_bulk(out, request),
+        }
     }
 }
 

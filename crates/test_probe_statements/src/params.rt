@@ -5,7 +5,6 @@
 
 use crate::prelude::*;
 use indexmap::IndexMap;
-use mysql_values::{Params, ParamsError};
 
 /// A name.
 impl FromWord for Vec<u8> {
@@ -68,6 +67,5 @@ fn show_refusal(out: &mut Out, refusal: &ParamsError) {
 pub fn are_same(out: &mut Out, request: &Request<'_>) {
     let one = Params::from_word(out, request.word(1));
     let other = Params::from_word(out, request.word(2));
-    let are_same = counted!(out.alloc(); value one == other);
-    out.word(if are_same { "same" } else { "other" });
+    same_or_other(out, counted!(out.alloc(); value one == other));
 }

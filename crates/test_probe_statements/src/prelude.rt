@@ -1,7 +1,15 @@
 //! What the answers share.
 
 pub(crate) use crate::Statements;
-pub use crate::values::{FromWord, Spelled, SpelledRow, list, or_empty, push, refs};
-pub use mysql_values::Value;
+pub use crate::values::{
+    AsValue, FromWord, Spelled, SpelledRow, bytes, list, or_empty, or_lost, or_memory, push, refs,
+    rows, same_or_other,
+};
+pub use mysql_bulk::*;
+pub use mysql_replies::{Column, ColumnRef};
+pub use mysql_stmt::*;
+pub use mysql_values::*;
+pub use mysql_wire::{ColumnFlags, ColumnType, ConstValue, FaultOf};
+pub use std::rc::RcSlice;
 pub use test_probe::Ends;
 pub use test_probe::prelude::*;

@@ -18,11 +18,6 @@ pub mod written;
 
 use crate::prelude::*;
 use crate::rows::calls::call;
-use mysql_replies::{Column, ColumnRef};
-use mysql_stmt::{Row, RowDeserializer, TypedColumn, new_row, new_row_raw};
-use mysql_values::{ServerSide, Text, ValueRef};
-use mysql_wire::{ColumnType, ConstValue};
-use std::rc::RcSlice;
 
 /// The columns of a request, without names.
 pub fn columns(request: &Request<'_>) -> Result<RcSlice<Column>> {
@@ -33,29 +28,22 @@ pub fn columns(request: &Request<'_>) -> Result<RcSlice<Column>> {
     RcSlice::from_vec(columns)
 }
 
-/// A value that is there, or `-`.
-#[derive(Drop)]
-struct Cell<'v>(Option<&'v Value>);
-
-impl Shown for Cell<'_> {
-    fn shown(self, out: &mut Out) {
-        match self.0 {
-            Some(value) => Spelled(value.as_ref()).shown(out),
-            None => out.push("-"),
-        }
+/// Adds a value that is there, or `-`.
+fn push_cell(out: &mut Out, cell: Option<&Value>) {
+    match cell {
+        Some(value) => Spelled(value.as_ref()).shown(out),
+        None => out.push("-"),
     }
 }
 
 impl<S, P> Shows<RowDeserializer<S, P>> for Statements {
     fn fields(record: &RowDeserializer<S, P>, out: &mut Out) {
-        match record.clone() {
-            Ok(copy) => {
-                let row = copy.into_inner();
-                for place in 0..row.len() {
-                    out.item(Cell(row.as_ref(place)));
-                }
+        if let Some(copy) = or_lost(out, record.clone()) {
+            let row = copy.into_inner();
+            for place in 0..row.len() {
+                out.word("");
+                push_cell(out, row.as_ref(place));
             }
-            Err(AllocError) => out.lose(),
         }
     }
 
@@ -75,21 +63,21 @@ fn has_values<S, P>(row: RowDeserializer<S, P>, values: &[ValueRef<'_>]) -> bool
     is_same
 }
 
-/// The text row that a word spells.
-fn text_row(
-    request: &Request<'_>,
-    place: usize,
-    columns: RcSlice<Column>,
-) -> Option<RowDeserializer<ServerSide, Text>> {
-    let bytes = hex::decode(request.alloc, request.word(place)).unwrap_or(Vec::new(request.alloc));
-    let mut buf = ParseBuf::new(request.alloc, bytes.as_slice());
-    let read: Result<RowDeserializer<ServerSide, Text>, Fault> = buf.parse(columns);
+/// A text row of a server.
+type TextRow = RowDeserializer<ServerSide, Text>;
+
+/// The text row that digits spell.
+fn text_row(out: &Out, digits: &str, columns: RcSlice<Column>) -> Option<TextRow> {
+    let bytes = bytes(out, digits);
+    let mut buf = ParseBuf::new(out.alloc(), &bytes);
+    let read: Result<_, Fault> = buf.parse(columns);
     read.ok()
 }
 
 pub fn row_equal(out: &mut Out, request: &Request<'_>) -> Result {
     let (first, second) = (columns(request)?, columns(request)?);
-    match (text_row(request, 2, first), text_row(request, 3, second)) {
+    let one = text_row(out, request.word(2), first);
+    match (one, text_row(out, request.word(3), second)) {
         (Some(one), Some(other)) => {
             out.same("equal", Ok(one == other));
             out.same("not_unequal", Ok(!(one != other)));
@@ -105,13 +93,8 @@ impl FromWord for Column {
         let (name, digits) = word.split_once(':').unwrap_or((word, ""));
         let column_type = ColumnType::from_code(digits.parse::<u8>().unwrap_or(253));
         let column_type = column_type.unwrap_or(ColumnType::MYSQL_TYPE_VAR_STRING);
-        match Column::new(column_type).with_name(out.alloc(), name.as_bytes()) {
-            Ok(column) => column,
-            Err(AllocError) => {
-                out.lose();
-                Column::new(column_type)
-            }
-        }
+        let named = Column::new(column_type).with_name(out.alloc(), name.as_bytes());
+        or_lost(out, named).unwrap_or(Column::new(column_type))
     }
 }
 
@@ -128,16 +111,15 @@ fn answer_calls(out: &mut Out, row: &mut Row, request: &Request<'_>) {
 }
 
 pub fn made_row(out: &mut Out, request: &Request<'_>) -> Result {
-    let alloc = request.alloc;
     let columns = named_columns(out, request)?;
     let values = Vec::<Value>::from_word(out, request.word(2));
-    if values.len() == columns.len() {
-        match counted!(alloc; new_row(alloc, values, columns)) {
-            Ok(mut row) => answer_calls(out, &mut row, request),
-            Err(AllocError) => out.word("Memory"),
-        }
-    } else {
+    if values.len() != columns.len() {
         out.word("?");
+        return Ok(());
+    }
+    let made = counted!(out.alloc(); new_row(out.alloc(), values, columns));
+    if let Some(mut row) = or_memory(out, made) {
+        answer_calls(out, &mut row, request);
     }
     Ok(())
 }
@@ -146,8 +128,7 @@ pub fn made_row_raw(out: &mut Out, request: &Request<'_>) -> Result {
     let columns = named_columns(out, request)?;
     let cells = list::<Option<Value>>(out, request.word(2), "()", ',');
     if cells.len() == columns.len() {
-        let mut row = new_row_raw(cells, columns);
-        answer_calls(out, &mut row, request);
+        answer_calls(out, &mut new_row_raw(cells, columns), request);
     } else {
         out.word("?");
     }
@@ -162,10 +143,8 @@ pub fn unwrap(out: &mut Out, request: &Request<'_>) -> Result {
     let first = values.pop().unwrap_or(Value::NULL);
     let cells = vec![in alloc; Some(first), Some(second)]?;
     if cells.len() == columns.len() {
-        match counted!(alloc; new_row_raw(cells, columns).unwrap(alloc)) {
-            Ok(values) => out.show("values", SpelledRow(values.as_slice())),
-            Err(AllocError) => out.field("values", "Memory"),
-        }
+        let values = counted!(alloc; new_row_raw(cells, columns).unwrap(alloc));
+        out.show("values", values.map(SpelledRow));
     } else {
         out.word("?");
     }

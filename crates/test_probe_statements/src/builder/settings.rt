@@ -3,17 +3,12 @@
 ghost use Rattle.std.specs.Prelude.{◌≡◌, []};
 
 use crate::prelude::*;
-use mysql_bulk::{BulkColumnTypeError, ComStmtBulkExecuteRequestBuilder, StmtBulkExecuteParamType};
-use mysql_wire::{ColumnType, ConstValue, StmtExecuteParamFlags};
+use mysql_bulk::ComStmtBulkExecuteRequestBuilder as Builder;
+use mysql_wire::StmtExecuteParamFlags;
 
 /// What follows a mark among some settings, if it stands there.
 pub fn setting<'s>(settings: &'s str, mark: &str) -> Option<&'s str> {
-    for word in settings.split(',') {
-        if let Some(rest) = word.strip_prefix(mark) {
-            return Some(rest);
-        }
-    }
-    None
+    settings.split(',').find_map(|word| word.strip_prefix(mark))
 }
 
 /// The number after a mark among some settings, or 0.
@@ -31,69 +26,76 @@ pub fn list_in<T: FromWord + Drop>(out: &mut Out, settings: &str, mark: &str) ->
 /// A type's code, with `u` after it where it is unsigned.
 impl FromWord for StmtBulkExecuteParamType {
     fn from_word(_out: &mut Out, word: &str) -> Self {
-        let flags = if word.ends_with('u') {
-            StmtExecuteParamFlags::UNSIGNED
-        } else {
-            StmtExecuteParamFlags::empty()
-        };
+        let mut flags = StmtExecuteParamFlags::empty();
+        if word.ends_with('u') {
+            flags = StmtExecuteParamFlags::UNSIGNED;
+        }
         let code = word.trim_end_matches('u').parse::<u8>().unwrap_or(0);
         let column_type = ColumnType::from_code(code).unwrap_or(ColumnType::MYSQL_TYPE_NULL);
         StmtBulkExecuteParamType::new(column_type, flags)
     }
 }
 
-/// The builder with these settings, without its rule. A limit below 4 is 4.
-fn without_rule<'a>(
-    alloc: Global,
-    settings: &str,
-    names: &'a [Vec<u8>],
-) -> ComStmtBulkExecuteRequestBuilder<'a>
-    ensures { result.waiting ≡ [] }
-{
-    let limit = number(settings, "").max(4);
-    let names = setting(settings, "names=").map(|_| names);
-    let builder = counted!(alloc; value ComStmtBulkExecuteRequestBuilder::new(alloc, 1, limit));
-    let builder = counted!(alloc; value builder.with_named_params(names));
-    if setting(settings, "results").is_some() {
-        counted!(alloc; value builder.with_results())
-    } else {
-        builder
+/// What is made with some settings, unless a type may not be declared.
+type Made<T> = Result<T, BulkColumnTypeError>;
+
+/// A builder or a writer of requests with the results and the rule of some settings. A bound of 0 rows is none.
+macro_rules! with_settings {
+    ($alloc:expr, $settings:expr, $made:expr) => {{
+        let made = if setting($settings, "results").is_some() {
+            counted!($alloc; value $made.with_results())
+        } else {
+            $made
+        };
+        let made = if setting($settings, "types").is_some() {
+            counted!($alloc; value made.with_types_always())
+        } else {
+            made
+        };
+        match number($settings, "rows=") {
+            0 => made,
+            most => counted!($alloc; value made.with_max_rows(most)),
+        }
+    }};
+}
+
+/// What a builder borrows: the names of parameters, and the types of columns.
+#[derive(Clone, Copy)]
+pub struct Given<'a> {
+    pub names: &'a [Vec<u8>],
+    pub types: &'a [StmtBulkExecuteParamType],
+}
+
+impl<'a> Given<'a> {
+    /// The builder with these settings, but for its declared types. A limit below 4 is 4.
+    fn without_types(self, alloc: Global, settings: &str) -> Builder<'a>
+        ensures { result.waiting ≡ [] }
+    {
+        let limit = number(settings, "").max(4);
+        let names = setting(settings, "names=").map(|_| self.names);
+        let builder = counted!(alloc; value Builder::new(alloc, 1, limit));
+        let builder = counted!(alloc; value builder.with_named_params(names));
+        with_settings!(alloc, settings, builder)
+    }
+
+    /// The builder with these settings.
+    pub fn builder(self, alloc: Global, settings: &str) -> Made<Builder<'a>> {
+        let builder = self.without_types(alloc, settings);
+        if setting(settings, "columns=").is_some() {
+            counted!(alloc; builder.with_column_types(self.types))
+        } else {
+            Ok(builder)
+        }
     }
 }
 
-/// The builder with these settings. A bound of 0 rows is none.
-pub fn builder_of<'a>(
+/// The writer with these settings, whose types are declared. A limit below 4 is 4.
+pub fn writer_of<'a>(
     alloc: Global,
     settings: &str,
-    names: &'a [Vec<u8>],
     types: &'a [StmtBulkExecuteParamType],
-) -> Result<ComStmtBulkExecuteRequestBuilder<'a>, BulkColumnTypeError> {
-    let builder = with_rule(alloc, settings, without_rule(alloc, settings, names));
-    if setting(settings, "columns=").is_some() {
-        counted!(alloc; builder.with_column_types(types))
-    } else {
-        Ok(builder)
-    }
-}
-
-/// The builder with the rule of these settings.
-fn with_rule<'a>(
-    alloc: Global,
-    settings: &str,
-    builder: ComStmtBulkExecuteRequestBuilder<'a>,
-) -> ComStmtBulkExecuteRequestBuilder<'a>
-    requires { builder.waiting ≡ [] }
-    ensures { result.waiting ≡ [] }
-{
-    let builder = if setting(settings, "types").is_some() {
-        counted!(alloc; value builder.with_types_always())
-    } else {
-        builder
-    };
-    let most = number(settings, "rows=");
-    if most > 0 {
-        counted!(alloc; value builder.with_max_rows(most))
-    } else {
-        builder
-    }
+) -> Made<BulkRequestWriter<'a>> {
+    let (buffer, limit) = (Vec::new(alloc), number(settings, "").max(4));
+    let writer = counted!(alloc; BulkRequestWriter::new(buffer, 1, limit, types))?;
+    Ok(with_settings!(alloc, settings, writer))
 }

@@ -3,58 +3,15 @@
 //! The settings are those of a builder that has declared types and no names. The calls `refs:ROW`, `build` and `has` are answered as
 //! the builder's are: `build` is `request` and `finish`. After all of them stands what is left in the buffer.
 
-ghost use Rattle.std.specs.Prelude.{◌≡◌};
-
-use crate::builder::answers::{show_error, show_undeclared};
-use crate::builder::copied;
-use crate::builder::settings::{list_in, number, setting};
+use crate::builder::answers::{show_copied, show_error, show_undeclared};
+use crate::builder::settings::{list_in, writer_of};
 use crate::prelude::*;
-use mysql_bulk::*;
 
-/// The writer with these settings. A bound of 0 rows is none.
-fn with_settings<'a>(
-    alloc: Global,
-    settings: &str,
-    writer: BulkRequestWriter<'a>,
-) -> BulkRequestWriter<'a>
-    requires { writer.count ≡ 0 }
-{
-    let writer = if setting(settings, "results").is_some() {
-        counted!(alloc; value writer.with_results())
-    } else {
-        writer
-    };
-    with_rule(alloc, settings, writer)
-}
-
-/// The writer with the rule of these settings.
-fn with_rule<'a>(
-    alloc: Global,
-    settings: &str,
-    writer: BulkRequestWriter<'a>,
-) -> BulkRequestWriter<'a>
-    requires { writer.count ≡ 0 }
-{
-    let writer = if setting(settings, "types").is_some() {
-        counted!(alloc; value writer.with_types_always())
-    } else {
-        writer
-    };
-    let most = number(settings, "rows=");
-    if most > 0 {
-        counted!(alloc; value writer.with_max_rows(most))
-    } else {
-        writer
-    }
-}
-
-/// A limit below 4 is 4.
 pub fn writer(out: &mut Out, request: &Request<'_>) {
-    let (alloc, settings) = (request.alloc, request.word(1));
+    let settings = request.word(1);
     let types = list_in::<StmtBulkExecuteParamType>(out, settings, "columns=");
-    let (buffer, limit) = (Vec::new(alloc), number(settings, "").max(4));
-    match counted!(alloc; BulkRequestWriter::new(buffer, 1, limit, types.as_slice())) {
-        Ok(writer) => answer_calls(out, with_settings(alloc, settings, writer), request),
+    match writer_of(out.alloc(), settings, &types) {
+        Ok(writer) => answer_calls(out, writer, request),
         Err(refused) => show_undeclared(out, &refused),
     }
 }
@@ -77,8 +34,8 @@ fn answer(out: &mut Out, writer: &mut BulkRequestWriter<'_>, call: &str) {
     match name {
         "refs" => {
             let row = Vec::<Value>::from_word(out, argument);
-            let values = refs(out, row.as_slice());
-            copied(out, counted!(alloc; writer.add_row_refs(values.as_slice())));
+            let values = refs(out, &row);
+            show_copied(out, counted!(alloc; writer.add_row_refs(&values)));
         }
         "build" => {
             match counted!(alloc; value writer.request()) {

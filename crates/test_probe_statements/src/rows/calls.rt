@@ -13,11 +13,8 @@
 //!
 //! An index is a place where it is digits, and else a name.
 
-use crate::borrowed::Converted;
 use crate::prelude::*;
-use crate::rows::Cell;
-use mysql_stmt::{ColumnIndex, Row, new_row_raw};
-use mysql_values::{FromValue, FromValueError};
+use crate::rows::push_cell;
 
 /// Makes a call, and adds what it answered.
 pub fn call(out: &mut Out, row: &mut Row, word: &str) {
@@ -67,7 +64,7 @@ fn cells(out: &mut Out, row: &Row) -> Result {
     out.field("cells", "");
     for (place, cell) in cells.as_slice().iter().enumerate() {
         out.push(if place > 0 { "," } else { "" });
-        Cell(cell.as_ref()).shown(out);
+        push_cell(out, cell.as_ref());
     }
     Ok(())
 }
@@ -98,13 +95,13 @@ fn at_name(out: &mut Out, row: &Row, name: &str) {
 fn by_index<I: ColumnIndex + Drop>(out: &mut Out, row: &mut Row, name: &str, index: I, kind: &str) {
     match (name, kind) {
         ("idx", _) => out.show("idx", index.idx(row.columns_ref())),
-        ("get", _) => match counted!(out.alloc(); row.get::<Value, _>(index)) {
-            Ok(value) => out.show("get", value.as_ref().map(Value::as_ref).map(Spelled)),
-            Err(AllocError) => out.field("get", "Memory"),
-        },
+        ("get", _) => {
+            let got = counted!(out.alloc(); row.get::<Value, _>(index));
+            out.show("get", got.map(|value| value.map(Spelled)));
+        }
         ("take", _) => {
             let taken = counted!(out.alloc(); value row.take::<Value, _>(index));
-            out.show("take", taken.as_ref().map(Value::as_ref).map(Spelled));
+            out.show("take", taken.map(Spelled));
         }
         (_, "i64") => converted::<i64, I>(out, row, name, index),
         (_, "u64") => converted::<u64, I>(out, row, name, index),
@@ -117,7 +114,7 @@ fn by_index<I: ColumnIndex + Drop>(out: &mut Out, row: &mut Row, name: &str, ind
 }
 
 /// The value that is converted to a type, or the one that does not convert, after `refused:`.
-fn converted<T: FromValue + Converted + Drop, I: ColumnIndex + Drop>(
+fn converted<T: FromValue + AsValue + Drop, I: ColumnIndex + Drop>(
     out: &mut Out,
     row: &mut Row,
     name: &str,
@@ -129,10 +126,10 @@ fn converted<T: FromValue + Converted + Drop, I: ColumnIndex + Drop>(
         Ok(counted!(out.alloc(); value row.take_opt::<T, _>(index)))
     };
     match answer {
-        Ok(Some(Ok(value))) => out.show(name, Spelled(value.converted())),
+        Ok(Some(Ok(value))) => out.show(name, Spelled(value)),
         Ok(Some(Err(FromValueError(value)))) => {
             out.field(name, "refused:");
-            Spelled(value.as_ref()).shown(out);
+            Spelled(value).shown(out);
         }
         Ok(None) => out.field(name, "none"),
         Err(AllocError) => out.field(name, "Memory"),

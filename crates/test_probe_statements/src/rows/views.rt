@@ -3,16 +3,12 @@
 
 use crate::prelude::*;
 use crate::rows::{columns, has_values};
-use mysql_replies::Column;
-use mysql_stmt::{BinaryRowView, RowDeserializer, RowProtocol, TextRowView};
-use mysql_values::{Binary, SerializationSide, Text, ValueRef};
-use std::rc::RcSlice;
 
 /// What a view gave of a row: the values that are good, how many bytes stand after them, and the fault; and whether another
 /// one gave the same one by one.
 #[derive(Drop)]
-struct Viewed<'a> {
-    values: Vec<ValueRef<'a>>,
+pub struct Viewed<'a> {
+    pub values: Vec<ValueRef<'a>>,
     rest: usize,
     end: Result<(), Fault>,
     is_one_by_one: bool,
@@ -51,51 +47,49 @@ macro_rules! viewed {
     }};
 }
 
-/// Adds a word where a view gave something else than what is read of a row.
+/// Reads a row and shows it, and adds a word where its view gave something else.
 fn compare<S: SerializationSide, P: RowProtocol>(
     out: &mut Out,
     request: &Request<'_>,
-    columns: RcSlice<Column>,
     viewed: &Viewed<'_>,
-) {
-    let mut buf = ParseBuf::new(request.alloc, request.bytes.as_slice());
-    let read: Result<RowDeserializer<S, P>, Fault> = buf.parse(columns);
+) -> Result {
+    let bytes = request.bytes.as_slice();
+    let _ = read::<Statements, RowDeserializer<S, P>>(out, bytes, columns(request)?);
+    let mut buf = ParseBuf::new(out.alloc(), bytes);
+    let read: Result<RowDeserializer<S, P>, Fault> = buf.parse(columns(request)?);
     let is_same = match read {
         Ok(row) => {
             let is_read = viewed.end.is_ok() && viewed.rest == buf.len();
-            is_read && has_values(row, viewed.values.as_slice())
+            is_read && has_values(row, &viewed.values)
         }
         Err(fault) => viewed.end == Err(fault),
     };
     out.or_other("view", Ok(is_same && viewed.is_one_by_one));
+    Ok(())
 }
 
 /// What a view of a text row gives.
-fn text_view<'a>(out: &mut Out, count: usize, bytes: &'a [u8]) -> Viewed<'a> {
+pub fn text_view<'a>(out: &mut Out, count: usize, bytes: &'a [u8]) -> Viewed<'a> {
     let view = TextRowView::new(count, ParseBuf::new(out.alloc(), bytes));
     let other = TextRowView::new(count, ParseBuf::new(out.alloc(), bytes));
     viewed!(out; view, other)
 }
 
 pub fn text<S: SerializationSide>(out: &mut Out, request: &Request<'_>) -> Result {
-    let bytes = request.bytes.as_slice();
-    let _ = read::<Statements, RowDeserializer<S, Text>>(out, bytes, columns(request)?);
-    let columns = columns(request)?;
-    let viewed = text_view(out, columns.len(), bytes);
-    compare::<S, Text>(out, request, columns, &viewed);
-    Ok(())
+    let columns = or_empty(out, request.columns());
+    let viewed = text_view(out, columns.len(), &request.bytes);
+    compare::<S, Text>(out, request, &viewed)
 }
 
 /// What a view of a binary row gives.
-fn binary_view<'a, S: SerializationSide>(
+pub fn binary_view<'a, S: SerializationSide>(
     out: &mut Out,
     columns: &[Column],
     bytes: &'a [u8],
 ) -> Viewed<'a> {
     let alloc = out.alloc();
-    let view =
-        counted!(alloc; BinaryRowView::<S, Column>::new(columns, ParseBuf::new(alloc, bytes)));
-    let other = BinaryRowView::<S, Column>::new(columns, ParseBuf::new(alloc, bytes));
+    let view = counted!(alloc; BinaryRowView::<S, _>::new(columns, ParseBuf::new(alloc, bytes)));
+    let other = BinaryRowView::<S, _>::new(columns, ParseBuf::new(alloc, bytes));
     match (view, other) {
         (Ok(view), Ok(other)) => viewed!(out; view, other),
         (view, other) => Viewed {
@@ -108,10 +102,6 @@ fn binary_view<'a, S: SerializationSide>(
 }
 
 pub fn binary<S: SerializationSide>(out: &mut Out, request: &Request<'_>) -> Result {
-    let bytes = request.bytes.as_slice();
-    let _ = read::<Statements, RowDeserializer<S, Binary>>(out, bytes, columns(request)?);
-    let columns = columns(request)?;
-    let viewed = binary_view::<S>(out, &columns, bytes);
-    compare::<S, Binary>(out, request, columns, &viewed);
-    Ok(())
+    let viewed = binary_view::<S>(out, &columns(request)?, &request.bytes);
+    compare::<S, Binary>(out, request, &viewed)
 }

@@ -1,0 +1,170 @@
+//! Executions that are made.
+//!
+//! `execute ID VALUES`, and `execute_many ID COUNT VALUE` of so many of one value, with its sizes alone.
+//!
+//! `execute_with ID CURSOR ATTRIBUTES PARAMETERS`: with a cursor, or `-`; with attributes, `-` for none agreed to, `()`
+//! for none, else `NAME=VALUE` with `/` between them, names in hexadecimal; and with parameters, of which `ahead` is one
+//! sent ahead.
+//!
+//! `execute_at_once KIND ID PARAMETERS`: written at once, of `params`, of borrowed `refs`, or of `values`.
+
+use crate::buffer::{after, begun, show_written};
+use crate::prelude::*;
+use mysql_stmt::ComStmtExecuteRequest as Execution;
+
+/// An execution, and whether its builder says that byte strings are long data.
+type Made<T> = Result<(T, bool)>;
+
+/// Adds whether byte strings are long data, and whether the execution says so as its builder does.
+fn show_long_data(out: &mut Out, of_builder: bool, as_long_data: bool) {
+    out.show("as_long_data", as_long_data);
+    out.same("as_long_data_said", Ok(as_long_data == of_builder));
+}
+
+/// An execution with values, by a copy of its builder.
+fn made<'a>(alloc: Global, id: u32, values: &'a [Value]) -> Made<Execution<'a>> {
+    let copy = counted!(alloc; ComStmtExecuteRequestBuilder::new(id).clone())?;
+    counted!(alloc; copy.build(alloc, values))
+}
+
+/// Shows an execution with values.
+fn shown<'a>(out: &mut Out, request: &Request<'_>, values: &'a [Value]) -> Option<Execution<'a>> {
+    let made = made(out.alloc(), request.number(1), values);
+    let (execution, as_long_data) = or_memory(out, made)?;
+    fields!(out, execution; stmt_id, flags, params_flags);
+    out.show("params", execution.params().len());
+    show_long_data(out, as_long_data, execution.as_long_data());
+    Some(execution)
+}
+
+pub fn execute(out: &mut Out, request: &Request<'_>) {
+    let values = Vec::<Value>::from_word(out, request.word(2));
+    if let Some(execution) = shown(out, request, &values) {
+        fields!(out, execution; bitmap);
+        out.same("made", is_cloned(out.alloc(), &execution, &execution));
+        write_made(out, &execution);
+    }
+}
+
+pub fn execute_many(out: &mut Out, request: &Request<'_>) {
+    let mut values = Vec::new(out.alloc());
+    for _ in 0..request.number(2) {
+        let value = Value::from_word(out, request.word(3));
+        push(out, &mut values, value);
+    }
+    if let Some(execution) = shown(out, request, &values) {
+        out.show(
+            "bitmap_at",
+            ComStmtExecuteRequestBuilder::NULL_BITMAP_OFFSET,
+        );
+        out.show("bitmap_len", execution.bitmap().len());
+        out.show("len", execution.defined_len());
+        let mut written = Vec::new(out.alloc());
+        execution.serialize(&mut written).end(out);
+        out.show("written_len", written.len());
+    }
+}
+
+/// A name in hexadecimal digits, and a value.
+impl FromWord for (Vec<u8>, Value) {
+    fn from_word(out: &mut Out, word: &str) -> Self {
+        let (name, value) = word.split_once('=').unwrap_or((word, "N"));
+        (bytes(out, name), Value::from_word(out, value))
+    }
+}
+
+fn cursor_of(word: &str) -> Option<Cursor> {
+    match word {
+        "read_only" => Some(Cursor::ReadOnly),
+        "for_update" => Some(Cursor::ForUpdate),
+        "scrollable" => Some(Cursor::Scrollable),
+        _ => None,
+    }
+}
+
+/// The parameters that a text spells, of which these are the values.
+fn params_of<'v>(out: &mut Out, text: &str, values: &'v [Value]) -> Vec<ExecuteParam<'v>> {
+    let mut params = Vec::new(out.alloc());
+    for (value, word) in values.iter().zip(text.split(',')) {
+        let param = match word {
+            "ahead" => ExecuteParam::SentAhead,
+            _ => ExecuteParam::Value(value.as_ref()),
+        };
+        push(out, &mut params, param);
+    }
+    params
+}
+
+fn attributes_of<'n>(out: &mut Out, named: &'n [(Vec<u8>, Value)]) -> Vec<QueryAttribute<'n>> {
+    let mut attributes = Vec::new(out.alloc());
+    for (name, value) in named {
+        let (name, value) = (name.as_slice(), value.as_ref());
+        push(out, &mut attributes, QueryAttribute { name, value });
+    }
+    attributes
+}
+
+/// The execution that a request asks for, with these parameters and attributes.
+fn made_with<'a, 'v>(
+    request: &Request<'_>,
+    params: &'a [ExecuteParam<'v>],
+    attributes: &'a [QueryAttribute<'a>],
+) -> Made<ComStmtExecuteWithOptions<'a, ExecuteParam<'v>>> {
+    let alloc = request.alloc;
+    let builder = ComStmtExecuteRequestBuilder::new(request.number(1));
+    counted!(alloc; match (cursor_of(request.word(2)), request.word(3)) {
+        (None, "-") => builder.build_ref(alloc, params),
+        (None, _) => builder.with_query_attributes(attributes).build(alloc, params),
+        (Some(cursor), "-") => builder.with_cursor(cursor).build(alloc, params),
+        (Some(cursor), _) => builder.with_cursor(cursor).with_query_attributes(attributes).build(alloc, params),
+    })
+}
+
+/// Shows an execution with options, and writes it.
+fn show_with<'v>(out: &mut Out, made: Made<ComStmtExecuteWithOptions<'_, ExecuteParam<'v>>>) {
+    if let Some((execution, as_long_data)) = or_memory(out, made) {
+        fields!(out, execution; stmt_id, flags);
+        out.show("params", execution.params().len());
+        let attributes = execution.attributes();
+        out.show("attributes", attributes.map(|attributes| attributes.len()));
+        show_long_data(out, as_long_data, execution.as_long_data());
+        fields!(out, execution; bitmap);
+        write_made(out, &execution);
+    }
+}
+
+pub fn execute_with(out: &mut Out, request: &Request<'_>) {
+    let values = Vec::<Value>::from_word(out, request.word(4));
+    let params = params_of(out, request.word(4), &values);
+    let named = list::<(Vec<u8>, Value)>(out, request.word(3), "()", '/');
+    let attributes = attributes_of(out, &named);
+    show_with(out, made_with(request, &params, &attributes));
+}
+
+/// Writes an execution at once.
+fn write_at_once<V: AsExecuteParam>(out: &mut Out, id: u32, params: &[V]) {
+    let mut buffer = begun(out);
+    let builder = ComStmtExecuteRequestBuilder::new(id);
+    let made = counted!(out.alloc(); builder.write_ref(params, &mut buffer));
+    show_written(out, made.is_ok(), &buffer, None);
+    if let Ok(as_long_data) = made {
+        out.show("len", after(&buffer).len());
+        out.show("as_long_data", as_long_data);
+    }
+}
+
+pub fn at_once(out: &mut Out, request: &Request<'_>) {
+    let (id, text) = (request.number(2), request.word(3));
+    let values = Vec::<Value>::from_word(out, text);
+    match request.word(1) {
+        "values" => write_at_once(out, id, &values),
+        "refs" => {
+            let refs = refs(out, &values);
+            write_at_once(out, id, &refs);
+        }
+        _ => {
+            let params = params_of(out, text, &values);
+            write_at_once(out, id, &params);
+        }
+    }
+}
