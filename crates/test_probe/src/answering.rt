@@ -1,9 +1,7 @@
 //! Lines, and the answers to them.
 
 use crate::marks;
-use crate::out::Out;
-use crate::request::Request;
-use std::alloc::{AllocError, Global};
+use crate::prelude::*;
 use std::io;
 use std::io::{BufRead, BufReader};
 
@@ -22,7 +20,7 @@ impl Ends for () {
     fn end(self, _out: &mut Out) {}
 }
 
-impl Ends for Result<(), AllocError> {
+impl Ends for Result {
     fn end(self, out: &mut Out) {
         if self.is_err() {
             out.lose();
@@ -30,19 +28,21 @@ impl Ends for Result<(), AllocError> {
     }
 }
 
-/// The answer to a name: the record that it stands for is read, of a context, and shown, and made anew where it does not
-/// stand after `read`; or a call answers. Else it is false.
+/// The answer to a name. The record that it stands for is read, of a context, and shown; after `with` it is written and read
+/// again too, and after `both` it is compared with one that stays in its packet; or a call answers. Else it is false.
 #[macro_export]
 macro_rules! answers {
     ($shows:ty, $out:expr, $request:expr, $name:expr;
         $(read $of:expr => $($read:literal: $read_type:ty,)*)*
         $(with $context:expr => $($record:literal: $type:ty,)*)*
+        $(both $beside:expr => $($owned:literal: $owned_type:ty, $place_type:ty,)*)*
         $(call $($called:literal: $call:path,)*)?) => {{
         match $name {
             $($($read => {
                 let _ = $crate::record::read::<$shows, $read_type>($out, $request.bytes.as_slice(), $of);
             })*)*
             $($($record => $crate::record::round_trip::<$shows, $type>($out, $request, $context, $context),)*)*
+            $($($owned => $crate::places::both::<$shows, $owned_type, $place_type>($out, $request, $beside),)*)*
             $($($called => $crate::Ends::end($call($out, $request), $out),)*)?
             _ => return false,
         }
@@ -64,7 +64,7 @@ macro_rules! error_texts {
 }
 
 /// The answer to a line.
-fn line<A: Answers>(alloc: Global, line: &str) -> Result<String, AllocError> {
+fn line<A: Answers>(alloc: Global, line: &str) -> Result<String> {
     let request = Request::of(alloc, line)?;
     let mut out = Out::new(alloc);
     if !A::answer(&mut out, &request) {

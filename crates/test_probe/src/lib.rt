@@ -8,6 +8,7 @@
 mod answering;
 pub mod marks;
 pub mod out;
+pub mod places;
 pub mod prelude;
 pub mod record;
 pub mod request;

@@ -15,7 +15,7 @@ const STOP: usize = 0x5fff2;
 
 /// From here on the growth of that number is to be refused.
 pub fn line(alloc: Global, growth: u16) {
-    let _ = Vec::<u8>::with_capacity(alloc, LINE + usize::from(growth & 0xfff));
+    let _ = Vec::<u8>::with_capacity(alloc, LINE + usize::from(growth % 0x1000));
 }
 
 /// From here on growths are counted.

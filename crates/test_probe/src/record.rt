@@ -1,12 +1,7 @@
 //! What every record that is read is asked for.
 
-use crate::counted;
-use crate::out::Out;
-use crate::request::Request;
-use mysql_wire::{
-    ConstBytes, ConstU8, ConstU32, Fault, FaultOf, MyDeserialize, MySerialize, ParseBuf,
-};
-use std::alloc::{AllocError, Global};
+use crate::prelude::*;
+use mysql_wire::{ConstBytes, ConstU8, ConstU32, FaultOf};
 
 /// How a program shows a record in words, and makes it anew.
 pub trait Shows<T> {
@@ -14,28 +9,65 @@ pub trait Shows<T> {
     fn fields(_record: &T, _out: &mut Out) {}
 
     /// Whether the record that is made of what its getters answer, copied and made owned, is the same.
-    fn is_made(_record: &T, _alloc: Global) -> Result<bool, AllocError> {
+    fn is_made(_record: &T, _alloc: Global) -> Result<bool> {
         Ok(true)
     }
 }
 
 /// A constant field, which has no fields of its own.
 impl<P, E, const VALUE: u8> Shows<ConstU8<E, VALUE>> for P {
-    fn is_made(record: &ConstU8<E, VALUE>, _alloc: Global) -> Result<bool, AllocError> {
+    fn is_made(record: &ConstU8<E, VALUE>, _alloc: Global) -> Result<bool> {
         Ok(ConstU8::new() == *record && ConstU8::default() == *record)
     }
 }
 
 impl<P, E, const VALUE: u32> Shows<ConstU32<E, VALUE>> for P {
-    fn is_made(record: &ConstU32<E, VALUE>, _alloc: Global) -> Result<bool, AllocError> {
+    fn is_made(record: &ConstU32<E, VALUE>, _alloc: Global) -> Result<bool> {
         Ok(ConstU32::new() == *record && ConstU32::default() == *record)
     }
 }
 
 impl<P, E, const LEN: usize> Shows<ConstBytes<E, LEN>> for P {
-    fn is_made(record: &ConstBytes<E, LEN>, _alloc: Global) -> Result<bool, AllocError> {
+    fn is_made(record: &ConstBytes<E, LEN>, _alloc: Global) -> Result<bool> {
         Ok(ConstBytes::new() == *record && ConstBytes::default() == *record)
     }
+}
+
+/// What some bytes are read as, and how many are left.
+pub fn parsed<'a, 's, T: MyDeserialize<'a>>(
+    alloc: Global,
+    bytes: &'a [u8],
+    ctx: T::Ctx,
+) -> (Result<T, FaultOf<'s>>, usize) {
+    let mut buf = ParseBuf::new(alloc, bytes);
+    (buf.parse(ctx), buf.len())
+}
+
+/// Adds that something was read, which is the answer; or the refusal, and whether the buffer is as before.
+pub fn taken<T>(out: &mut Out, answer: Result<T, Fault>, is_as_before: bool) -> Option<T> {
+    match answer {
+        Ok(value) => {
+            out.word("read");
+            Some(value)
+        }
+        Err(fault) => {
+            out.refused(fault, is_as_before);
+            None
+        }
+    }
+}
+
+/// The record of a request's bytes; or a word says that they are refused.
+pub fn record<'a, T: MyDeserialize<'a> + Drop>(
+    out: &mut Out,
+    request: &'a Request<'_>,
+    ctx: T::Ctx,
+) -> Option<T> {
+    let (answer, _) = parsed::<T>(request.alloc, request.bytes.as_slice(), ctx);
+    if answer.is_err() {
+        out.word("refused");
+    }
+    answer.ok()
 }
 
 /// Reads a record, and shows it, and how many bytes are left; or the fault.
@@ -45,22 +77,13 @@ pub fn read<'a, P: Shows<T>, T: MyDeserialize<'a> + Drop>(
     ctx: T::Ctx,
 ) -> Option<T> {
     let alloc = out.alloc();
-    let mut buf = ParseBuf::new(alloc, bytes);
-    let answer: Result<T, Fault> = counted!(alloc; buf.parse(ctx));
-    match answer {
-        Ok(record) => {
-            out.word("read");
-            P::fields(&record, out);
-            out.show("rest", buf.len());
-            let made = P::is_made(&record, alloc);
-            out.same("made", made);
-            Some(record)
-        }
-        Err(fault) => {
-            out.refused(fault, buf.len() == bytes.len());
-            None
-        }
-    }
+    let (answer, left) = counted!(alloc; value parsed::<T>(alloc, bytes, ctx));
+    let record = taken(out, answer, left == bytes.len())?;
+    P::fields(&record, out);
+    out.show("rest", left);
+    let made = P::is_made(&record, alloc);
+    out.same("made", made);
+    Some(record)
 }
 
 /// Writes a record, and tells the bytes, which are the `same` where those that were read begin so; or that memory ran out, and
@@ -102,10 +125,9 @@ pub fn again<'a, T: MyDeserialize<'a> + PartialEq + Drop>(
     written: &'a [u8],
     ctx: T::Ctx,
 ) {
-    let mut buf = ParseBuf::new(out.alloc(), written);
-    let answer: Result<T, FaultOf<'_>> = buf.parse(ctx);
+    let (answer, left) = parsed::<T>(out.alloc(), written, ctx);
     match answer {
-        Ok(again) => out.same("again", Ok(buf.is_empty() && again == *record)),
+        Ok(again) => out.same("again", Ok(left == 0 && again == *record)),
         Err(_) => out.field("again", "refused"),
     }
 }
@@ -122,14 +144,14 @@ pub fn write_and_read<'a, T: MyDeserialize<'a> + MySerialize + PartialEq + Drop>
     }
 }
 
-/// Whether a clone of a record, of one that owns its memory, is the same as another.
+/// Whether a record that owns its memory, and a clone of it, are the same as another.
 pub fn is_cloned<T: Clone + PartialEq + Drop>(
     alloc: Global,
     owned: &T,
     record: &T,
-) -> Result<bool, AllocError> {
+) -> Result<bool> {
     let copy = counted!(alloc; owned.clone())?;
-    Ok(copy == *record)
+    Ok(copy == *record && *owned == *record)
 }
 
 /// Whether what is made, copied, made owned, and copied again, is the same as a record.

@@ -1,8 +1,7 @@
 //! Values as an answer shows them.
 
-use crate::out::Out;
+use crate::prelude::*;
 use mysql_wire::FlagWord;
-use std::alloc::AllocError;
 use std::borrow::CowStr;
 use std::fmt::{Debug, Display};
 
@@ -66,10 +65,13 @@ impl Shown for &str {
 impl Shown for &[u8] {
     fn shown(self, out: &mut Out) {
         out.push("x");
-        match hex::encode(out.alloc(), self) {
-            Ok(digits) => out.push(digits.as_str()),
-            Err(AllocError) => out.lose(),
-        }
+        out.push_made(hex::encode(out.alloc(), self));
+    }
+}
+
+impl<const N: usize> Shown for [u8; N] {
+    fn shown(self, out: &mut Out) {
+        self.as_slice().shown(out);
     }
 }
 
@@ -87,13 +89,11 @@ pub struct Variant<'v, T>(pub &'v T);
 impl<T: Debug> Shown for Variant<'_, T> {
     fn shown(self, out: &mut Out) {
         let value = self.0;
-        match format!(in out.alloc(); "{value:?}") {
-            Ok(text) => {
-                let name = text.as_str().split(' ').next().unwrap_or("");
-                out.push(name.split('(').next().unwrap_or(""));
-            }
-            Err(AllocError) => out.lose(),
-        }
+        let Ok(text) = format!(in out.alloc(); "{value:?}") else {
+            return out.lose();
+        };
+        let name = text.as_str().split(' ').next().unwrap_or("");
+        out.push(name.split('(').next().unwrap_or(""));
     }
 }
 
@@ -108,7 +108,7 @@ impl<T: Shown + Drop> Shown for Option<T> {
 }
 
 /// What a call made, or that memory ran out.
-impl<T: Shown + Drop> Shown for Result<T, AllocError> {
+impl<T: Shown + Drop> Shown for Result<T> {
     fn shown(self, out: &mut Out) {
         match self {
             Ok(value) => value.shown(out),
@@ -118,10 +118,16 @@ impl<T: Shown + Drop> Shown for Result<T, AllocError> {
 }
 
 /// Adds the fields of a record by its getters, as `name` or `name = getter`; after `texts`, by getters that take memory.
+///
+/// After `alike` it adds nothing, and is whether two records have the same fields: `name` of the one, and with `getter` that of
+/// the other.
 #[macro_export]
 macro_rules! fields {
     (@get $record:expr, $name:ident) => { $record.$name() };
     (@get $record:expr, $name:ident $getter:ident) => { $record.$getter() };
+    ($one:expr, $other:expr; alike $($name:ident $(with $getter:ident)?),*) => {
+        true $(&& $one.$name() == $crate::fields!(@get $other, $name $($getter)?))*
+    };
     ($out:expr, $record:expr; $($name:ident $(= $getter:ident)?),* $(; texts $($text:ident = $taken:ident),*)?) => {{
         $($out.show(stringify!($name), $crate::fields!(@get $record, $name $($getter)?));)*
         $($(

@@ -3,39 +3,28 @@
 //! The packet that the bytes are read as is put together anew, and written as its kind under the same flags. The state
 //! string is put together of the changes that its entries are decoded as.
 
-use mysql_replies::*;
-use mysql_session::SessionStateChange;
-use mysql_wire::{FaultOf, MyDeserialize};
-use test_probe::prelude::*;
-use test_probe::record::again;
-
-/// What the bytes of a request are read as, and how many are left.
-fn parsed<'a, 's, T: MyDeserialize<'a> + Drop>(
-    request: &'a Request<'_>,
-    ctx: T::Ctx,
-) -> (Result<T, FaultOf<'s>>, usize) {
-    let mut buf = ParseBuf::new(request.alloc, request.bytes.as_slice());
-    let answer: Result<T, FaultOf<'s>> = counted!(request.alloc; buf.parse(ctx));
-    (answer, buf.len())
-}
+use crate::prelude::*;
 
 /// Reads a packet of a kind, and writes it as that kind.
-fn sent<'a, K: OkPacketKind + OkPacketLayout>(out: &mut Out, request: &'a Request<'_>) {
+pub fn sent<'a, K: OkPacketKind + OkPacketLayout>(out: &mut Out, request: &'a Request<'_>) {
     let capabilities = request.capabilities();
-    let (answer, left): (Result<OkPacketDeserializer<'a, K>, Fault>, usize) = parsed(
-        request,
-        capabilities,
-    );
-    match answer {
-        Ok(record) => {
-            out.word("read");
-            if let Some(written) = write_packet::<K>(out, request, &record) {
-                again(out, &record, request.keep(written), capabilities);
-            }
-            show_state(&record.into_inner(), out)
+    if let Some(record) = taken_of::<OkPacketDeserializer<'a, K>>(out, request, capabilities) {
+        if let Some(written) = write_packet::<K>(out, request, &record) {
+            again(out, &record, request.keep(written), capabilities);
         }
-        Err(fault) => out.refused(fault, left == request.bytes.len()),
+        show_state(&record.into_inner(), out)
     }
+}
+
+/// The record of a request's bytes; or the refusal is added.
+fn taken_of<'a, T: MyDeserialize<'a>>(
+    out: &mut Out,
+    request: &'a Request<'_>,
+    ctx: T::Ctx,
+) -> Option<T> {
+    let (alloc, bytes) = (request.alloc, request.bytes.as_slice());
+    let (answer, left) = counted!(alloc; value parsed::<T>(alloc, bytes, ctx));
+    taken(out, answer, left == bytes.len())
 }
 
 /// Writes a packet of the same fields.
@@ -55,34 +44,18 @@ fn write_packet<'a, K: OkPacketLayout>(
     write(out, &sent, request.bytes.as_slice())
 }
 
-pub fn common(out: &mut Out, request: &Request<'_>) {
-    sent::<CommonOkPacket>(out, request)
-}
-
-pub fn end(out: &mut Out, request: &Request<'_>) {
-    sent::<ResultSetTerminator>(out, request)
-}
-
-pub fn old_end(out: &mut Out, request: &Request<'_>) {
-    sent::<OldEofPacket>(out, request)
-}
-
-pub fn stream_end(out: &mut Out, request: &Request<'_>) {
-    sent::<NetworkStreamTerminator>(out, request)
-}
-
 /// The packet of the same fields.
 fn made<'s>(packet: &'s OkPacket<'_>) -> OkPacket<'s> {
-    let id = packet.last_insert_id().unwrap_or(0);
-    let numbers = OkPacket::new(
+    let info = packet.info_ref().unwrap_or(b"");
+    let state = packet.session_state_info_ref().unwrap_or(b"");
+    OkPacket::new(
         packet.affected_rows(),
-        id,
+        packet.last_insert_id().unwrap_or(0),
         packet.status_flags(),
         packet.warnings(),
-    );
-    let info = CowSlice::Borrowed(packet.info_ref().unwrap_or(b""));
-    let state = CowSlice::Borrowed(packet.session_state_info_ref().unwrap_or(b""));
-    numbers.with_info(info).with_session_state_info(state)
+    )
+    .with_info(CowSlice::Borrowed(info))
+    .with_session_state_info(CowSlice::Borrowed(state))
 }
 
 /// Adds the state string of the packet's changes, which is the `same` where the packet has it.

@@ -4,10 +4,10 @@
 //! and the parts of changes, each alone: `schema BYTES`, `gtids BYTES`, `characteristics BYTES`, `state BYTES`,
 //! `unsupported BYTES`, `variable BYTES`, `variables BYTES`.
 
-use crate::{Server, places};
-use mysql_session::*;
+use crate::prelude::*;
+use mysql_session::SessionStateChange as Change;
 use mysql_wire::{BytesRepr, ConstValue, SessionStateType};
-use test_probe::prelude::*;
+use test_probe::places::both;
 
 pub fn change(out: &mut Out, request: &Request<'_>) {
     if request.word(1) == "other" {
@@ -15,7 +15,7 @@ pub fn change(out: &mut Out, request: &Request<'_>) {
     }
     let code = request.word(1).parse::<u8>().unwrap_or(255);
     match SessionStateType::from_code(code) {
-        Some(kind) => places::change(out, request, kind),
+        Some(kind) => both::<Server, Change<'_>, SessionStateChangeRef<'_>>(out, request, kind),
         None => out.word("unknown"),
     }
 }
@@ -24,30 +24,49 @@ pub fn change(out: &mut Out, request: &Request<'_>) {
 fn other_change(out: &mut Out, request: &Request<'_>) {
     let bytes = request.bytes.as_slice();
     if let Some(text) = read::<Server, Unsupported<'_>>(out, bytes, ()) {
-        let change = SessionStateChange::Unsupported(text);
+        let change = Change::Unsupported(text);
         Server::fields(&change, out);
         out.same("change", Server::is_made(&change, out.alloc()));
         let _ = write(out, &change, bytes);
     }
 }
 
-impl<'a> Shows<SessionStateChange<'a>> for Server {
-    fn fields(record: &SessionStateChange<'a>, out: &mut Out) {
+impl<'a> Shows<Change<'a>> for Server {
+    fn fields(record: &Change<'a>, out: &mut Out) {
         match record {
-            SessionStateChange::IsTracked(is_tracked) => out.show("is_tracked", *is_tracked),
-            SessionStateChange::Schema(text) => show_text("schema", text, out),
-            SessionStateChange::SystemVariables(variables) => Server::fields(variables, out),
-            SessionStateChange::Gtids(text) => show_text("gtids", text, out),
-            SessionStateChange::TransactionCharacteristics(text) => {
-                show_text("characteristics", text, out)
-            }
-            SessionStateChange::TransactionState(text) => show_text("state", text, out),
-            SessionStateChange::Unsupported(text) => show_text("unsupported", text, out),
+            Change::IsTracked(is_tracked) => out.show("is_tracked", *is_tracked),
+            Change::Schema(text) => show_text("schema", text, out),
+            Change::SystemVariables(variables) => Server::fields(variables, out),
+            Change::Gtids(text) => show_text("gtids", text, out),
+            Change::TransactionCharacteristics(text) => show_text("characteristics", text, out),
+            Change::TransactionState(text) => show_text("state", text, out),
+            Change::Unsupported(text) => show_text("unsupported", text, out),
         }
     }
 
-    fn is_made(record: &SessionStateChange<'a>, alloc: Global) -> Result<bool> {
+    fn is_made(record: &Change<'a>, alloc: Global) -> Result<bool> {
         is_owned!(alloc; record, record)
+    }
+}
+
+impl<'a> InPlace<Change<'a>, SessionStateChangeRef<'a>> for Server {
+    fn is(place: &SessionStateChangeRef<'a>, owned: &Change<'a>, out: &mut Out) -> bool {
+        match (place.change(), owned) {
+            (ChangeRef::IsTracked(is_tracked), Change::IsTracked(owned)) => is_tracked == owned,
+            (ChangeRef::Schema(text), Change::Schema(owned)) => *text == owned.as_bytes(),
+            (ChangeRef::SystemVariables(list), Change::SystemVariables(owned)) => {
+                Server::is(list, owned, out)
+            }
+            (ChangeRef::Gtids(text), Change::Gtids(owned)) => *text == owned.as_bytes(),
+            (
+                ChangeRef::TransactionCharacteristics(text),
+                Change::TransactionCharacteristics(owned),
+            ) => *text == owned.as_bytes(),
+            (ChangeRef::TransactionState(text), Change::TransactionState(owned)) => {
+                *text == owned.as_bytes()
+            }
+            _ => false,
+        }
     }
 }
 
@@ -84,6 +103,13 @@ impl<'a> Shows<SystemVariable<'a>> for Server {
     }
 }
 
+impl<'a> InPlace<SystemVariable<'a>, SystemVariableRef<'a>> for Server {
+    fn is(place: &SystemVariableRef<'a>, owned: &SystemVariable<'a>, _out: &mut Out) -> bool {
+        fields!(place, owned; alike name with name_bytes, value with value_bytes)
+            && place.to_variable() == *owned
+    }
+}
+
 impl<'a> Shows<SystemVariables<'a>> for Server {
     fn fields(record: &SystemVariables<'a>, out: &mut Out) {
         out.show("variables", record.as_slice().len());
@@ -100,5 +126,18 @@ impl<'a> Shows<SystemVariables<'a>> for Server {
         }
         let made = SystemVariables::new(SystemVariables::new(variables).into_inner());
         is_owned!(alloc; made, record)
+    }
+}
+
+impl<'a> InPlace<SystemVariables<'a>, SystemVariablesRef<'a>> for Server {
+    fn is(place: &SystemVariablesRef<'a>, owned: &SystemVariables<'a>, out: &mut Out) -> bool {
+        let mut left = place.iter();
+        for owned in owned.as_slice() {
+            let next = counted!(out.alloc(); value left.next());
+            if !next.is_some_and(|variable| Server::is(&variable, owned, out)) {
+                return false;
+            }
+        }
+        left.next().is_none()
     }
 }

@@ -1,9 +1,6 @@
 //! Constant fields of replies: `marker NAME BYTES`, and the texts of errors: `text NAME`.
 
-use crate::Server;
-use mysql_replies::*;
-use test_probe::error_texts;
-use test_probe::prelude::*;
+use crate::prelude::*;
 
 pub fn marker(out: &mut Out, request: &Request<'_>) -> bool {
     answers!(Server, out, request, request.word(1);

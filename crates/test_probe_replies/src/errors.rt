@@ -1,0 +1,135 @@
+//! Errors and progress reports, and their parts, each alone.
+//!
+//! `err CAPABILITIES BYTES`, `server_error CODE STATE BYTES` (STATE is 1 where an SQL state stands there),
+//! `sql_state BYTES`, `progress BYTES`.
+
+use crate::prelude::*;
+use std::fmt::Display;
+
+/// The context of an error: its code, and whether an SQL state follows.
+pub fn context(request: &Request<'_>) -> (u16, bool) {
+    ((request.number(1) & 0xffff) as u16, request.number(2) == 1)
+}
+
+/// Adds the text that a record is displayed as.
+fn displayed<T: Display>(record: &T, out: &mut Out) {
+    let Ok(text) = format!(in out.alloc(); "{record}") else {
+        return out.lose();
+    };
+    out.show("shown", text.as_str().as_bytes())
+}
+
+impl<'a> Shows<ErrPacket<'a>> for Server {
+    fn fields(record: &ErrPacket<'a>, out: &mut Out) {
+        if record.is_error() {
+            show_error(record.server_error(), out);
+        }
+        if record.is_progress_report() {
+            show_progress(record.progress_report(), out);
+        }
+        displayed(record, out)
+    }
+
+    fn is_made(record: &ErrPacket<'a>, alloc: Global) -> Result<bool> {
+        let made = match record {
+            ErrPacket::Error(error) => ErrPacket::Error(made_error(error, alloc)?),
+            ErrPacket::Progress(report) => ErrPacket::Progress(made_progress(report, alloc)?),
+        };
+        is_cloned(alloc, &made, record)
+    }
+}
+
+impl<'a> InPlace<ErrPacket<'a>, ErrPacketRef<'a>> for Server {
+    fn is(place: &ErrPacketRef<'a>, owned: &ErrPacket<'a>, out: &mut Out) -> bool {
+        let is_same = match owned {
+            ErrPacket::Error(error) => place.is_error()
+                && Server::is(place.server_error(), error, out),
+            ErrPacket::Progress(report) => {
+                place.is_progress_report() && Server::is(place.progress_report(), report, out)
+            }
+        };
+        is_same && place.to_packet() == *owned
+    }
+}
+
+impl<'a> Shows<ServerError<'a>> for Server {
+    fn fields(record: &ServerError<'a>, out: &mut Out) {
+        show_error(record, out);
+        displayed(record, out)
+    }
+
+    fn is_made(record: &ServerError<'a>, alloc: Global) -> Result<bool> {
+        is_cloned(alloc, &made_error(record, alloc)?, record)
+    }
+}
+
+fn show_error(error: &ServerError<'_>, out: &mut Out) {
+    fields!(out, error; error = error_code);
+    out.show(
+        "sql_state",
+        error.sql_state_ref().map(|state| state.as_bytes()),
+    );
+    fields!(out, error; message = message_ref; texts message_str = message_str)
+}
+
+/// The error of the same parts, on memory of its own.
+fn made_error(error: &ServerError<'_>, alloc: Global) -> Result<ServerError<'static>> {
+    let message = CowSlice::Borrowed(error.message_ref());
+    let made = ServerError::new(error.error_code(), error.sql_state_ref().copied(), message);
+    counted!(alloc; made.into_owned(alloc))
+}
+
+impl<'a> InPlace<ServerError<'a>, ServerErrorRef<'a>> for Server {
+    fn is(place: &ServerErrorRef<'a>, owned: &ServerError<'a>, _out: &mut Out) -> bool {
+        let state = owned.sql_state_ref().map(|state| state.as_bytes());
+        place.sql_state() == state.as_ref().map(|state| state.as_slice())
+            && fields!(place, owned; alike error_code, message with message_ref)
+            && place.to_error() == *owned
+    }
+}
+
+impl Shows<SqlState> for Server {
+    fn fields(record: &SqlState, out: &mut Out) {
+        fields!(out, record; sql_state = as_bytes; texts sql_state_str = as_str)
+    }
+
+    fn is_made(record: &SqlState, _alloc: Global) -> Result<bool> {
+        Ok(SqlState::new(record.as_bytes()) == *record)
+    }
+}
+
+impl InPlace<SqlState, SqlStateRef<'_>> for Server {
+    fn is(place: &SqlStateRef<'_>, owned: &SqlState, _out: &mut Out) -> bool {
+        place.as_bytes() == owned.as_bytes().as_slice() && place.to_state() == *owned
+    }
+}
+
+impl<'a> Shows<ProgressReport<'a>> for Server {
+    fn fields(record: &ProgressReport<'a>, out: &mut Out) {
+        show_progress(record, out);
+        displayed(record, out)
+    }
+
+    fn is_made(record: &ProgressReport<'a>, alloc: Global) -> Result<bool> {
+        is_cloned(alloc, &made_progress(record, alloc)?, record)
+    }
+}
+
+fn show_progress(report: &ProgressReport<'_>, out: &mut Out) {
+    fields!(out, report; stage, max_stage, progress, stage_info = stage_info_ref;
+        texts stage_info_str = stage_info_str)
+}
+
+/// The report of the same parts, on memory of its own.
+fn made_progress(report: &ProgressReport<'_>, alloc: Global) -> Result<ProgressReport<'static>> {
+    let info = CowSlice::Borrowed(report.stage_info_ref());
+    let made = ProgressReport::new(report.stage(), report.max_stage(), report.progress(), info);
+    counted!(alloc; made.into_owned(alloc))
+}
+
+impl<'a> InPlace<ProgressReport<'a>, ProgressReportRef<'a>> for Server {
+    fn is(place: &ProgressReportRef<'a>, owned: &ProgressReport<'a>, _out: &mut Out) -> bool {
+        fields!(place, owned; alike stage, max_stage, progress, stage_info with stage_info_ref)
+            && place.to_report() == *owned
+    }
+}

@@ -1,0 +1,6 @@
+//! What the modules use.
+
+pub(crate) use crate::Server;
+pub use mysql_replies::*;
+pub use mysql_session::*;
+pub use test_probe::prelude::*;
