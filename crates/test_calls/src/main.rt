@@ -47,13 +47,18 @@ fn ran(out: &mut Out, request: &Request<'_>) -> Result<(), AllocError> {
     let mut reader = input.as_slice();
     let status =
         counted!(request.alloc; value run(request.alloc, words.as_slice(), &mut reader, &mut written));
+    show(out, status, written.as_slice());
+    Ok(())
+}
+
+/// Adds a status and the lines that were written.
+fn show(out: &mut Out, status: u8, written: &[u8]) {
     out.word("status ");
     out.display(&status);
-    for line in str::from_utf8(written.as_slice()).unwrap_or("?").lines() {
+    for line in str::from_utf8(written).unwrap_or("?").lines() {
         out.push(";");
         out.word(line);
     }
-    Ok(())
 }
 
 /// The words of a request's call, and its input.
@@ -62,29 +67,21 @@ fn call_and_input<'a>(request: &Request<'a>) -> Result<(&'a str, Vec<u8>), Alloc
         return Ok((call, request.bytes.clone()?));
     }
     let (call, text) = request.line.split_once(" < ").unwrap_or((request.line, ""));
-    let mut input = Vec::new(request.alloc);
-    for byte in text.as_bytes() {
-        input.push(if *byte == b'/' { b'\n' } else { *byte })?;
-    }
-    Ok((call, input))
-}
-
-/// A word of a call.
-fn word(alloc: Global, shown: &str) -> Result<String, AllocError> {
-    let mut word = String::new(alloc);
-    for character in shown.chars().filter(|_| shown != "\"\"") {
-        word.push(if character == '\\' { '\n' } else { character })?;
-    }
-    Ok(word)
+    Ok((call, text.replace(request.alloc, '/', "\n")?.into_bytes()))
 }
 
 /// The words of a call.
 fn words(alloc: Global, call: &str) -> Result<Vec<String>, AllocError> {
-    let mut words = Vec::new(alloc);
-    for shown in call.split(' ').filter(|word| *word != "(none)") {
-        words.push(word(alloc, shown)?)?;
-    }
-    Ok(words)
+    call.split(' ')
+        .filter(|shown| *shown != "(none)")
+        .map(|shown| word(alloc, shown))
+        .try_collect(alloc)
+}
+
+/// A word of a call.
+fn word(alloc: Global, shown: &str) -> Result<String, AllocError> {
+    let spelled = if shown == "\"\"" { "" } else { shown };
+    spelled.replace(alloc, '\\', "\n")
 }
 
 fn main(rt: HostRuntime) -> io::Result<()> {

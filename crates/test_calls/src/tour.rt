@@ -3,8 +3,7 @@
 use mysql_packets::constants::CapabilityFlags;
 use mysql_packets::io::ParseBuf;
 use mysql_packets::packets::{
-    BulkRun, ComStmtBulkExecuteRequestBuilder, CommonOkPacket, OkPacket, OkPacketDeserializer,
-    StmtPacket,
+    ComStmtBulkExecuteRequestBuilder, CommonOkPacket, OkPacket, OkPacketDeserializer, StmtPacket,
 };
 use mysql_packets::proto::MySerialize;
 use mysql_packets::row::TextRowView;
@@ -12,22 +11,31 @@ use mysql_packets::value::{Value, ValueRef};
 use std::alloc::Global;
 use std::test::Fail;
 
-/// A statement packet is read, and written again.
-fn statement(alloc: Global, payload: &[u8], out: &mut Vec<u8>) -> Result<(u32, u16), Fail> {
+#[test]
+fn a_statement_is_read_and_written(rt: HostRuntime) -> Result<(), Fail> {
+    let (alloc, payload) = (rt.alloc(), [0, 1, 0, 0, 0, 1, 0, 2, 0, 0, 0, 0].as_slice());
+    let out = &mut Vec::new(alloc);
     let mut buf = ParseBuf::new(alloc, payload);
     let packet: StmtPacket = buf.parse(())?; // or UnexpectedEof, InvalidData(text): the buffer is as it was
     packet.serialize(out)?; // appends the 12 defined bytes, or leaves `out` as it was
-    Ok((packet.statement_id(), packet.num_columns()))
+    assert_eq!(rt; (packet.statement_id(), packet.num_columns()), (1, 1));
+    assert_eq!(rt; out.as_slice(), payload);
+    Ok(())
 }
 
-/// How many changes of the session an OK packet has.
-fn changes(alloc: Global, payload: &[u8]) -> Result<usize, Fail> {
+#[test]
+fn an_ok_packet_has_one_change(rt: HostRuntime) -> Result<(), Fail> {
+    let (alloc, payload) = (
+        rt.alloc(),
+        b"\x00\x00\x00\x02\x40\x00\x00\x00\x11\x00\x0f\x0aautocommit\x03OFF",
+    );
     let mut buf = ParseBuf::new(alloc, payload);
     let flags = CapabilityFlags::CLIENT_SESSION_TRACK;
     let ok: OkPacketDeserializer<'_, CommonOkPacket> = buf.parse(flags)?;
     let ok: OkPacket<'_> = ok.into_inner();
     let changes = ok.session_state_info(alloc)?; // every change of the session, or the first fault
-    Ok(changes.len())
+    assert_eq!(rt; changes.len(), 1);
+    Ok(())
 }
 
 /// Whether the first value of a text row of two columns is NULL.
@@ -35,30 +43,6 @@ fn begins_with_null(alloc: Global, payload: &[u8]) -> Result<bool, Fail> {
     let mut row = TextRowView::new(2, ParseBuf::new(alloc, payload));
     let first = row.next_value()?; // NULL, or bytes where they lie in the packet: no memory is taken
     Ok(first == Some(ValueRef::NULL))
-}
-
-/// The requests of a bulk execution.
-fn requests(alloc: Global, rows: Vec<Vec<Value>>) -> BulkRun {
-    let mut builder = ComStmtBulkExecuteRequestBuilder::new(alloc, 1, 31);
-    let run = builder.build_all(rows); // the fewest requests that fit, or which row has no place
-    run
-}
-
-#[test]
-fn a_statement_is_read_and_written(rt: HostRuntime) -> Result<(), Fail> {
-    let payload = [0, 1, 0, 0, 0, 1, 0, 2, 0, 0, 0, 0];
-    let mut out = Vec::new(rt.alloc());
-    let numbers = statement(rt.alloc(), &payload, &mut out)?;
-    assert_eq!(rt; numbers, (1, 1));
-    assert_eq!(rt; out.as_slice(), payload.as_slice());
-    Ok(())
-}
-
-#[test]
-fn an_ok_packet_has_one_change(rt: HostRuntime) -> Result<(), Fail> {
-    let payload = b"\x00\x00\x00\x02\x40\x00\x00\x00\x11\x00\x0f\x0aautocommit\x03OFF";
-    assert_eq!(rt; changes(rt.alloc(), payload)?, 1);
-    Ok(())
 }
 
 #[test]
@@ -70,11 +54,13 @@ fn a_row_begins_with_null(rt: HostRuntime) -> Result<(), Fail> {
 
 #[test]
 fn five_rows_are_three_requests(rt: HostRuntime) -> Result<(), Fail> {
-    let mut rows = Vec::new(rt.alloc());
+    let alloc = rt.alloc();
+    let mut rows = Vec::new(alloc);
     for number in 1..6 {
-        rows.push(vec![in rt.alloc(); Value::Int(number)]?)?;
+        rows.push(vec![in alloc; Value::Int(number)]?)?;
     }
-    let run = requests(rt.alloc(), rows);
+    let mut builder = ComStmtBulkExecuteRequestBuilder::new(alloc, 1, 31);
+    let run = builder.build_all(rows); // the fewest requests that fit, or which row has no place
     assert_eq!(rt; run.ends.as_slice(), [2, 4, 5].as_slice());
     Ok(())
 }

@@ -1,7 +1,7 @@
 //! The calls that are made on odd ends: a further command is a line.
 
+use crate::words;
 use mysql_packets::run;
-use std::alloc::{AllocError, Global};
 use std::io::{Read, Write};
 use std::process::Abort;
 
@@ -32,42 +32,29 @@ pub const CALLS: &[Call] = calls!(
     1: "stmt 00", "ok common 800000 0000000240000000020600", "handshake 0a3800",
         "gtidstrict 1e01000700000003000000622e310500000001000000080000000000000000000002",
         "sid 3e11fa47-71ca-11e1-9e33-c80aa9429562:4-3", "bulk 1 31" < b"i1\ni1 i2\n";
-    2: "bulk 1 31" < b"i1\nx\n", "bulk 1 3" < b"i1\ni2\n", "", "bulk", "bulk 1", "bulk x 31", "bulk +1 31",
+    2: "bulk 1 31" < b"i1\nx\n", "bulk 1 3" < b"i1\ni2\n", "(none)", "bulk", "bulk 1", "bulk x 31", "bulk +1 31",
         "bulk -1 31", "bulk 4294967296 31", "bulk 1 +31", "bulk 1 18446744073709551616", "bulk 1 31 Types",
         "bulk 1 31 rows", "bulk 1 31 rows=", "bulk 1 31 rows=0", "bulk 1 31 rows=+1",
         "bulk 1 31 rows=18446744073709551616", "bulk 1 31 types types", "bulk 1 31 rows=1 types",
         "bulk 1 31 types rows=1 rows=1";
 );
 
-/// The words of a call.
-fn words(alloc: Global, call: &str) -> Result<Vec<String>, AllocError> {
-    let mut words = Vec::new(alloc);
-    for word in call.split_ascii_whitespace() {
-        words.push(String::from_str(alloc, word)?)?;
-    }
-    Ok(words)
-}
-
 /// The status of the call on these ends.
 pub fn status_of<R: Read, W: Write>(
-    alloc: Global,
+    rt: &(impl Abort + AllocGlobal),
     call: &str,
     reader: &mut R,
     writer: &mut W,
-) -> Result<u8, AllocError> {
-    let words = words(alloc, call)?;
-    Ok(run(alloc, words.as_slice(), reader, writer))
+) -> u8 {
+    let words = words(rt.alloc(), call).expect(rt, "memory");
+    run(rt.alloc(), words.as_slice(), reader, writer)
 }
 
 /// What the call writes where nothing fails. It ends with its status.
-pub fn text_of(
-    rt: &impl Abort,
-    alloc: Global,
-    (call, input, status): Call,
-) -> Result<Vec<u8>, AllocError> {
+pub fn text_of(rt: &(impl Abort + AllocGlobal), (call, input, status): Call) -> Vec<u8> {
     let mut reader = input;
-    let mut written = Vec::new(alloc);
-    let given = status_of(alloc, call, &mut reader, &mut written)?;
+    let mut written = Vec::new(rt.alloc());
+    let given = status_of(rt, call, &mut reader, &mut written);
     assert_eq!(rt; given, status, "{call}");
-    Ok(written)
+    written
 }

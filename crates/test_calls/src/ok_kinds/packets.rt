@@ -2,12 +2,13 @@
 
 use crate::ok_kinds::kinds::{Empty, Refusing, Seventh, Versioned};
 use mysql_packets::constants::{CapabilityFlags, Flags};
-use mysql_packets::io::{Fault, FaultKind, ParseBuf};
+use mysql_packets::io::{Fault, ParseBuf};
 use mysql_packets::packets::OkPacketDeserializer;
 use std::alloc::Global;
+use std::process::Abort;
 
-/// What was answered: the status flags and the warnings, or the kind of fault; and how many bytes are left.
-type Answer = (Result<(u16, u16), FaultKind>, usize);
+/// What was answered: the status flags and the warnings, or the fault; and how many bytes are left.
+type Answer = (Result<(u16, u16), Fault>, usize);
 
 /// What a kind answers to these bytes.
 macro_rules! answered {
@@ -20,7 +21,7 @@ macro_rules! answered {
                 let packet = read.into_inner();
                 (Ok((packet.status_flags().bits(), packet.warnings())), left)
             }
-            Err(fault) => (Err(fault.kind()), left),
+            Err(fault) => (Err(fault), left),
         }
     }};
 }
@@ -37,55 +38,56 @@ fn reading_nothing(alloc: Global, bytes: &[u8]) -> Answer {
     answered!(Empty, alloc, bytes)
 }
 
-#[test]
-fn a_body_of_ones_own_is_read(rt: HostRuntime) {
-    let bytes = b"\x2a\x07\x03\0\x02\0";
-    assert!(rt; versioned(rt.alloc(), bytes) == (Ok((2, 3)), 0));
-    assert!(rt; versioned(rt.alloc(), b"\x2a\x07\x03\0\x02\0\xff") == (Ok((2, 3)), 1));
-    for n in 0..bytes.len() {
-        assert!(rt; versioned(rt.alloc(), &bytes[..n]) == (Err(FaultKind::UnexpectedEof), n));
-    }
-    let other = (Err(FaultKind::InvalidData), 6);
-    assert!(rt; versioned(rt.alloc(), b"\xfe\x07\x03\0\x02\0") == other);
-}
-
-#[test]
-fn a_kind_that_refuses_each_body_takes_none(rt: HostRuntime) {
-    let invalid = Err(FaultKind::InvalidData);
-    assert!(rt; refusing(rt.alloc(), b"\0\x01\0\x02\0\0\0") == (invalid, 7));
-    assert!(rt; refusing(rt.alloc(), b"\x01") == (invalid, 1));
-    assert!(rt; refusing(rt.alloc(), b"") == (Err(FaultKind::UnexpectedEof), 0));
-}
-
-#[test]
-fn a_refusal_has_the_text_of_its_kind(rt: HostRuntime) {
-    let mut buf = ParseBuf::new(rt.alloc(), b"\0\x01");
-    let read: Result<OkPacketDeserializer<'_, Refusing>, Fault> = buf.parse(
-        CapabilityFlags::empty(),
-    );
-    assert!(rt; read.err() == Some(Fault::InvalidData("No body is one")));
-    let mut buf = ParseBuf::new(rt.alloc(), b"\x01");
-    let read: Result<OkPacketDeserializer<'_, Refusing>, Fault> = buf.parse(
-        CapabilityFlags::empty(),
-    );
-    assert!(rt; read.err() == Some(Fault::InvalidData("Invalid OK packet header")));
-}
-
-#[test]
-fn a_kind_that_reads_nothing_leaves_all(rt: HostRuntime) {
-    assert!(rt; reading_nothing(rt.alloc(), b"\x01") == (Ok((0, 0)), 0));
-    assert!(rt; reading_nothing(rt.alloc(), b"\x01\x02\x03") == (Ok((0, 0)), 2));
-    assert!(rt; reading_nothing(rt.alloc(), b"\0") == (Err(FaultKind::InvalidData), 1));
-    assert!(rt; reading_nothing(rt.alloc(), b"") == (Err(FaultKind::UnexpectedEof), 0));
-}
-
 fn seventh(alloc: Global, bytes: &[u8]) -> Answer {
     answered!(Seventh, alloc, bytes)
 }
 
+fn assert_answer(rt: &impl Abort, given: Answer, wanted: Answer) {
+    assert!(rt; given == wanted);
+}
+
+/// Each of these byte strings has that answer of a kind.
+macro_rules! assert_answers {
+    ($rt:expr, $kind:ident; $($bytes:expr => $answer:expr;)+) => {
+        $(assert_answer(&$rt, $kind($rt.alloc(), $bytes), $answer);)+
+    };
+}
+
+const OTHER_HEADER: Fault = Fault::InvalidData("Invalid OK packet header");
+
+#[test]
+fn a_body_of_ones_own_is_read(rt: HostRuntime) {
+    let bytes = b"\x2a\x07\x03\0\x02\0";
+    assert_answers!(rt, versioned;
+        bytes => (Ok((2, 3)), 0);
+        b"\x2a\x07\x03\0\x02\0\xff" => (Ok((2, 3)), 1);
+        b"\xfe\x07\x03\0\x02\0" => (Err(OTHER_HEADER), 6););
+    for n in 0..bytes.len() {
+        assert_answers!(rt, versioned; &bytes[..n] => (Err(Fault::UnexpectedEof), n););
+    }
+}
+
+#[test]
+fn a_kind_that_refuses_each_body_takes_none(rt: HostRuntime) {
+    assert_answers!(rt, refusing;
+        b"\0\x01\0\x02\0\0\0" => (Err(Fault::InvalidData("No body is one")), 7);
+        b"\0\x01" => (Err(Fault::InvalidData("No body is one")), 2);
+        b"\x01" => (Err(OTHER_HEADER), 1);
+        b"" => (Err(Fault::UnexpectedEof), 0););
+}
+
+#[test]
+fn a_kind_that_reads_nothing_leaves_all(rt: HostRuntime) {
+    assert_answers!(rt, reading_nothing;
+        b"\x01" => (Ok((0, 0)), 0);
+        b"\x01\x02\x03" => (Ok((0, 0)), 2);
+        b"\0" => (Err(OTHER_HEADER), 1);
+        b"" => (Err(Fault::UnexpectedEof), 0););
+}
+
 #[test]
 fn a_body_of_a_kind_that_is_there(rt: HostRuntime) {
-    assert!(rt; seventh(rt.alloc(), b"\x07\x01\x00\x02\x00\x00\x00") == (Ok((2, 0)), 0));
-    let other = (Err(FaultKind::InvalidData), 7);
-    assert!(rt; seventh(rt.alloc(), b"\x00\x01\x00\x02\x00\x00\x00") == other);
+    assert_answers!(rt, seventh;
+        b"\x07\x01\x00\x02\x00\x00\x00" => (Ok((2, 0)), 0);
+        b"\x00\x01\x00\x02\x00\x00\x00" => (Err(OTHER_HEADER), 7););
 }
