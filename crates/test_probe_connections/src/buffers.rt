@@ -3,12 +3,10 @@
 //! `buf CALLS BYTES`, `content FORM BYTES`, `varlen BYTES`.
 
 use crate::prelude::*;
-use mysql_auth::EofName;
-use mysql_wire::*;
 
 /// Calls of a buffer, one after another. None of them takes memory.
 pub fn calls(out: &mut Out, request: &Request<'_>) {
-    let mut buf = ParseBuf::new(out.alloc(), request.bytes.as_slice());
+    let mut buf = request.buf();
     for name in request.word(1).split(',') {
         take(out, name, &mut buf);
     }
@@ -42,10 +40,8 @@ fn show_kept<R: BytesRepr>(out: &mut Out, content: &[u8]) {
     out.show("kept", content.len());
     out.show("empty", content.is_empty());
     out.show("default", content == RawBytes::default());
-    out.same(
-        "with_capacity",
-        is_written_with_capacity(out.alloc(), &content),
-    );
+    let is_written = is_written_with_capacity(out.alloc(), &content);
+    out.same("with_capacity", is_written);
     write_made(out, &content)
 }
 
@@ -75,18 +71,12 @@ pub fn content(out: &mut Out, request: &Request<'_>) {
 
 /// A number of varying length, by the functions that read, measure and write one.
 pub fn varlen(out: &mut Out, request: &Request<'_>) {
-    let alloc = out.alloc();
-    let bytes = request.bytes.as_slice();
-    let mut buf = ParseBuf::new(alloc, bytes);
-    let answer: Result<u64, Fault> = counted!(alloc; read_varlen_uint(&mut buf));
-    match answer {
-        Ok(value) => {
-            out.word("read");
-            out.show("value", value);
-            out.show("rest", buf.len());
-            show_varlen(out, value)
-        }
-        Err(fault) => out.refused(fault, buf.len() == bytes.len()),
+    let mut buf = request.buf();
+    let answer: Result<u64, Fault> = counted!(request.alloc; read_varlen_uint(&mut buf));
+    if let Some(value) = taken(out, answer, buf.len() == request.bytes.len()) {
+        out.show("value", value);
+        out.show("rest", buf.len());
+        show_varlen(out, value)
     }
 }
 

@@ -6,9 +6,6 @@
 
 use crate::plugins::show_plugin;
 use crate::prelude::*;
-use indexmap::IndexMap;
-use mysql_auth::{AuthPlugin, ComChangeUser, ComChangeUserMoreData, HandshakeResponse, SslRequest};
-use mysql_wire::MariadbCapabilities;
 
 impl<'a> Shows<HandshakeResponse<'a>> for Connections {
     fn fields(record: &HandshakeResponse<'a>, out: &mut Out) {
@@ -49,6 +46,7 @@ fn response_again<'b>(
     packet: &'b HandshakeResponse<'_>,
     alloc: Global,
 ) -> Result<HandshakeResponse<'b>> {
+    let attributes = packet.connect_attributes(alloc)?;
     HandshakeResponse::new(
         alloc,
         Some(CowSlice::Borrowed(packet.scramble_buf())),
@@ -57,7 +55,7 @@ fn response_again<'b>(
         words::lent(packet.db_name()),
         packet.auth_plugin().map(|plugin| plugin.borrow()),
         packet.capabilities(),
-        packet.connect_attributes(alloc)?,
+        attributes,
         0,
     )
 }
@@ -65,13 +63,9 @@ fn response_again<'b>(
 /// A response that is made of words, as it is shown, written and read again.
 pub fn make_response(out: &mut Out, request: &Request<'_>) -> Result {
     let attributes = words::attributes(out.alloc(), request.word(9))?;
-    match response_of_words(request, attributes) {
-        Ok(packet) => {
-            out.word("made");
-            Connections::fields(&packet, out);
-            write_and_read(out, &packet, request, ());
-        }
-        Err(AllocError) => out.error(&"Memory"),
+    if let Some(packet) = out.made(response_of_words(request, attributes)) {
+        Connections::fields(&packet, out);
+        write_and_read(out, &packet, request, ());
     }
     Ok(())
 }
@@ -104,15 +98,12 @@ fn response_of_words<'a>(
 
 /// The request for TLS that goes before a response, as it is shown, written and read again.
 pub fn tls_of(out: &mut Out, request: &Request<'_>) {
-    let mut buf = ParseBuf::new(out.alloc(), request.bytes.as_slice());
-    let answer: Result<HandshakeResponse<'_>, Fault> = buf.parse(());
-    let Ok(response) = answer else {
-        return out.word("refused");
-    };
-    let packet = response.ssl_request();
-    out.word("made");
-    Connections::fields(&packet, out);
-    write_and_read(out, &packet, request, ())
+    if let Some(response) = record::<HandshakeResponse<'_>>(out, request, ()) {
+        let packet = response.ssl_request();
+        out.word("made");
+        Connections::fields(&packet, out);
+        write_and_read(out, &packet, request, ())
+    }
 }
 
 /// It has no getters: what is written of it says what it is.
@@ -147,13 +138,10 @@ fn more_of_words<'a>(
 pub fn make_change_user(out: &mut Out, request: &Request<'_>) -> Result {
     let alloc = out.alloc();
     let attributes = words::attributes(alloc, request.word(7))?;
-    match counted!(alloc; more_of_words(alloc, request, attributes)) {
-        Ok(more) => {
-            out.word("made");
-            let change = change_of_words(request, more);
-            write_and_read(out, &change, request, request.capabilities());
-        }
-        Err(AllocError) => out.error(&"Memory"),
+    let more = counted!(alloc; more_of_words(alloc, request, attributes));
+    if let Some(more) = out.made(more) {
+        let change = change_of_words(request, more);
+        write_and_read(out, &change, request, request.capabilities());
     }
     Ok(())
 }

@@ -5,8 +5,6 @@
 
 use crate::prelude::*;
 use crate::sids::made_sids;
-use mysql_repl::{BinlogRequest, ComBinlogDump, ComRegisterSlave, ComTableDump, SemiSyncAckPacket};
-use mysql_wire::BinlogDumpFlags;
 
 impl<'a> Shows<ComRegisterSlave<'a>> for Connections {
     fn fields(record: &ComRegisterSlave<'a>, out: &mut Out) {
@@ -15,10 +13,13 @@ impl<'a> Shows<ComRegisterSlave<'a>> for Connections {
     }
 
     fn is_made(record: &ComRegisterSlave<'a>, alloc: Global) -> Result<bool> {
+        let hostname = words::owned(alloc, record.hostname_raw())?;
+        let user = words::owned(alloc, record.user_raw())?;
+        let password = words::owned(alloc, record.password_raw())?;
         let made = ComRegisterSlave::new(record.server_id())
-            .with_hostname(words::owned(alloc, record.hostname_raw())?)
-            .with_user(words::owned(alloc, record.user_raw())?)
-            .with_password(words::owned(alloc, record.password_raw())?)
+            .with_hostname(hostname)
+            .with_user(user)
+            .with_password(password)
             .with_port(record.port())
             .with_replication_rank(record.replication_rank())
             .with_master_id(record.master_id());

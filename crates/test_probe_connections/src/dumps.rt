@@ -5,9 +5,6 @@
 
 use crate::prelude::*;
 use crate::sids::{made_sids, numbered_sids, one_sid, show_sid, text_of};
-use mysql_repl::{ComBinlogDumpGtid, InvalidSid, Sid};
-use mysql_wire::{BinlogDumpFlags, MySerialize};
-use test_probe::record::again;
 
 impl<'a> Shows<ComBinlogDumpGtid<'a>> for Connections {
     fn fields(record: &ComBinlogDumpGtid<'a>, out: &mut Out) {
@@ -32,19 +29,12 @@ impl<'a> Shows<ComBinlogDumpGtid<'a>> for Connections {
 
 /// A dump by the strict reader.
 pub fn strict(out: &mut Out, request: &Request<'_>) {
-    let alloc = out.alloc();
-    let bytes = request.bytes.as_slice();
-    let mut buf = ParseBuf::new(alloc, bytes);
-    let answer: Result<ComBinlogDumpGtid<'_>, Fault> =
-        counted!(alloc; ComBinlogDumpGtid::parse_strict(&mut buf));
-    match answer {
-        Ok(dump) => {
-            out.word("read");
-            Connections::fields(&dump, out);
-            out.show("rest", buf.len());
-            let _ = write(out, &dump, bytes);
-        }
-        Err(fault) => out.refused(fault, buf.len() == bytes.len()),
+    let (bytes, mut buf) = (request.bytes.as_slice(), request.buf());
+    let answer = counted!(request.alloc; ComBinlogDumpGtid::parse_strict(&mut buf));
+    if let Some(dump) = taken(out, answer, buf.len() == bytes.len()) {
+        Connections::fields(&dump, out);
+        out.show("rest", buf.len());
+        let _ = write(out, &dump, bytes);
     }
 }
 
@@ -61,18 +51,10 @@ fn show_counts(out: &mut Out, name: &str, answer: Result<ComBinlogDumpGtid<'_>>)
 pub fn with_sid(out: &mut Out, request: &Request<'_>) -> Result {
     let alloc = out.alloc();
     let (one, other) = (one_sid(alloc)?, one_sid(alloc)?);
-    let mut buf = ParseBuf::new(alloc, request.bytes.as_slice());
-    let answer: Result<ComBinlogDumpGtid<'_>, Fault> = buf.parse(());
-    match answer {
-        Ok(dump) => {
-            with_sid_borrowed(out, dump.sids(), one);
-            show_counts(
-                out,
-                "of_owned",
-                counted!(alloc; dump.with_sid(alloc, other)),
-            );
-        }
-        Err(_) => out.word("refused"),
+    if let Some(dump) = record::<ComBinlogDumpGtid<'_>>(out, request, ()) {
+        with_sid_borrowed(out, dump.sids(), one);
+        let dump = counted!(alloc; dump.with_sid(alloc, other));
+        show_counts(out, "of_owned", dump);
     }
     Ok(())
 }
@@ -84,11 +66,8 @@ fn with_sid_borrowed<'a>(out: &mut Out, sids: &'a [Sid<'a>], sid: Sid<'a>) {
     let emptied = lent.with_sids(CowSlice::Borrowed(&[]));
     fields!(out, emptied; flags_of_none = flags);
     let lent = emptied.with_sids(CowSlice::Borrowed(sids));
-    show_counts(
-        out,
-        "of_borrowed",
-        counted!(alloc; lent.with_sid(alloc, sid)),
-    )
+    let dump = counted!(alloc; lent.with_sid(alloc, sid));
+    show_counts(out, "of_borrowed", dump)
 }
 
 /// The dump that takes in one sid after another.
@@ -111,18 +90,14 @@ pub fn make(out: &mut Out, request: &Request<'_>) -> Result {
         .with_server_id(request.number(1))
         .with_pos(words::number(request.word(3)))
         .with_filename(words::name(request.word(4)));
-    match counted!(alloc; with_each(alloc, dump, sids)) {
-        Ok(dump) => {
-            let flags = BinlogDumpFlags::from_bits_retain(words::number(request.word(2)));
-            show_made(out, &dump.with_flags(flags));
-        }
-        Err(AllocError) => out.error(&"Memory"),
+    if let Some(dump) = out.made(counted!(alloc; with_each(alloc, dump, sids))) {
+        let flags = BinlogDumpFlags::from_bits_retain(words::number(request.word(2)));
+        show_made(out, &dump.with_flags(flags));
     }
     Ok(())
 }
 
 fn show_made(out: &mut Out, dump: &ComBinlogDumpGtid<'_>) {
-    out.word("made");
     Connections::fields(dump, out);
     let is_same = is_cloned(out.alloc(), dump, dump);
     out.same("copy", is_same);
@@ -147,28 +122,20 @@ pub fn of_count(out: &mut Out, request: &Request<'_>) -> Result {
         .with_filename(CowSlice::Borrowed(b"bin.7"))
         .with_sids(CowSlice::Owned(sids));
     let mut written = Vec::new(alloc);
-    match counted!(alloc; dump.serialize(&mut written)) {
-        Ok(()) => {
-            out.show("len", written.len());
-            show_again(out, &dump, written.as_slice());
-        }
-        Err(AllocError) => out.field("len", "Memory"),
+    let len = counted!(alloc; dump.serialize(&mut written)).map(|()| written.len());
+    out.show("len", len);
+    if len.is_ok() {
+        show_again(out, &dump, written.as_slice());
     }
     Ok(())
 }
 
 /// A dump of the sids of a GTID set's text, as it is written.
 pub fn of_set(out: &mut Out, request: &Request<'_>) {
-    let alloc = out.alloc();
     let dump = ComBinlogDumpGtid::new(77).with_pos(4);
-    let answer: Result<ComBinlogDumpGtid<'_>, InvalidSid> =
-        counted!(alloc; dump.with_gtid_set(alloc, text_of(request)));
-    match answer {
-        Ok(dump) => {
-            out.word("made");
-            fields!(out, dump; flags, as_servers = is_as_servers_write);
-            write_made(out, &dump)
-        }
-        Err(fault) => out.error(&fault),
+    let answer = counted!(request.alloc; dump.with_gtid_set(request.alloc, text_of(request)));
+    if let Some(dump) = out.accepted("made", answer) {
+        fields!(out, dump; flags, as_servers = is_as_servers_write);
+        write_made(out, &dump)
     }
 }

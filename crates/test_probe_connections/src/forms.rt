@@ -3,11 +3,7 @@
 //! `form NAME BYTES`, `code NAME NUMBER`, `push_seq BYTES`.
 
 use crate::prelude::*;
-use mysql_auth::EofName;
-use mysql_wire::*;
 use std::fmt::Display;
-use test_probe::answers;
-use test_probe::record::read;
 
 type Numbers<'a> = Seq<'a, RawInt<LeU64>, LeU64>;
 
@@ -27,20 +23,18 @@ fn number_or_list(out: &mut Out, request: &Request<'_>) -> bool {
             "le_u64": RawInt<LeU64>, "lenenc": RawInt<LenEnc>, "varlen": RawInt<VarLen>, "seq": Numbers<'_>,
             "seq_of_bytes": Strings<'_>,
         with words::count(request) => "seq_of_count": Bytes<'_>,
-        call "all": all::<Connections, RawInt<LeU64>>,
-            "all_of_bytes": all::<InLists, RawBytes<'_, LenEnc>>,
-            "all_of_nothing": all::<Connections, Skip<0>>,)
+        call "all": all::<RawInt<LeU64>>, "all_of_bytes": all::<RawBytes<'_, LenEnc>>, "all_of_nothing": all::<Skip<0>>,)
 }
 
 /// Byte strings, and bytes that are skipped.
 fn string(out: &mut Out, request: &Request<'_>) -> bool {
     answers!(Connections, out, request, request.word(1);
+        read words::count(request) => "block": ParseBuf<'_>,
         with () => "lenenc_bytes": RawBytes<'_, LenEnc>, "null_bytes": RawBytes<'_, NullBytes>,
             "eof_bytes": RawBytes<'_, EofBytes>, "u8_bytes": RawBytes<'_, U8Bytes>,
             "u32_bytes": RawBytes<'_, U32Bytes>, "eof_name": RawBytes<'_, EofName>,
             "array": [u8; 8], "array_of_2": [u8; 2], "skip": Skip<6>,
-        with words::count(request) => "bare_bytes": RawBytes<'_, BareBytes<247>>,
-        call "block": block,)
+        with words::count(request) => "bare_bytes": RawBytes<'_, BareBytes<247>>,)
 }
 
 /// Constants, coded bytes, and flag words.
@@ -56,11 +50,6 @@ fn constant(out: &mut Out, request: &Request<'_>) -> bool {
 }
 
 /// A block of so many bytes, which is no record: it is its bytes.
-fn block(out: &mut Out, request: &Request<'_>) {
-    let bytes = request.bytes.as_slice();
-    let _ = read::<Connections, ParseBuf<'_>>(out, bytes, words::count(request));
-}
-
 impl<'a> Shows<ParseBuf<'a>> for Connections {
     fn fields(record: &ParseBuf<'a>, out: &mut Out) {
         out.show("content", record.rest().eat_all())
@@ -84,7 +73,7 @@ impl<'a, R: BytesRepr> Shows<RawBytes<'a, R>> for Connections {
 
 impl<const N: usize> Shows<[u8; N]> for Connections {
     fn fields(record: &[u8; N], out: &mut Out) {
-        out.show("content", record.as_slice())
+        out.show("content", *record)
     }
 }
 
@@ -116,8 +105,7 @@ impl ConstBytesValue<4> for Marker {
 
 impl<R: IntRepr> Shows<RawInt<R>> for Connections {
     fn fields(record: &RawInt<R>, out: &mut Out) {
-        let value = record.0;
-        out.text("value", &format_args!("{value:?}"))
+        record.show(out)
     }
 
     fn is_made(record: &RawInt<R>, alloc: Global) -> Result<bool> {
@@ -155,50 +143,69 @@ pub fn code(out: &mut Out, request: &Request<'_>) {
     }
 }
 
-/// Shows strings of a list.
-struct InLists;
+/// A value as a list shows it.
+trait Item {
+    fn show(&self, out: &mut Out);
+}
 
-impl<'a> Shows<RawBytes<'a, LenEnc>> for InLists {
-    fn fields(record: &RawBytes<'a, LenEnc>, out: &mut Out) {
-        out.show("value", record.as_bytes())
+impl<R: IntRepr> Item for RawInt<R> {
+    fn show(&self, out: &mut Out) {
+        let value = self.0;
+        out.text("value", &format_args!("{value:?}"))
     }
+}
+
+impl Item for RawBytes<'_, LenEnc> {
+    fn show(&self, out: &mut Out) {
+        out.show("value", self.as_bytes())
+    }
+}
+
+impl<const N: usize> Item for Skip<N> {
+    fn show(&self, _out: &mut Out) {}
 }
 
 /// Adds how many values there are, and each of them.
-fn show_items<P: Shows<T>, T>(out: &mut Out, items: &[T]) {
+fn show_items<T: Item>(out: &mut Out, items: &[T]) {
     out.show("count", items.len());
     for item in items {
-        P::fields(item, out);
+        item.show(out);
     }
 }
 
-/// Numbers of eight bytes, after their count, and bytes of a count that is passed.
+/// Whether the lists that a copy of this one lends and gives up are the same.
+macro_rules! is_list_made {
+    ($alloc:expr; $list:expr) => {{
+        let copy = counted!($alloc; $list.clone())?;
+        let is_same = Seq::borrowed(copy.as_slice()) == *$list;
+        let values = copy.into_inner();
+        Ok(is_same && Seq::borrowed(values.as_slice()) == *$list)
+    }};
+}
+
 impl<'a> Shows<Numbers<'a>> for Connections {
     fn fields(record: &Numbers<'a>, out: &mut Out) {
-        show_items::<Connections, RawInt<LeU64>>(out, record.as_slice())
+        show_items(out, record.as_slice())
     }
 
     fn is_made(record: &Numbers<'a>, alloc: Global) -> Result<bool> {
-        let copy = counted!(alloc; record.clone())?;
-        let values = copy.into_inner();
-        Ok(Seq::borrowed(values.as_slice()) == *record)
+        is_list_made!(alloc; record)
     }
 }
 
 impl<'a> Shows<Bytes<'a>> for Connections {
     fn fields(record: &Bytes<'a>, out: &mut Out) {
-        show_items::<Connections, RawInt<u8>>(out, record.as_slice())
+        show_items(out, record.as_slice())
     }
 
     fn is_made(record: &Bytes<'a>, alloc: Global) -> Result<bool> {
-        let copy = counted!(alloc; record.clone())?;
-        Ok(Seq::borrowed(copy.as_slice()) == *record)
+        is_list_made!(alloc; record)
     }
 }
 
 impl<'a> Shows<Strings<'a>> for Connections {
     fn fields(record: &Strings<'a>, out: &mut Out) {
-        show_items::<InLists, RawBytes<'_, LenEnc>>(out, record.as_slice())
+        show_items(out, record.as_slice())
     }
 
     fn is_made(record: &Strings<'a>, _alloc: Global) -> Result<bool> {
@@ -207,32 +214,21 @@ impl<'a> Shows<Strings<'a>> for Connections {
 }
 
 /// Values that are read to the end. There is no end of values without bytes.
-fn all<'a, P: Shows<T>, T: MyDeserialize<'a, Ctx = ()> + Drop>(
-    out: &mut Out,
-    request: &'a Request<'_>,
-) {
-    let alloc = out.alloc();
-    let bytes = request.bytes.as_slice();
-    let mut buf = ParseBuf::new(alloc, bytes);
-    let answer: Result<Vec<T>, Fault> = counted!(alloc; read_all(&mut buf));
-    match answer {
-        Ok(values) => {
-            out.word("read");
-            let list: Seq<'_, T, Unknown> = Seq::owned(values);
-            show_items::<P, T>(out, list.as_slice());
-            out.show("rest", buf.len())
-        }
-        Err(fault) => out.refused(fault, buf.len() == bytes.len()),
+fn all<'a, T: MyDeserialize<'a, Ctx = ()> + Item + Drop>(out: &mut Out, request: &'a Request<'_>) {
+    let mut buf = request.buf();
+    let answer: Result<Vec<T>, Fault> = counted!(request.alloc; read_all(&mut buf));
+    if let Some(values) = taken(out, answer, buf.len() == request.bytes.len()) {
+        let list: Seq<'_, T, Unknown> = Seq::owned(values);
+        show_items(out, list.as_slice());
+        out.show("rest", buf.len())
     }
 }
 
 /// The list of the bytes, and one that borrows its numbers, once the number 7 is pushed to each.
 pub fn push(out: &mut Out, request: &Request<'_>) {
     let alloc = out.alloc();
-    let mut buf = ParseBuf::new(alloc, request.bytes.as_slice());
-    let answer: Result<Numbers<'_>, Fault> = buf.parse(());
-    let Ok(mut list) = answer else {
-        return out.word("refused");
+    let Some(mut list) = record::<Numbers<'_>>(out, request, ()) else {
+        return;
     };
     push_to_borrowed(out, &list);
     let before = list.len();
@@ -256,7 +252,7 @@ fn show_push(out: &mut Out, name: &str, push: Result, list: &Numbers<'_>, before
     match push {
         Ok(()) => {
             out.field(name, "pushed");
-            show_items::<Connections, RawInt<LeU64>>(out, list.as_slice())
+            show_items(out, list.as_slice())
         }
         Err(AllocError) if list.len() == before => out.field(name, "Memory"),
         Err(AllocError) => out.field(name, "CHANGED"),

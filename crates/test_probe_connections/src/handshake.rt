@@ -4,9 +4,6 @@
 
 use crate::plugins::show_plugin;
 use crate::prelude::*;
-use mysql_auth::{HandshakePacket, HandshakePacketRef, supported_capabilities};
-use mysql_wire::StatusFlags;
-use test_probe::record::round_trip;
 
 /// The versions that a server's version says.
 pub fn version(out: &mut Out, request: &Request<'_>) {
@@ -45,44 +42,13 @@ impl<'a> Shows<HandshakePacket<'a>> for Connections {
     }
 }
 
-fn show_place(packet: &HandshakePacketRef<'_>, out: &mut Out) {
-    fields!(out, packet; protocol_version, server_version, connection_id, scramble_1, scramble_2, capabilities,
-        default_collation, status_flags, mariadb_ext_capabilities, auth_plugin_name);
-}
-
-fn show_owned(packet: &HandshakePacket<'_>, out: &mut Out) {
-    fields!(out, packet; protocol_version, server_version = server_version_ref, connection_id, scramble_1 = scramble_1_ref,
-        scramble_2 = scramble_2_ref, capabilities, default_collation, status_flags, mariadb_ext_capabilities,
-        auth_plugin_name = auth_plugin_name_ref);
-}
-
-/// Whether a handshake that stays in its packet is this one.
-fn is_handshake(
-    packet: &HandshakePacketRef<'_>,
-    owned: &HandshakePacket<'_>,
-    alloc: Global,
-) -> bool {
-    let (mut one, mut other) = (Out::new(alloc), Out::new(alloc));
-    show_place(packet, &mut one);
-    show_owned(owned, &mut other);
-    one.is_same(&other)
-        && packet.auth_plugin() == owned.auth_plugin()
-        && packet.to_packet() == *owned
-}
-
-/// A handshake; and a word where the one that stays in its packet is another.
-pub fn handshake(out: &mut Out, request: &Request<'_>) {
-    round_trip::<Connections, HandshakePacket<'_>>(out, request, (), ());
-    let (alloc, bytes) = (request.alloc, request.bytes.as_slice());
-    let (mut buf, mut place) = (ParseBuf::new(alloc, bytes), ParseBuf::new(alloc, bytes));
-    let owned: Result<HandshakePacket<'_>, Fault> = buf.parse(());
-    let borrowed: Result<HandshakePacketRef<'_>, Fault> = counted!(alloc; value place.parse(()));
-    let is_same = match (&borrowed, &owned) {
-        (Ok(borrowed), Ok(owned)) => is_handshake(borrowed, owned, alloc),
-        (Err(borrowed), Err(owned)) => borrowed == owned,
-        _ => false,
-    };
-    out.or_other("borrowed", Ok(is_same && buf.len() == place.len()))
+impl<'a> InPlace<HandshakePacket<'a>, HandshakePacketRef<'a>> for Connections {
+    fn is(place: &HandshakePacketRef<'a>, owned: &HandshakePacket<'a>, _out: &mut Out) -> bool {
+        fields!(place, owned; alike protocol_version, server_version with server_version_ref, connection_id,
+            scramble_1 with scramble_1_ref, scramble_2 with scramble_2_ref, capabilities, default_collation,
+            status_flags, mariadb_ext_capabilities, auth_plugin_name with auth_plugin_name_ref, auth_plugin)
+            && place.to_packet() == *owned
+    }
 }
 
 fn show_version(name: &str, version: Option<(u16, u16, u16)>, out: &mut Out) {
@@ -116,18 +82,20 @@ fn made_again<'b>(packet: &'b HandshakePacket<'_>) -> HandshakePacket<'b> {
     made.with_mariadb_ext_capabilities(packet.mariadb_ext_capabilities())
 }
 
-/// A handshake that is made of words.
+/// A handshake of a version, a scramble and a plugin.
 fn made<'a>(given: [&'a str; 3], capabilities: CapabilityFlags) -> HandshakePacket<'a> {
     let [version, scramble, plugin] = given;
+    let (scramble, plugin) = (words::borrowed(scramble), words::borrowed(plugin));
+    let (version, status) = (words::name(version), StatusFlags::empty());
     HandshakePacket::new(
         10,
-        words::name(version),
+        version,
         1,
         [0; 8],
-        words::borrowed(scramble),
+        scramble,
         capabilities,
         8,
-        StatusFlags::empty(),
-        words::borrowed(plugin),
+        status,
+        plugin,
     )
 }

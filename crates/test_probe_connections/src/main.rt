@@ -13,11 +13,9 @@ mod sids;
 mod texts;
 mod words;
 
-use crate::prelude::{Out, Request};
-use mysql_auth::*;
-use mysql_repl::*;
+use crate::prelude::*;
 use std::io;
-use test_probe::{Answers, answers, run};
+use test_probe::{Answers, run};
 
 struct Connections;
 
@@ -28,10 +26,11 @@ fn of_authentication(out: &mut Out, request: &Request<'_>) -> bool {
             "auth_switch": AuthSwitchRequest<'_>, "old_switch": OldAuthSwitchRequest, "auth_more_data": AuthMoreData<'_>,
             "key_request": PublicKeyRequest, "key": PublicKeyResponse<'_>, "tls": SslRequest, "plugin": AuthPlugin<'_>,
         with request.capabilities() => "change_user": ComChangeUser<'_>, "more_data": ComChangeUserMoreData<'_>,
-        call "handshake": handshake::handshake, "version": handshake::version, "make_handshake": handshake::make, "make_response": client::make_response,
-            "make_change_user": client::make_change_user, "make_switch": plugins::make_switch,
-            "make_tls": plugins::make_tls, "tls_of": client::tls_of, "supported": handshake::supported, "add_data": plugins::add_data, "parsec": plugins::parsec,
-            "plugin_data": plugins::plugin_data,)
+        both () => "handshake": HandshakePacket<'_>, HandshakePacketRef<'_>,
+        call "version": handshake::version, "make_handshake": handshake::make, "supported": handshake::supported,
+            "make_response": client::make_response, "make_change_user": client::make_change_user, "tls_of": client::tls_of,
+            "make_switch": plugins::make_switch, "make_tls": plugins::make_tls, "add_data": plugins::add_data,
+            "parsec": plugins::parsec, "plugin_data": plugins::plugin_data,)
 }
 
 /// The requests of replication.

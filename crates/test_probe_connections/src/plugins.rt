@@ -5,9 +5,6 @@
 //! `make_tls CAPABILITIES SIZE CHARACTER_SET MARIADB`.
 
 use crate::prelude::*;
-use mysql_auth::*;
-use mysql_wire::{MariadbCapabilities, RawBytes};
-use test_probe::shown::Variant;
 
 /// Adds a plugin's name, where there is one, and whether it is one that the client knows.
 pub fn show_plugin(plugin: Option<&AuthPlugin<'_>>, out: &mut Out) {

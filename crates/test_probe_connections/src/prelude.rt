@@ -1,6 +1,8 @@
-//! What most modules use.
+//! What the modules use.
 
 pub(crate) use crate::{Connections, words};
-pub use mysql_wire::CapabilityFlags;
+pub use indexmap::IndexMap;
+pub use mysql_auth::*;
+pub use mysql_repl::*;
+pub use mysql_wire::*;
 pub use test_probe::prelude::*;
-pub use test_probe::record::write_and_read;

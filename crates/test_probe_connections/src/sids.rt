@@ -3,13 +3,12 @@
 //! `sid TEXT`, `gtid_set TEXT`, `sid_bytes BYTES`, `make_sid TAG INTERVALS`, `merge_sid TAG INTERVALS`, `interval BYTES`, `check_interval START END`, `tag TEXT`.
 
 use crate::prelude::*;
-use mysql_repl::*;
 use std::borrow::CowStr;
 use std::str;
 
 /// Adds a sid, but for its text.
 pub fn show_sid(sid: &Sid<'_>, out: &mut Out) {
-    out.show("uuid", sid.uuid().as_slice());
+    out.show("uuid", sid.uuid());
     out.show("tag", sid.tag().map(|tag| tag.as_str()));
     out.show("intervals", sid.intervals().len());
     for interval in sid.intervals() {
@@ -25,10 +24,7 @@ impl<'a> Shows<Sid<'a>> for Connections {
 
     /// (in the form without tags)
     fn is_made(record: &Sid<'a>, alloc: Global) -> Result<bool> {
-        let mut intervals = Vec::with_capacity(alloc, record.intervals().len())?;
-        for interval in record.intervals() {
-            intervals.push(*interval)?;
-        }
+        let intervals = Vec::from_slice(alloc, record.intervals())?;
         let made = Sid::new(record.uuid()).with_intervals(intervals);
         is_cloned(alloc, &made, record)
     }
@@ -36,16 +32,10 @@ impl<'a> Shows<Sid<'a>> for Connections {
 
 /// A sid of a text, and its text again.
 pub fn of_text(out: &mut Out, request: &Request<'_>) {
-    let alloc = out.alloc();
-    let answer: Result<Sid<'static>, InvalidSid> =
-        counted!(alloc; Sid::from_str(alloc, request.word(1)));
-    match answer {
-        Ok(sid) => {
-            out.word("read");
-            Connections::fields(&sid, out);
-            write_made(out, &sid)
-        }
-        Err(fault) => out.error(&fault),
+    let answer = counted!(request.alloc; Sid::from_str(request.alloc, request.word(1)));
+    if let Some(sid) = out.accepted("read", answer) {
+        Connections::fields(&sid, out);
+        write_made(out, &sid)
     }
 }
 
@@ -71,36 +61,27 @@ fn is_read_as(alloc: Global, text: &str, sids: &[Sid<'static>]) -> Result<bool> 
 /// Adds the text of sids, and whether it is read as the same.
 fn show_set(out: &mut Out, sids: &[Sid<'static>]) {
     let (alloc, set) = (out.alloc(), GtidSetText(sids));
-    match format!(in alloc; "{set}") {
-        Ok(text) => {
-            out.show("text", text.as_str().as_bytes());
-            out.same("again", is_read_as(alloc, text.as_str(), sids))
-        }
-        Err(AllocError) => out.lose(),
-    }
+    let Ok(text) = format!(in alloc; "{set}") else {
+        return out.lose();
+    };
+    out.show("text", text.as_str().as_bytes());
+    out.same("again", is_read_as(alloc, text.as_str(), sids))
 }
 
 /// The sids of a text, each with its own text, and whether its intervals are as servers write them.
 pub fn of_set(out: &mut Out, request: &Request<'_>) {
-    let alloc = out.alloc();
-    let answer: Result<Vec<Sid<'static>>, InvalidSid> =
-        counted!(alloc; sids_from_text(alloc, text_of(request)));
-    match answer {
-        Ok(sids) => {
-            out.word("read");
-            for sid in &sids {
-                out.text("sid", sid);
-                out.show("as_servers", sid.is_as_servers_write());
-            }
-            show_set(out, sids.as_slice())
+    let answer = counted!(request.alloc; sids_from_text(request.alloc, text_of(request)));
+    if let Some(sids) = out.accepted("read", answer) {
+        for sid in &sids {
+            out.text("sid", sid);
+            out.show("as_servers", sid.is_as_servers_write());
         }
-        Err(fault) => out.error(&fault),
+        show_set(out, sids.as_slice())
     }
 }
 
 /// The sid with the intervals of a word, as `1-6,8-9`, one after another: each of the number after the last.
-fn with_intervals<'a>(alloc: Global, sid: Sid<'a>, word: &str) -> Result<Sid<'a>> {
-    let mut sid = sid;
+fn with_intervals<'a>(alloc: Global, mut sid: Sid<'a>, word: &str) -> Result<Sid<'a>> {
     if word != "()" {
         for interval in word.split(',') {
             let (start, end) = interval.split_once('-').unwrap_or((interval, ""));
@@ -122,20 +103,18 @@ fn with_tag<'a>(sid: Sid<'a>, word: &'a str) -> Sid<'a> {
 /// A sid that is made of words, as it is shown, written and read again: it is the same where it has no tag.
 pub fn make(out: &mut Out, request: &Request<'_>) {
     let alloc = out.alloc();
-    let sid = Sid::new([0x11; 16]);
-    let Ok(sid) = counted!(alloc; with_intervals(alloc, sid, request.word(2))) else {
-        return out.error(&"Memory");
-    };
-    let sid = with_tag(sid, request.word(1));
-    out.word("made");
-    Connections::fields(&sid, out);
-    out.same("copy", is_cloned(alloc, &sid, &sid));
-    write_and_read(out, &sid, request, ())
+    let made = counted!(alloc; with_intervals(alloc, Sid::new([0x11; 16]), request.word(2)));
+    if let Some(sid) = out.made(made) {
+        let sid = with_tag(sid, request.word(1));
+        Connections::fields(&sid, out);
+        out.same("copy", is_cloned(alloc, &sid, &sid));
+        write_and_read(out, &sid, request, ())
+    }
 }
 
 /// A sid that is made of words, with its intervals merged.
 pub fn merge(out: &mut Out, request: &Request<'_>) -> Result {
-    let alloc = out.alloc();
+    let alloc = request.alloc;
     let sid = with_intervals(alloc, Sid::new([0x11; 16]), request.word(2))?;
     let sid = with_tag(sid, request.word(1));
     match counted!(alloc; sid.with_merged_intervals(alloc)) {
@@ -193,13 +172,13 @@ impl Shows<GnoInterval> for Connections {
 
 /// An interval of two numbers, if they are one.
 pub fn check_interval(out: &mut Out, request: &Request<'_>) {
-    let start: u64 = words::number(request.word(1));
-    match GnoInterval::check_and_new(start, words::number(request.word(2))) {
-        Ok(interval) => {
-            out.word("made");
-            Connections::fields(&interval, out)
-        }
-        Err(fault) => out.error(&fault),
+    let (start, end) = (
+        words::number(request.word(1)),
+        words::number(request.word(2)),
+    );
+    let answer = GnoInterval::check_and_new(start, end);
+    if let Some(interval) = out.accepted("made", answer) {
+        Connections::fields(&interval, out)
     }
 }
 
@@ -208,24 +187,18 @@ pub fn tag(out: &mut Out, request: &Request<'_>) {
     let alloc = out.alloc();
     let word = request.word(1);
     let text = if word == "()" { "" } else { word };
-    let answer: Result<Tag<'_>, InvalidTag> = counted!(alloc; Tag::new(CowStr::Borrowed(text)));
-    match answer {
-        Ok(tag) => {
-            out.word("read");
-            out.field("text", tag.as_str());
-            out.text("shown", &tag);
-            out.same("made", is_tag_made(alloc, &tag));
-            out.same("of_text", is_of_text(alloc, &tag))
-        }
-        Err(fault) => out.error(&fault),
+    let answer = counted!(alloc; Tag::new(CowStr::Borrowed(text)));
+    if let Some(tag) = out.accepted("read", answer) {
+        out.field("text", tag.as_str());
+        out.text("shown", &tag);
+        out.same("made", is_tag_made(alloc, &tag));
+        out.same("of_text", is_of_text(alloc, &tag))
     }
 }
 
 /// Whether copies of a tag are the same: one of a borrowed text, made owned; one of that; and one that owns its text.
 fn is_tag_made(alloc: Global, tag: &Tag<'_>) -> Result<bool> {
-    let copy = counted!(alloc; tag.clone())?;
-    let owned = counted!(alloc; copy.into_owned(alloc))?;
-    Ok(is_cloned(alloc, &owned, tag)? && owned == *tag)
+    is_owned!(alloc; tag, tag)
 }
 
 /// Whether the tag of a text on memory of its own is the same, and made owned keeps it.

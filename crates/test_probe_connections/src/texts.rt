@@ -1,10 +1,6 @@
 //! The texts of errors: `text NAME`.
 
-use crate::prelude::Out;
-use mysql_auth::*;
-use mysql_repl::*;
-use mysql_wire::*;
-use test_probe::error_texts;
+use crate::prelude::*;
 
 /// The answer, where there is an error of that name.
 pub fn text(out: &mut Out, name: &str) -> bool {

@@ -1,7 +1,6 @@
 //! Words of requests that stand for bytes, numbers and attributes.
 
 use crate::prelude::*;
-use indexmap::IndexMap;
 use std::str::FromStr;
 
 /// The bytes of a word: `none` stands for none, `()` for no byte.
