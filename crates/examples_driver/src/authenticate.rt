@@ -6,6 +6,7 @@ use crate::errors::answer;
 use mysql_packets::io::ParseBuf;
 use mysql_packets::packets::caching_sha2_password::PublicKeyRequest;
 use mysql_packets::packets::{AuthMoreData, AuthPlugin, AuthSwitchRequest, PublicKeyResponse};
+use std::alloc::Global;
 use std::io::{Read, Write};
 
 /// What is computed of a password: cryptography, which stands in no packet.
@@ -20,37 +21,47 @@ pub trait Answers {
 /// Answers until an OK packet comes: a switch to another plugin, and what `caching_sha2_password` says besides.
 pub fn authenticate<R: Read, W: Write, A: Answers>(
     connection: &mut Connection<R, W>,
-    mut scramble: Vec<u8>,
+    scramble: &mut Vec<u8>,
     answers: &mut A,
 ) -> Result<()> {
     for _ in 0..10 {
         let payload = answer(connection)?;
         match payload.first().copied() {
             Some(0x00) => return Ok(()),
-            Some(0x01) => more(connection, &payload, &scramble, answers)?,
-            Some(0xfe) => scramble = switch(connection, &payload, answers)?,
-            _ => return Err(Error::Unknown("an answer to the login")),
-        }
+            Some(0x01) => more(connection, &payload, scramble, answers),
+            Some(0xfe) => switch(connection, &payload, scramble, answers),
+            _ => Err(Error::Unknown("an answer to the login")),
+        }?;
     }
     Err(Error::Unknown("a login without an end"))
 }
 
-/// Answers by another plugin, and hands out its scramble. `client_ed25519` signs the whole of it.
+/// Answers by another plugin, and keeps its scramble.
 fn switch<R: Read, W: Write, A: Answers>(
     connection: &mut Connection<R, W>,
     payload: &[u8],
+    scramble: &mut Vec<u8>,
+    answers: &mut A,
+) -> Result<()> {
+    let sent = switched(connection.alloc, payload, scramble, answers)?;
+    connection.send(&sent)
+}
+
+/// The answer of another plugin to its scramble, which is kept. `client_ed25519` signs the whole of it.
+fn switched<A: Answers>(
+    alloc: Global,
+    payload: &[u8],
+    scramble: &mut Vec<u8>,
     answers: &mut A,
 ) -> Result<Vec<u8>> {
-    let mut buf = ParseBuf::new(connection.alloc, payload);
-    let request: AuthSwitchRequest<'_> = buf.parse(())?;
+    let request: AuthSwitchRequest<'_> = ParseBuf::new(alloc, payload).parse(())?;
     let plugin = request.auth_plugin();
-    let scramble = match plugin {
+    scramble.clear();
+    scramble.extend_from_slice(match plugin {
         AuthPlugin::Ed25519 => request.plugin_data_raw(),
         _ => request.plugin_data(),
-    };
-    let sent = answers.answer(&plugin, scramble)?;
-    connection.send(&sent)?;
-    Ok(Vec::from_slice(connection.alloc, scramble)?)
+    })?;
+    answers.answer(&plugin, scramble)
 }
 
 /// `caching_sha2_password`: 3 says that the answer was known, and an OK packet follows; 4 asks for the password itself,
@@ -61,16 +72,28 @@ fn more<R: Read, W: Write, A: Answers>(
     scramble: &[u8],
     answers: &mut A,
 ) -> Result<()> {
-    let mut buf = ParseBuf::new(connection.alloc, payload);
-    let more: AuthMoreData<'_> = buf.parse(())?;
-    if more.data() != [4].as_slice() {
+    if !asks_for_password(connection.alloc, payload)? {
         return Ok(());
     }
     connection.send_packet(&PublicKeyRequest::new())?;
     let payload = answer(connection)?;
-    let mut buf = ParseBuf::new(connection.alloc, &payload);
-    let response: PublicKeyResponse<'_> = buf.parse(())?;
-    let key = response.rsa_key(connection.alloc)?;
-    let sent = answers.encrypted(key.as_str(), scramble)?;
+    let sent = encrypted(connection.alloc, &payload, scramble, answers)?;
     connection.send(&sent)
+}
+
+fn asks_for_password(alloc: Global, payload: &[u8]) -> Result<bool> {
+    let more: AuthMoreData<'_> = ParseBuf::new(alloc, payload).parse(())?;
+    Ok(more.data() == [4].as_slice())
+}
+
+/// The password, encrypted by the key of the server's response.
+fn encrypted<A: Answers>(
+    alloc: Global,
+    payload: &[u8],
+    scramble: &[u8],
+    answers: &mut A,
+) -> Result<Vec<u8>> {
+    let response: PublicKeyResponse<'_> = ParseBuf::new(alloc, payload).parse(())?;
+    let key = response.rsa_key(alloc)?;
+    answers.encrypted(key.as_str(), scramble)
 }

@@ -89,6 +89,13 @@ impl<R: Read, W: Write> Connection<R, W> {
         self.send_packet(packet)
     }
 
+    /// Sends a command that is a byte and a text.
+    pub fn command_text(&mut self, code: u8, text: &str) -> Result<()> {
+        let mut command = vec![in self.alloc; code]?;
+        command.extend_from_slice(text.as_bytes())?;
+        self.command(&command)
+    }
+
     fn begin(&mut self) {
         self.next_frame = 0;
         self.reports.clear();

@@ -26,10 +26,13 @@ fn report<R: Read, W: Write>(connection: &mut Connection<R, W>, payload: &[u8]) 
     let mut buf = ParseBuf::new(alloc, payload);
     let packet: ErrPacket<'_> = buf.parse(connection.capabilities)?;
     match packet {
-        ErrPacket::Error(error) => Err(Error::Server(error.into_owned(alloc)?)),
+        ErrPacket::Error(error) => {
+            let error = error.into_owned(alloc);
+            Err(error.map_or(Error::Memory, Error::Server))
+        }
         ErrPacket::Progress(report) => {
-            connection.reports.push(report.into_owned(alloc)?)?;
-            Ok(())
+            let report = report.into_owned(alloc)?;
+            Ok(connection.reports.push(report)?)
         }
     }
 }

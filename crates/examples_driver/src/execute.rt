@@ -19,9 +19,7 @@ pub fn prepare<R: Read, W: Write>(
     connection: &mut Connection<R, W>,
     sql: &str,
 ) -> Result<StmtPacket> {
-    let mut command = vec![in connection.alloc; 0x16u8]?;
-    command.extend_from_slice(sql.as_bytes())?;
-    connection.command(&command)?;
+    connection.command_text(0x16, sql)?;
     let payload = answer(connection)?;
     let statement: StmtPacket = ParseBuf::new(connection.alloc, &payload).parse(())?;
     columns(connection, u64::from(statement.num_params()))?;

@@ -4,8 +4,10 @@ use crate::connection::Connection;
 use crate::error::{Error, Result};
 use crate::errors::answer;
 use crate::query::send_query;
+use mysql_packets::constants::CapabilityFlags;
 use mysql_packets::io::ParseBuf;
-use mysql_packets::packets::{CommonOkPacket, LocalInfilePacket, OkPacketDeserializer};
+use mysql_packets::packets::{CommonOkPacket, LocalInfilePacket, OkPacketRefDeserializer};
+use std::alloc::Global;
 use std::io::{Read, Write};
 
 /// Runs `load data local infile 'NAME' ..`, and says how many rows came of it.
@@ -19,8 +21,7 @@ pub fn load<R: Read, W: Write, F: Read>(
     content: &mut F,
 ) -> Result<u64> {
     let payload = send_query(connection, sql)?;
-    let asked: LocalInfilePacket<'_> = ParseBuf::new(connection.alloc, &payload).parse(())?;
-    let is_meant = asked.file_name_ref() == name.as_bytes();
+    let is_meant = asks_for(connection.alloc, &payload, name)?;
     if is_meant {
         send_content(connection, content)?;
     }
@@ -29,8 +30,18 @@ pub fn load<R: Read, W: Write, F: Read>(
     if !is_meant {
         return Err(Error::Unknown("a file that was not meant"));
     }
-    let mut buf = ParseBuf::new(connection.alloc, &payload);
-    let ok: OkPacketDeserializer<'_, CommonOkPacket> = buf.parse(connection.capabilities)?;
+    affected_rows(connection.alloc, &payload, connection.capabilities)
+}
+
+/// Whether the server asks for the file of this name.
+fn asks_for(alloc: Global, payload: &[u8], name: &str) -> Result<bool> {
+    let asked: LocalInfilePacket<'_> = ParseBuf::new(alloc, payload).parse(())?;
+    Ok(asked.file_name_ref() == name.as_bytes())
+}
+
+fn affected_rows(alloc: Global, payload: &[u8], capabilities: CapabilityFlags) -> Result<u64> {
+    let mut buf = ParseBuf::new(alloc, payload);
+    let ok: OkPacketRefDeserializer<'_, CommonOkPacket> = buf.parse(capabilities)?;
     Ok(ok.into_inner().affected_rows())
 }
 

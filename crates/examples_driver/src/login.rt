@@ -50,6 +50,36 @@ fn response_to<'a>(
     Ok(response.with_mariadb_ext_capabilities(wanted & greeting.mariadb_ext_capabilities()))
 }
 
+/// Sends the response to a greeting, and keeps what both sides can do.
+fn respond<R: Read, W: Write>(
+    connection: &mut Connection<R, W>,
+    greeting: &HandshakePacket<'_>,
+    sent: &[u8],
+    user: &str,
+    database: &str,
+) -> Result<()> {
+    let response = response_to(connection.alloc, greeting, sent, user, database)?;
+    connection.send_packet(&response)?;
+    connection.capabilities = response.capabilities() | CapabilityFlags::CLIENT_PROGRESS_OBSOLETE;
+    connection.is_mariadb = greeting.maria_db_server_version_parsed().is_some();
+    Ok(())
+}
+
+/// Answers a greeting, and hands out its scramble.
+fn greeted<R: Read, W: Write, A: Answers>(
+    connection: &mut Connection<R, W>,
+    payload: &[u8],
+    user: &str,
+    database: &str,
+    answers: &mut A,
+) -> Result<Vec<u8>> {
+    let greeting: HandshakePacket<'_> = ParseBuf::new(connection.alloc, payload).parse(())?;
+    let scramble = greeting.nonce(connection.alloc)?;
+    let sent = answers.answer(&plugin_of(&greeting), &scramble)?;
+    respond(connection, &greeting, &sent, user, database)?;
+    Ok(scramble)
+}
+
 /// Logs a user in, with a database where its name is not empty. `answers` has what is computed of the password.
 pub fn login<R: Read, W: Write, A: Answers>(
     connection: &mut Connection<R, W>,
@@ -57,15 +87,7 @@ pub fn login<R: Read, W: Write, A: Answers>(
     database: &str,
     answers: &mut A,
 ) -> Result<()> {
-    let alloc = connection.alloc;
     let payload = answer(connection)?;
-    let mut buf = ParseBuf::new(alloc, &payload);
-    let greeting: HandshakePacket<'_> = buf.parse(())?;
-    let scramble = greeting.nonce(alloc)?;
-    let sent = answers.answer(&plugin_of(&greeting), &scramble)?;
-    let response = response_to(alloc, &greeting, &sent, user, database)?;
-    connection.send_packet(&response)?;
-    connection.capabilities = response.capabilities() | CapabilityFlags::CLIENT_PROGRESS_OBSOLETE;
-    connection.is_mariadb = greeting.maria_db_server_version_parsed().is_some();
-    authenticate(connection, scramble, answers)
+    let mut scramble = greeted(connection, &payload, user, database, answers)?;
+    authenticate(connection, &mut scramble, answers)
 }

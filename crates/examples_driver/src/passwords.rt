@@ -2,6 +2,7 @@
 
 use crate::authenticate::Answers;
 use crate::error::{Error, Result};
+use crate::words::Digits;
 use mysql_packets::packets::AuthPlugin;
 use sha1::Sha1;
 use sha2::{Digest, Sha256};
@@ -37,11 +38,11 @@ impl Answers for Passwords<'_> {
 
 /// Writes a line with the name or the key and the scramble, and reads the file, which may be a pipe, for what is answered.
 fn asked(rt: &HostRuntime, path: &str, of: &[u8], scramble: &[u8]) -> Result<Vec<u8>> {
-    let alloc = rt.alloc();
-    let (of, scramble) = (hex::encode(alloc, of)?, hex::encode(alloc, scramble)?);
-    eprintln!(rt; "answer: {of} {scramble}")?;
+    eprintln!(rt; "answer: {} {}", Digits(of), Digits(scramble))?;
     let text = fs::read_to_string(rt, path)?;
-    hex::decode(alloc, text.trim()).map_err(|_| Error::Unknown("an answer that is not hexadecimal"))
+    hex::decode(rt.alloc(), text.trim()).map_err(|_| Error::Unknown(
+        "an answer that is not hexadecimal",
+    ))
 }
 
 /// The bytes of both, each pair as one.

@@ -2,11 +2,14 @@
 
 use crate::connection::Connection;
 use crate::error::{Error, Result};
-use crate::words::{row_words, types, values};
+use crate::words::{Digits, RowWords, types, value, values};
 use crate::{bulk, execute, infile, query, replica, session_changes};
 use mysql_packets::constants::BinlogDumpFlags;
-use mysql_packets::packets::session_state_change::SessionStateChange;
+use mysql_packets::packets::session_state_change::{SessionStateChange, SystemVariable};
 use mysql_packets::row::Row;
+use mysql_packets::value::Value;
+use std::alloc::{AllocError, Global};
+use std::borrow::CowStr;
 use std::fs;
 use std::io::{Read, Write};
 
@@ -35,15 +38,15 @@ pub fn play<R: Read, W: Write>(
     arguments: &Arguments<'_>,
 ) -> Result<()> {
     match recipe {
-        "login" => eprintln!(rt; "logged in")?,
-        "query" => show_rows(rt, &query::query(connection, arguments.word(0))?)?,
-        "execute" => executed(rt, connection, arguments)?,
-        "session_changes" => changed(rt, connection, arguments)?,
-        "bulk" => inserted(rt, connection, arguments)?,
-        "infile" => loaded(rt, connection, arguments)?,
-        "replica" => dumped(rt, connection, arguments)?,
-        _ => return Err(Error::Unknown("a recipe of this name")),
-    }
+        "login" => logged_in(rt),
+        "query" => queried(rt, connection, arguments),
+        "execute" => executed(rt, connection, arguments),
+        "session_changes" => changed(rt, connection, arguments),
+        "bulk" => inserted(rt, connection, arguments),
+        "infile" => loaded(rt, connection, arguments),
+        "replica" => dumped(rt, connection, arguments),
+        _ => Err(Error::Unknown("a recipe of this name")),
+    }?;
     for report in &connection.reports {
         eprintln!(rt; "report: {report}")?;
     }
@@ -52,10 +55,32 @@ pub fn play<R: Read, W: Write>(
 
 fn show_rows(rt: &HostRuntime, rows: &[Row]) -> Result<()> {
     for row in rows {
-        let words = row_words(rt.alloc(), row)?;
-        eprintln!(rt; "row:{words}")?;
+        eprintln!(rt; "row:{}", RowWords(row))?;
     }
     Ok(())
+}
+
+fn logged_in(rt: &HostRuntime) -> Result<()> {
+    Ok(eprintln!(rt; "logged in")?)
+}
+
+/// `SQL`
+fn queried<R: Read, W: Write>(
+    rt: &HostRuntime,
+    connection: &mut Connection<R, W>,
+    arguments: &Arguments<'_>,
+) -> Result<()> {
+    let rows = query::query(connection, arguments.word(0))?;
+    show_rows(rt, &rows)
+}
+
+/// The values of the words after the first.
+fn values_of(alloc: Global, arguments: &Arguments<'_>) -> Result<Vec<Value>> {
+    let mut values = Vec::new(alloc);
+    for word in arguments.0.iter().skip(1) {
+        values.push(value(alloc, word.as_str())?)?;
+    }
+    Ok(values)
 }
 
 /// `SQL VALUE ..`
@@ -64,10 +89,7 @@ fn executed<R: Read, W: Write>(
     connection: &mut Connection<R, W>,
     arguments: &Arguments<'_>,
 ) -> Result<()> {
-    let mut sent = Vec::new(rt.alloc());
-    for word in arguments.0.iter().skip(1) {
-        sent.push(crate::words::value(rt.alloc(), word.as_str())?)?;
-    }
+    let sent = values_of(rt.alloc(), arguments)?;
     let statement = execute::prepare(connection, arguments.word(0))?;
     show_rows(rt, &execute::execute(connection, &statement, &sent)?)?;
     execute::close(connection, &statement)
@@ -80,9 +102,15 @@ fn changed<R: Read, W: Write>(
     arguments: &Arguments<'_>,
 ) -> Result<()> {
     for sql in arguments.0 {
-        for change in session_changes::session_changes(connection, sql.as_str())? {
-            show_change(rt, &change)?;
-        }
+        let changes = session_changes::session_changes(connection, sql.as_str())?;
+        show_changes(rt, &changes)?;
+    }
+    Ok(())
+}
+
+fn show_changes(rt: &HostRuntime, changes: &[SessionStateChange<'_>]) -> Result<()> {
+    for change in changes {
+        show_change(rt, change)?;
     }
     Ok(())
 }
@@ -90,24 +118,44 @@ fn changed<R: Read, W: Write>(
 fn show_change(rt: &HostRuntime, change: &SessionStateChange<'_>) -> Result<()> {
     let alloc = rt.alloc();
     match change {
-        SessionStateChange::IsTracked(is_tracked) => eprintln!(rt; "tracked: {is_tracked}")?,
-        SessionStateChange::Schema(schema) => {
-            let name = schema.as_str(alloc)?;
-            eprintln!(rt; "schema: {name}")?;
-        }
+        SessionStateChange::IsTracked(is_tracked) => Ok(eprintln!(rt; "tracked: {is_tracked}")?),
+        SessionStateChange::Schema(schema) => show_text(rt, "schema", schema.as_str(alloc)),
         SessionStateChange::SystemVariables(variables) => {
             for variable in variables.as_slice() {
-                let (name, value) = (variable.name_str(alloc)?, variable.value_str(alloc)?);
-                eprintln!(rt; "variable: {name}={value}")?;
+                show_variable(rt, variable)?;
             }
+            Ok(())
         }
         SessionStateChange::TransactionState(state) => {
-            let state = state.as_str(alloc)?;
-            eprintln!(rt; "transaction: {state}")?;
+            show_text(rt, "transaction", state.as_str(alloc))
         }
-        _ => eprintln!(rt; "change: of another kind")?,
+        _ => Ok(eprintln!(rt; "change: of another kind")?),
     }
-    Ok(())
+}
+
+fn show_text(
+    rt: &HostRuntime,
+    name: &str,
+    text: std::result::Result<CowStr<'_>, AllocError>,
+) -> Result<()> {
+    let text = text?;
+    Ok(eprintln!(rt; "{name}: {text}")?)
+}
+
+fn show_variable(rt: &HostRuntime, variable: &SystemVariable<'_>) -> Result<()> {
+    let name = variable.name_str(rt.alloc())?;
+    let value = variable.value_str(rt.alloc())?;
+    Ok(eprintln!(rt; "variable: {name}={value}")?)
+}
+
+/// The rows of a file, a line each.
+fn rows_of(rt: &HostRuntime, path: &str) -> Result<Vec<Vec<Value>>> {
+    let text = fs::read_to_string(rt, path)?;
+    let mut rows = Vec::new(rt.alloc());
+    for line in text.lines() {
+        rows.push(values(rt.alloc(), line)?)?;
+    }
+    Ok(rows)
 }
 
 /// `SQL MOST TYPES FILE`, where each line of the file is the values of a row.
@@ -116,11 +164,7 @@ fn inserted<R: Read, W: Write>(
     connection: &mut Connection<R, W>,
     arguments: &Arguments<'_>,
 ) -> Result<()> {
-    let text = fs::read_to_string(rt, arguments.word(3))?;
-    let mut rows = Vec::new(rt.alloc());
-    for line in text.lines() {
-        rows.push(values(rt.alloc(), line)?)?;
-    }
+    let rows = rows_of(rt, arguments.word(3))?;
     let types = types(rt.alloc(), arguments.word(2))?;
     let most = arguments.number(1) as usize;
     let statement = execute::prepare(connection, arguments.word(0))?;
@@ -154,8 +198,7 @@ fn dumped<R: Read, W: Write>(
         let Some(event) = replica::next_event(connection)? else {
             break;
         };
-        let digits = hex::encode(rt.alloc(), event.as_slice())?;
-        eprintln!(rt; "event: {digits}")?;
+        eprintln!(rt; "event: {}", Digits(&event))?;
     }
     Ok(())
 }

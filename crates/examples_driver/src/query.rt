@@ -13,9 +13,7 @@ pub fn send_query<R: Read, W: Write>(
     connection: &mut Connection<R, W>,
     sql: &str,
 ) -> Result<Vec<u8>> {
-    let mut command = vec![in connection.alloc; 3u8]?;
-    command.extend_from_slice(sql.as_bytes())?;
-    connection.command(&command)?;
+    connection.command_text(0x03, sql)?;
     answer(connection)
 }
 

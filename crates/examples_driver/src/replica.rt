@@ -31,26 +31,34 @@ pub fn dump<R: Read, W: Write>(
     flags: BinlogDumpFlags,
     gtids: &str,
 ) -> Result<()> {
-    let alloc = connection.alloc;
     // A server whose events end in checksums sends them only where this is set.
     query(
         connection,
         "set @master_binlog_checksum=@@global.binlog_checksum",
     )?;
     if connection.is_mariadb {
-        query(connection, "set @mariadb_slave_capability=4")?;
-        let set = format!(in alloc; "set @slave_connect_state='{gtids}'")?;
-        query(connection, set.as_str())?;
-        return connection.command_packet(
-            &ComBinlogDump::new(server_id)
-                .with_flags(flags)
-                .with_pos(FIRST),
-        );
+        return dump_mariadb(connection, server_id, flags, gtids);
     }
     let request = ComBinlogDumpGtid::new(server_id)
         .with_flags(flags)
-        .with_pos(u64::from(FIRST));
-    connection.command_packet(&request.with_gtid_set(alloc, gtids)?)
+        .with_pos(u64::from(FIRST))
+        .with_gtid_set(connection.alloc, gtids)?;
+    connection.command_packet(&request)
+}
+
+fn dump_mariadb<R: Read, W: Write>(
+    connection: &mut Connection<R, W>,
+    server_id: u32,
+    flags: BinlogDumpFlags,
+    gtids: &str,
+) -> Result<()> {
+    query(connection, "set @mariadb_slave_capability=4")?;
+    let set = format!(in connection.alloc; "set @slave_connect_state='{gtids}'")?;
+    query(connection, set.as_str())?;
+    let request = ComBinlogDump::new(server_id)
+        .with_flags(flags)
+        .with_pos(FIRST);
+    connection.command_packet(&request)
 }
 
 /// The next event's bytes, and none where the dump ends.

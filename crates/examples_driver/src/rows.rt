@@ -9,8 +9,19 @@ use mysql_packets::misc::raw::{LenEnc, RawInt};
 use mysql_packets::packets::Column;
 use mysql_packets::row::{Row, RowDeserializer, RowProtocol};
 use mysql_packets::value::ServerSide;
+use std::alloc::Global;
 use std::io::{Read, Write};
 use std::rc::RcSlice;
+
+fn column(alloc: Global, payload: &[u8]) -> Result<Column> {
+    Ok(ParseBuf::new(alloc, payload).parse(())?)
+}
+
+fn row<P: RowProtocol>(alloc: Global, payload: &[u8], columns: &RcSlice<Column>) -> Result<Row> {
+    let mut buf = ParseBuf::new(alloc, payload);
+    let row: RowDeserializer<ServerSide, P> = buf.parse(columns.clone()?)?;
+    Ok(row.into_inner())
+}
 
 /// So many column definitions. Sides that don't both have CLIENT_DEPRECATE_EOF have a packet after them.
 pub fn columns<R: Read, W: Write>(
@@ -20,9 +31,7 @@ pub fn columns<R: Read, W: Write>(
     let mut columns = Vec::new(connection.alloc);
     for _ in 0..count {
         let payload = answer(connection)?;
-        let mut buf = ParseBuf::new(connection.alloc, &payload);
-        let column: Column = buf.parse(())?;
-        columns.push(column)?;
+        columns.push(column(connection.alloc, &payload)?)?;
     }
     let deprecates_eof = CapabilityFlags::from_bits_retain(1 << 24);
     if count > 0 && !connection.capabilities.contains(deprecates_eof) {
@@ -48,9 +57,7 @@ pub fn rows<P: RowProtocol, R: Read, W: Write>(
         if payload.first().copied() == Some(0xfe) && payload.len() < 0xff_ffff {
             break;
         }
-        let mut buf = ParseBuf::new(connection.alloc, &payload);
-        let row: RowDeserializer<ServerSide, P> = buf.parse(columns.clone()?)?;
-        rows.push(row.into_inner())?;
+        rows.push(row::<P>(connection.alloc, &payload, &columns)?)?;
     }
     Ok(rows)
 }

@@ -3,9 +3,11 @@
 use crate::connection::Connection;
 use crate::error::Result;
 use crate::query::send_query;
+use mysql_packets::constants::CapabilityFlags;
 use mysql_packets::io::ParseBuf;
 use mysql_packets::packets::session_state_change::SessionStateChange;
-use mysql_packets::packets::{CommonOkPacket, OkPacketDeserializer};
+use mysql_packets::packets::{CommonOkPacket, OkPacketDeserializer, SessionStateInfo};
+use std::alloc::Global;
 use std::io::{Read, Write};
 
 /// The changes of the session that come with the answer to a statement without rows, as `use other` or `set autocommit=0`.
@@ -15,14 +17,26 @@ pub fn session_changes<R: Read, W: Write>(
     connection: &mut Connection<R, W>,
     sql: &str,
 ) -> Result<Vec<SessionStateChange<'static>>> {
-    let alloc = connection.alloc;
     let payload = send_query(connection, sql)?;
-    let mut buf = ParseBuf::new(alloc, &payload);
-    let ok: OkPacketDeserializer<'_, CommonOkPacket> = buf.parse(connection.capabilities)?;
+    changes_in(connection.alloc, &payload, connection.capabilities)
+}
+
+fn changes_in(
+    alloc: Global,
+    payload: &[u8],
+    capabilities: CapabilityFlags,
+) -> Result<Vec<SessionStateChange<'static>>> {
+    let mut buf = ParseBuf::new(alloc, payload);
+    let ok: OkPacketDeserializer<'_, CommonOkPacket> = buf.parse(capabilities)?;
     let ok = ok.into_inner();
     let mut changes = Vec::new(alloc);
-    for info in ok.session_state_info(alloc)? {
-        changes.push(info.decode_as_sent(alloc)?.into_owned(alloc)?)?;
+    for info in &ok.session_state_info(alloc)? {
+        changes.push(owned_change(alloc, info)?)?;
     }
     Ok(changes)
+}
+
+fn owned_change(alloc: Global, info: &SessionStateInfo<'_>) -> Result<SessionStateChange<'static>> {
+    let change = info.decode_as_sent(alloc)?;
+    Ok(change.into_owned(alloc)?)
 }

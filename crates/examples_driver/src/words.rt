@@ -6,6 +6,7 @@ use mysql_packets::constants::{ColumnType, Flags, StmtExecuteParamFlags};
 use mysql_packets::row::Row;
 use mysql_packets::value::{ParamType, Value};
 use std::alloc::Global;
+use std::fmt;
 
 /// The value of a word. What spells none is NULL.
 pub fn value(alloc: Global, word: &str) -> Result<Value> {
@@ -56,45 +57,67 @@ fn time(word: &str) -> Value {
     )
 }
 
+/// The hexadecimal digits of bytes.
+#[derive(Drop)]
+pub struct Digits<'a>(pub &'a [u8]);
+
+impl fmt::Display for Digits<'_> {
+    fn fmt<W: fmt::Write>(&self, f: &mut fmt::Formatter<W>) -> fmt::Result {
+        for byte in self.0 {
+            write!(f, "{byte:02x}")?;
+        }
+        Ok(())
+    }
+}
+
 /// The word of a byte string.
-fn bytes_word(alloc: Global, bytes: &[u8]) -> Result<String> {
+fn write_bytes<W: fmt::Write>(f: &mut fmt::Formatter<W>, bytes: &[u8]) -> fmt::Result {
     if bytes.len() > 1000 && bytes.iter().all(|byte| *byte == b'r') {
         let count = bytes.len();
-        return Ok(format!(in alloc; "r{count}")?);
+        write!(f, "r{count}")
+    } else {
+        write!(f, "x{}", Digits(bytes))
     }
-    let digits = hex::encode(alloc, bytes)?;
-    Ok(format!(in alloc; "x{digits}")?)
 }
 
 /// The word of a value.
-fn word(alloc: Global, value: &Value) -> Result<String> {
-    Ok(match value {
-        Value::NULL => format!(in alloc; "N")?,
-        Value::Bytes(bytes) => bytes_word(alloc, bytes.as_slice())?,
-        Value::Int(number) => format!(in alloc; "i{number}")?,
-        Value::UInt(number) => format!(in alloc; "u{number}")?,
-        Value::Float(bits) => format!(in alloc; "f{bits}")?,
-        Value::Double(bits) => format!(in alloc; "d{bits}")?,
-        Value::Date(year, month, day, hour, minute, second, micros) => {
-            format!(in alloc; "D{year}-{month}-{day}-{hour}-{minute}-{second}-{micros}")?
+#[derive(Drop)]
+pub struct Word<'a>(pub &'a Value);
+
+impl fmt::Display for Word<'_> {
+    fn fmt<W: fmt::Write>(&self, f: &mut fmt::Formatter<W>) -> fmt::Result {
+        match self.0 {
+            Value::NULL => write!(f, "N"),
+            Value::Bytes(bytes) => write_bytes(f, bytes.as_slice()),
+            Value::Int(number) => write!(f, "i{number}"),
+            Value::UInt(number) => write!(f, "u{number}"),
+            Value::Float(bits) => write!(f, "f{bits}"),
+            Value::Double(bits) => write!(f, "d{bits}"),
+            Value::Date(year, month, day, hour, minute, second, micros) => {
+                write!(f, "D{year}-{month}-{day}-{hour}-{minute}-{second}-{micros}")
+            }
+            Value::Time(is_negative, days, hour, minute, second, micros) => {
+                let sign = u8::from(*is_negative);
+                write!(f, "T{sign}-{days}-{hour}-{minute}-{second}-{micros}")
+            }
         }
-        Value::Time(is_negative, days, hour, minute, second, micros) => {
-            let sign = u8::from(*is_negative);
-            format!(in alloc; "T{sign}-{days}-{hour}-{minute}-{second}-{micros}")?
-        }
-    })
+    }
 }
 
 /// The words of a row's values, with a space before each.
-pub fn row_words(alloc: Global, row: &Row) -> Result<String> {
-    let mut text = String::new(alloc);
-    for place in 0..row.len() {
-        text.push_str(" ")?;
-        if let Some(value) = row.as_ref(place) {
-            text.push_str(word(alloc, value)?.as_str())?;
+#[derive(Drop)]
+pub struct RowWords<'a>(pub &'a Row);
+
+impl fmt::Display for RowWords<'_> {
+    fn fmt<W: fmt::Write>(&self, f: &mut fmt::Formatter<W>) -> fmt::Result {
+        for place in 0..self.0.len() {
+            match self.0.as_ref(place) {
+                Some(value) => write!(f, " {}", Word(value)),
+                None => write!(f, " "),
+            }?;
         }
+        Ok(())
     }
-    Ok(text)
 }
 
 /// The values of words with spaces between them.
