@@ -62,8 +62,10 @@ fn made<'s>(packet: &'s OkPacket<'_>) -> OkPacket<'s> {
 fn show_state(packet: &OkPacket<'_>, out: &mut Out) {
     let mut state: Vec<u8> = Vec::new(out.alloc());
     for change in packet.session_state_changes(out.alloc()) {
-        if let Err(word) = append_change(&mut state, change, out.alloc()) {
-            return out.field("state", word);
+        match append_change(&mut state, change, out.alloc()) {
+            Ok(()) => {}
+            Err(Some(word)) => return out.field("state", word),
+            Err(None) => return out.lose(),
         }
     }
     if packet.session_state_info_ref().unwrap_or(b"") == state.as_slice() {
@@ -72,22 +74,22 @@ fn show_state(packet: &OkPacket<'_>, out: &mut Out) {
     out.show("state", state.as_slice())
 }
 
-/// Appends the entry of a change; or answers a word where there is none.
+/// Appends the entry of a change; or answers a word where there is none, and none where the program runs out of memory.
 fn append_change(
     state: &mut Vec<u8>,
     change: Result<SessionStateChange<'_>, Fault>,
     alloc: Global,
-) -> Result<(), &'static str> {
+) -> Result<(), Option<&'static str>> {
     let Ok(change) = change else {
-        return Err("refused");
+        return Err(Some("refused"));
     };
     match counted!(alloc; SessionStateInfo::from_change(alloc, &change)) {
         Ok(Some(info)) => {
             let content = CowSlice::Borrowed(info.data_ref());
             let entry = SessionStateInfo::new(info.data_type(), content);
-            entry.serialize(state).map_err(|_| "lost")
+            entry.serialize(state).map_err(|_| None)
         }
-        Ok(None) => Err("none"),
-        Err(AllocError) => Err("Memory"),
+        Ok(None) => Err(Some("none")),
+        Err(AllocError) => Err(Some("Memory")),
     }
 }
