@@ -12,7 +12,6 @@ use mysql_values::Value;
 use std::alloc::{AllocError, Global};
 
 /// The rows that the lines of a text spell, unless one of them spells no row.
-#[tactic(auto, using(crate::proofs::Rows::prepended_none))]
 pub fn read_rows(alloc: Global, text: &[u8]) -> Result<Option<Vec<Vec<Value>>>, AllocError>
     ensures value { IfOk result (λ rows. option_map (λ rows. contents_of_rows rows.items) rows ≡ spec.rows_of text.now) }
 {
@@ -27,7 +26,6 @@ pub fn read_rows(alloc: Global, text: &[u8]) -> Result<Option<Vec<Vec<Value>>>, 
 }
 
 /// The row that a line spells, if it spells one.
-#[tactic(auto, using(crate::proofs::Rows::prepended_none))]
 fn read_row(alloc: Global, line: &[u8]) -> Result<Option<Vec<Value>>, AllocError>
     ensures value { IfOk result (λ row. option_map contents_of_row row ≡ spec.row_of_line line.now) }
 {

@@ -62,7 +62,7 @@ fn are_types(words: &[u8]) -> bool
 }
 
 /// The types that the words are, if each is one.
-#[tactic(auto, using(crate::proofs::Rows::prepended_none), unfolding(crate::specs::TypeWords::types_of))]
+#[tactic(auto, unfolding(crate::specs::TypeWords::types_of))]
 fn read_types(alloc: Global, words: &[u8]) -> Result<Option<Vec<ParamType>>, AllocError>
     ensures value { IfOk result (λ types. option_map (λ types. types.items) types ≡ spec.types_of words.now) }
 {
