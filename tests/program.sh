@@ -51,6 +51,24 @@ fails_to_write() {
     hold "$1" "$wrong"
 }
 
+# begin_unproved NAME INPUT WORD ..: the program without proof begins, on INPUT that comes with a pause; it takes half a minute on a
+# quiet host, and other calls are compared meanwhile
+begin_unproved() {
+    mkdir -- "$1" || exit 1
+    (
+        cd -- "$1" || exit 1
+        (printf '%s' "$2" && sleep 3) | timeout 900 "$top/mypackets" --unproved "${@:3}" >output 2>errors
+        printf '%d\n' "$?" >status
+    ) &
+}
+
+# unproved WHAT NAME STATUS OUTPUT: what began as NAME wrote OUTPUT, and says that nothing was proved
+unproved() {
+    mv -- "$2/output" output && mv -- "$2/errors" errors
+    compare "$1" "$3" "$4" $'mypackets: runs without proof, which takes about half a minute
+mypackets: nothing of this run was proved\n' "$(<"$2/status")"
+}
+
 usage=$'usage: mypackets COMMAND ARGS\n'
 statement=$'statement_id: 1\nnum_columns: 1\nnum_params: 2\nwarning_count: 0\nrest: 0\nbytes: 000100000001000200000000\n'
 : >input
@@ -61,6 +79,10 @@ if ((failed > 0)); then
     printf '%d passed, %d failed\n' "$passed" "$failed"
     exit 1
 fi
+
+begin_unproved statement '' stmt 000100000001000200000000
+begin_unproved usage ''
+begin_unproved rows $'i1\ni2\n' bulk 1 31
 
 expect 'a statement packet' 0 "$statement" "$top/mypackets" stmt 000100000001000200000000
 expect 'a statement packet, by a link' 0 "$statement" ./linked stmt 000100000001000200000000
@@ -179,25 +201,14 @@ fails_to_write 'bulk requests on a full device' "$top/mypackets" bulk 1 31
 "$top/mypackets" bulk 1 31 <. >output 2>errors
 hold 'an input that cannot be read' "$( (($? == 3)) && [[ ! -s output && ! -s errors ]] || printf 'it did not end with status 3 alone')"
 
-# unproved WHAT STATUS OUTPUT WORD ..: on what comes from the file input with a pause, the program without proof
-# writes OUTPUT, and says that nothing was proved; it takes half a minute on a quiet host, and more than 40 seconds are
-# printed. One whose processors other guests share may take some times as long: only a run that seems never to end fails
-unproved() {
-    local began=$SECONDS
-    (cat input && sleep 3) | timeout 900 "$top/mypackets" --unproved "${@:4}" >output 2>errors
-    compare "${@:1:3}" $'mypackets: runs without proof, which takes about half a minute
-mypackets: nothing of this run was proved\n' "$?"
-    ((SECONDS - began <= 40)) || printf 'program: %s: it took %d seconds\n' "$1" "$((SECONDS - began))"
-}
-
-unproved 'a statement packet without proof' 0 "$statement" stmt 000100000001000200000000
-unproved 'no word without proof' 2 "$usage"
-printf 'i1\ni2\n' >input
-unproved 'two rows without proof' 0 'request: fa0100000080000800000100000000000000000200000000000000
+wait
+unproved 'a statement packet without proof' statement 0 "$statement"
+unproved 'no word without proof' usage 2 "$usage"
+unproved 'two rows without proof' rows 0 'request: fa0100000080000800000100000000000000000200000000000000
 requests: 1
 rows: 2
 fewest: yes
-' bulk 1 31
+'
 
 # A repository of two libraries, and an rt that builds nothing, for what the first run says.
 mkdir -p -- small/bin small/crates/{mysql_upper,mysql_lower,mypackets}/{src,specs,proofs,out} && cp -- "$top/mypackets" small/
