@@ -1,4 +1,5 @@
 mod Rounds
+mod Ended
 mod HandshakeFits
 mod HandshakeResponseFits
 mod ChangeUserFits

@@ -1,15 +1,23 @@
 //! One attribute of a connection.
 #![tactic(auto, using(mysql_wire::proofs::Packets::packets), unfolding(crate::specs::Attributes::attribute))]
 
-ghost use Rattle.std.specs.Prelude.{false, ◌≡◌, nat_eq, ℕ, List, IfOk};
+ghost use Rattle.std.specs.Prelude.{false, ◌≡◌, nat_eq, string_bytes, ℕ, List, IfOk};
 ghost use Rattle.std.specs.Cmp.Lexicographic.{pointwise};
 ghost use Rattle.std.specs.List.{list_any};
 ghost use Rattle.mysql_wire.specs.Reading.{Answers};
+ghost use Rattle.mysql_wire.specs.Text.{lossy_text};
 ghost use Rattle.mysql_auth.specs.Attributes as spec;
 
 use mysql_wire::{FaultOf, LenEnc, ParseBuf, Parts, RawBytes, Sink, parts};
 use std::alloc::{AllocError, Global};
 use std::marker::Model;
+
+/// The content as a text of its own, with U+FFFD for what is not UTF-8.
+fn text_of(content: &RawBytes<'_, LenEnc>, alloc: Global) -> Result<String, AllocError>
+    ensures value { IfOk result (λ text. string_bytes text ≡ lossy_text content.now) }
+{
+    content.as_str(alloc)?.into_owned(alloc)
+}
 
 /// A key with its value.
 ///
@@ -60,8 +68,8 @@ impl<'a> Attribute<'a> {
     pub(crate) fn texts(&self, alloc: Global) -> Result<(String, String), AllocError>
         ensures value { IfOk result (λ texts. spec.text_pair texts ≡ spec.lossy_pair self.now) }
     {
-        let key = self.key.as_str(alloc)?.into_owned(alloc)?;
-        let value = self.value.as_str(alloc)?.into_owned(alloc)?;
+        let key = text_of(&self.key, alloc)?;
+        let value = text_of(&self.value, alloc)?;
         Ok((key, value))
     }
 }

@@ -103,7 +103,7 @@ impl<'a> Attributes<'a> {
         for (key, value) in texts {
             let key = RawBytes::new(CowSlice::Owned(key.into_bytes()));
             let value = RawBytes::new(CowSlice::Owned(value.into_bytes()));
-            list.push(Attribute::new(key, value))?;
+            list.push_reserved(Attribute::new(key, value));
         }
         Ok(Attributes { list })
     }
@@ -136,7 +136,7 @@ impl<'a> Attributes<'a> {
     {
         let mut list = Vec::with_capacity(alloc, self.list.len())?;
         for attribute in self.list {
-            list.push(attribute.into_owned(alloc)?)?;
+            list.push_reserved(attribute.into_owned(alloc)?);
         }
         Ok(Attributes { list })
     }

@@ -78,7 +78,7 @@ impl<'de> MyDeserialize<'de> for AuthMoreData<'de> {
     fn deserialize<'s>(_ctx: (), buf: &mut ParseBuf<'de>) -> Result<Self, FaultOf<'s>> {
         Ok(AuthMoreData {
             header: buf.parse(())?,
-            data: buf.parse(())?,
+            data: RawBytes::new(CowSlice::Borrowed(buf.eat_all())),
         })
     }
 

@@ -111,7 +111,7 @@ impl<'de> MyDeserialize<'de> for AuthSwitchRequest<'de> {
         Ok(AuthSwitchRequest {
             header: buf.parse(())?,
             auth_plugin: buf.parse(())?,
-            plugin_data: buf.parse(())?,
+            plugin_data: RawBytes::new(CowSlice::Borrowed(buf.eat_all())),
         })
     }
 

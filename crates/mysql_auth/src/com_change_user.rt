@@ -1,7 +1,7 @@
 //! The change of a session's user.
 #![tactic(auto, using(mysql_wire::proofs::Packets::packets), unfolding(crate::specs::ComChangeUser::change_user))]
 
-ghost use Rattle.std.specs.Prelude.{[], ◌≡◌, ◌<◌, ◌^◌, List, IfOk, None, Some};
+ghost use Rattle.std.specs.Prelude.{[], ◌≡◌, ◌<◌, ◌^◌, List, IfOk, None, Some, option_map};
 ghost use Rattle.std.specs.Cow.{cow_slice_items};
 ghost use Rattle.std.specs.Option.{option_map_or};
 ghost use Rattle.mysql_wire.specs.Reading.{Answers};
@@ -13,8 +13,8 @@ ghost use Rattle.mysql_auth.specs.declared.com_change_user_more_data.ComChangeUs
 
 use crate::com_change_user_more_data::ComChangeUserMoreData;
 use mysql_wire::{
-    AnyWidth, CapabilityFlags, ConstFault, ConstU8, FaultOf, MyDeserialize, NullBytes, ParseBuf,
-    Parts, RawBytes, Sink, U8Bytes, parts,
+    AnyWidth, BytesRepr, CapabilityFlags, ConstFault, ConstU8, FaultOf, MyDeserialize, NullBytes,
+    ParseBuf, Parts, RawBytes, Sink, U8Bytes, parts,
 };
 use std::alloc::{AllocError, Global};
 use std::borrow::CowSlice;
@@ -59,6 +59,16 @@ pub(crate) fn bytes_or_empty<'a, R>(content: Option<CowSlice<'a, u8>>) -> RawByt
     }
 }
 
+/// These bytes, where they are given.
+pub(crate) fn bytes_if_given<'a, R>(content: Option<CowSlice<'a, u8>>) -> Option<RawBytes<'a, R>>
+    ensures value { result ≡ option_map cow_slice_items content.entry }
+{
+    match content {
+        Some(content) => Some(RawBytes::new(content)),
+        None => None,
+    }
+}
+
 impl<'a> ComChangeUser<'a> {
     /// A change to a user without a name, with an empty answer, no database and no more data.
     pub fn new() -> Self
@@ -74,55 +84,35 @@ impl<'a> ComChangeUser<'a> {
     }
 
     /// The same with this user; with none it is empty.
-    pub fn with_user(self, user: Option<CowSlice<'a, u8>>) -> Self
+    pub fn with_user(mut self, user: Option<CowSlice<'a, u8>>) -> Self
         ensures value { result ≡ spec.with_user (option_map_or cow_slice_items user.entry []) self.entry }
     {
-        ComChangeUser {
-            header: self.header,
-            user: bytes_or_empty(user),
-            auth_plugin_data: self.auth_plugin_data,
-            database: self.database,
-            more_data: self.more_data,
-        }
+        self.user = bytes_or_empty(user);
+        self
     }
 
     /// The same with this database; with none it is empty.
-    pub fn with_database(self, database: Option<CowSlice<'a, u8>>) -> Self
+    pub fn with_database(mut self, database: Option<CowSlice<'a, u8>>) -> Self
         ensures value { result ≡ spec.with_database (option_map_or cow_slice_items database.entry []) self.entry }
     {
-        ComChangeUser {
-            header: self.header,
-            user: self.user,
-            auth_plugin_data: self.auth_plugin_data,
-            database: bytes_or_empty(database),
-            more_data: self.more_data,
-        }
+        self.database = bytes_or_empty(database);
+        self
     }
 
     /// The same with this answer to the scramble; with none it is empty.
-    pub fn with_auth_plugin_data(self, auth_plugin_data: Option<CowSlice<'a, u8>>) -> Self
+    pub fn with_auth_plugin_data(mut self, auth_plugin_data: Option<CowSlice<'a, u8>>) -> Self
         ensures value { result ≡ spec.with_auth_plugin_data (option_map_or cow_slice_items auth_plugin_data.entry []) self.entry }
     {
-        ComChangeUser {
-            header: self.header,
-            user: self.user,
-            auth_plugin_data: bytes_or_empty(auth_plugin_data),
-            database: self.database,
-            more_data: self.more_data,
-        }
+        self.auth_plugin_data = bytes_or_empty(auth_plugin_data);
+        self
     }
 
     /// The same with more data, or without.
-    pub fn with_more_data(self, more_data: Option<ComChangeUserMoreData<'a>>) -> Self
+    pub fn with_more_data(mut self, more_data: Option<ComChangeUserMoreData<'a>>) -> Self
         ensures value { result ≡ spec.with_more_data more_data.entry self.entry }
     {
-        ComChangeUser {
-            header: self.header,
-            user: self.user,
-            auth_plugin_data: self.auth_plugin_data,
-            database: self.database,
-            more_data,
-        }
+        self.more_data = more_data;
+        self
     }
 
     /// The character set of more data has two bytes, and each key stands once among its attributes.
@@ -201,16 +191,16 @@ impl<'de> MyDeserialize<'de> for ComChangeUser<'de> {
     ) -> Result<Self, FaultOf<'s>> {
         let mut rest = buf.rest();
         let header = rest.parse(())?;
-        let user = rest.parse(())?;
-        let auth_plugin_data = rest.parse(())?;
-        let database = rest.parse(())?;
+        let user = <NullBytes as BytesRepr>::deserialize((), &mut rest)?.eat_all();
+        let auth_plugin_data = <U8Bytes as BytesRepr>::deserialize((), &mut rest)?.eat_all();
+        let database = <NullBytes as BytesRepr>::deserialize((), &mut rest)?.eat_all();
         let more_data = read_more_data(capabilities, &mut rest)?;
         *buf = rest;
         Ok(ComChangeUser {
             header,
-            user,
-            auth_plugin_data,
-            database,
+            user: RawBytes::new(CowSlice::Borrowed(user)),
+            auth_plugin_data: RawBytes::new(CowSlice::Borrowed(auth_plugin_data)),
+            database: RawBytes::new(CowSlice::Borrowed(database)),
             more_data,
         })
     }

@@ -45,19 +45,16 @@ impl<'a> ComChangeUserMoreData<'a> {
     }
 
     /// The same with this plugin, or without one.
-    pub fn with_auth_plugin(self, auth_plugin: Option<AuthPlugin<'a>>) -> Self
+    pub fn with_auth_plugin(mut self, auth_plugin: Option<AuthPlugin<'a>>) -> Self
         ensures value { result ≡ spec.with_auth_plugin auth_plugin.entry self.entry }
     {
-        ComChangeUserMoreData {
-            character_set: self.character_set,
-            auth_plugin,
-            connect_attributes: self.connect_attributes,
-        }
+        self.auth_plugin = auth_plugin;
+        self
     }
 
     /// The same with the attributes of these texts, or without attributes.
     pub fn with_connect_attributes(
-        self,
+        mut self,
         alloc: Global,
         connect_attributes: Option<IndexMap<String, String>>,
     ) -> Result<Self, AllocError>
@@ -65,12 +62,8 @@ impl<'a> ComChangeUserMoreData<'a> {
         // Without attributes it takes no memory.
         ensures none { connect_attributes ≡ None → is_ok result ≡ true }
     {
-        let connect_attributes = attributes_of(alloc, connect_attributes)?;
-        Ok(ComChangeUserMoreData {
-            character_set: self.character_set,
-            auth_plugin: self.auth_plugin,
-            connect_attributes,
-        })
+        self.connect_attributes = attributes_of(alloc, connect_attributes)?;
+        Ok(self)
     }
 
     /// The same, on memory of its own.

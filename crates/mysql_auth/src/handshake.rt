@@ -9,8 +9,10 @@ ghost use Rattle.mysql_auth.specs.Handshake as spec;
 ghost use Rattle.mysql_auth.specs.Version.{HasVersion, IsMariadbVersion};
 
 use crate::auth_plugin::AuthPlugin;
+use crate::com_change_user::bytes_if_given;
 use crate::eof_name::{EofName, without_last_zero};
-use crate::handshake_head::{HandshakeHead, scramble_length};
+use crate::handshake_head::HandshakeHead;
+use crate::handshake_ref::HandshakePacketRef;
 use crate::version::{mariadb_server_version, server_version};
 use bitflags::Flags;
 use mysql_wire::{
@@ -104,14 +106,8 @@ impl<'a> HandshakePacket<'a> {
                 reserved: Skip,
                 mariadb_capabilities: Const::new(MariadbCapabilities::from_bits_retain(0)),
             },
-            scramble_2: match scramble_2 {
-                Some(scramble) => Some(RawBytes::new(scramble)),
-                None => None,
-            },
-            auth_plugin_name: match auth_plugin_name {
-                Some(name) => Some(RawBytes::new(name)),
-                None => None,
-            },
+            scramble_2: bytes_if_given(scramble_2),
+            auth_plugin_name: bytes_if_given(auth_plugin_name),
         }
     }
 
@@ -326,38 +322,25 @@ impl<'de> MyDeserialize<'de> for HandshakePacket<'de> {
     ghost form = { spec.handshake.form };
 
     fn deserialize<'s>(_ctx: (), buf: &mut ParseBuf<'de>) -> Result<Self, FaultOf<'s>> {
-        let mut rest = buf.rest();
-        let (head, data_length) = HandshakeHead::read(&mut rest)?;
-        let capabilities = head.capabilities();
-        let scramble_2 = if capabilities.contains(CapabilityFlags::CLIENT_SECURE_CONNECTION) {
-            Some(rest.parse(scramble_length(data_length))?)
-        } else {
-            None
-        };
-        let auth_plugin_name = if capabilities.contains(CapabilityFlags::CLIENT_PLUGIN_AUTH) {
-            Some(rest.parse(())?)
-        } else {
-            None
-        };
-        *buf = rest;
-        Ok(HandshakePacket {
-            head,
-            scramble_2,
-            auth_plugin_name,
-        })
+        let handshake = HandshakePacketRef::deserialize((), buf)?;
+        Ok(handshake.to_packet())
     }
 
     ghost size_is = { λ _. spec.size-handshake };
 }
 
-impl Parts for HandshakePacket<'_> {
-    ghost bytes = { spec.handshake.bytes };
+/// The 31 bytes after the versions.
+#[derive(Drop)]
+struct Block<'b, 'a>(&'b HandshakePacket<'a>);
+
+impl Parts for Block<'_, '_> {
+    ghost bytes = { λ b. (spec.handshake_block b.0.now.head.protocol_version b.0.now.head.server_version).bytes b.0.now };
 
     #[inline(always)]
     fn put<S: Sink>(&self, sink: &mut S) {
-        let head = &self.head;
-        let data_length: RawInt<u8> = RawInt::new(self.data_length());
-        let fixed = parts!(
+        let head = &self.0.head;
+        let data_length: RawInt<u8> = RawInt::new(self.0.data_length());
+        sink.part(&parts!(
             head.connection_id,
             head.scramble_1,
             head.filler,
@@ -368,8 +351,17 @@ impl Parts for HandshakePacket<'_> {
             data_length,
             head.reserved,
             head.mariadb_capabilities
-        );
-        let head = parts!(head.protocol_version, head.server_version, fixed);
+        ));
+    }
+}
+
+impl Parts for HandshakePacket<'_> {
+    ghost bytes = { spec.handshake.bytes };
+
+    #[inline(always)]
+    fn put<S: Sink>(&self, sink: &mut S) {
+        let block = Block(self);
+        let head = parts!(self.head.protocol_version, self.head.server_version, block);
         sink.part(&parts!(head, self.scramble_2, self.auth_plugin_name));
     }
 }

@@ -1,17 +1,14 @@
 //! What every handshake has.
-#![tactic(auto, using(mysql_wire::proofs::Packets::packets), unfolding(crate::specs::Handshake::handshake_head, crate::specs::Handshake::handshake_block))]
 
-ghost use Rattle.std.specs.Prelude.{false, ◌+◌, ◌≡◌, length, OnOk, IfOk};
-ghost use Rattle.mysql_wire.specs.Reading.{Answers};
+ghost use Rattle.std.specs.Prelude.{◌≡◌, IfOk};
 ghost use Rattle.mysql_auth.specs.Handshake as spec;
 
 use bitflags::Flags;
 use mysql_wire::{
-    BytesRepr, CapabilityFlags, Const, FaultOf, LeU16, LeU32, MariadbCapabilities, NullBytes,
-    ParseBuf, RawBytes, RawInt, Skip, StatusFlags,
+    CapabilityFlags, Const, LeU16, LeU32, MariadbCapabilities, NullBytes, RawBytes, RawInt, Skip,
+    StatusFlags,
 };
 use std::alloc::{AllocError, Global};
-use std::borrow::CowSlice;
 use std::cmp::max;
 
 /// How many bytes the second scramble of a handshake has, for the length of both that stands in the handshake: what is
@@ -26,7 +23,7 @@ pub(crate) fn scramble_length(data_length: u8) -> usize
 /// What every handshake has: the versions, and 31 bytes.
 ///
 /// The length of both scrambles, which stands among these, isn't kept: the second scramble tells it.
-#[derive(Clone, Debug, PartialEq, Eq, Hash, Drop)]
+#[derive(Debug, PartialEq, Eq, Hash, Drop)]
 pub(crate) struct HandshakeHead<'a> {
     pub(crate) protocol_version: RawInt<u8>,
     pub(crate) server_version: RawBytes<'a, NullBytes>,
@@ -70,47 +67,25 @@ impl<'a> HandshakeHead<'a> {
             mariadb_capabilities: self.mariadb_capabilities,
         })
     }
+}
 
-    /// The head with these versions, and the length of both scrambles.
-    fn read_block<'s>(
-        protocol_version: RawInt<u8>,
-        server_version: &'a [u8],
-        fixed: &mut ParseBuf<'a>,
-    ) -> Result<(HandshakeHead<'a>, u8), FaultOf<'s>>
-        ensures value { Answers false result fixed.new (((spec.handshake_block protocol_version server_version.now).form tt).reads fixed.old) }
-        ensures exact { OnOk result (length fixed.old ≡ 31 + length fixed.new) }
-    {
-        let connection_id = fixed.parse(())?;
-        let scramble_1 = fixed.parse(())?;
-        let filler = fixed.parse(())?;
-        let capabilities_low = fixed.parse(())?;
-        let default_collation = fixed.parse(())?;
-        let status_flags = fixed.parse(())?;
-        let capabilities_high = fixed.parse(())?;
-        let data_length: RawInt<u8> = fixed.parse(())?;
-        let head = HandshakeHead {
-            protocol_version,
-            server_version: RawBytes::new(CowSlice::Borrowed(server_version)),
-            connection_id,
-            scramble_1,
-            filler,
-            capabilities_low,
-            default_collation,
-            status_flags,
-            capabilities_high,
-            reserved: fixed.parse(())?,
-            mariadb_capabilities: fixed.parse(())?,
-        };
-        Ok((head, data_length.0))
-    }
+impl Clone for HandshakeHead<'_> {
+    ghost is_clone = { λ head copy. copy ≡ head };
 
-    /// The head, and the length of both scrambles.
-    pub(crate) fn read<'s>(buf: &mut ParseBuf<'a>) -> Result<(HandshakeHead<'a>, u8), FaultOf<'s>>
-        ensures value { Answers false result buf.new ((spec.handshake_head.form tt).reads buf.old) }
-    {
-        let protocol_version = buf.parse(())?;
-        let server_version = <NullBytes as BytesRepr>::deserialize((), buf)?.eat_all();
-        let mut fixed: ParseBuf<'a> = buf.parse(31)?;
-        HandshakeHead::read_block(protocol_version, server_version, &mut fixed)
+    fn clone(&self) -> Result<Self, AllocError> {
+        let server_version = self.server_version.clone()?;
+        Ok(HandshakeHead {
+            protocol_version: RawInt::new(self.protocol_version.0),
+            server_version,
+            connection_id: RawInt::new(self.connection_id.0),
+            scramble_1: self.scramble_1,
+            filler: Skip,
+            capabilities_low: RawInt::new(self.capabilities_low.0),
+            default_collation: RawInt::new(self.default_collation.0),
+            status_flags: self.status_flags,
+            capabilities_high: RawInt::new(self.capabilities_high.0),
+            reserved: Skip,
+            mariadb_capabilities: self.mariadb_capabilities,
+        })
     }
 }

@@ -1,15 +1,17 @@
 //! What every handshake has, where it lies.
-#![tactic(auto, using(mysql_wire::proofs::Packets::packets), unfolding(crate::specs::Handshake::handshake_head, crate::specs::Handshake::handshake_block))]
+#![tactic(auto, using(mysql_wire::proofs::Packets::packets), unfolding(crate::specs::Handshake::handshake_head, crate::specs::Handshake::handshake_block, mysql_wire::specs::Int::raw, mysql_wire::specs::ConstantValue::coded))]
 
-ghost use Rattle.std.specs.Prelude.{false, ◌+◌, ◌≡◌, length, OnOk, Some};
+ghost use Rattle.std.specs.Prelude.{false, ◌+◌, ◌≡◌, ◌≤◌, length, Ok};
+ghost use Rattle.mysql_wire.specs.Form.{bytes};
 ghost use Rattle.mysql_wire.specs.Reading.{Answers};
 ghost use Rattle.mysql_auth.specs.Handshake as spec;
 
+use crate::fixed::{eat_skip, eat_u8, eat_u16, eat_u32};
 use crate::handshake_head::HandshakeHead;
 use bitflags::Flags;
 use mysql_wire::{
-    BytesRepr, CapabilityFlags, Const, FaultOf, Fixed, LeU16, LeU32, MariadbCapabilities,
-    MyDeserialize, NullBytes, ParseBuf, RawBytes, RawInt, Skip, StatusFlags,
+    BytesRepr, CapabilityFlags, Const, FaultOf, LeU16, LeU32, MariadbCapabilities, NullBytes,
+    ParseBuf, RawBytes, RawInt, Skip, StatusFlags,
 };
 use std::borrow::CowSlice;
 use std::marker::Model;
@@ -28,26 +30,19 @@ impl<'a> Model for FirstScramble<'a> {
     ghost view = { λ s. s.bytes.now };
 }
 
-impl<'de> MyDeserialize<'de> for FirstScramble<'de> {
-    const SIZE: Option<usize> = Some(8);
-
-    type Size = Fixed<8>;
-
-    type Ctx = ();
-
-    ghost use Rattle.mysql_wire.specs.Form.{bytes, size-bytes};
-
-    ghost form = { λ _. bytes 8 };
-
+impl<'a> FirstScramble<'a> {
+    /// The next eight bytes, which are there.
     #[inline]
     #[tactic(auto, using(mysql_wire::proofs::Arrays::arrays))]
-    fn deserialize<'s>(_ctx: (), buf: &mut ParseBuf<'de>) -> Result<Self, FaultOf<'s>> {
-        Ok(FirstScramble {
+    fn eat(buf: &mut ParseBuf<'a>) -> FirstScramble<'a>
+        requires { 8 ≤ length buf.old }
+        ensures value { (bytes 8).reads buf.old ≡ Ok (result, buf.new) }
+        ensures exact { length buf.old ≡ 8 + length buf.new }
+    {
+        FirstScramble {
             bytes: <&[u8; 8]>::try_from(buf.eat(8)).unwrap(),
-        })
+        }
     }
-
-    ghost size_is = { λ _. size-bytes 8 };
 }
 
 /// What every handshake has, where it lies: the versions, and 31 bytes. In a clause it is a
@@ -128,22 +123,23 @@ impl<'a> HandshakeHeadRef<'a> {
     }
 
     /// The head with these versions, and the length of both scrambles.
-    fn read_block<'s>(
+    fn read_block(
         protocol_version: RawInt<u8>,
         server_version: &'a [u8],
         fixed: &mut ParseBuf<'a>,
-    ) -> Result<(HandshakeHeadRef<'a>, u8), FaultOf<'s>>
-        ensures value { Answers false result fixed.new (((spec.handshake_block protocol_version server_version.now).form tt).reads fixed.old) }
-        ensures exact { OnOk result (length fixed.old ≡ 31 + length fixed.new) }
+    ) -> (HandshakeHeadRef<'a>, u8)
+        requires { 31 ≤ length fixed.old }
+        ensures value { ((spec.handshake_block protocol_version server_version.now).form tt).reads fixed.old ≡ Ok (result, fixed.new) }
+        ensures exact { length fixed.old ≡ 31 + length fixed.new }
     {
-        let connection_id = fixed.parse(())?;
-        let scramble_1 = fixed.parse(())?;
-        let filler = fixed.parse(())?;
-        let capabilities_low = fixed.parse(())?;
-        let default_collation = fixed.parse(())?;
-        let status_flags = fixed.parse(())?;
-        let capabilities_high = fixed.parse(())?;
-        let data_length: RawInt<u8> = fixed.parse(())?;
+        let connection_id = RawInt::new(eat_u32(fixed));
+        let scramble_1 = FirstScramble::eat(fixed);
+        let filler = eat_skip(fixed);
+        let capabilities_low = RawInt::new(eat_u16(fixed));
+        let default_collation = RawInt::new(eat_u8(fixed));
+        let status_flags = Const::new(StatusFlags::from_bits_retain(eat_u16(fixed)));
+        let capabilities_high = RawInt::new(eat_u16(fixed));
+        let data_length = eat_u8(fixed);
         let head = HandshakeHeadRef {
             protocol_version,
             server_version: ParseBuf::new(fixed.alloc(), server_version),
@@ -154,10 +150,10 @@ impl<'a> HandshakeHeadRef<'a> {
             default_collation,
             status_flags,
             capabilities_high,
-            reserved: fixed.parse(())?,
-            mariadb_capabilities: fixed.parse(())?,
+            reserved: eat_skip(fixed),
+            mariadb_capabilities: Const::new(MariadbCapabilities::from_bits_retain(eat_u32(fixed))),
         };
-        Ok((head, data_length.0))
+        (head, data_length)
     }
 
     /// The head, and the length of both scrambles.
@@ -169,6 +165,6 @@ impl<'a> HandshakeHeadRef<'a> {
         let protocol_version = buf.parse(())?;
         let server_version = <NullBytes as BytesRepr>::deserialize((), buf)?.eat_all();
         let mut fixed: ParseBuf<'a> = buf.parse(31)?;
-        HandshakeHeadRef::read_block(protocol_version, server_version, &mut fixed)
+        Ok(HandshakeHeadRef::read_block(protocol_version, server_version, &mut fixed))
     }
 }

@@ -21,7 +21,7 @@ ghost use Rattle.mysql_auth.specs.SslRequest.{SslRequestFits};
 
 use crate::attributes::{Attributes, attributes_of};
 use crate::auth_plugin::AuthPlugin;
-use crate::com_change_user::bytes_or_empty;
+use crate::com_change_user::{bytes_if_given, bytes_or_empty};
 use crate::plugin_name::plugin_to_zero_or_end;
 use crate::ssl_request::SslRequest;
 use bitflags::Flags;
@@ -132,46 +132,32 @@ impl<'a> HandshakeResponse<'a> {
             auth_plugin.is_some(),
             connect_attributes.is_some(),
         );
-        let connect_attributes = attributes_of(alloc, connect_attributes)?;
-        Ok(HandshakeResponse {
+        let mut response = HandshakeResponse {
             head: SslRequest::new(capabilities, max_packet_size, collation_for(server_version)),
             user: bytes_or_empty(user),
             scramble_buf: bytes_or_empty(scramble_buf),
-            db_name: match db_name {
-                Some(name) => Some(RawBytes::new(name)),
-                None => None,
-            },
+            db_name: bytes_if_given(db_name),
             auth_plugin,
-            connect_attributes,
-        })
+            connect_attributes: None,
+        };
+        response.connect_attributes = attributes_of(alloc, connect_attributes)?;
+        Ok(response)
     }
 
     /// The same response with these capabilities of MariaDB's own.
-    pub fn with_mariadb_ext_capabilities(self, flags: MariadbCapabilities) -> Self
+    pub fn with_mariadb_ext_capabilities(mut self, flags: MariadbCapabilities) -> Self
         ensures value { result ≡ spec.with_mariadb flags self.entry }
     {
-        HandshakeResponse {
-            head: self.head.with_mariadb_capabilities(flags),
-            user: self.user,
-            scramble_buf: self.scramble_buf,
-            db_name: self.db_name,
-            auth_plugin: self.auth_plugin,
-            connect_attributes: self.connect_attributes,
-        }
+        self.head = self.head.with_mariadb_capabilities(flags);
+        self
     }
 
     /// The same response with this collation, in place of the one that a server of the version knows.
-    pub fn with_collation(self, collation: u8) -> Self
+    pub fn with_collation(mut self, collation: u8) -> Self
         ensures value { result ≡ spec.with_collation collation self.entry }
     {
-        HandshakeResponse {
-            head: self.head.with_character_set(collation),
-            user: self.user,
-            scramble_buf: self.scramble_buf,
-            db_name: self.db_name,
-            auth_plugin: self.auth_plugin,
-            connect_attributes: self.connect_attributes,
-        }
+        self.head = self.head.with_character_set(collation);
+        self
     }
 
     /// What the client can do.
@@ -303,20 +289,17 @@ impl<'a> HandshakeResponse<'a> {
 fn read_scramble<'s, 'a>(
     head: &SslRequest,
     buf: &mut ParseBuf<'a>,
-) -> Result<RawBytes<'a, EofBytes>, FaultOf<'s>>
+) -> Result<ParseBuf<'a>, FaultOf<'s>>
     ensures value { Answers false result buf.new (((spec.scramble head.now).form tt).reads buf.old) }
 {
     let capabilities = head.capabilities();
-    let mut content: ParseBuf<'a> = if capabilities.contains(
-        CapabilityFlags::CLIENT_PLUGIN_AUTH_LENENC_CLIENT_DATA,
-    ) {
-        <LenEnc as BytesRepr>::deserialize((), buf)?
+    if capabilities.contains(CapabilityFlags::CLIENT_PLUGIN_AUTH_LENENC_CLIENT_DATA) {
+        <LenEnc as BytesRepr>::deserialize((), buf)
     } else if capabilities.contains(CapabilityFlags::CLIENT_SECURE_CONNECTION) {
-        <U8Bytes as BytesRepr>::deserialize((), buf)?
+        <U8Bytes as BytesRepr>::deserialize((), buf)
     } else {
-        <NullBytes as BytesRepr>::deserialize((), buf)?
-    };
-    Ok(RawBytes::new(CowSlice::Borrowed(content.eat_all())))
+        <NullBytes as BytesRepr>::deserialize((), buf)
+    }
 }
 
 /// The database's name, where it was sent.
@@ -381,16 +364,16 @@ impl<'de> MyDeserialize<'de> for HandshakeResponse<'de> {
     fn deserialize<'s>(_ctx: (), buf: &mut ParseBuf<'de>) -> Result<Self, FaultOf<'s>> {
         let mut rest = buf.rest();
         let head: SslRequest = rest.parse(())?;
-        let user = rest.parse(())?;
-        let scramble_buf = read_scramble(&head, &mut rest)?;
+        let user = <NullBytes as BytesRepr>::deserialize((), &mut rest)?.eat_all();
+        let scramble_buf = read_scramble(&head, &mut rest)?.eat_all();
         let db_name = read_database(&head, &mut rest)?;
         let auth_plugin = read_plugin(&head, &mut rest);
         let connect_attributes = read_attributes(&head, &mut rest)?;
         *buf = rest;
         Ok(HandshakeResponse {
             head,
-            user,
-            scramble_buf,
+            user: RawBytes::new(CowSlice::Borrowed(user)),
+            scramble_buf: RawBytes::new(CowSlice::Borrowed(scramble_buf)),
             db_name,
             auth_plugin,
             connect_attributes,

@@ -47,7 +47,7 @@ impl<'a> Merged<'a> {
     {
         let mut list = Vec::with_capacity(alloc, self.0.len())?;
         for (key, value) in self.0 {
-            list.push(Attribute::new(key, value))?;
+            list.push_reserved(Attribute::new(key, value));
         }
         Ok(list)
     }

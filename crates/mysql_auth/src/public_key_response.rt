@@ -69,7 +69,7 @@ impl<'de> MyDeserialize<'de> for PublicKeyResponse<'de> {
     fn deserialize<'s>(_ctx: (), buf: &mut ParseBuf<'de>) -> Result<Self, FaultOf<'s>> {
         Ok(PublicKeyResponse {
             header: buf.parse(())?,
-            rsa_key: buf.parse(())?,
+            rsa_key: RawBytes::new(CowSlice::Borrowed(buf.eat_all())),
         })
     }
 

@@ -1,9 +1,10 @@
 //! The request for TLS.
-#![tactic(auto, using(mysql_wire::proofs::Packets::packets), unfolding(crate::specs::SslRequest::ssl_request))]
+#![tactic(auto, using(mysql_wire::proofs::Packets::packets), unfolding(crate::specs::SslRequest::ssl_request, mysql_wire::specs::Int::raw, mysql_wire::specs::ConstantValue::coded))]
 
 ghost use Rattle.std.specs.Prelude.{◌≡◌};
 ghost use Rattle.mysql_auth.specs.SslRequest as spec;
 
+use crate::fixed::{eat_skip, eat_u8, eat_u32};
 use bitflags::Flags;
 use mysql_wire::{
     CapabilityFlags, Const, FaultOf, Fixed, LeU32, MariadbCapabilities, MyDeserialize, ParseBuf,
@@ -136,11 +137,13 @@ impl<'de> MyDeserialize<'de> for SslRequest {
     fn deserialize<'s>(_ctx: (), buf: &mut ParseBuf<'de>) -> Result<Self, FaultOf<'s>> {
         let mut fields: ParseBuf<'de> = buf.parse(32)?;
         Ok(SslRequest {
-            capabilities: fields.parse_unchecked(())?,
-            max_packet_size: fields.parse_unchecked(())?,
-            character_set: fields.parse_unchecked(())?,
-            skipped: fields.parse_unchecked(())?,
-            mariadb_capabilities: fields.parse_unchecked(())?,
+            capabilities: Const::new(CapabilityFlags::from_bits_retain(eat_u32(&mut fields))),
+            max_packet_size: RawInt::new(eat_u32(&mut fields)),
+            character_set: RawInt::new(eat_u8(&mut fields)),
+            skipped: eat_skip(&mut fields),
+            mariadb_capabilities: Const::new(MariadbCapabilities::from_bits_retain(eat_u32(
+                &mut fields,
+            ))),
         })
     }
 
