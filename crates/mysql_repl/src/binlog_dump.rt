@@ -6,6 +6,7 @@ ghost use Rattle.std.specs.Cow.{cow_slice_items, cow_str_bytes};
 ghost use Rattle.mysql_wire.specs.Text.{lossy_text, BorrowsUtf8};
 ghost use Rattle.mysql_repl.specs.BinlogDump as spec;
 
+use crate::fixed::{eat_u16, eat_u32};
 use mysql_wire::{
     AnyWidth, BinlogDumpFlags, Const, ConstFault, ConstU8, EofBytes, FaultOf, Flags, LeU16, LeU32,
     MyDeserialize, ParseBuf, Parts, RawBytes, RawInt, Sink, parts,
@@ -38,7 +39,7 @@ pub type ComBinlogDumpHeader = ConstU8<InvalidComBinlogDumpHeader, 0x12>;
 ///
 /// Numbers have little-endian. Fewer than 11 bytes are `UnexpectedEof`, another first byte is
 /// `InvalidData`. Reading takes no memory.
-#[derive(Clone, Debug, PartialEq, Eq, Hash, Drop)]
+#[derive(Debug, PartialEq, Eq, Hash, Drop)]
 pub struct ComBinlogDump<'a> {
     header: ComBinlogDumpHeader,
     pos: RawInt<LeU32>,
@@ -127,6 +128,20 @@ impl<'a> ComBinlogDump<'a> {
     }
 }
 
+impl Clone for ComBinlogDump<'_> {
+    ghost is_clone = { λ p copy. copy ≡ p };
+
+    fn clone(&self) -> Result<Self, AllocError> {
+        Ok(ComBinlogDump {
+            header: self.header,
+            pos: RawInt::new(self.pos.0),
+            flags: self.flags,
+            server_id: RawInt::new(self.server_id.0),
+            filename: self.filename.clone()?,
+        })
+    }
+}
+
 impl<'de> MyDeserialize<'de> for ComBinlogDump<'de> {
     const SIZE: Option<usize> = None;
 
@@ -136,14 +151,15 @@ impl<'de> MyDeserialize<'de> for ComBinlogDump<'de> {
 
     ghost form = { spec.binlog_dump.form };
 
+    #[tactic(auto, using(mysql_wire::proofs::Packets::packets), unfolding(crate::specs::BinlogDump::binlog_dump, mysql_wire::specs::Int::raw, mysql_wire::specs::ConstantValue::coded))]
     fn deserialize<'s>(_ctx: (), buf: &mut ParseBuf<'de>) -> Result<Self, FaultOf<'s>> {
         let mut head: ParseBuf<'de> = buf.parse(11)?;
         Ok(ComBinlogDump {
             header: head.parse_unchecked(())?,
-            pos: head.parse_unchecked(())?,
-            flags: head.parse_unchecked(())?,
-            server_id: head.parse_unchecked(())?,
-            filename: buf.parse(())?,
+            pos: RawInt::new(eat_u32(&mut head)),
+            flags: Const::new(BinlogDumpFlags::from_bits_retain(eat_u16(&mut head))),
+            server_id: RawInt::new(eat_u32(&mut head)),
+            filename: RawBytes::new(CowSlice::Borrowed(buf.eat_all())),
         })
     }
 

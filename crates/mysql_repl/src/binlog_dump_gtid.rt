@@ -10,13 +10,14 @@ ghost use Rattle.mysql_repl.specs.declared.binlog_dump_gtid.ComBinlogDumpGtid.{C
 ghost use Rattle.mysql_repl.specs.BinlogDumpGtid as spec;
 ghost use Rattle.mysql_repl.specs.Counts.{sid_count};
 
+use crate::fixed::{eat_u16, eat_u32};
 use crate::sid::Sid;
 use crate::sid_block::{SidBlock, read_block};
 use crate::taken::append_taken;
 use mysql_wire::{
-    AnyWidth, BinlogDumpFlags, Const, ConstFault, ConstU8, Fault, FaultOf, Flags, LeU16, LeU32,
-    LeU64, MyDeserialize, MySerialize, ParseBuf, Parts, RawBytes, RawInt, Seq, Sink, U32Bytes,
-    parts,
+    AnyWidth, BinlogDumpFlags, BytesRepr, Const, ConstFault, ConstU8, Fault, FaultOf, Flags, LeU16,
+    LeU32, LeU64, MyDeserialize, MySerialize, ParseBuf, Parts, RawBytes, RawInt, Seq, Sink,
+    U32Bytes, parts,
 };
 use std::alloc::{AllocError, Global};
 use std::borrow::{CowSlice, CowStr};
@@ -227,7 +228,7 @@ fn through_gtid(mut flags: BinlogDumpFlags, sids: &[Sid<'_>]) -> BinlogDumpFlags
 }
 
 /// The first seven bytes: the header, the flags and the replica's number.
-#[tactic(auto, using(mysql_wire::proofs::Packets::packets), unfolding(crate::specs::BinlogDumpGtid::gtid_dump_head))]
+#[tactic(auto, using(mysql_wire::proofs::Packets::packets), unfolding(crate::specs::BinlogDumpGtid::gtid_dump_head, mysql_wire::specs::Int::raw, mysql_wire::specs::ConstantValue::coded))]
 fn read_head<'s>(
     strict: bool,
     buf: &mut ParseBuf<'_>,
@@ -243,8 +244,8 @@ fn read_head<'s>(
 {
     let mut head: ParseBuf<'_> = buf.parse(7)?;
     let header = head.parse_unchecked(())?;
-    let flags = head.parse_unchecked(())?;
-    let server_id = head.parse_unchecked(())?;
+    let flags = Const::new(BinlogDumpFlags::from_bits_retain(eat_u16(&mut head)));
+    let server_id = RawInt::new(eat_u32(&mut head));
     Ok((header, flags, server_id))
 }
 
@@ -256,14 +257,14 @@ fn read<'s, 'de>(
     ensures value { Answers (counts_any ((sid_count strict).reads buf.old)) result buf.new ((spec.gtid_dump.form strict).reads buf.old) }
 {
     let (header, flags, server_id) = read_head(strict, buf)?;
-    let filename = buf.parse(())?;
+    let filename = <U32Bytes as BytesRepr>::deserialize((), buf)?.eat_all();
     let pos = buf.parse(())?;
     let sid_block = read_block(strict, buf)?;
     Ok(ComBinlogDumpGtid {
         header,
         flags,
         server_id,
-        filename,
+        filename: RawBytes::new(CowSlice::Borrowed(filename)),
         pos,
         sid_block,
     })
@@ -276,9 +277,9 @@ impl Clone for ComBinlogDumpGtid<'_> {
         Ok(ComBinlogDumpGtid {
             header: self.header,
             flags: self.flags,
-            server_id: self.server_id.clone()?,
+            server_id: RawInt::new(self.server_id.0),
             filename: self.filename.clone()?,
-            pos: self.pos.clone()?,
+            pos: RawInt::new(self.pos.0),
             sid_block: self.sid_block.clone()?,
         })
     }

@@ -5,6 +5,7 @@ ghost use Rattle.std.specs.Prelude.{◌≡◌, ◌<◌, ◌≤◌, ◌^◌, Ok, 
 ghost use Rattle.mysql_repl.specs.GnoInterval as spec;
 ghost use Rattle.mysql_repl.specs.declared.gno_interval.InvalidGno.TheVariants.{Order, Zero};
 
+use crate::fixed::eat_u64;
 use mysql_wire::{FaultOf, Fixed, LeU64, MyDeserialize, ParseBuf, Parts, RawInt, Sink, parts};
 use thiserror::Error;
 
@@ -85,11 +86,12 @@ impl<'de> MyDeserialize<'de> for GnoInterval {
 
     ghost form = { spec.interval.form };
 
+    #[tactic(auto, using(mysql_wire::proofs::Packets::packets), unfolding(crate::specs::GnoInterval::interval, mysql_wire::specs::Int::raw))]
     fn deserialize<'s>(_ctx: (), buf: &mut ParseBuf<'de>) -> Result<Self, FaultOf<'s>> {
         let mut numbers: ParseBuf<'de> = buf.parse(16)?;
-        let start: RawInt<LeU64> = numbers.parse_unchecked(())?;
-        let end: RawInt<LeU64> = numbers.parse_unchecked(())?;
-        Ok(GnoInterval::new(start.0, end.0))
+        let start = eat_u64(&mut numbers);
+        let end = eat_u64(&mut numbers);
+        Ok(GnoInterval::new(start, end))
     }
 
     ghost size_is = { λ _. spec.size-interval };

@@ -7,9 +7,10 @@ ghost use Rattle.std.specs.Cow.{cow_slice_items, cow_str_bytes};
 ghost use Rattle.mysql_wire.specs.Text.{lossy_text, BorrowsUtf8};
 ghost use Rattle.mysql_repl.specs.RegisterSlave as spec;
 
+use crate::fixed::{eat_u16, eat_u32};
 use mysql_wire::{
-    AnyWidth, ConstFault, ConstU8, FaultOf, LeU16, LeU32, MyDeserialize, ParseBuf, Parts, RawBytes,
-    RawInt, Sink, U8Bytes, parts,
+    AnyWidth, BytesRepr, ConstFault, ConstU8, FaultOf, LeU16, LeU32, MyDeserialize, ParseBuf,
+    Parts, RawBytes, RawInt, Sink, U8Bytes, parts,
 };
 use std::alloc::{AllocError, Global};
 use std::borrow::{CowSlice, CowStr};
@@ -43,7 +44,7 @@ pub type ComRegisterSlaveHeader = ConstU8<InvalidComRegisterSlaveHeader, 0x15>;
 ///
 /// Numbers have little-endian. The first 255 bytes of a string are written. Missing bytes are
 /// `UnexpectedEof`, another first byte is `InvalidData`. Reading takes no memory.
-#[derive(Clone, Debug, PartialEq, Eq, Hash, Drop)]
+#[derive(Debug, PartialEq, Eq, Hash, Drop)]
 pub struct ComRegisterSlave<'a> {
     header: ComRegisterSlaveHeader,
     server_id: RawInt<LeU32>,
@@ -202,7 +203,7 @@ impl<'a> ComRegisterSlave<'a> {
 }
 
 /// The first five bytes: the header and the replica's number.
-#[tactic(auto, using(mysql_wire::proofs::Packets::packets), unfolding(crate::specs::RegisterSlave::register_slave_head))]
+#[tactic(auto, using(mysql_wire::proofs::Packets::packets), unfolding(crate::specs::RegisterSlave::register_slave_head, mysql_wire::specs::Int::raw))]
 fn read_head<'s>(
     buf: &mut ParseBuf<'_>,
 ) -> Result<(ComRegisterSlaveHeader, RawInt<LeU32>), FaultOf<'s>>
@@ -210,11 +211,12 @@ fn read_head<'s>(
     ensures tail { OnErr result (IsTail buf.new buf.old) }
 {
     let mut head: ParseBuf<'_> = buf.parse(5)?;
-    Ok((head.parse_unchecked(())?, head.parse_unchecked(())?))
+    let header = head.parse_unchecked(())?;
+    Ok((header, RawInt::new(eat_u32(&mut head))))
 }
 
 /// The last ten bytes: the port, the rank and the source's number.
-#[tactic(auto, using(mysql_wire::proofs::Packets::packets), unfolding(crate::specs::RegisterSlave::register_slave_end))]
+#[tactic(auto, using(mysql_wire::proofs::Packets::packets), unfolding(crate::specs::RegisterSlave::register_slave_end, mysql_wire::specs::Int::raw))]
 fn read_end<'s>(
     buf: &mut ParseBuf<'_>,
 ) -> Result<(RawInt<LeU16>, RawInt<LeU32>, RawInt<LeU32>), FaultOf<'s>>
@@ -222,10 +224,27 @@ fn read_end<'s>(
     ensures tail { OnErr result (IsTail buf.new buf.old) }
 {
     let mut end: ParseBuf<'_> = buf.parse(10)?;
-    let port = end.parse_unchecked(())?;
-    let replication_rank = end.parse_unchecked(())?;
-    let master_id = end.parse_unchecked(())?;
+    let port = RawInt::new(eat_u16(&mut end));
+    let replication_rank = RawInt::new(eat_u32(&mut end));
+    let master_id = RawInt::new(eat_u32(&mut end));
     Ok((port, replication_rank, master_id))
+}
+
+impl Clone for ComRegisterSlave<'_> {
+    ghost is_clone = { λ p copy. copy ≡ p };
+
+    fn clone(&self) -> Result<Self, AllocError> {
+        Ok(ComRegisterSlave {
+            header: self.header,
+            server_id: RawInt::new(self.server_id.0),
+            hostname: self.hostname.clone()?,
+            user: self.user.clone()?,
+            password: self.password.clone()?,
+            port: RawInt::new(self.port.0),
+            replication_rank: RawInt::new(self.replication_rank.0),
+            master_id: RawInt::new(self.master_id.0),
+        })
+    }
 }
 
 impl<'de> MyDeserialize<'de> for ComRegisterSlave<'de> {
@@ -240,17 +259,17 @@ impl<'de> MyDeserialize<'de> for ComRegisterSlave<'de> {
     fn deserialize<'s>(_ctx: (), buf: &mut ParseBuf<'de>) -> Result<Self, FaultOf<'s>> {
         let mut rest = buf.rest();
         let (header, server_id) = read_head(&mut rest)?;
-        let hostname = rest.parse(())?;
-        let user = rest.parse(())?;
-        let password = rest.parse(())?;
+        let hostname = <U8Bytes as BytesRepr>::deserialize((), &mut rest)?.eat_all();
+        let user = <U8Bytes as BytesRepr>::deserialize((), &mut rest)?.eat_all();
+        let password = <U8Bytes as BytesRepr>::deserialize((), &mut rest)?.eat_all();
         let (port, replication_rank, master_id) = read_end(&mut rest)?;
         *buf = rest;
         Ok(ComRegisterSlave {
             header,
             server_id,
-            hostname,
-            user,
-            password,
+            hostname: RawBytes::new(CowSlice::Borrowed(hostname)),
+            user: RawBytes::new(CowSlice::Borrowed(user)),
+            password: RawBytes::new(CowSlice::Borrowed(password)),
             port,
             replication_rank,
             master_id,

@@ -6,6 +6,7 @@ ghost use Rattle.std.specs.Cow.{cow_slice_items, cow_str_bytes};
 ghost use Rattle.mysql_wire.specs.Text.{lossy_text, BorrowsUtf8};
 ghost use Rattle.mysql_repl.specs.SemiSyncAck as spec;
 
+use crate::fixed::eat_u64;
 use mysql_wire::{
     AnyWidth, ConstFault, ConstU8, EofBytes, FaultOf, LeU64, MyDeserialize, ParseBuf, Parts,
     RawBytes, RawInt, Sink, parts,
@@ -101,12 +102,13 @@ impl<'de> MyDeserialize<'de> for SemiSyncAckPacket<'de> {
 
     ghost form = { spec.semi_sync_ack.form };
 
+    #[tactic(auto, using(mysql_wire::proofs::Packets::packets), unfolding(crate::specs::SemiSyncAck::semi_sync_ack, mysql_wire::specs::Int::raw))]
     fn deserialize<'s>(_ctx: (), buf: &mut ParseBuf<'de>) -> Result<Self, FaultOf<'s>> {
         let mut head: ParseBuf<'de> = buf.parse(9)?;
         Ok(SemiSyncAckPacket {
             header: head.parse_unchecked(())?,
-            position: head.parse_unchecked(())?,
-            filename: buf.parse(())?,
+            position: RawInt::new(eat_u64(&mut head)),
+            filename: RawBytes::new(CowSlice::Borrowed(buf.eat_all())),
         })
     }
 
