@@ -329,18 +329,14 @@ impl<'de> MyDeserialize<'de> for HandshakePacket<'de> {
     ghost size_is = { λ _. spec.size-handshake };
 }
 
-/// The 31 bytes after the versions.
-#[derive(Drop)]
-struct Block<'b, 'a>(&'b HandshakePacket<'a>);
-
-impl Parts for Block<'_, '_> {
-    ghost bytes = { λ b. (spec.handshake_block b.0.now.head.protocol_version b.0.now.head.server_version).bytes b.0.now };
+impl Parts for HandshakePacket<'_> {
+    ghost bytes = { spec.handshake.bytes };
 
     #[inline(always)]
     fn put<S: Sink>(&self, sink: &mut S) {
-        let head = &self.0.head;
-        let data_length: RawInt<u8> = RawInt::new(self.0.data_length());
-        sink.part(&parts!(
+        let head = &self.head;
+        let data_length: RawInt<u8> = RawInt::new(self.data_length());
+        let fixed = parts!(
             head.connection_id,
             head.scramble_1,
             head.filler,
@@ -351,17 +347,8 @@ impl Parts for Block<'_, '_> {
             data_length,
             head.reserved,
             head.mariadb_capabilities
-        ));
-    }
-}
-
-impl Parts for HandshakePacket<'_> {
-    ghost bytes = { spec.handshake.bytes };
-
-    #[inline(always)]
-    fn put<S: Sink>(&self, sink: &mut S) {
-        let block = Block(self);
-        let head = parts!(self.head.protocol_version, self.head.server_version, block);
+        );
+        let head = parts!(head.protocol_version, head.server_version, fixed);
         sink.part(&parts!(head, self.scramble_2, self.auth_plugin_name));
     }
 }

@@ -1,5 +1,5 @@
 //! What every handshake has, where it lies.
-#![tactic(auto, using(mysql_wire::proofs::Packets::packets), unfolding(crate::specs::Handshake::handshake_head, crate::specs::Handshake::handshake_block, mysql_wire::specs::Int::raw, mysql_wire::specs::ConstantValue::coded))]
+#![tactic(auto, using(mysql_wire::proofs::Packets::packets), unfolding(crate::specs::Handshake::handshake_head, crate::specs::Handshake::handshake_block))]
 
 ghost use Rattle.std.specs.Prelude.{false, ◌+◌, ◌≡◌, ◌≤◌, length, Ok};
 ghost use Rattle.mysql_wire.specs.Form.{bytes};

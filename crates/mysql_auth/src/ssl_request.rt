@@ -1,5 +1,5 @@
 //! The request for TLS.
-#![tactic(auto, using(mysql_wire::proofs::Packets::packets), unfolding(crate::specs::SslRequest::ssl_request, mysql_wire::specs::Int::raw, mysql_wire::specs::ConstantValue::coded))]
+#![tactic(auto, using(mysql_wire::proofs::Packets::packets), unfolding(crate::specs::SslRequest::ssl_request))]
 
 ghost use Rattle.std.specs.Prelude.{◌≡◌};
 ghost use Rattle.mysql_auth.specs.SslRequest as spec;
