@@ -44,6 +44,13 @@ values_of (params.Named values) (Some names) = values_of_names values names
 values_of (params.Positional values) None = Ok (contents_of values.items)
 values_of (params.Positional values) (Some names) = Err PositionalForNamed
 
+-- the name has no value, or memory ran out
+abbrev pub RefusesName : Option Value → Vec ℕ → ParamsError → Type 0
+RefusesName found name (error.Missing missing) = (found ≡ None) × (missing.items ≡ name.items)
+RefusesName found name error.NamedForPositional = ⊥
+RefusesName found name error.PositionalForNamed = ⊥
+RefusesName found name error.Memory = Unit {0}
+
 -- the refusal is that of the names, or memory ran out
 abbrev pub RefusesNames : NamedValues → List (Vec ℕ) → ParamsError → Type 0
 RefusesNames values names (error.Missing name) = values_of_names values names ≡ Err (Missing name.items)

@@ -1,6 +1,6 @@
 //! Parameters of statements.
 
-ghost use Rattle.std.specs.Prelude.{◌≡◌, Ok, IfOk, IfErr};
+ghost use Rattle.std.specs.Prelude.{◌≡◌, Ok, Some, IfOk, IfErr};
 ghost use Rattle.std.specs.Option.{option_copied};
 
 use crate::value::Value;
@@ -102,8 +102,24 @@ impl Params {
     }
 }
 
-ghost use Rattle.mysql_values.specs.Value.{contents_of};
-ghost use Rattle.mysql_values.specs.Params.{values_of_names, RefusesNames};
+ghost use Rattle.mysql_values.specs.declared.value.Value.{Value};
+ghost use Rattle.mysql_values.specs.Value.{content_of, contents_of};
+ghost use Rattle.mysql_values.specs.Params.{value_of, values_of_names, RefusesName, RefusesNames};
+
+/// A copy of the value of a name.
+fn value_of_name(
+    alloc: Global,
+    values: &IndexMap<Vec<u8>, Value>,
+    name: &Vec<u8>,
+) -> Result<Value, ParamsError>
+    ensures ok { IfOk result (λ copy. (value : Value) × (value_of values.now name.now ≡ Some value) × (content_of copy ≡ content_of value)) }
+    ensures err { IfErr result (RefusesName (value_of values.now name.now) name.now) }
+{
+    let Some(value) = values.get(name) else {
+        return Err(ParamsError::Missing(Vec::from_slice(alloc, name.as_slice())?));
+    };
+    Ok(value.clone()?)
+}
 
 /// The value of each name, in order.
 fn values_of_names(
@@ -119,10 +135,7 @@ fn values_of_names(
     }
     let mut row = Vec::with_capacity(alloc, names.len())?;
     for name in names {
-        let Some(value) = values.get(name) else {
-            return Err(ParamsError::Missing(Vec::from_slice(alloc, name.as_slice())?));
-        };
-        row.push(value.clone()?)?;
+        row.push(value_of_name(alloc, values, name)?)?;
     }
     Ok(row)
 }

@@ -1,6 +1,6 @@
 //! Dates and times, as the binary protocol writes them.
 
-ghost use Rattle.std.specs.Prelude.{false, ◌≡◌};
+ghost use Rattle.std.specs.Prelude.{false, ◌≡◌, ◌≤◌, ◌+◌, ◌==◌, ℕ, Ok, length};
 
 use mysql_wire::{
     AnyWidth, FaultOf, Fixed, IntRepr, LeU16, LeU32, MyDeserialize, MySerialize, ParseBuf, RawInt,
@@ -196,6 +196,56 @@ impl MySerialize for TimeSpan {
     }
 }
 
+ghost use Rattle.mysql_wire.specs.Int.{raw_int, byte, le_u32};
+ghost use Rattle.mysql_values.specs.Temporal.{day, clock};
+
+/// Takes a day off the front. Its bytes are there.
+#[inline(always)]
+#[tactic(auto, using(crate::proofs::There::there))]
+fn eat_day(buf: &mut ParseBuf<'_>) -> Day
+    requires { 4 ≤ length buf.old }
+    ensures value { day.reads buf.old ≡ Ok (result, buf.new) }
+    ensures len { length buf.old ≡ 4 + length buf.new }
+{
+    let [low, high, month, day] = buf.eat_array::<4>();
+    Day::new(u16::from_le_bytes([low, high]), month, day)
+}
+
+/// Takes the time on a clock off the front. Its bytes are there.
+#[inline(always)]
+#[tactic(auto, using(crate::proofs::There::there))]
+fn eat_clock(buf: &mut ParseBuf<'_>) -> Clock
+    requires { 3 ≤ length buf.old }
+    ensures value { clock.reads buf.old ≡ Ok (result, buf.new) }
+    ensures len { length buf.old ≡ 3 + length buf.new }
+{
+    let [hour, minute, second] = buf.eat_array::<3>();
+    Clock::new(hour, minute, second)
+}
+
+/// Takes a number of four bytes off the front. They are there.
+#[inline(always)]
+#[tactic(auto, using(crate::proofs::There::there))]
+fn eat_u32(buf: &mut ParseBuf<'_>) -> u32
+    requires { 4 ≤ length buf.old }
+    ensures value { le_u32.reads buf.old ≡ Ok (raw_int result, buf.new) }
+    ensures len { length buf.old ≡ 4 + length buf.new }
+{
+    u32::from_le_bytes(buf.eat_array())
+}
+
+/// Takes a byte off the front, which is there: a span is negative where it is 1.
+#[inline(always)]
+#[tactic(auto, using(crate::proofs::There::there))]
+fn eat_sign(buf: &mut ParseBuf<'_>) -> bool
+    requires { 1 ≤ length buf.old }
+    ensures value { (sign : ℕ) × (byte.reads buf.old ≡ Ok (raw_int sign, buf.new)) × (result ≡ (sign == 1)) }
+    ensures len { length buf.old ≡ 1 + length buf.new }
+{
+    let [sign] = buf.eat_array::<1>();
+    sign == 1
+}
+
 impl<'de> MyDeserialize<'de> for Day {
     const SIZE: Option<usize> = Some(4);
 
@@ -207,13 +257,8 @@ impl<'de> MyDeserialize<'de> for Day {
 
     ghost form = { λ _. day };
 
-    #[tactic(auto, using(mysql_wire::proofs::Blocks::blocks), unfolding(crate::specs::Temporal::day))]
     fn deserialize<'s>(_ctx: (), buf: &mut ParseBuf<'de>) -> Result<Self, FaultOf<'s>> {
-        let mut fields: ParseBuf<'de> = buf.parse(4)?;
-        let year: RawInt<LeU16> = fields.parse_unchecked(())?;
-        let month: RawInt<u8> = fields.parse_unchecked(())?;
-        let day: RawInt<u8> = fields.parse_unchecked(())?;
-        Ok(Day::new(year.0, month.0, day.0))
+        Ok(eat_day(buf))
     }
 
     ghost size_is = { λ _. size-day };
@@ -237,13 +282,8 @@ impl<'de> MyDeserialize<'de> for Clock {
 
     ghost form = { λ _. clock };
 
-    #[tactic(auto, using(mysql_wire::proofs::Blocks::blocks), unfolding(crate::specs::Temporal::clock))]
     fn deserialize<'s>(_ctx: (), buf: &mut ParseBuf<'de>) -> Result<Self, FaultOf<'s>> {
-        let mut fields: ParseBuf<'de> = buf.parse(3)?;
-        let hour: RawInt<u8> = fields.parse_unchecked(())?;
-        let minute: RawInt<u8> = fields.parse_unchecked(())?;
-        let second: RawInt<u8> = fields.parse_unchecked(())?;
-        Ok(Clock::new(hour.0, minute.0, second.0))
+        Ok(eat_clock(buf))
     }
 
     ghost size_is = { λ _. size-clock };
@@ -267,19 +307,17 @@ impl<'de> MyDeserialize<'de> for DateTime {
 
     ghost form = { λ _. date_time };
 
-    #[tactic(auto, using(mysql_wire::proofs::Tails::tails), unfolding(crate::specs::Temporal::date_time))]
+    #[tactic(auto, using(mysql_wire::proofs::Tails::tails, crate::proofs::There::short), unfolding(crate::specs::Temporal::date_time))]
     fn deserialize<'s>(_ctx: (), buf: &mut ParseBuf<'de>) -> Result<Self, FaultOf<'s>> {
         let length: RawInt<u8> = buf.parse(())?;
         match length.0 {
             0 => Ok(DateTime::new(Day::new(0, 0, 0), Clock::new(0, 0, 0), 0)),
-            4 => Ok(DateTime::new(buf.parse(())?, Clock::new(0, 0, 0), 0)),
-            7 => Ok(DateTime::new(buf.parse(())?, buf.parse(())?, 0)),
-            11 => {
-                let day = buf.parse(())?;
-                let clock = buf.parse(())?;
-                let micros: RawInt<LeU32> = buf.parse(())?;
-                Ok(DateTime::new(day, clock, micros.0))
+            4 if buf.len() >= 4 => Ok(DateTime::new(eat_day(buf), Clock::new(0, 0, 0), 0)),
+            7 if buf.len() >= 7 => Ok(DateTime::new(eat_day(buf), eat_clock(buf), 0)),
+            11 if buf.len() >= 11 => {
+                Ok(DateTime::new(eat_day(buf), eat_clock(buf), eat_u32(buf)))
             }
+            4 | 7 | 11 => Err(FaultOf::UnexpectedEof),
             _ => Err(FaultOf::InvalidData("Invalid temporal length")),
         }
     }
@@ -298,25 +336,20 @@ impl<'de> MyDeserialize<'de> for TimeSpan {
 
     ghost form = { λ _. time_span };
 
-    #[tactic(auto, using(mysql_wire::proofs::Tails::tails), unfolding(crate::specs::Temporal::time_span))]
+    #[tactic(auto, using(mysql_wire::proofs::Tails::tails, crate::proofs::There::short), unfolding(crate::specs::Temporal::time_span))]
     fn deserialize<'s>(_ctx: (), buf: &mut ParseBuf<'de>) -> Result<Self, FaultOf<'s>> {
         let length: RawInt<u8> = buf.parse(())?;
         match length.0 {
             0 => Ok(TimeSpan::new(false, 0, Clock::new(0, 0, 0), 0)),
-            8 => {
-                let sign: RawInt<u8> = buf.parse(())?;
-                let days: RawInt<LeU32> = buf.parse(())?;
-                Ok(TimeSpan::new(sign.0 == 1, days.0, buf.parse(())?, 0))
+            8 if buf.len() >= 8 => {
+                let is_negative = eat_sign(buf);
+                Ok(TimeSpan::new(is_negative, eat_u32(buf), eat_clock(buf), 0))
             }
-            12 => {
-                let mut rest = buf.rest();
-                let sign: RawInt<u8> = rest.parse(())?;
-                let days: RawInt<LeU32> = rest.parse(())?;
-                let clock = rest.parse(())?;
-                let micros: RawInt<LeU32> = rest.parse(())?;
-                *buf = rest;
-                Ok(TimeSpan::new(sign.0 == 1, days.0, clock, micros.0))
+            12 if buf.len() >= 12 => {
+                let is_negative = eat_sign(buf);
+                Ok(TimeSpan::new(is_negative, eat_u32(buf), eat_clock(buf), eat_u32(buf)))
             }
+            8 | 12 => Err(FaultOf::UnexpectedEof),
             _ => Err(FaultOf::InvalidData("Invalid temporal length")),
         }
     }

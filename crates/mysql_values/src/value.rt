@@ -5,11 +5,13 @@ ghost use Rattle.std.specs.Prelude.{◌≡◌};
 use crate::temporal::{Clock, DateTime, Day, TimeSpan};
 use mysql_wire::{BytesRepr, IntRepr, LeU32, LeU64, LenEnc, MySerialize};
 use std::alloc::AllocError;
+use std::fmt;
+use std::fmt::Debug;
 
 /// A value that a statement is executed with, or that a row holds.
 ///
 /// Equality of floats is that of their bits.
-#[derive(PartialEq, Debug, Drop)]
+#[derive(PartialEq, Drop)]
 pub enum Value {
     /// No value.
     NULL,
@@ -55,6 +57,12 @@ impl Value {
                 u64::from(TimeSpan::new(*is_negative, *days, clock, *micros).len())
             }
         }
+    }
+}
+
+impl Debug for Value {
+    fn fmt<W: fmt::Write>(&self, f: &mut fmt::Formatter<W>) -> fmt::Result {
+        self.as_ref().fmt(f)
     }
 }
 

@@ -89,7 +89,8 @@ ghost use Rattle.mysql_values.specs.Value.{Bytes};
 ghost use Rattle.mysql_values.specs.ValueDeserializer.{has_bytes};
 
 /// A copy of the bytes. Where there is none, it takes no memory.
-fn copied(alloc: Global, bytes: &[u8]) -> Result<Vec<u8>, AllocError>
+#[inline(always)]
+pub(crate) fn copied(alloc: Global, bytes: &[u8]) -> Result<Vec<u8>, AllocError>
     ensures value { IfOk result (λ copy. copy.items ≡ bytes.now) }
     ensures memory { IfErr result (λ _. IsTrue (has_bytes (Bytes bytes.now))) }
 {
