@@ -9,4 +9,5 @@ pub mod SentChangeAgain
 pub mod AsSent
 pub mod StateString
 pub mod BytesExact
+pub mod There
 pub mod AsSentRef

@@ -23,9 +23,13 @@ column_meta_fields = do
 unfoldable pub column_meta : Codec (Unit {0}) ColumnMeta
 column_meta = packet column_meta_fields (λ m. refl)
 
+-- how many bytes the names have
+abbrev pub names_len : ColumnMeta → ℕ
+names_len m = length m.schema + length m.table + length m.org_table + length m.name + length m.org_name
+
 -- whether a name has any byte
 abbrev pub has_a_name : ColumnMeta → Bool
-has_a_name m = is_any (length m.schema + length m.table + length m.org_table + length m.name + length m.org_name)
+has_a_name m = is_any (names_len m)
 
 -- whether names are read, and one has any byte: the bytes are copied
 abbrev pub reads_a_name : Reading ColumnMeta → Bool

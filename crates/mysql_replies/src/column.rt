@@ -7,7 +7,7 @@ ghost use Rattle.mysql_replies.specs.Column as spec;
 ghost use Rattle.mysql_replies.specs.ColumnNames.{has_a_name};
 
 use crate::column_fields::ColumnFields;
-use crate::column_names::{ColumnMeta, ColumnNames, borrowed};
+use crate::column_names::{ColumnNames, Names};
 use bstr::ByteSlice;
 use mysql_wire::{
     AnyWidth, ColumnFlags, ColumnType, Const, ConstBytes, ConstBytesValue, ConstFault, ConstU8,
@@ -63,15 +63,15 @@ pub struct Column {
 /// The column of these names and fields, which copies the names.
 pub(crate) fn named(
     alloc: Global,
-    meta: &ColumnMeta<'_>,
+    names: &Names<'_>,
     fields: ColumnFields,
 ) -> Result<Column, AllocError>
-    ensures value { IfOk result (λ column. (column.meta ≡ meta.now) × (column.fields ≡ fields)) }
-    ensures memory { OnErr result (IsTrue (has_a_name meta.now)) }
+    ensures value { IfOk result (λ column. (column.meta ≡ names.now) × (column.fields ≡ fields)) }
+    ensures memory { OnErr result (IsTrue (has_a_name names.now)) }
 {
     Ok(Column {
         catalog: ConstBytes::new(),
-        meta: ColumnNames::of(alloc, meta)?,
+        meta: ColumnNames::of(alloc, names)?,
         fields,
     })
 }
@@ -100,55 +100,55 @@ impl Column {
     pub fn with_schema(self, alloc: Global, schema: &[u8]) -> Result<Column, AllocError>
         ensures value { IfOk result (λ column. column ≡ spec.with_schema self schema.now) }
     {
-        let meta = ColumnMeta {
-            schema: borrowed(schema),
-            ..self.meta.meta()
+        let names = Names {
+            schema,
+            ..self.meta.names()
         };
-        named(alloc, &meta, self.fields)
+        named(alloc, &names, self.fields)
     }
 
     /// The column with this name of the table, or of its alias. Where the copy is refused, the column is given up.
     pub fn with_table(self, alloc: Global, table: &[u8]) -> Result<Column, AllocError>
         ensures value { IfOk result (λ column. column ≡ spec.with_table self table.now) }
     {
-        let meta = ColumnMeta {
-            table: borrowed(table),
-            ..self.meta.meta()
+        let names = Names {
+            table,
+            ..self.meta.names()
         };
-        named(alloc, &meta, self.fields)
+        named(alloc, &names, self.fields)
     }
 
     /// The column with this name of the table itself. Where the copy is refused, the column is given up.
     pub fn with_org_table(self, alloc: Global, org_table: &[u8]) -> Result<Column, AllocError>
         ensures value { IfOk result (λ column. column ≡ spec.with_org_table self org_table.now) }
     {
-        let meta = ColumnMeta {
-            org_table: borrowed(org_table),
-            ..self.meta.meta()
+        let names = Names {
+            org_table,
+            ..self.meta.names()
         };
-        named(alloc, &meta, self.fields)
+        named(alloc, &names, self.fields)
     }
 
     /// The column with this name of the column, or of its alias. Where the copy is refused, the column is given up.
     pub fn with_name(self, alloc: Global, name: &[u8]) -> Result<Column, AllocError>
         ensures value { IfOk result (λ column. column ≡ spec.with_name self name.now) }
     {
-        let meta = ColumnMeta {
-            name: borrowed(name),
-            ..self.meta.meta()
+        let names = Names {
+            name,
+            ..self.meta.names()
         };
-        named(alloc, &meta, self.fields)
+        named(alloc, &names, self.fields)
     }
 
     /// The column with this name of the column itself. Where the copy is refused, the column is given up.
     pub fn with_org_name(self, alloc: Global, org_name: &[u8]) -> Result<Column, AllocError>
         ensures value { IfOk result (λ column. column ≡ spec.with_org_name self org_name.now) }
     {
-        let meta = ColumnMeta {
-            org_name: borrowed(org_name),
-            ..self.meta.meta()
+        let names = Names {
+            org_name,
+            ..self.meta.names()
         };
-        named(alloc, &meta, self.fields)
+        named(alloc, &names, self.fields)
     }
 
     /// The column with these flags.

@@ -1,10 +1,11 @@
 //! The fields of a column that have fixed lengths.
-#![tactic(auto, using(mysql_wire::proofs::Blocks::blocks), unfolding(crate::specs::ColumnFields::column_fields))]
+#![tactic(auto, using(crate::proofs::There::blocks_there), unfolding(crate::specs::ColumnFields::column_fields))]
 
 ghost use Rattle.std.specs.Prelude.{◌≡◌, Some};
 ghost use Rattle.mysql_wire.specs.Form.{size-block};
 ghost use Rattle.mysql_replies.specs.ColumnFields as spec;
 
+use crate::numbers::{take_u8, take_u16, take_u32};
 use mysql_wire::{
     ColumnFlags, ColumnType, Const, ConstFault, ConstU8, FaultOf, Fixed, LeU16, LeU32,
     MyDeserialize, ParseBuf, Parts, RawInt, Sink, Skip, parts,
@@ -63,14 +64,14 @@ impl<'de> MyDeserialize<'de> for ColumnFields {
     ghost form = { spec.column_fields.form };
 
     fn deserialize<'s>(_ctx: (), buf: &mut ParseBuf<'de>) -> Result<Self, FaultOf<'s>> {
-        let mut fields: ParseBuf<'de> = buf.parse(13)?;
+        let mut fields = ParseBuf::new(buf.alloc(), buf.eat(13));
         Ok(ColumnFields {
             fixed_length_fields_len: fields.parse_unchecked(())?,
-            character_set: fields.parse_unchecked(())?,
-            column_length: fields.parse_unchecked(())?,
+            character_set: take_u16(&mut fields),
+            column_length: take_u32(&mut fields),
             column_type: fields.parse_unchecked(())?,
             flags: fields.parse_unchecked(())?,
-            decimals: fields.parse_unchecked(())?,
+            decimals: take_u8(&mut fields),
             filler: fields.parse_unchecked(())?,
         })
     }

@@ -1,11 +1,15 @@
 //! The names of a column, on memory of their own.
 #![tactic(auto, using(crate::proofs::NamesAfter::names), unfolding(crate::specs::ColumnNames::column_meta))]
 
-ghost use Rattle.std.specs.Prelude.{◌≡◌, None, refl, IfOk, OnErr, IsTrue};
+ghost use Rattle.std.specs.Prelude.{false, ◌≡◌, ◌≤◌, ◌+◌, ◌++◌, None, length, refl, vec_capacity, vec_len, Ok, IfOk, OnErr, IsTrue, MatchResult};
+ghost use Rattle.mysql_wire.specs.LenEnc.{lenenc_string};
+ghost use Rattle.mysql_wire.specs.Reading.{Answers, Faults};
+ghost use Rattle.mysql_wire.specs.Writing.{saturated};
 ghost use Rattle.mysql_replies.specs.ColumnNames as spec;
 
 use mysql_wire::{
-    AnyWidth, EofBytes, FaultOf, LenEnc, MyDeserialize, ParseBuf, Parts, RawBytes, Sink, parts,
+    AnyWidth, BytesRepr, EofBytes, FaultOf, LenEnc, MyDeserialize, ParseBuf, Parts, RawBytes, Sink,
+    parts,
 };
 use std::alloc::{AllocError, Global};
 use std::borrow::CowSlice;
@@ -14,38 +18,13 @@ use std::fmt::Debug;
 use std::marker::Model;
 
 /// The names of a column, each a length-encoded string.
-#[derive(Clone, Debug, PartialEq, Eq, Drop)]
+#[derive(Debug, PartialEq, Eq, Drop)]
 pub(crate) struct ColumnMeta<'a> {
     pub(crate) schema: RawBytes<'a, LenEnc>,
     pub(crate) table: RawBytes<'a, LenEnc>,
     pub(crate) org_table: RawBytes<'a, LenEnc>,
     pub(crate) name: RawBytes<'a, LenEnc>,
     pub(crate) org_name: RawBytes<'a, LenEnc>,
-}
-
-impl<'de> MyDeserialize<'de> for ColumnMeta<'de> {
-    const SIZE: Option<usize> = None;
-
-    type Size = AnyWidth;
-
-    type Ctx = ();
-
-    ghost form = { spec.column_meta.form };
-
-    fn deserialize<'s>(_ctx: (), buf: &mut ParseBuf<'de>) -> Result<Self, FaultOf<'s>> {
-        let mut rest = buf.rest();
-        let meta = ColumnMeta {
-            schema: rest.parse(())?,
-            table: rest.parse(())?,
-            org_table: rest.parse(())?,
-            name: rest.parse(())?,
-            org_name: rest.parse(())?,
-        };
-        *buf = rest;
-        Ok(meta)
-    }
-
-    ghost size_is = { λ _. unfold spec.column_meta in refl };
 }
 
 impl Parts for ColumnMeta<'_> {
@@ -61,6 +40,68 @@ impl Parts for ColumnMeta<'_> {
             self.org_name
         ));
     }
+}
+
+/// The names of a column, where they lie. In a clause they are a column's names.
+#[derive(Drop)]
+pub(crate) struct Names<'a> {
+    pub(crate) schema: &'a [u8],
+    pub(crate) table: &'a [u8],
+    pub(crate) org_table: &'a [u8],
+    pub(crate) name: &'a [u8],
+    pub(crate) org_name: &'a [u8],
+}
+
+impl<'a> Model for Names<'a> {
+    ghost use Rattle.mysql_replies.specs.declared.column_names.ColumnMeta.{ColumnMeta};
+    ghost use Rattle.mysql_replies.specs.ColumnNames.{meta_of};
+
+    ghost Value = { ColumnMeta };
+
+    ghost view = { λ n. meta_of n.schema.now n.table.now n.org_table.now n.name.now n.org_name.now };
+}
+
+impl Names<'_> {
+    /// How many bytes the names have, or `usize::MAX` where that is less.
+    #[inline(always)]
+    #[tactic(auto, unfolding(mysql_wire::specs::Writing::saturated))]
+    fn len(&self) -> usize
+        ensures value { result ≡ saturated (spec.names_len self.now) }
+    {
+        self.schema
+            .len()
+            .saturating_add(self.table.len())
+            .saturating_add(self.org_table.len())
+            .saturating_add(self.name.len())
+            .saturating_add(self.org_name.len())
+    }
+}
+
+/// Reads a length-encoded string where it lies.
+#[inline(always)]
+fn read_name<'s, 'de>(buf: &mut ParseBuf<'de>) -> Result<&'de [u8], FaultOf<'s>>
+    ensures value { MatchResult result (λ name. lenenc_string.reads buf.old ≡ Ok (name.now, buf.new)) (λ fault. Faults false fault (lenenc_string.reads buf.old)) }
+{
+    let mut name = <LenEnc as BytesRepr>::deserialize((), buf)?;
+    Ok(name.eat_all())
+}
+
+/// Reads five length-encoded strings. After a fault the bytes are as they were.
+#[inline(always)]
+pub(crate) fn read_names<'s, 'de>(buf: &mut ParseBuf<'de>) -> Result<Names<'de>, FaultOf<'s>>
+    ensures value { Answers false result buf.new ((spec.column_meta.form tt).reads buf.old) }
+    ensures err { OnErr result (buf.new ≡ buf.old) }
+{
+    let mut rest = buf.rest();
+    let names = Names {
+        schema: read_name(&mut rest)?,
+        table: read_name(&mut rest)?,
+        org_table: read_name(&mut rest)?,
+        name: read_name(&mut rest)?,
+        org_name: read_name(&mut rest)?,
+    };
+    *buf = rest;
+    Ok(names)
 }
 
 /// The names of a column after one another, in memory that is taken at once: each begins where the one before it ends,
@@ -87,36 +128,39 @@ impl Model for ColumnNames {
 }
 
 /// A name that stays where it is.
-pub(crate) fn borrowed(name: &[u8]) -> RawBytes<'_, LenEnc>
+fn borrowed(name: &[u8]) -> RawBytes<'_, LenEnc>
     ensures value { result ≡ name.now }
 {
     RawBytes::new(CowSlice::Borrowed(name))
 }
 
+/// Puts a name after the others, for which there is memory, and answers where it ends.
+#[inline(always)]
+fn put(name: &[u8], bytes: &mut Vec<u8>) -> usize
+    requires { vec_len bytes.old + length name.now ≤ vec_capacity bytes.old }
+    ensures items { bytes.new.items ≡ bytes.old.items ++ name.now }
+    ensures end { result ≡ length bytes.new.items }
+    ensures len { vec_len bytes.new ≡ vec_len bytes.old + length name.now }
+    ensures capacity { vec_capacity bytes.old ≤ vec_capacity bytes.new }
+{
+    bytes.extend_from_slice(name).unwrap();
+    bytes.len()
+}
+
 impl ColumnNames {
     /// A copy of these names.
-    pub(crate) fn of(alloc: Global, meta: &ColumnMeta<'_>) -> Result<Self, AllocError>
-        ensures value { IfOk result (λ names. names ≡ meta.now) }
-        ensures err { OnErr result (IsTrue (spec.has_a_name meta.now)) }
+    #[tactic(auto, using(crate::proofs::NamesAfter::names), unfolding(mysql_wire::specs::Writing::saturated))]
+    pub(crate) fn of(alloc: Global, names: &Names<'_>) -> Result<Self, AllocError>
+        ensures value { IfOk result (λ copy. copy ≡ names.now) }
+        ensures err { OnErr result (IsTrue (spec.has_a_name names.now)) }
     {
-        let len = meta
-            .schema
-            .as_bytes()
-            .len()
-            .saturating_add(meta.table.as_bytes().len())
-            .saturating_add(meta.org_table.as_bytes().len())
-            .saturating_add(meta.name.as_bytes().len())
-            .saturating_add(meta.org_name.as_bytes().len());
-        let mut bytes = Vec::with_capacity(alloc, len)?;
-        bytes.extend_from_slice(meta.schema.as_bytes())?;
-        let schema_end = bytes.len();
-        bytes.extend_from_slice(meta.table.as_bytes())?;
-        let table_end = bytes.len();
-        bytes.extend_from_slice(meta.org_table.as_bytes())?;
-        let org_table_end = bytes.len();
-        bytes.extend_from_slice(meta.name.as_bytes())?;
-        let name_end = bytes.len();
-        bytes.extend_from_slice(meta.org_name.as_bytes())?;
+        // (no buffer has capacity for `usize::MAX` bytes)
+        let mut bytes = Vec::with_capacity(alloc, names.len())?;
+        let schema_end = put(names.schema, &mut bytes);
+        let table_end = put(names.table, &mut bytes);
+        let org_table_end = put(names.org_table, &mut bytes);
+        let name_end = put(names.name, &mut bytes);
+        put(names.org_name, &mut bytes);
         Ok(ColumnNames {
             bytes: RawBytes::new(CowSlice::Owned(bytes)),
             schema_end,
@@ -127,6 +171,19 @@ impl ColumnNames {
     }
 
     /// The names, where they lie.
+    pub(crate) fn names(&self) -> Names<'_>
+        ensures value { result ≡ self.now }
+    {
+        Names {
+            schema: self.schema(),
+            table: self.table(),
+            org_table: self.org_table(),
+            name: self.name(),
+            org_name: self.org_name(),
+        }
+    }
+
+    /// The names as they are written.
     pub(crate) fn meta(&self) -> ColumnMeta<'_>
         ensures value { result ≡ self.now }
     {
@@ -192,7 +249,11 @@ impl PartialEq for ColumnNames {
     ghost laws = { laws-law };
 
     fn eq(&self, other: &Self) -> bool {
-        self.meta() == other.meta()
+        self.schema() == other.schema()
+            && self.table() == other.table()
+            && self.org_table() == other.org_table()
+            && self.name() == other.name()
+            && self.org_name() == other.org_name()
     }
 }
 
@@ -220,8 +281,11 @@ impl<'de> MyDeserialize<'de> for ColumnNames {
     ghost form = { spec.column_meta.form };
 
     fn deserialize<'s>(_ctx: (), buf: &mut ParseBuf<'de>) -> Result<Self, FaultOf<'s>> {
-        let meta: ColumnMeta<'de> = buf.parse(())?;
-        Ok(ColumnNames::of(buf.alloc(), &meta)?)
+        let mut rest = buf.rest();
+        let names = read_names(&mut rest)?;
+        let copied = ColumnNames::of(buf.alloc(), &names)?;
+        *buf = rest;
+        Ok(copied)
     }
 
     ghost size_is = { λ _. unfold spec.column_meta in refl };

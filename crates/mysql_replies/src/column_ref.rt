@@ -1,60 +1,16 @@
 //! A column of a result that stays in its packet.
 #![tactic(auto, using(mysql_wire::proofs::Packets::packets), unfolding(crate::specs::Column::column, crate::specs::ColumnNames::column_meta))]
 
-ghost use Rattle.std.specs.Prelude.{◌≡◌, None, refl, IfOk, IfErr, OnErr, IsTrue, false};
-ghost use Rattle.mysql_wire.specs.Reading.{Answers};
+ghost use Rattle.std.specs.Prelude.{◌≡◌, None, refl, IfOk, IfErr, IsTrue};
 ghost use Rattle.mysql_replies.specs.Column as spec;
-ghost use Rattle.mysql_replies.specs.ColumnNames.{column_meta, has_a_name};
+ghost use Rattle.mysql_replies.specs.ColumnNames.{has_a_name};
 
 use crate::column::{Column, ColumnDefinitionCatalog, named};
 use crate::column_fields::ColumnFields;
-use crate::column_names::{ColumnMeta, borrowed};
-use mysql_wire::{
-    AnyWidth, BytesRepr, ColumnFlags, ColumnType, FaultOf, LenEnc, MyDeserialize, ParseBuf,
-};
+use crate::column_names::{Names, read_names};
+use mysql_wire::{AnyWidth, ColumnFlags, ColumnType, FaultOf, MyDeserialize, ParseBuf};
 use std::alloc::{AllocError, Global};
 use std::marker::Model;
-
-/// The names of a column, where they lie. In a clause they are a column's names.
-#[derive(Drop)]
-struct Names<'a> {
-    schema: &'a [u8],
-    table: &'a [u8],
-    org_table: &'a [u8],
-    name: &'a [u8],
-    org_name: &'a [u8],
-}
-
-impl<'a> Model for Names<'a> {
-    ghost use Rattle.mysql_replies.specs.declared.column_names.ColumnMeta.{ColumnMeta};
-    ghost use Rattle.mysql_replies.specs.ColumnNames.{meta_of};
-
-    ghost Value = { ColumnMeta };
-
-    ghost view = { λ n. meta_of n.schema.now n.table.now n.org_table.now n.name.now n.org_name.now };
-}
-
-/// Reads five length-encoded strings. After a fault the bytes are as they were.
-#[inline(always)]
-fn read_names<'s, 'de>(buf: &mut ParseBuf<'de>) -> Result<Names<'de>, FaultOf<'s>>
-    ensures value { Answers false result buf.new ((column_meta.form tt).reads buf.old) }
-    ensures err { OnErr result (buf.new ≡ buf.old) }
-{
-    let mut rest = buf.rest();
-    let mut schema: ParseBuf<'de> = <LenEnc as BytesRepr>::deserialize((), &mut rest)?;
-    let mut table: ParseBuf<'de> = <LenEnc as BytesRepr>::deserialize((), &mut rest)?;
-    let mut org_table: ParseBuf<'de> = <LenEnc as BytesRepr>::deserialize((), &mut rest)?;
-    let mut name: ParseBuf<'de> = <LenEnc as BytesRepr>::deserialize((), &mut rest)?;
-    let mut org_name: ParseBuf<'de> = <LenEnc as BytesRepr>::deserialize((), &mut rest)?;
-    *buf = rest;
-    Ok(Names {
-        schema: schema.eat_all(),
-        table: table.eat_all(),
-        org_table: org_table.eat_all(),
-        name: name.eat_all(),
-        org_name: org_name.eat_all(),
-    })
-}
 
 /// A column of a result (`Protocol::ColumnDefinition41`) whose names stay in the packet: [`Column`] without memory.
 ///
@@ -159,14 +115,7 @@ impl<'a> ColumnRef<'a> {
         ensures value { IfOk result (λ column. column ≡ self.now) }
         ensures memory { IfErr result (λ _. IsTrue (has_a_name (spec.names_of self.now))) }
     {
-        let meta = ColumnMeta {
-            schema: borrowed(self.names.schema),
-            table: borrowed(self.names.table),
-            org_table: borrowed(self.names.org_table),
-            name: borrowed(self.names.name),
-            org_name: borrowed(self.names.org_name),
-        };
-        named(alloc, &meta, self.fields.copied())
+        named(alloc, &self.names, self.fields.copied())
     }
 }
 

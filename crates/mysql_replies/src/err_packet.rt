@@ -5,6 +5,7 @@ ghost use Rattle.std.specs.Prelude.{◌≡◌, None, Some, refl, IsTrue};
 ghost use Rattle.mysql_replies.specs.ErrPacket as spec;
 ghost use Rattle.mysql_replies.specs.declared.err_packet.ErrPacket.TheVariants as err;
 
+use crate::numbers::take_u16;
 use crate::progress_report::ProgressReport;
 use crate::server_error::ServerError;
 use bitflags::Flags;
@@ -102,7 +103,7 @@ impl<'de> MyDeserialize<'de> for ErrPacket<'de> {
     ) -> Result<Self, FaultOf<'s>> {
         let mut head: ParseBuf<'de> = buf.parse(3)?;
         let _header: ErrPacketHeader = head.parse_unchecked(())?;
-        let code: RawInt<LeU16> = head.parse_unchecked(())?;
+        let code = take_u16(&mut head);
         let takes_progress = capabilities.contains(CapabilityFlags::CLIENT_PROGRESS_OBSOLETE);
         if takes_progress && code.0 == PROGRESS_CODE {
             return Ok(ErrPacket::Progress(buf.parse(())?));

@@ -6,6 +6,7 @@ ghost use Rattle.mysql_replies.specs.ErrPacket as spec;
 ghost use Rattle.mysql_replies.specs.declared.err_packet.ErrPacket.TheVariants as err;
 
 use crate::err_packet::{ErrPacket, ErrPacketHeader, PROGRESS_CODE};
+use crate::numbers::take_u16;
 use crate::progress_report_ref::ProgressReportRef;
 use crate::server_error_ref::ServerErrorRef;
 use bitflags::Flags;
@@ -104,7 +105,7 @@ impl<'de> MyDeserialize<'de> for ErrPacketRef<'de> {
     ) -> Result<Self, FaultOf<'s>> {
         let mut head: ParseBuf<'de> = buf.parse(3)?;
         let _header: ErrPacketHeader = head.parse_unchecked(())?;
-        let code: RawInt<LeU16> = head.parse_unchecked(())?;
+        let code = take_u16(&mut head);
         let takes_progress = capabilities.contains(CapabilityFlags::CLIENT_PROGRESS_OBSOLETE);
         let answer = if takes_progress && code.0 == PROGRESS_CODE {
             Answer::Progress(buf.parse(())?)

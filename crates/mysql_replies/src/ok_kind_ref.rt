@@ -4,6 +4,7 @@ ghost use Rattle.std.specs.Prelude.{false, ◌≡◌, [], OnErr};
 ghost use Rattle.mysql_wire.specs.Reading.{Answers};
 ghost use Rattle.mysql_replies.specs.OkKind.{ok_end, ok_tail, size-ok_tail};
 
+use crate::numbers::take_u16;
 use crate::ok_kind::{
     CommonOkPacket, NetworkStreamTerminator, OkPacketBody, OkPacketKind, OldEofPacket,
     ResultSetTerminator,
@@ -158,7 +159,7 @@ fn parse_end<'s, 'de>(
     let mut rest = buf.rest();
     let mut numbers: ParseBuf<'de> = rest.parse(4)?;
     let status_flags: Const<StatusFlags, LeU16> = numbers.parse_unchecked(())?;
-    let warnings: RawInt<LeU16> = numbers.parse_unchecked(())?;
+    let warnings = take_u16(&mut numbers);
     let tail: OkTailRef<'de> = rest.parse((capabilities, status_flags.0))?;
     *buf = rest;
     Ok(OkPacketBodyRef {
@@ -192,7 +193,7 @@ impl OkPacketRefKind for OldEofPacket {
         buf: &mut ParseBuf<'de>,
     ) -> Result<OkPacketBodyRef<'de>, FaultOf<'s>> {
         let mut numbers: ParseBuf<'de> = buf.parse(4)?;
-        let warnings: RawInt<LeU16> = numbers.parse_unchecked(())?;
+        let warnings = take_u16(&mut numbers);
         let status_flags: Const<StatusFlags, LeU16> = numbers.parse_unchecked(())?;
         Ok(OkPacketBodyRef {
             affected_rows: 0,

@@ -6,6 +6,7 @@ ghost use Rattle.std.specs.Cow.{cow_slice_items};
 ghost use Rattle.mysql_wire.specs.Text.{GivesText};
 ghost use Rattle.mysql_replies.specs.ProgressReport as spec;
 
+use crate::progress_report_ref::ProgressReportRef;
 use bstr::BStr;
 use mysql_wire::{
     AnyWidth, FaultOf, LeU24, LenEnc, MyDeserialize, ParseBuf, Parts, RawBytes, RawInt, Sink, parts,
@@ -103,14 +104,8 @@ impl<'de> MyDeserialize<'de> for ProgressReport<'de> {
     ghost form = { spec.progress_report.form };
 
     fn deserialize<'s>(_ctx: (), buf: &mut ParseBuf<'de>) -> Result<Self, FaultOf<'s>> {
-        let mut numbers: ParseBuf<'de> = buf.parse(6)?;
-        let _count: RawInt<u8> = numbers.parse_unchecked(())?;
-        Ok(ProgressReport {
-            stage: numbers.parse_unchecked(())?,
-            max_stage: numbers.parse_unchecked(())?,
-            progress: numbers.parse_unchecked(())?,
-            stage_info: buf.parse(())?,
-        })
+        let report: ProgressReportRef<'de> = buf.parse(())?;
+        Ok(report.to_report())
     }
 
     ghost size_is = { λ _. unfold spec.progress_report in refl };

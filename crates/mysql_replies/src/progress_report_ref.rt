@@ -4,6 +4,7 @@
 ghost use Rattle.std.specs.Prelude.{◌≡◌, None, refl};
 ghost use Rattle.mysql_replies.specs.ProgressReport as spec;
 
+use crate::numbers::{take_u8, take_u24};
 use crate::progress_report::ProgressReport;
 use mysql_wire::{AnyWidth, BytesRepr, FaultOf, LeU24, LenEnc, MyDeserialize, ParseBuf, RawInt};
 use std::borrow::CowSlice;
@@ -87,10 +88,10 @@ impl<'de> MyDeserialize<'de> for ProgressReportRef<'de> {
     #[inline]
     fn deserialize<'s>(_ctx: (), buf: &mut ParseBuf<'de>) -> Result<Self, FaultOf<'s>> {
         let mut numbers: ParseBuf<'de> = buf.parse(6)?;
-        let _count: RawInt<u8> = numbers.parse_unchecked(())?;
-        let stage = numbers.parse_unchecked(())?;
-        let max_stage = numbers.parse_unchecked(())?;
-        let progress = numbers.parse_unchecked(())?;
+        let _count = take_u8(&mut numbers);
+        let stage = take_u8(&mut numbers);
+        let max_stage = take_u8(&mut numbers);
+        let progress = take_u24(&mut numbers);
         let mut stage_info: ParseBuf<'de> = <LenEnc as BytesRepr>::deserialize((), buf)?;
         Ok(ProgressReportRef {
             stage,

@@ -72,11 +72,12 @@ impl<'de> MyDeserialize<'de> for SqlState {
 
     ghost form = { spec.sql_state.form };
 
+    #[tactic(auto, using(crate::proofs::There::blocks_there), unfolding(crate::specs::SqlState::sql_state))]
     fn deserialize<'s>(_ctx: (), buf: &mut ParseBuf<'de>) -> Result<Self, FaultOf<'s>> {
-        let mut fields: ParseBuf<'de> = buf.parse(6)?;
+        let mut fields = ParseBuf::new(buf.alloc(), buf.eat(6));
         Ok(SqlState {
             marker: fields.parse_unchecked(())?,
-            state: fields.parse_unchecked(())?,
+            state: fields.eat_array(),
         })
     }
 

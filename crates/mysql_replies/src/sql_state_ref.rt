@@ -56,12 +56,12 @@ impl<'de> MyDeserialize<'de> for SqlStateRef<'de> {
     ghost form = { spec.sql_state.form };
 
     #[inline]
+    #[tactic(auto, using(crate::proofs::There::blocks_there, crate::proofs::BytesExact::exact_bytes), unfolding(crate::specs::SqlState::sql_state))]
     fn deserialize<'s>(_ctx: (), buf: &mut ParseBuf<'de>) -> Result<Self, FaultOf<'s>> {
-        let mut fields: ParseBuf<'de> = buf.parse(6)?;
+        let mut fields = ParseBuf::new(buf.alloc(), buf.eat(6));
         let _marker: SqlStateMarker = fields.parse_unchecked(())?;
-        let mut state: ParseBuf<'de> = fields.parse(5)?;
         Ok(SqlStateRef {
-            state: <&[u8; 5]>::try_from(state.eat_all()).unwrap(),
+            state: <&[u8; 5]>::try_from(fields.eat(5)).unwrap(),
         })
     }
 
