@@ -1,25 +1,25 @@
-//! A builder of bulk requests: its settings, and rows that are handed over.
+//! A builder of bulk requests: its settings, and its requests.
 //!
-//! Types that are declared for the columns stand in `builder/columns.rt`, rows that are borrowed in `builder/borrowed.rt`,
-//! runs over rows and over parameters in `run.rt` and `params_run.rt`, and a whole run in `whole_run.rt`.
+//! Types that are declared for the columns stand in `builder/columns.rt`, rows that are handed over in `builder/owned.rt`,
+//! rows that are borrowed in `builder/borrowed.rt`, runs over rows and over parameters in `run.rt` and `params_run.rt`,
+//! and a whole run in `whole_run.rt`.
 
 ghost use Rattle.std.specs.Prelude.{◌≡◌, ◌≢◌, ◌+◌, ◌≤◌, ◌-◌, ◌↔◌, ◌++◌, ◌∷◌, [], length, map, IsTrue, MatchOption, IfSome, Some, None, true, false, sum_by, List, ℕ};
 ghost use Rattle.std.specs.Option.{option_copied};
 ghost use Rattle.mysql_cuts.specs.Cut.{PartFits};
 ghost use Rattle.mysql_values.specs.Value.{Content};
-ghost use Rattle.mysql_bulk.specs.Builder.{TakesArity, RowFits, Adds, AddsRow, AddsParams, Builds, IsConsistent};
+ghost use Rattle.mysql_bulk.specs.Builder.{TakesArity, RowFits, Builds, IsConsistent};
 ghost use Rattle.mysql_bulk.specs.BuilderEq.{columns_eq, rows_eq};
 ghost use Rattle.mysql_bulk.specs.Request.{request_flags};
 ghost use Rattle.mysql_bulk.specs.Row.{row_size, rows_packing};
 
-use crate::column_types::join_types;
-use crate::error::{BulkExecuteRequestBuilderError, BulkExecuteRequestError};
+use crate::error::BulkExecuteRequestError;
 use crate::request::ComStmtBulkExecuteRequest;
-use crate::row::{append_row, find_capacity, row_len};
+use crate::row::row_len;
 use crate::row_value::RowValue;
 use crate::size::request_len;
 use mysql_cuts::BulkRule;
-use mysql_values::{ParamType, Params, Value};
+use mysql_values::{ParamType, Value};
 use mysql_wire::{Flags, StmtBulkExecuteFlags};
 use std::alloc::{AllocError, Global};
 use std::marker::Model;
@@ -27,6 +27,7 @@ use std::mem;
 
 mod borrowed;
 mod columns;
+mod owned;
 
 /// Collects rows for requests of a bulk execution, none of which is past the limit.
 ///
@@ -315,81 +316,6 @@ impl<'a> ComStmtBulkExecuteRequestBuilder<'a> {
             self.size,
             row,
         )
-    }
-
-    /// Offers a row, and answers one that does not fit with those that wait.
-    // (inlined with `size_after`: a loop over rows is faster then)
-    #[inline(always)]
-    pub(crate) fn add(
-        &mut self,
-        row: Vec<Value>,
-    ) -> Result<Option<Vec<Value>>, BulkExecuteRequestError>
-        ensures { Adds self.old row result self.new }
-    {
-        if !self.takes_arity(row.len()) {
-            return Err(BulkExecuteRequestError::MixedArity);
-        }
-        if !self.takes_types(row.as_slice()) {
-            return Err(BulkExecuteRequestError::MixedTypes(row));
-        }
-        let Some(size) = self.size_after(row.as_slice()) else {
-            return if self.has_rows() {
-                Ok(Some(row))
-            } else {
-                Err(BulkExecuteRequestError::RowTooLarge(row))
-            };
-        };
-        let arity = row.len();
-        let Some(count) = self.count.checked_add(1) else {
-            return Err(BulkExecuteRequestError::MemoryRow(row));
-        };
-        let Ok(()) = find_capacity(&mut self.values, &mut self.types, self.types_due, arity) else {
-            return Err(BulkExecuteRequestError::MemoryRow(row));
-        };
-        join_types(
-            &mut self.types,
-            self.types_due,
-            self.columns,
-            row.as_slice(),
-        );
-        append_row(&mut self.values, row);
-        self.size = size;
-        self.count = count;
-        self.arity = Some(arity);
-        Ok(None)
-    }
-
-    /// Offers a row. Where it fits with the rows that wait, it waits too, and the answer is `Ok(None)`.
-    ///
-    /// A row that does not fit with those that wait is handed back as `Ok(Some(row))`; a request is built then. Of the
-    /// refusals, `MixedArity` drops the row; `MixedTypes` (a declared type does not spell one of its values),
-    /// `RowTooLarge` (it does not fit where nothing waits) and `MemoryRow` hand it back. Where the row does not wait, the
-    /// builder stays as it was.
-    pub fn add_row(
-        &mut self,
-        row: Vec<Value>,
-    ) -> Result<Option<Vec<Value>>, BulkExecuteRequestBuilderError>
-        ensures { AddsRow self.old row result self.new }
-    {
-        match self.add(row) {
-            Ok(back) => Ok(back),
-            Err(e) => Err(BulkExecuteRequestBuilderError::Request(e)),
-        }
-    }
-
-    /// Offers parameters, whose values are a row: see `add_row`. With names they are named, else positional.
-    ///
-    /// Parameters that give no row are refused as `Params`, and the builder stays as it was.
-    pub fn add_params(
-        &mut self,
-        params: Params,
-    ) -> Result<Option<Vec<Value>>, BulkExecuteRequestBuilderError>
-        ensures { AddsParams self.old params result self.new }
-    {
-        match params.into_values(self.alloc, self.names) {
-            Ok(row) => self.add_row(row),
-            Err(e) => Err(BulkExecuteRequestBuilderError::Params(e)),
-        }
     }
 
     /// The request of the waiting rows, which wait no longer. It writes exactly the bytes of rows of their sizes, which are

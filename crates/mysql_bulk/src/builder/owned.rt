@@ -1,0 +1,104 @@
+//! Rows that are handed over to a builder.
+
+ghost use Rattle.std.specs.Prelude.{◌≡◌, ◌++◌, ◌∷◌, [], IfErr, OnOk, sum_by};
+ghost use Rattle.mysql_bulk.specs.Builder.{TakesRow, RowFits, Adds, AddsRow, AddsParams, after_row};
+ghost use Rattle.mysql_bulk.specs.Row.{contents_of_row, row_size};
+
+use super::ComStmtBulkExecuteRequestBuilder;
+use crate::column_types::join_types;
+use crate::error::{BulkExecuteRequestBuilderError, BulkExecuteRequestError};
+use crate::row::{append_row, find_capacity};
+use mysql_values::{Params, Value};
+
+impl<'a> ComStmtBulkExecuteRequestBuilder<'a> {
+    /// Offers a row, and answers one that does not fit with those that wait.
+    // (inlined with `size_after`: a loop over rows is faster then)
+    #[inline(always)]
+    pub(crate) fn add(
+        &mut self,
+        row: Vec<Value>,
+    ) -> Result<Option<Vec<Value>>, BulkExecuteRequestError>
+        ensures { Adds self.old row result self.new }
+    {
+        if !self.takes_arity(row.len()) {
+            return Err(BulkExecuteRequestError::MixedArity);
+        }
+        if !self.takes_types(row.as_slice()) {
+            return Err(BulkExecuteRequestError::MixedTypes(row));
+        }
+        let Some(size) = self.size_after(row.as_slice()) else {
+            return if self.has_rows() {
+                Ok(Some(row))
+            } else {
+                Err(BulkExecuteRequestError::RowTooLarge(row))
+            };
+        };
+        match self.keep(row, size) {
+            Ok(()) => Ok(None),
+            Err(row) => Err(BulkExecuteRequestError::MemoryRow(row)),
+        }
+    }
+
+    /// Lets a row wait, which may come next and fits, and has so many bytes with those that wait. Where memory is refused,
+    /// it is handed back.
+    #[inline(always)]
+    fn keep(&mut self, row: Vec<Value>, size: u64) -> Result<(), Vec<Value>>
+        requires takes { TakesRow self.old (contents_of_row row) }
+        requires fits { RowFits self.old (contents_of_row row) }
+        requires size { size ≡ sum_by row_size (self.old.waiting ++ contents_of_row row ∷ []) }
+        ensures kept { OnOk result (self.new ≡ after_row self.old (contents_of_row row)) }
+        ensures back { IfErr result (λ back. (back ≡ row) × (self.new ≡ self.old)) }
+    {
+        let arity = row.len();
+        let Some(count) = self.count.checked_add(1) else {
+            return Err(row);
+        };
+        let Ok(()) = find_capacity(&mut self.values, &mut self.types, self.types_due, arity) else {
+            return Err(row);
+        };
+        join_types(
+            &mut self.types,
+            self.types_due,
+            self.columns,
+            row.as_slice(),
+        );
+        append_row(&mut self.values, row);
+        self.size = size;
+        self.count = count;
+        self.arity = Some(arity);
+        Ok(())
+    }
+
+    /// Offers a row. Where it fits with the rows that wait, it waits too, and the answer is `Ok(None)`.
+    ///
+    /// A row that does not fit with those that wait is handed back as `Ok(Some(row))`; a request is built then. Of the
+    /// refusals, `MixedArity` drops the row; `MixedTypes` (a declared type does not spell one of its values),
+    /// `RowTooLarge` (it does not fit where nothing waits) and `MemoryRow` hand it back. Where the row does not wait, the
+    /// builder stays as it was.
+    pub fn add_row(
+        &mut self,
+        row: Vec<Value>,
+    ) -> Result<Option<Vec<Value>>, BulkExecuteRequestBuilderError>
+        ensures { AddsRow self.old row result self.new }
+    {
+        match self.add(row) {
+            Ok(back) => Ok(back),
+            Err(e) => Err(BulkExecuteRequestBuilderError::Request(e)),
+        }
+    }
+
+    /// Offers parameters, whose values are a row: see `add_row`. With names they are named, else positional.
+    ///
+    /// Parameters that give no row are refused as `Params`, and the builder stays as it was.
+    pub fn add_params(
+        &mut self,
+        params: Params,
+    ) -> Result<Option<Vec<Value>>, BulkExecuteRequestBuilderError>
+        ensures { AddsParams self.old params result self.new }
+    {
+        match params.into_values(self.alloc, self.names) {
+            Ok(row) => self.add_row(row),
+            Err(e) => Err(BulkExecuteRequestBuilderError::Params(e)),
+        }
+    }
+}
