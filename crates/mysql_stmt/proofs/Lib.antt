@@ -21,4 +21,5 @@ pub mod RowBytes
 pub mod BinaryRowAgain
 pub mod ParamViews
 pub mod ExecutionAgain
+pub mod There
 mod WrittenExecution

@@ -5,6 +5,7 @@ ghost use Rattle.std.specs.Prelude.{◌≡◌};
 ghost use Rattle.mysql_wire.specs.Form.{size-block};
 ghost use Rattle.mysql_stmt.specs.Close as spec;
 
+use crate::numbers::take_u32;
 use mysql_wire::{
     ConstFault, ConstU8, FaultOf, Fixed, LeU32, MyDeserialize, ParseBuf, Parts, RawInt, Sink, parts,
 };
@@ -56,11 +57,13 @@ impl<'de> MyDeserialize<'de> for ComStmtClose {
 
     ghost form = { spec.close.form };
 
+    #[tactic(auto, using(crate::proofs::There::blocks_there), unfolding(crate::specs::Close::close))]
     fn deserialize<'s>(_ctx: (), buf: &mut ParseBuf<'de>) -> Result<Self, FaultOf<'s>> {
-        let mut fields: ParseBuf<'de> = buf.parse(5)?;
+        let mut fields = ParseBuf::new(buf.alloc(), buf.eat(5));
         let _header: ComStmtCloseHeader = fields.parse_unchecked(())?;
-        let stmt_id: RawInt<LeU32> = fields.parse_unchecked(())?;
-        Ok(ComStmtClose { stmt_id: stmt_id.0 })
+        Ok(ComStmtClose {
+            stmt_id: take_u32(&mut fields).0,
+        })
     }
 
     ghost size_is = { λ _. unfold spec.close in size-block 5 (spec.close_fields.form tt) };

@@ -6,6 +6,7 @@ ghost use Rattle.mysql_wire.specs.Form.{size-block};
 ghost use Rattle.mysql_stmt.specs.ExecuteHead as spec;
 
 use crate::execute::{ComStmtExecuteHeader, IterationCount};
+use crate::numbers::take_u32;
 use mysql_wire::{
     Const, ConstU8, ConstU32, CursorType, FaultOf, Fixed, LeU32, MyDeserialize, ParseBuf, Parts,
     RawInt, Sink, parts,
@@ -70,11 +71,12 @@ impl<'de> MyDeserialize<'de> for ComStmtExecuteHead {
 
     ghost form = { spec.execute_head.form };
 
+    #[tactic(auto, using(crate::proofs::There::blocks_there), unfolding(crate::specs::ExecuteHead::execute_head))]
     fn deserialize<'s>(_ctx: (), buf: &mut ParseBuf<'de>) -> Result<Self, FaultOf<'s>> {
-        let mut fields: ParseBuf<'de> = buf.parse(10)?;
+        let mut fields = ParseBuf::new(buf.alloc(), buf.eat(10));
         Ok(ComStmtExecuteHead {
             header: fields.parse_unchecked(())?,
-            stmt_id: fields.parse_unchecked(())?,
+            stmt_id: take_u32(&mut fields),
             flags: fields.parse_unchecked(())?,
             iteration_count: fields.parse_unchecked(())?,
         })

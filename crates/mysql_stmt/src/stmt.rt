@@ -5,6 +5,7 @@ ghost use Rattle.std.specs.Prelude.{◌≡◌, Some};
 ghost use Rattle.mysql_wire.specs.Form.{size-block};
 ghost use Rattle.mysql_stmt.specs.Stmt as spec;
 
+use crate::numbers::{take_u16, take_u32};
 use mysql_wire::{
     ConstFault, ConstU8, FaultOf, Fixed, LeU16, LeU32, MyDeserialize, ParseBuf, Parts, RawInt,
     Sink, Skip, parts,
@@ -53,15 +54,21 @@ impl<'de> MyDeserialize<'de> for StmtPacket {
 
     ghost form = { spec.stmt.form };
 
+    #[tactic(auto, using(crate::proofs::There::blocks_there), unfolding(crate::specs::Stmt::stmt))]
     fn deserialize<'s>(_ctx: (), buf: &mut ParseBuf<'de>) -> Result<Self, FaultOf<'s>> {
-        let mut fields: ParseBuf<'de> = buf.parse(12)?;
+        let mut fields = ParseBuf::new(buf.alloc(), buf.eat(12));
+        let status = fields.parse_unchecked(())?;
+        let statement_id = take_u32(&mut fields);
+        let num_columns = take_u16(&mut fields);
+        let num_params = take_u16(&mut fields);
+        fields.skip(1);
         Ok(StmtPacket {
-            status: fields.parse_unchecked(())?,
-            statement_id: fields.parse_unchecked(())?,
-            num_columns: fields.parse_unchecked(())?,
-            num_params: fields.parse_unchecked(())?,
-            skipped: fields.parse_unchecked(())?,
-            warning_count: fields.parse_unchecked(())?,
+            status,
+            statement_id,
+            num_columns,
+            num_params,
+            skipped: Skip,
+            warning_count: take_u16(&mut fields),
         })
     }
 
