@@ -7,12 +7,14 @@ use Rattle.mysql_wire.specs.declared.fault.FaultKind.TheVariants as kind
 use Rattle.mysql_wire.specs.Form.{bytes, number, le_value}
 use Rattle.mysql_wire.specs.Int.{raw, raw_int, byte, le_u32}
 use Rattle.mysql_wire.specs.LittleEndian.{sum-value}
+use Rattle.mysql_wire.proofs.Blocks.{block_length, ended_whole}
 use Rattle.mysql_wire.proofs.Numbers.{number_read, bytes-there}
 use Rattle.mysql_values.specs.declared.temporal.Day.{Day}
 use Rattle.mysql_values.specs.declared.temporal.Clock.{Clock}
 use Rattle.mysql_values.specs.Temporal.{day, clock, date_only, date_and_clock, date_clock_and_micros, span_without_micros, span_with_micros}
 
-pub ruleset blocks_there = (bytes-there)
+-- what the reader of a block needs whose bytes are there
+pub ruleset blocks_there = (block_length, ended_whole, bytes-there)
 
 one-byte : (b : ℕ) → le_value (b ∷ []) ≡ b
 one-byte b = omega arith
