@@ -319,6 +319,7 @@ impl<'de> MyDeserialize<'de> for Column {
 
     ghost form = { spec.column.form };
 
+    #[tactic(auto, using(mysql_wire::proofs::Tails::tails), unfolding(crate::specs::Column::column))]
     fn deserialize<'s>(_ctx: (), buf: &mut ParseBuf<'de>) -> Result<Self, FaultOf<'s>> {
         Ok(Column {
             catalog: buf.parse(())?,

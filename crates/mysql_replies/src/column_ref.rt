@@ -130,6 +130,7 @@ impl<'de> MyDeserialize<'de> for ColumnRef<'de> {
     ghost form = { spec.column.form };
 
     #[inline]
+    #[tactic(auto, using(mysql_wire::proofs::Tails::tails), unfolding(crate::specs::Column::column, crate::specs::ColumnNames::column_meta))]
     fn deserialize<'s>(_ctx: (), buf: &mut ParseBuf<'de>) -> Result<Self, FaultOf<'s>> {
         let mut rest = buf.rest();
         let _catalog: ColumnDefinitionCatalog = rest.parse(())?;

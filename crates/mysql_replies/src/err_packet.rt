@@ -97,6 +97,7 @@ impl<'de> MyDeserialize<'de> for ErrPacket<'de> {
 
     ghost form = { spec.err_packet.form };
 
+    #[tactic(auto, using(mysql_wire::proofs::Blocks::blocks), unfolding(crate::specs::ErrPacket::err_packet))]
     fn deserialize<'s>(
         capabilities: CapabilityFlags,
         buf: &mut ParseBuf<'de>,

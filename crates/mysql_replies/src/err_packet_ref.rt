@@ -99,6 +99,7 @@ impl<'de> MyDeserialize<'de> for ErrPacketRef<'de> {
     ghost form = { spec.err_packet.form };
 
     #[inline]
+    #[tactic(auto, using(mysql_wire::proofs::Blocks::blocks), unfolding(crate::specs::ErrPacket::err_packet))]
     fn deserialize<'s>(
         capabilities: CapabilityFlags,
         buf: &mut ParseBuf<'de>,
