@@ -6,12 +6,11 @@ ghost use Rattle.mysql_wire.specs.Form.{bytes};
 ghost use Rattle.mysql_wire.specs.Reading.{Answers};
 ghost use Rattle.mysql_auth.specs.Handshake as spec;
 
-use crate::fixed::{eat_skip, eat_u8, eat_u16, eat_u32};
 use crate::handshake_head::HandshakeHead;
 use bitflags::Flags;
 use mysql_wire::{
     BytesRepr, CapabilityFlags, Const, FaultOf, LeU16, LeU32, MariadbCapabilities, NullBytes,
-    ParseBuf, RawBytes, RawInt, Skip, StatusFlags,
+    ParseBuf, RawBytes, RawInt, Skip, StatusFlags, eat_skip, eat_u8, eat_u16, eat_u32,
 };
 use std::borrow::CowSlice;
 use std::marker::Model;

@@ -11,7 +11,6 @@ mod auth_switch_request;
 mod com_change_user;
 mod com_change_user_more_data;
 mod eof_name;
-mod fixed;
 mod handshake;
 mod handshake_head;
 mod handshake_head_ref;

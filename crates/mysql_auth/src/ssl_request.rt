@@ -4,11 +4,10 @@
 ghost use Rattle.std.specs.Prelude.{◌≡◌};
 ghost use Rattle.mysql_auth.specs.SslRequest as spec;
 
-use crate::fixed::{eat_skip, eat_u8, eat_u32};
 use bitflags::Flags;
 use mysql_wire::{
     CapabilityFlags, Const, FaultOf, Fixed, LeU32, MariadbCapabilities, MyDeserialize, ParseBuf,
-    Parts, RawInt, Sink, Skip, parts,
+    Parts, RawInt, Sink, Skip, eat_skip, eat_u8, eat_u32, parts,
 };
 
 /// The flag `CLIENT_SSL`, by which a server knows a request for TLS.

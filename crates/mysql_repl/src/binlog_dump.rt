@@ -6,10 +6,9 @@ ghost use Rattle.std.specs.Cow.{cow_slice_items, cow_str_bytes};
 ghost use Rattle.mysql_wire.specs.Text.{lossy_text, BorrowsUtf8};
 ghost use Rattle.mysql_repl.specs.BinlogDump as spec;
 
-use crate::fixed::{eat_u16, eat_u32};
 use mysql_wire::{
     AnyWidth, BinlogDumpFlags, Const, ConstFault, ConstU8, EofBytes, FaultOf, Flags, LeU16, LeU32,
-    MyDeserialize, ParseBuf, Parts, RawBytes, RawInt, Sink, parts,
+    MyDeserialize, ParseBuf, Parts, RawBytes, RawInt, Sink, eat_u16, eat_u32, parts,
 };
 use std::alloc::{AllocError, Global};
 use std::borrow::{CowSlice, CowStr};

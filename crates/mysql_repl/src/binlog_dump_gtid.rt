@@ -10,14 +10,13 @@ ghost use Rattle.mysql_repl.specs.declared.binlog_dump_gtid.ComBinlogDumpGtid.{C
 ghost use Rattle.mysql_repl.specs.BinlogDumpGtid as spec;
 ghost use Rattle.mysql_repl.specs.Counts.{sid_count};
 
-use crate::fixed::{eat_u16, eat_u32};
 use crate::sid::Sid;
 use crate::sid_block::{SidBlock, read_block};
 use crate::taken::append_taken;
 use mysql_wire::{
     AnyWidth, BinlogDumpFlags, BytesRepr, Const, ConstFault, ConstU8, Fault, FaultOf, Flags, LeU16,
     LeU32, LeU64, MyDeserialize, MySerialize, ParseBuf, Parts, RawBytes, RawInt, Seq, Sink,
-    U32Bytes, parts,
+    U32Bytes, eat_u16, eat_u32, parts,
 };
 use std::alloc::{AllocError, Global};
 use std::borrow::{CowSlice, CowStr};

@@ -5,8 +5,9 @@ ghost use Rattle.std.specs.Prelude.{◌≡◌, ◌<◌, ◌≤◌, ◌^◌, Ok, 
 ghost use Rattle.mysql_repl.specs.GnoInterval as spec;
 ghost use Rattle.mysql_repl.specs.declared.gno_interval.InvalidGno.TheVariants.{Order, Zero};
 
-use crate::fixed::eat_u64;
-use mysql_wire::{FaultOf, Fixed, LeU64, MyDeserialize, ParseBuf, Parts, RawInt, Sink, parts};
+use mysql_wire::{
+    FaultOf, Fixed, LeU64, MyDeserialize, ParseBuf, Parts, RawInt, Sink, eat_u64, parts,
+};
 use thiserror::Error;
 
 /// Why two numbers are no interval of transactions.

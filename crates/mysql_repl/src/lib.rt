@@ -5,7 +5,6 @@
 mod binlog_dump;
 mod binlog_dump_gtid;
 mod binlog_request;
-mod fixed;
 mod gno_interval;
 mod gtid_set_text;
 mod gtid_set_written;

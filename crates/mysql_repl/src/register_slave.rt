@@ -7,10 +7,9 @@ ghost use Rattle.std.specs.Cow.{cow_slice_items, cow_str_bytes};
 ghost use Rattle.mysql_wire.specs.Text.{lossy_text, BorrowsUtf8};
 ghost use Rattle.mysql_repl.specs.RegisterSlave as spec;
 
-use crate::fixed::{eat_u16, eat_u32};
 use mysql_wire::{
     AnyWidth, BytesRepr, ConstFault, ConstU8, FaultOf, LeU16, LeU32, MyDeserialize, ParseBuf,
-    Parts, RawBytes, RawInt, Sink, U8Bytes, parts,
+    Parts, RawBytes, RawInt, Sink, U8Bytes, eat_u16, eat_u32, parts,
 };
 use std::alloc::{AllocError, Global};
 use std::borrow::{CowSlice, CowStr};

@@ -6,10 +6,9 @@ ghost use Rattle.std.specs.Cow.{cow_slice_items, cow_str_bytes};
 ghost use Rattle.mysql_wire.specs.Text.{lossy_text, BorrowsUtf8};
 ghost use Rattle.mysql_repl.specs.SemiSyncAck as spec;
 
-use crate::fixed::eat_u64;
 use mysql_wire::{
     AnyWidth, ConstFault, ConstU8, EofBytes, FaultOf, LeU64, MyDeserialize, ParseBuf, Parts,
-    RawBytes, RawInt, Sink, parts,
+    RawBytes, RawInt, Sink, eat_u64, parts,
 };
 use std::alloc::{AllocError, Global};
 use std::borrow::{CowSlice, CowStr};

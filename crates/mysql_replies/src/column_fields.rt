@@ -1,14 +1,13 @@
 //! The fields of a column that have fixed lengths.
-#![tactic(auto, using(crate::proofs::There::blocks_there), unfolding(crate::specs::ColumnFields::column_fields))]
+#![tactic(auto, using(mysql_wire::proofs::There::blocks_there), unfolding(crate::specs::ColumnFields::column_fields))]
 
 ghost use Rattle.std.specs.Prelude.{◌≡◌, Some};
 ghost use Rattle.mysql_wire.specs.Form.{size-block};
 ghost use Rattle.mysql_replies.specs.ColumnFields as spec;
 
-use crate::numbers::{take_u8, take_u16, take_u32};
 use mysql_wire::{
     ColumnFlags, ColumnType, Const, ConstFault, ConstU8, FaultOf, Fixed, LeU16, LeU32,
-    MyDeserialize, ParseBuf, Parts, RawInt, Sink, Skip, parts,
+    MyDeserialize, ParseBuf, Parts, RawInt, Sink, Skip, parts, take_u8, take_u16, take_u32,
 };
 use thiserror::Error;
 

@@ -5,13 +5,12 @@ ghost use Rattle.std.specs.Prelude.{◌≡◌, None, Some, refl, IsTrue};
 ghost use Rattle.mysql_replies.specs.ErrPacket as spec;
 ghost use Rattle.mysql_replies.specs.declared.err_packet.ErrPacket.TheVariants as err;
 
-use crate::numbers::take_u16;
 use crate::progress_report::ProgressReport;
 use crate::server_error::ServerError;
 use bitflags::Flags;
 use mysql_wire::{
     AnyWidth, CapabilityFlags, ConstFault, ConstU8, FaultOf, LeU16, MyDeserialize, ParseBuf, Parts,
-    RawInt, Sink, parts,
+    RawInt, Sink, parts, take_u16,
 };
 use std::fmt;
 use thiserror::Error;

@@ -6,11 +6,12 @@ ghost use Rattle.mysql_replies.specs.ErrPacket as spec;
 ghost use Rattle.mysql_replies.specs.declared.err_packet.ErrPacket.TheVariants as err;
 
 use crate::err_packet::{ErrPacket, ErrPacketHeader, PROGRESS_CODE};
-use crate::numbers::take_u16;
 use crate::progress_report_ref::ProgressReportRef;
 use crate::server_error_ref::ServerErrorRef;
 use bitflags::Flags;
-use mysql_wire::{AnyWidth, CapabilityFlags, FaultOf, LeU16, MyDeserialize, ParseBuf, RawInt};
+use mysql_wire::{
+    AnyWidth, CapabilityFlags, FaultOf, LeU16, MyDeserialize, ParseBuf, RawInt, take_u16,
+};
 use std::marker::Model;
 
 /// What the packet is.

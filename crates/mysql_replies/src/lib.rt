@@ -10,7 +10,6 @@ mod err_packet;
 mod err_packet_ref;
 pub mod laws;
 mod local_infile;
-mod numbers;
 mod ok_kind;
 mod ok_kind_ref;
 mod ok_packet;

@@ -4,7 +4,6 @@ ghost use Rattle.std.specs.Prelude.{false, ◌≡◌, [], OnErr};
 ghost use Rattle.mysql_wire.specs.Reading.{Answers};
 ghost use Rattle.mysql_replies.specs.OkKind.{ok_end, ok_tail, size-ok_tail};
 
-use crate::numbers::take_u16;
 use crate::ok_kind::{
     CommonOkPacket, NetworkStreamTerminator, OkPacketBody, OkPacketKind, OldEofPacket,
     ResultSetTerminator,
@@ -12,7 +11,7 @@ use crate::ok_kind::{
 use bitflags::Flags;
 use mysql_wire::{
     AnyWidth, BytesRepr, CapabilityFlags, Const, FaultOf, LeU16, LenEnc, MyDeserialize, ParseBuf,
-    RawBytes, RawInt, StatusFlags,
+    RawBytes, RawInt, StatusFlags, take_u16,
 };
 use std::borrow::CowSlice;
 use std::marker::Model;

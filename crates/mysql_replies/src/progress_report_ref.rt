@@ -4,9 +4,10 @@
 ghost use Rattle.std.specs.Prelude.{◌≡◌, None, refl};
 ghost use Rattle.mysql_replies.specs.ProgressReport as spec;
 
-use crate::numbers::{take_u8, take_u24};
 use crate::progress_report::ProgressReport;
-use mysql_wire::{AnyWidth, BytesRepr, FaultOf, LeU24, LenEnc, MyDeserialize, ParseBuf, RawInt};
+use mysql_wire::{
+    AnyWidth, BytesRepr, FaultOf, LeU24, LenEnc, MyDeserialize, ParseBuf, RawInt, take_u8, take_u24,
+};
 use std::borrow::CowSlice;
 use std::marker::Model;
 

@@ -72,7 +72,7 @@ impl<'de> MyDeserialize<'de> for SqlState {
 
     ghost form = { spec.sql_state.form };
 
-    #[tactic(auto, using(crate::proofs::There::blocks_there), unfolding(crate::specs::SqlState::sql_state))]
+    #[tactic(auto, using(mysql_wire::proofs::There::blocks_there), unfolding(crate::specs::SqlState::sql_state))]
     fn deserialize<'s>(_ctx: (), buf: &mut ParseBuf<'de>) -> Result<Self, FaultOf<'s>> {
         let mut fields = ParseBuf::new(buf.alloc(), buf.eat(6));
         Ok(SqlState {

@@ -56,7 +56,7 @@ impl<'de> MyDeserialize<'de> for SqlStateRef<'de> {
     ghost form = { spec.sql_state.form };
 
     #[inline]
-    #[tactic(auto, using(crate::proofs::There::blocks_there, crate::proofs::BytesExact::exact_bytes), unfolding(crate::specs::SqlState::sql_state))]
+    #[tactic(auto, using(mysql_wire::proofs::There::blocks_there, crate::proofs::BytesExact::exact_bytes), unfolding(crate::specs::SqlState::sql_state))]
     fn deserialize<'s>(_ctx: (), buf: &mut ParseBuf<'de>) -> Result<Self, FaultOf<'s>> {
         let mut fields = ParseBuf::new(buf.alloc(), buf.eat(6));
         let _marker: SqlStateMarker = fields.parse_unchecked(())?;

@@ -21,5 +21,4 @@ pub mod RowBytes
 pub mod BinaryRowAgain
 pub mod ParamViews
 pub mod ExecutionAgain
-pub mod There
 mod WrittenExecution

@@ -5,9 +5,9 @@ ghost use Rattle.std.specs.Prelude.{◌≡◌};
 ghost use Rattle.mysql_wire.specs.Form.{size-block};
 ghost use Rattle.mysql_stmt.specs.Close as spec;
 
-use crate::numbers::take_u32;
 use mysql_wire::{
-    ConstFault, ConstU8, FaultOf, Fixed, LeU32, MyDeserialize, ParseBuf, Parts, RawInt, Sink, parts,
+    ConstFault, ConstU8, FaultOf, Fixed, LeU32, MyDeserialize, ParseBuf, Parts, RawInt, Sink,
+    parts, take_u32,
 };
 use thiserror::Error;
 
@@ -57,7 +57,7 @@ impl<'de> MyDeserialize<'de> for ComStmtClose {
 
     ghost form = { spec.close.form };
 
-    #[tactic(auto, using(crate::proofs::There::blocks_there), unfolding(crate::specs::Close::close))]
+    #[tactic(auto, using(mysql_wire::proofs::There::blocks_there), unfolding(crate::specs::Close::close))]
     fn deserialize<'s>(_ctx: (), buf: &mut ParseBuf<'de>) -> Result<Self, FaultOf<'s>> {
         let mut fields = ParseBuf::new(buf.alloc(), buf.eat(5));
         let _header: ComStmtCloseHeader = fields.parse_unchecked(())?;

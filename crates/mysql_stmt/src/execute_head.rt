@@ -6,10 +6,9 @@ ghost use Rattle.mysql_wire.specs.Form.{size-block};
 ghost use Rattle.mysql_stmt.specs.ExecuteHead as spec;
 
 use crate::execute::{ComStmtExecuteHeader, IterationCount};
-use crate::numbers::take_u32;
 use mysql_wire::{
     Const, ConstU8, ConstU32, CursorType, FaultOf, Fixed, LeU32, MyDeserialize, ParseBuf, Parts,
-    RawInt, Sink, parts,
+    RawInt, Sink, parts, take_u32,
 };
 
 /// What stands before the parameters of `COM_STMT_EXECUTE`: a server reads it first, since the number tells which statement is
@@ -71,7 +70,7 @@ impl<'de> MyDeserialize<'de> for ComStmtExecuteHead {
 
     ghost form = { spec.execute_head.form };
 
-    #[tactic(auto, using(crate::proofs::There::blocks_there), unfolding(crate::specs::ExecuteHead::execute_head))]
+    #[tactic(auto, using(mysql_wire::proofs::There::blocks_there), unfolding(crate::specs::ExecuteHead::execute_head))]
     fn deserialize<'s>(_ctx: (), buf: &mut ParseBuf<'de>) -> Result<Self, FaultOf<'s>> {
         let mut fields = ParseBuf::new(buf.alloc(), buf.eat(10));
         Ok(ComStmtExecuteHead {

@@ -17,7 +17,6 @@ mod items;
 pub mod laws;
 mod long_data;
 mod null_bitmap;
-mod numbers;
 mod param_nulls;
 mod row;
 mod row_deserializer;

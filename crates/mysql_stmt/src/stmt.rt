@@ -5,10 +5,9 @@ ghost use Rattle.std.specs.Prelude.{◌≡◌, Some};
 ghost use Rattle.mysql_wire.specs.Form.{size-block};
 ghost use Rattle.mysql_stmt.specs.Stmt as spec;
 
-use crate::numbers::{take_u16, take_u32};
 use mysql_wire::{
     ConstFault, ConstU8, FaultOf, Fixed, LeU16, LeU32, MyDeserialize, ParseBuf, Parts, RawInt,
-    Sink, Skip, parts,
+    Sink, Skip, parts, take_u16, take_u32,
 };
 use thiserror::Error;
 
@@ -54,7 +53,7 @@ impl<'de> MyDeserialize<'de> for StmtPacket {
 
     ghost form = { spec.stmt.form };
 
-    #[tactic(auto, using(crate::proofs::There::blocks_there), unfolding(crate::specs::Stmt::stmt))]
+    #[tactic(auto, using(mysql_wire::proofs::There::blocks_there), unfolding(crate::specs::Stmt::stmt))]
     fn deserialize<'s>(_ctx: (), buf: &mut ParseBuf<'de>) -> Result<Self, FaultOf<'s>> {
         let mut fields = ParseBuf::new(buf.alloc(), buf.eat(12));
         let status = fields.parse_unchecked(())?;

@@ -7,14 +7,10 @@ use Rattle.mysql_wire.specs.declared.fault.FaultKind.TheVariants as kind
 use Rattle.mysql_wire.specs.Form.{bytes, number, le_value}
 use Rattle.mysql_wire.specs.Int.{raw, raw_int, byte, le_u32}
 use Rattle.mysql_wire.specs.LittleEndian.{sum-value}
-use Rattle.mysql_wire.proofs.Blocks.{block_length, ended_whole}
-use Rattle.mysql_wire.proofs.Numbers.{number_read, bytes-there}
+use Rattle.mysql_wire.proofs.There.{integer-there, byte-there}
 use Rattle.mysql_values.specs.declared.temporal.Day.{Day}
 use Rattle.mysql_values.specs.declared.temporal.Clock.{Clock}
 use Rattle.mysql_values.specs.Temporal.{day, clock, date_only, date_and_clock, date_clock_and_micros, span_without_micros, span_with_micros}
-
--- what the reader of a block needs whose bytes are there
-pub ruleset blocks_there = (block_length, ended_whole, bytes-there)
 
 one-byte : (b : ℕ) → le_value (b ∷ []) ≡ b
 one-byte b = omega arith
@@ -39,18 +35,7 @@ clock-there (a ∷ b ∷ c ∷ rest) there =
     rw (le-ltb _ _ there) cc
 clock-there _ there = absurd (omega arith)
 
--- a number whose four bytes are there
-pub number-there : (old : List ℕ) (n : ℕ) → 4 ≤ length old → n ≡ sum_through (λ i. byte_worth i (slice_index (take 4 old) i)) 3 → le_u32.reads old ≡ Ok (raw_int n, drop 4 old)
-unfolding raw
-number-there old n there e = rw (number_read 3 old n there e) refl
-
--- a byte that is there
-pub byte-there : (old : List ℕ) → 1 ≤ length old → byte.reads old ≡ Ok (raw_int (slice_index (take 1 old) 0), drop 1 old)
-unfolding raw number bytes
-byte-there (b ∷ rest) there = let value : le_value (b ∷ []) ≡ b = one-byte b in rw (le-ltb _ _ there) cc
-byte-there [] there = absurd (omega arith)
-
-pub ruleset there = (day-there, clock-there, number-there, byte-there, length-drop)
+pub ruleset there = (day-there, clock-there, integer-there, byte-there, length-drop)
 
 -- ---- fewer bytes than a length says
 
@@ -96,7 +81,7 @@ short-span_without_micros old few = elim (cases_lt (length old) 1) [
   | inl no_sign ↦ rw (few_bytes old no_sign) refl
   | inr there ↦ elim (cases_lt (length old) 5) [
     | inl no_days ↦ rw (byte-there old there, short_after_sign old no_days there) refl
-    | inr then_there ↦ rw (byte-there old there, number-there (drop 1 old) _ (omega (arith, length-drop 1 old)) refl, few_for_a_clock (drop 4 (drop 1 old)) (omega (arith, length-drop 1 old, length-drop 4 (drop 1 old)))) refl
+    | inr then_there ↦ rw (byte-there old there, integer-there 3 (drop 1 old) _ (omega (arith, length-drop 1 old)) refl, few_for_a_clock (drop 4 (drop 1 old)) (omega (arith, length-drop 1 old, length-drop 4 (drop 1 old)))) refl
   ]
 ]
 
@@ -106,8 +91,8 @@ short-span_with_micros old few = elim (cases_lt (length old) 1) [
   | inr there ↦ elim (cases_lt (length old) 5) [
     | inl no_days ↦ rw (byte-there old there, short_after_sign old no_days there) refl
     | inr then_there ↦ elim (cases_lt (length (drop 4 (drop 1 old))) 3) [
-      | inl no_clock ↦ rw (byte-there old there, number-there (drop 1 old) _ (omega (arith, length-drop 1 old)) refl, few_for_a_clock (drop 4 (drop 1 old)) no_clock) refl
-      | inr clock_there ↦ rw (byte-there old there, number-there (drop 1 old) _ (omega (arith, length-drop 1 old)) refl, clock-there (drop 4 (drop 1 old)) clock_there, few_for_a_number (drop 3 (drop 4 (drop 1 old))) (omega (arith, length-drop 1 old, length-drop 4 (drop 1 old), length-drop 3 (drop 4 (drop 1 old))))) refl
+      | inl no_clock ↦ rw (byte-there old there, integer-there 3 (drop 1 old) _ (omega (arith, length-drop 1 old)) refl, few_for_a_clock (drop 4 (drop 1 old)) no_clock) refl
+      | inr clock_there ↦ rw (byte-there old there, integer-there 3 (drop 1 old) _ (omega (arith, length-drop 1 old)) refl, clock-there (drop 4 (drop 1 old)) clock_there, few_for_a_number (drop 3 (drop 4 (drop 1 old))) (omega (arith, length-drop 1 old, length-drop 4 (drop 1 old), length-drop 3 (drop 4 (drop 1 old))))) refl
     ]
   ]
 ]

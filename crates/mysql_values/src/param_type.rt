@@ -92,7 +92,7 @@ impl<'de> MyDeserialize<'de> for ParamType {
 
     ghost form = { param_type.form };
 
-    #[tactic(auto, using(crate::proofs::There::blocks_there), unfolding(crate::specs::ParamType::param_type))]
+    #[tactic(auto, using(mysql_wire::proofs::There::blocks_there), unfolding(crate::specs::ParamType::param_type))]
     fn deserialize<'s>(_ctx: (), buf: &mut ParseBuf<'de>) -> Result<Self, FaultOf<'s>> {
         let mut fields = ParseBuf::new(buf.alloc(), buf.eat(2));
         let column_type: Const<ColumnType, u8> = fields.parse_unchecked(())?;

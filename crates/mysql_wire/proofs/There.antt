@@ -6,12 +6,12 @@ use Rattle.std.proofs.lemmas.List.{length-drop}
 use Rattle.mysql_wire.specs.Form.{bytes, number, le_value}
 use Rattle.mysql_wire.specs.Int.{raw, raw_int, byte}
 use Rattle.mysql_wire.proofs.Blocks.{block_length, ended_whole}
-use Rattle.mysql_wire.proofs.Numbers.{number_read, bytes-there}
+use Rattle.mysql_wire.proofs.Numbers.{number_read, bytes-there, skip-there}
 
--- a number of k + 1 bytes that are there
-pub number-there : {R : Type 0} (k : ℕ) (old : List ℕ) (n : ℕ) → suc k ≤ length old → n ≡ sum_through (λ i. byte_worth i (slice_index (take (suc k) old) i)) k → (raw {R = R} (number (suc k))).reads old ≡ Ok (raw_int n, drop (suc k) old)
+-- an integer of k + 1 bytes that are there
+pub integer-there : {R : Type 0} (k : ℕ) (old : List ℕ) (n : ℕ) → suc k ≤ length old → n ≡ sum_through (λ i. byte_worth i (slice_index (take (suc k) old) i)) k → (raw {R = R} (number (suc k))).reads old ≡ Ok (raw_int n, drop (suc k) old)
 unfolding raw
-number-there k old n there e = rw (number_read k old n there e) refl
+integer-there k old n there e = rw (number_read k old n there e) refl
 
 -- a byte that is there
 pub byte-there : (old : List ℕ) → 1 ≤ length old → byte.reads old ≡ Ok (raw_int (slice_index (take 1 old) 0), drop 1 old)
@@ -21,7 +21,7 @@ byte-there (b ∷ rest) there =
     rw (le-ltb _ _ there) cc
 byte-there [] there = absurd (omega arith)
 
-pub ruleset there = (number-there, byte-there, length-drop)
+pub ruleset there = (integer-there, byte-there, length-drop)
 
 -- what the reader of a block needs whose bytes are there
-pub ruleset blocks_there = (block_length, ended_whole, bytes-there)
+pub ruleset blocks_there = (block_length, ended_whole, bytes-there, skip-there)
