@@ -132,16 +132,15 @@ impl<'a> HandshakeResponse<'a> {
             auth_plugin.is_some(),
             connect_attributes.is_some(),
         );
-        let mut response = HandshakeResponse {
+        let connect_attributes = attributes_of(alloc, connect_attributes)?;
+        Ok(HandshakeResponse {
             head: SslRequest::new(capabilities, max_packet_size, collation_for(server_version)),
             user: bytes_or_empty(user),
             scramble_buf: bytes_or_empty(scramble_buf),
             db_name: bytes_if_given(db_name),
             auth_plugin,
-            connect_attributes: None,
-        };
-        response.connect_attributes = attributes_of(alloc, connect_attributes)?;
-        Ok(response)
+            connect_attributes,
+        })
     }
 
     /// The same response with these capabilities of MariaDB's own.
