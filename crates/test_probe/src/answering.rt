@@ -2,6 +2,7 @@
 
 use crate::marks;
 use crate::prelude::*;
+use std::fmt::Display;
 use std::io;
 use std::io::{BufRead, BufReader};
 
@@ -50,16 +51,24 @@ macro_rules! answers {
     }};
 }
 
-/// Adds the text of the error that a name stands for, some of which are their own names; else the answer is false.
+/// Adds the text of an error, where the name is its own.
+pub fn text_of<E: Display>(out: &mut Out, name: &str, own: &str, error: &E) -> bool {
+    let is_own = name == own;
+    if is_own {
+        out.text("text", error);
+    }
+    is_own
+}
+
+/// Adds the text of the error whose path is the name. After `=` stands how it is made, where the path alone is none.
 #[macro_export]
 macro_rules! error_texts {
-    ($out:expr, $name:expr; $($plain:ident,)*; $($other:literal: $error:expr,)*) => {{
-        match $name {
-            $(name if name == stringify!($plain) => $out.text("text", &$plain),)*
-            $($other => $out.text("text", &$error),)*
-            _ => return false,
-        }
-        true
+    (@made $error:path) => { $error };
+    (@made $error:path, $made:expr) => { $made };
+    ($out:expr, $name:expr; $($error:path $(= $made:expr)?,)*) => {{
+        let mut is_known = false;
+        $(is_known = $crate::text_of($out, $name, stringify!($error), &$crate::error_texts!(@made $error $(, $made)?)) || is_known;)*
+        is_known
     }};
 }
 

@@ -6,6 +6,7 @@
 #![tactic(auto)]
 
 mod answering;
+pub mod marker;
 pub mod marks;
 pub mod out;
 pub mod places;
@@ -14,4 +15,4 @@ pub mod record;
 pub mod request;
 pub mod shown;
 
-pub use answering::{Answers, Ends, run};
+pub use answering::{Answers, Ends, run, text_of};

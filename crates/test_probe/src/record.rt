@@ -70,19 +70,28 @@ pub fn record<'a, T: MyDeserialize<'a> + Drop>(
     answer.ok()
 }
 
+/// Reads a record, which is the answer, with how many bytes are left; or the refusal is added.
+pub fn parse<'a, T: MyDeserialize<'a>>(
+    out: &mut Out,
+    bytes: &'a [u8],
+    ctx: T::Ctx,
+) -> Option<(T, usize)> {
+    let alloc = out.alloc();
+    let (answer, left) = counted!(alloc; value parsed::<T>(alloc, bytes, ctx));
+    let record = taken(out, answer, left == bytes.len())?;
+    Some((record, left))
+}
+
 /// Reads a record, and shows it, and how many bytes are left; or the fault.
 pub fn read<'a, P: Shows<T>, T: MyDeserialize<'a> + Drop>(
     out: &mut Out,
     bytes: &'a [u8],
     ctx: T::Ctx,
 ) -> Option<T> {
-    let alloc = out.alloc();
-    let (answer, left) = counted!(alloc; value parsed::<T>(alloc, bytes, ctx));
-    let record = taken(out, answer, left == bytes.len())?;
+    let (record, left) = parse::<T>(out, bytes, ctx)?;
     P::fields(&record, out);
     out.show("rest", left);
-    let made = P::is_made(&record, alloc);
-    out.same("made", made);
+    out.same("made", P::is_made(&record, out.alloc()));
     Some(record)
 }
 
@@ -145,23 +154,20 @@ pub fn write_and_read<'a, T: MyDeserialize<'a> + MySerialize + PartialEq + Drop>
 }
 
 /// Whether a record that owns its memory, and a clone of it, are the same as another.
-pub fn is_cloned<T: Clone + PartialEq + Drop>(
-    alloc: Global,
-    owned: &T,
-    record: &T,
-) -> Result<bool> {
+pub fn is_cloned<T: Clone + PartialEq + Drop>(alloc: Global, owned: &T, other: &T) -> Result<bool> {
     let copy = counted!(alloc; owned.clone())?;
-    Ok(copy == *record && *owned == *record)
+    Ok(copy == *other && *owned == *other)
 }
 
-/// Whether what is made, copied, made owned, and copied again, is the same as a record.
+/// Whether what is made, and a clone of it, is the same as a record; after `owned`, what is copied, made owned, and copied again.
 #[macro_export]
-macro_rules! is_owned {
-    ($alloc:expr; $made:expr, $record:expr) => {{
+macro_rules! is_anew {
+    ($alloc:expr, $record:expr; owned $made:expr) => {{
         let copy = $crate::counted!($alloc; $made.clone())?;
         let owned = $crate::counted!($alloc; copy.into_owned($alloc))?;
         $crate::record::is_cloned($alloc, &owned, $record)
     }};
+    ($alloc:expr, $record:expr; $made:expr) => { $crate::record::is_cloned($alloc, &$made, $record) };
 }
 
 /// Reads the record of a request's bytes and shows it as a program does, writes it, and reads it again.

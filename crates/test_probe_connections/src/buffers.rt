@@ -40,19 +40,16 @@ fn show_kept<R: BytesRepr>(out: &mut Out, content: &[u8]) {
     out.show("kept", content.len());
     out.show("empty", content.is_empty());
     out.show("default", content == RawBytes::default());
-    let is_written = is_written_with_capacity(out.alloc(), &content);
+    let is_written = is_written_to_capacity(out.alloc(), &content);
     out.same("with_capacity", is_written);
     write_made(out, &content)
 }
 
 /// Whether a content is written to its length, where there is capacity for it: nothing grows then.
-fn is_written_with_capacity<R: BytesRepr>(
-    alloc: Global,
-    content: &RawBytes<'_, R>,
-) -> Result<bool> {
-    let mut capacity = Vec::with_capacity(alloc, content.defined_len())?;
-    counted!(alloc; content.serialize(&mut capacity))?;
-    Ok(capacity.len() == content.defined_len())
+fn is_written_to_capacity<R: BytesRepr>(alloc: Global, bytes: &RawBytes<'_, R>) -> Result<bool> {
+    let mut capacity = Vec::with_capacity(alloc, bytes.defined_len())?;
+    counted!(alloc; bytes.serialize(&mut capacity))?;
+    Ok(capacity.len() == bytes.defined_len())
 }
 
 /// A content, as a form writes it.

@@ -6,23 +6,34 @@
 
 use crate::plugins::show_plugin;
 use crate::prelude::*;
+use crate::words::Attributes;
 
-impl<'a> Shows<HandshakeResponse<'a>> for Connections {
-    fn fields(record: &HandshakeResponse<'a>, out: &mut Out) {
-        fields!(out, record; capabilities, collation, mariadb = mariadb_ext_capabilities, user, scramble_buf, db_name);
-        show_plugin(record.auth_plugin(), out);
-        show_attributes(record, out)
+impl Shows<HandshakeResponse<'_>> for Connections {
+    fn fields(it: &HandshakeResponse<'_>, out: &mut Out) {
+        fields!(out, it; capabilities, collation, mariadb = mariadb_ext_capabilities, user, scramble_buf, db_name);
+        show_plugin(it.auth_plugin(), out);
+        show_attributes(it, out)
     }
 
-    fn is_made(record: &HandshakeResponse<'a>, alloc: Global) -> Result<bool> {
-        let made = counted!(alloc; response_again(record, alloc))?;
+    fn is_made(it: &HandshakeResponse<'_>, alloc: Global) -> Result<bool> {
+        let made = counted!(alloc; made_again(it, alloc))?;
         // (a made one has attributes as texts, a collation by the server's version, and flags by its fields)
-        Ok(
-            made.user() == record.user()
-                && made.db_name() == record.db_name()
-                && is_cloned(alloc, &made, &made)?
-                && is_cloned(alloc, record, record)?,
-        )
+        let is_same = made.user() == it.user() && made.db_name() == it.db_name();
+        Ok(is_same && is_cloned(alloc, &made, &made)? && is_cloned(alloc, it, it)?)
+    }
+}
+
+/// It has no getters: what is written of it says what it is.
+impl Shows<ComChangeUser<'_>> for Connections {
+    fn is_made(it: &ComChangeUser<'_>, alloc: Global) -> Result<bool> {
+        is_anew!(alloc, it; owned it)
+    }
+}
+
+/// They have no getters either.
+impl Shows<ComChangeUserMoreData<'_>> for Connections {
+    fn is_made(it: &ComChangeUserMoreData<'_>, alloc: Global) -> Result<bool> {
+        is_anew!(alloc, it; owned it)
     }
 }
 
@@ -42,7 +53,7 @@ fn show_attributes(packet: &HandshakeResponse<'_>, out: &mut Out) {
 }
 
 /// The response of what a response's getters answer.
-fn response_again<'b>(
+fn made_again<'b>(
     packet: &'b HandshakeResponse<'_>,
     alloc: Global,
 ) -> Result<HandshakeResponse<'b>> {
@@ -63,7 +74,7 @@ fn response_again<'b>(
 /// A response that is made of words, as it is shown, written and read again.
 pub fn make_response(out: &mut Out, request: &Request<'_>) -> Result {
     let attributes = words::attributes(out.alloc(), request.word(9))?;
-    if let Some(packet) = out.made(response_of_words(request, attributes)) {
+    if let Some(packet) = out.made(response_of(request, attributes)) {
         Connections::fields(&packet, out);
         write_and_read(out, &packet, request, ());
     }
@@ -71,10 +82,7 @@ pub fn make_response(out: &mut Out, request: &Request<'_>) -> Result {
 }
 
 /// The response of the words, with MariaDB's flags. The first word is the server's version, or `c` and the collation's number.
-fn response_of_words<'a>(
-    request: &Request<'a>,
-    attributes: Option<IndexMap<String, String>>,
-) -> Result<HandshakeResponse<'a>> {
+fn response_of<'a>(request: &Request<'a>, attributes: Attributes) -> Result<HandshakeResponse<'a>> {
     let part = |place: usize| words::number(request.word(1).split('.').nth(place).unwrap_or(""));
     let version: (u16, u16, u16) = (part(0), part(1), part(2));
     let made = counted!(request.alloc; HandshakeResponse::new(
@@ -106,26 +114,11 @@ pub fn tls_of(out: &mut Out, request: &Request<'_>) {
     }
 }
 
-/// It has no getters: what is written of it says what it is.
-impl<'a> Shows<ComChangeUser<'a>> for Connections {
-    fn is_made(record: &ComChangeUser<'a>, alloc: Global) -> Result<bool> {
-        is_owned!(alloc; record, record)
-    }
-}
-
-/// They have no getters either.
-impl<'a> Shows<ComChangeUserMoreData<'a>> for Connections {
-    fn is_made(record: &ComChangeUserMoreData<'a>, alloc: Global) -> Result<bool> {
-        is_owned!(alloc; record, record)
-    }
-}
+/// What may stand at the end of a change of user.
+type More<'a> = Option<ComChangeUserMoreData<'a>>;
 
 /// More data with the attributes, and with the plugin of a word; or none, where there is no character set.
-fn more_of_words<'a>(
-    alloc: Global,
-    request: &Request<'a>,
-    attributes: Option<IndexMap<String, String>>,
-) -> Result<Option<ComChangeUserMoreData<'a>>> {
+fn more_of<'a>(alloc: Global, request: &Request<'a>, attributes: Attributes) -> Result<More<'a>> {
     if request.word(5) == "none" {
         return Ok(None);
     }
@@ -138,18 +131,15 @@ fn more_of_words<'a>(
 pub fn make_change_user(out: &mut Out, request: &Request<'_>) -> Result {
     let alloc = out.alloc();
     let attributes = words::attributes(alloc, request.word(7))?;
-    let more = counted!(alloc; more_of_words(alloc, request, attributes));
+    let more = counted!(alloc; more_of(alloc, request, attributes));
     if let Some(more) = out.made(more) {
-        let change = change_of_words(request, more);
+        let change = change_of(request, more);
         write_and_read(out, &change, request, request.capabilities());
     }
     Ok(())
 }
 
-fn change_of_words<'a>(
-    request: &Request<'a>,
-    more: Option<ComChangeUserMoreData<'a>>,
-) -> ComChangeUser<'a> {
+fn change_of<'a>(request: &Request<'a>, more: More<'a>) -> ComChangeUser<'a> {
     ComChangeUser::new()
         .with_user(words::borrowed(request.word(2)))
         .with_auth_plugin_data(words::borrowed(request.word(3)))

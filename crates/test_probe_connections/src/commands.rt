@@ -6,67 +6,58 @@
 use crate::prelude::*;
 use crate::sids::made_sids;
 
-impl<'a> Shows<ComRegisterSlave<'a>> for Connections {
-    fn fields(record: &ComRegisterSlave<'a>, out: &mut Out) {
-        fields!(out, record; server_id, hostname = hostname_raw, user = user_raw, password = password_raw, port,
+impl Shows<ComRegisterSlave<'_>> for Connections {
+    fn fields(it: &ComRegisterSlave<'_>, out: &mut Out) {
+        fields!(out, it; server_id, hostname = hostname_raw, user = user_raw, password = password_raw, port,
             replication_rank, master_id; texts hostname_str = hostname, user_str = user, password_str = password)
     }
 
-    fn is_made(record: &ComRegisterSlave<'a>, alloc: Global) -> Result<bool> {
-        let hostname = words::owned(alloc, record.hostname_raw())?;
-        let user = words::owned(alloc, record.user_raw())?;
-        let password = words::owned(alloc, record.password_raw())?;
-        let made = ComRegisterSlave::new(record.server_id())
-            .with_hostname(hostname)
-            .with_user(user)
-            .with_password(password)
-            .with_port(record.port())
-            .with_replication_rank(record.replication_rank())
-            .with_master_id(record.master_id());
-        is_cloned(alloc, &made, record)
+    fn is_made(it: &ComRegisterSlave<'_>, alloc: Global) -> Result<bool> {
+        is_anew!(alloc, it; ComRegisterSlave::new(it.server_id())
+            .with_hostname(words::owned(alloc, it.hostname_raw())?)
+            .with_user(words::owned(alloc, it.user_raw())?)
+            .with_password(words::owned(alloc, it.password_raw())?)
+            .with_port(it.port())
+            .with_replication_rank(it.replication_rank())
+            .with_master_id(it.master_id()))
     }
 }
 
-impl<'a> Shows<ComTableDump<'a>> for Connections {
-    fn fields(record: &ComTableDump<'a>, out: &mut Out) {
-        fields!(out, record; database = database_raw, table = table_raw;
-            texts database_str = database, table_str = table)
+impl Shows<ComTableDump<'_>> for Connections {
+    fn fields(it: &ComTableDump<'_>, out: &mut Out) {
+        fields!(out, it; database = database_raw, table = table_raw; texts database_str = database, table_str = table)
     }
 
-    fn is_made(record: &ComTableDump<'a>, alloc: Global) -> Result<bool> {
-        let database = words::owned(alloc, record.database_raw())?;
-        let table = words::owned(alloc, record.table_raw())?;
-        is_cloned(alloc, &ComTableDump::new(database, table), record)
+    fn is_made(it: &ComTableDump<'_>, alloc: Global) -> Result<bool> {
+        let table = words::owned(alloc, it.table_raw())?;
+        is_anew!(alloc, it; ComTableDump::new(words::owned(alloc, it.database_raw())?, table))
     }
 }
 
-impl<'a> Shows<ComBinlogDump<'a>> for Connections {
-    fn fields(record: &ComBinlogDump<'a>, out: &mut Out) {
-        fields!(out, record; pos, flags, server_id, filename = filename_raw; texts filename_str = filename)
+impl Shows<ComBinlogDump<'_>> for Connections {
+    fn fields(it: &ComBinlogDump<'_>, out: &mut Out) {
+        fields!(out, it; pos, flags, server_id, filename = filename_raw; texts filename_str = filename)
     }
 
-    fn is_made(record: &ComBinlogDump<'a>, alloc: Global) -> Result<bool> {
-        let filename = words::owned(alloc, record.filename_raw())?;
-        let made = ComBinlogDump::new(record.server_id())
-            .with_pos(record.pos())
-            .with_flags(record.flags())
-            .with_filename(filename);
-        is_cloned(alloc, &made, record)
+    fn is_made(it: &ComBinlogDump<'_>, alloc: Global) -> Result<bool> {
+        let filename = words::owned(alloc, it.filename_raw())?;
+        let made = ComBinlogDump::new(it.server_id())
+            .with_pos(it.pos())
+            .with_flags(it.flags());
+        is_anew!(alloc, it; made.with_filename(filename))
     }
 }
 
-impl<'a> Shows<SemiSyncAckPacket<'a>> for Connections {
-    fn fields(record: &SemiSyncAckPacket<'a>, out: &mut Out) {
-        fields!(out, record; position, filename = filename_raw; texts filename_str = filename)
+/// It is never copied.
+impl Shows<SemiSyncAckPacket<'_>> for Connections {
+    fn fields(it: &SemiSyncAckPacket<'_>, out: &mut Out) {
+        fields!(out, it; position, filename = filename_raw; texts filename_str = filename)
     }
 
-    /// (it is never copied)
-    fn is_made(record: &SemiSyncAckPacket<'a>, alloc: Global) -> Result<bool> {
-        let filename = words::owned(alloc, record.filename_raw())?;
-        let made = SemiSyncAckPacket::new(0, CowSlice::Borrowed(b"a"))
-            .with_position(record.position())
-            .with_filename(filename);
-        Ok(made == *record)
+    fn is_made(it: &SemiSyncAckPacket<'_>, alloc: Global) -> Result<bool> {
+        let filename = words::owned(alloc, it.filename_raw())?;
+        let made = SemiSyncAckPacket::new(0, CowSlice::Borrowed(b"a")).with_position(it.position());
+        Ok(made.with_filename(filename) == *it)
     }
 }
 

@@ -6,24 +6,24 @@
 use crate::prelude::*;
 use crate::sids::{made_sids, numbered_sids, one_sid, show_sid, text_of};
 
-impl<'a> Shows<ComBinlogDumpGtid<'a>> for Connections {
-    fn fields(record: &ComBinlogDumpGtid<'a>, out: &mut Out) {
-        fields!(out, record; server_id, flags, filename = filename_raw; texts filename_str = filename);
-        fields!(out, record; pos);
-        out.show("sids", record.sids().len());
-        for sid in record.sids() {
+impl Shows<ComBinlogDumpGtid<'_>> for Connections {
+    fn fields(it: &ComBinlogDumpGtid<'_>, out: &mut Out) {
+        fields!(out, it; server_id, flags, filename = filename_raw; texts filename_str = filename);
+        fields!(out, it; pos);
+        out.show("sids", it.sids().len());
+        for sid in it.sids() {
             show_sid(sid, out);
         }
     }
 
-    fn is_made(record: &ComBinlogDumpGtid<'a>, alloc: Global) -> Result<bool> {
+    fn is_made(it: &ComBinlogDumpGtid<'_>, alloc: Global) -> Result<bool> {
         // (the sids change a flag, so the flags come last)
-        let made = ComBinlogDumpGtid::new(record.server_id())
-            .with_pos(record.pos())
-            .with_filename(CowSlice::Borrowed(record.filename_raw()))
-            .with_sids(CowSlice::Borrowed(record.sids()))
-            .with_flags(record.flags());
-        Ok(is_cloned(alloc, &made, record)? && is_cloned(alloc, record, record)?)
+        let made = ComBinlogDumpGtid::new(it.server_id())
+            .with_pos(it.pos())
+            .with_filename(CowSlice::Borrowed(it.filename_raw()))
+            .with_sids(CowSlice::Borrowed(it.sids()))
+            .with_flags(it.flags());
+        Ok(is_cloned(alloc, &made, it)? && is_cloned(alloc, it, it)?)
     }
 }
 

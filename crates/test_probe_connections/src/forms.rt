@@ -4,6 +4,7 @@
 
 use crate::prelude::*;
 use std::fmt::Display;
+use test_probe::marker::Marker;
 
 type Numbers<'a> = Seq<'a, RawInt<LeU64>, LeU64>;
 
@@ -49,13 +50,6 @@ fn constant(out: &mut Out, request: &Request<'_>) -> bool {
             "param_flags": Const<StmtExecuteParamFlags, u8>, "params_flags": Const<StmtExecuteParamsFlags, u8>,)
 }
 
-/// A block of so many bytes, which is no record: it is its bytes.
-impl<'a> Shows<ParseBuf<'a>> for Connections {
-    fn fields(record: &ParseBuf<'a>, out: &mut Out) {
-        out.show("content", record.rest().eat_all())
-    }
-}
-
 impl<'a, R: BytesRepr> Shows<RawBytes<'a, R>> for Connections {
     fn fields(record: &RawBytes<'a, R>, out: &mut Out) {
         fields!(out, record; content = as_bytes; texts content_str = as_str)
@@ -83,33 +77,13 @@ impl<const N: usize> Shows<Skip<N>> for Connections {
     }
 }
 
-/// A marker of this program's own, with the text of its refusals.
-#[derive(Clone, Copy, Debug)]
-struct Marker;
-
-impl ConstFault for Marker {
-    const MESSAGE: &'static str = "Invalid marker";
-}
-
-impl ConstBytesValue<4> for Marker {
-    ghost use Rattle.std.specs.Prelude.{◌∷◌, [], refl};
-
-    ghost VALUE = { 3 ∷ 100 ∷ 101 ∷ 102 ∷ [] };
-
-    const VALUE: [u8; 4] = [3, b'd', b'e', b'f'];
-
-    type Error = Marker;
-
-    ghost len_is = { refl };
-}
-
 impl<R: IntRepr> Shows<RawInt<R>> for Connections {
     fn fields(record: &RawInt<R>, out: &mut Out) {
         record.show(out)
     }
 
     fn is_made(record: &RawInt<R>, alloc: Global) -> Result<bool> {
-        is_cloned(alloc, &RawInt::<R>::new(record.0), record)
+        is_anew!(alloc, record; RawInt::<R>::new(record.0))
     }
 }
 
@@ -173,6 +147,13 @@ fn show_items<T: Item>(out: &mut Out, items: &[T]) {
     }
 }
 
+/// A block of so many bytes, which is no record: it is its bytes.
+impl Shows<ParseBuf<'_>> for Connections {
+    fn fields(it: &ParseBuf<'_>, out: &mut Out) {
+        out.show("content", it.rest().eat_all())
+    }
+}
+
 /// Whether the lists that a copy of this one lends and gives up are the same.
 macro_rules! is_list_made {
     ($alloc:expr; $list:expr) => {{
@@ -184,32 +165,32 @@ macro_rules! is_list_made {
 }
 
 impl<'a> Shows<Numbers<'a>> for Connections {
-    fn fields(record: &Numbers<'a>, out: &mut Out) {
-        show_items(out, record.as_slice())
+    fn fields(it: &Numbers<'a>, out: &mut Out) {
+        show_items(out, it.as_slice())
     }
 
-    fn is_made(record: &Numbers<'a>, alloc: Global) -> Result<bool> {
-        is_list_made!(alloc; record)
+    fn is_made(it: &Numbers<'a>, alloc: Global) -> Result<bool> {
+        is_list_made!(alloc; it)
     }
 }
 
 impl<'a> Shows<Bytes<'a>> for Connections {
-    fn fields(record: &Bytes<'a>, out: &mut Out) {
-        show_items(out, record.as_slice())
+    fn fields(it: &Bytes<'a>, out: &mut Out) {
+        show_items(out, it.as_slice())
     }
 
-    fn is_made(record: &Bytes<'a>, alloc: Global) -> Result<bool> {
-        is_list_made!(alloc; record)
+    fn is_made(it: &Bytes<'a>, alloc: Global) -> Result<bool> {
+        is_list_made!(alloc; it)
     }
 }
 
-impl<'a> Shows<Strings<'a>> for Connections {
-    fn fields(record: &Strings<'a>, out: &mut Out) {
-        show_items(out, record.as_slice())
+impl Shows<Strings<'_>> for Connections {
+    fn fields(it: &Strings<'_>, out: &mut Out) {
+        show_items(out, it.as_slice())
     }
 
-    fn is_made(record: &Strings<'a>, _alloc: Global) -> Result<bool> {
-        Ok(Seq::borrowed(record.as_slice()) == *record)
+    fn is_made(it: &Strings<'_>, _alloc: Global) -> Result<bool> {
+        Ok(Seq::borrowed(it.as_slice()) == *it)
     }
 }
 

@@ -22,28 +22,28 @@ pub fn make(out: &mut Out, request: &Request<'_>) {
     write_made(out, &made(given, request.capabilities()))
 }
 
-impl<'a> Shows<HandshakePacket<'a>> for Connections {
-    fn fields(record: &HandshakePacket<'a>, out: &mut Out) {
-        fields!(out, record; protocol_version, server_version = server_version_ref, connection_id,
+impl Shows<HandshakePacket<'_>> for Connections {
+    fn fields(it: &HandshakePacket<'_>, out: &mut Out) {
+        fields!(out, it; protocol_version, server_version = server_version_ref, connection_id,
             scramble_1 = scramble_1_ref, scramble_2 = scramble_2_ref, capabilities, default_collation, status_flags,
             mariadb = mariadb_ext_capabilities, auth_plugin_name = auth_plugin_name_ref);
-        show_versions(record, out);
-        fields!(out, record; ; texts server_version_str = server_version_str, auth_plugin_name_str = auth_plugin_name_str);
-        show_plugin(record.auth_plugin().as_ref(), out);
+        show_versions(it, out);
+        fields!(out, it; ; texts server_version_str = server_version_str, auth_plugin_name_str = auth_plugin_name_str);
+        show_plugin(it.auth_plugin().as_ref(), out);
         let alloc = out.alloc();
-        match counted!(alloc; record.nonce(alloc)) {
+        match counted!(alloc; it.nonce(alloc)) {
             Ok(nonce) => out.show("nonce", nonce.as_slice()),
             Err(AllocError) => out.field("nonce", "Memory"),
         }
     }
 
-    fn is_made(record: &HandshakePacket<'a>, alloc: Global) -> Result<bool> {
-        is_owned!(alloc; made_again(record), record)
+    fn is_made(it: &HandshakePacket<'_>, alloc: Global) -> Result<bool> {
+        is_anew!(alloc, it; owned made_again(it))
     }
 }
 
-impl<'a> InPlace<HandshakePacket<'a>, HandshakePacketRef<'a>> for Connections {
-    fn is(place: &HandshakePacketRef<'a>, owned: &HandshakePacket<'a>, _out: &mut Out) -> bool {
+impl InPlace<HandshakePacket<'_>, HandshakePacketRef<'_>> for Connections {
+    fn is(place: &HandshakePacketRef<'_>, owned: &HandshakePacket<'_>, _out: &mut Out) -> bool {
         fields!(place, owned; alike protocol_version, server_version with server_version_ref, connection_id,
             scramble_1 with scramble_1_ref, scramble_2 with scramble_2_ref, capabilities, default_collation,
             status_flags, mariadb_ext_capabilities, auth_plugin_name with auth_plugin_name_ref, auth_plugin)
@@ -83,19 +83,9 @@ fn made_again<'b>(packet: &'b HandshakePacket<'_>) -> HandshakePacket<'b> {
 }
 
 /// A handshake of a version, a scramble and a plugin.
-fn made<'a>(given: [&'a str; 3], capabilities: CapabilityFlags) -> HandshakePacket<'a> {
+fn made<'a>(given: [&'a str; 3], flags: CapabilityFlags) -> HandshakePacket<'a> {
     let [version, scramble, plugin] = given;
     let (scramble, plugin) = (words::borrowed(scramble), words::borrowed(plugin));
     let (version, status) = (words::name(version), StatusFlags::empty());
-    HandshakePacket::new(
-        10,
-        version,
-        1,
-        [0; 8],
-        scramble,
-        capabilities,
-        8,
-        status,
-        plugin,
-    )
+    HandshakePacket::new(10, version, 1, [0; 8], scramble, flags, 8, status, plugin)
 }

@@ -27,18 +27,86 @@ fn show_rounds(plugin: &AuthPlugin<'_>, out: &mut Out) {
     }
 }
 
-impl<'a> Shows<AuthPlugin<'a>> for Connections {
-    fn fields(record: &AuthPlugin<'a>, out: &mut Out) {
-        show_plugin(Some(record), out);
-        out.show("variant", Variant(record));
-        show_rounds(record, out)
+impl Shows<AuthPlugin<'_>> for Connections {
+    fn fields(it: &AuthPlugin<'_>, out: &mut Out) {
+        show_plugin(Some(it), out);
+        out.show("variant", Variant(it));
+        show_rounds(it, out)
     }
 
-    fn is_made(record: &AuthPlugin<'a>, alloc: Global) -> Result<bool> {
-        let lent = record.borrow();
-        let copy = counted!(alloc; lent.clone())?;
+    fn is_made(it: &AuthPlugin<'_>, alloc: Global) -> Result<bool> {
+        let copy = counted!(alloc; it.borrow().clone())?;
         let owned = counted!(alloc; copy.into_owned(alloc))?;
-        Ok(is_cloned(alloc, &owned, record)? && owned.borrow() == *record)
+        Ok(is_cloned(alloc, &owned, it)? && owned.borrow() == *it)
+    }
+}
+
+impl Shows<AuthPluginData<'_>> for Connections {
+    fn is_made(it: &AuthPluginData<'_>, alloc: Global) -> Result<bool> {
+        is_anew!(alloc, it; owned it)
+    }
+}
+
+impl Shows<AuthSwitchRequest<'_>> for Connections {
+    fn fields(it: &AuthSwitchRequest<'_>, out: &mut Out) {
+        show_plugin(Some(&it.auth_plugin()), out);
+        out.show("plugin_data", it.plugin_data());
+        out.show("raw", it.plugin_data_raw())
+    }
+
+    fn is_made(it: &AuthSwitchRequest<'_>, alloc: Global) -> Result<bool> {
+        is_anew!(alloc, it; owned it)
+    }
+}
+
+impl Shows<OldAuthSwitchRequest> for Connections {
+    fn fields(it: &OldAuthSwitchRequest, out: &mut Out) {
+        show_plugin(Some(&it.auth_plugin()), out)
+    }
+
+    fn is_made(it: &OldAuthSwitchRequest, alloc: Global) -> Result<bool> {
+        is_anew!(alloc, it; OldAuthSwitchRequest::new())
+    }
+}
+
+impl Shows<AuthMoreData<'_>> for Connections {
+    fn fields(it: &AuthMoreData<'_>, out: &mut Out) {
+        fields!(out, it; data)
+    }
+
+    fn is_made(it: &AuthMoreData<'_>, alloc: Global) -> Result<bool> {
+        is_anew!(alloc, it; owned AuthMoreData::new(CowSlice::Borrowed(it.data())))
+    }
+}
+
+impl Shows<PublicKeyRequest> for Connections {
+    fn is_made(it: &PublicKeyRequest, alloc: Global) -> Result<bool> {
+        is_anew!(alloc, it; PublicKeyRequest::new())
+    }
+}
+
+/// The key is shown as text alone: there is no other way to it. The one of the text has the same text, on memory of its own.
+impl Shows<PublicKeyResponse<'_>> for Connections {
+    fn fields(it: &PublicKeyResponse<'_>, out: &mut Out) {
+        fields!(out, it; ; texts rsa_key = rsa_key)
+    }
+
+    fn is_made(it: &PublicKeyResponse<'_>, alloc: Global) -> Result<bool> {
+        let text = it.rsa_key(alloc)?;
+        let made = PublicKeyResponse::new(words::owned(alloc, text.as_str().as_bytes())?);
+        let is_same = made.rsa_key(alloc)?.as_str() == text.as_str();
+        Ok(is_same && is_cloned(alloc, &made, &made)? && is_cloned(alloc, it, it)?)
+    }
+}
+
+/// There is no getter for MariaDB's capabilities.
+impl Shows<SslRequest> for Connections {
+    fn fields(it: &SslRequest, out: &mut Out) {
+        fields!(out, it; capabilities, max_packet_size, character_set)
+    }
+
+    fn is_made(it: &SslRequest, alloc: Global) -> Result<bool> {
+        is_cloned(alloc, it, it)
     }
 }
 
@@ -78,27 +146,11 @@ fn answer_of<'a>(kind: &str, bytes: &'a [u8]) -> AuthPluginData<'a> {
     }
 }
 
-fn is_answer_made(answer: &AuthPluginData<'_>, alloc: Global) -> Result<bool> {
-    is_owned!(alloc; answer, answer)
-}
-
 pub fn plugin_data(out: &mut Out, request: &Request<'_>) {
     let answer = answer_of(request.word(1), request.bytes.as_slice());
     out.show("bytes", answer.as_bytes());
-    out.same("made", is_answer_made(&answer, request.alloc));
+    out.same("made", Connections::is_made(&answer, request.alloc));
     write_made(out, &answer)
-}
-
-impl<'a> Shows<AuthSwitchRequest<'a>> for Connections {
-    fn fields(record: &AuthSwitchRequest<'a>, out: &mut Out) {
-        show_plugin(Some(&record.auth_plugin()), out);
-        out.show("plugin_data", record.plugin_data());
-        out.show("raw", record.plugin_data_raw())
-    }
-
-    fn is_made(record: &AuthSwitchRequest<'a>, alloc: Global) -> Result<bool> {
-        is_owned!(alloc; record, record)
-    }
 }
 
 /// A switch that is made of words, as it is written and read again.
@@ -106,62 +158,6 @@ pub fn make_switch(out: &mut Out, request: &Request<'_>) {
     let packet = AuthSwitchRequest::new(words::name(request.word(1)), words::name(request.word(2)));
     out.word("made");
     write_and_read(out, &packet, request, ())
-}
-
-impl Shows<OldAuthSwitchRequest> for Connections {
-    fn fields(record: &OldAuthSwitchRequest, out: &mut Out) {
-        show_plugin(Some(&record.auth_plugin()), out)
-    }
-
-    fn is_made(record: &OldAuthSwitchRequest, alloc: Global) -> Result<bool> {
-        is_cloned(alloc, &OldAuthSwitchRequest::new(), record)
-    }
-}
-
-impl<'a> Shows<AuthMoreData<'a>> for Connections {
-    fn fields(record: &AuthMoreData<'a>, out: &mut Out) {
-        out.show("data", record.data())
-    }
-
-    fn is_made(record: &AuthMoreData<'a>, alloc: Global) -> Result<bool> {
-        let made = AuthMoreData::new(CowSlice::Borrowed(record.data()));
-        is_owned!(alloc; made, record)
-    }
-}
-
-impl Shows<PublicKeyRequest> for Connections {
-    fn is_made(record: &PublicKeyRequest, alloc: Global) -> Result<bool> {
-        is_cloned(alloc, &PublicKeyRequest::new(), record)
-    }
-}
-
-/// The key is shown as text alone: there is no other way to it.
-impl<'a> Shows<PublicKeyResponse<'a>> for Connections {
-    fn fields(record: &PublicKeyResponse<'a>, out: &mut Out) {
-        fields!(out, record; ; texts rsa_key = rsa_key)
-    }
-
-    /// (the one of the text has the same text, on memory of its own)
-    fn is_made(record: &PublicKeyResponse<'a>, alloc: Global) -> Result<bool> {
-        let text = record.rsa_key(alloc)?;
-        let made = PublicKeyResponse::new(words::owned(alloc, text.as_str().as_bytes())?);
-        Ok(
-            made.rsa_key(alloc)?.as_str() == text.as_str()
-                && is_cloned(alloc, &made, &made)?
-                && is_cloned(alloc, record, record)?,
-        )
-    }
-}
-
-impl Shows<SslRequest> for Connections {
-    fn fields(record: &SslRequest, out: &mut Out) {
-        fields!(out, record; capabilities, max_packet_size, character_set)
-    }
-
-    /// (there is no getter for MariaDB's capabilities)
-    fn is_made(record: &SslRequest, alloc: Global) -> Result<bool> {
-        is_cloned(alloc, record, record)
-    }
 }
 
 /// A request for TLS that is made of words, as it is written and read again.

@@ -16,17 +16,32 @@ pub fn show_sid(sid: &Sid<'_>, out: &mut Out) {
     }
 }
 
-impl<'a> Shows<Sid<'a>> for Connections {
-    fn fields(record: &Sid<'a>, out: &mut Out) {
-        show_sid(record, out);
-        out.text("shown", record)
+/// It is made anew in the form without tags.
+impl Shows<Sid<'_>> for Connections {
+    fn fields(it: &Sid<'_>, out: &mut Out) {
+        show_sid(it, out);
+        out.text("shown", it)
     }
 
-    /// (in the form without tags)
-    fn is_made(record: &Sid<'a>, alloc: Global) -> Result<bool> {
-        let intervals = Vec::from_slice(alloc, record.intervals())?;
-        let made = Sid::new(record.uuid()).with_intervals(intervals);
-        is_cloned(alloc, &made, record)
+    fn is_made(it: &Sid<'_>, alloc: Global) -> Result<bool> {
+        let intervals = Vec::from_slice(alloc, it.intervals())?;
+        is_anew!(alloc, it; Sid::new(it.uuid()).with_intervals(intervals))
+    }
+}
+
+impl Shows<Tag<'_>> for Connections {
+    fn is_made(it: &Tag<'_>, alloc: Global) -> Result<bool> {
+        is_anew!(alloc, it; owned it)
+    }
+}
+
+impl Shows<GnoInterval> for Connections {
+    fn fields(it: &GnoInterval, out: &mut Out) {
+        fields!(out, it; start, end)
+    }
+
+    fn is_made(it: &GnoInterval, _alloc: Global) -> Result<bool> {
+        Ok(GnoInterval::new(it.start(), it.end()) == *it)
     }
 }
 
@@ -136,9 +151,7 @@ pub fn one_sid(alloc: Global) -> Result<Sid<'static>> {
 pub fn made_sids<'a>(alloc: Global, word: &'a str) -> Result<Vec<Sid<'a>>> {
     let mut sids = Vec::new(alloc);
     if word != "()" {
-        let mut number: u8 = 0;
-        for sid in word.split(';') {
-            number = number.wrapping_add(1);
+        for (number, sid) in (1..=255_u8).zip(word.split(';')) {
             let (tag, intervals) = sid.split_once('/').unwrap_or(("", sid));
             let sid = with_intervals(alloc, Sid::new([number; 16]), intervals)?;
             sids.push(with_tag(sid, tag))?;
@@ -160,25 +173,12 @@ pub fn numbered_sids<'a>(alloc: Global, count: u8, tag: &'a str) -> Result<Vec<S
     Ok(sids)
 }
 
-impl Shows<GnoInterval> for Connections {
-    fn fields(record: &GnoInterval, out: &mut Out) {
-        fields!(out, record; start, end)
-    }
-
-    fn is_made(record: &GnoInterval, _alloc: Global) -> Result<bool> {
-        Ok(GnoInterval::new(record.start(), record.end()) == *record)
-    }
-}
-
 /// An interval of two numbers, if they are one.
 pub fn check_interval(out: &mut Out, request: &Request<'_>) {
-    let (start, end) = (
-        words::number(request.word(1)),
-        words::number(request.word(2)),
-    );
-    let answer = GnoInterval::check_and_new(start, end);
+    let (start, end) = (request.word(1), request.word(2));
+    let answer = GnoInterval::check_and_new(words::number(start), words::number(end));
     if let Some(interval) = out.accepted("made", answer) {
-        Connections::fields(&interval, out)
+        fields!(out, interval; start, end)
     }
 }
 
@@ -191,14 +191,9 @@ pub fn tag(out: &mut Out, request: &Request<'_>) {
     if let Some(tag) = out.accepted("read", answer) {
         out.field("text", tag.as_str());
         out.text("shown", &tag);
-        out.same("made", is_tag_made(alloc, &tag));
+        out.same("made", Connections::is_made(&tag, alloc));
         out.same("of_text", is_of_text(alloc, &tag))
     }
-}
-
-/// Whether copies of a tag are the same: one of a borrowed text, made owned; one of that; and one that owns its text.
-fn is_tag_made(alloc: Global, tag: &Tag<'_>) -> Result<bool> {
-    is_owned!(alloc; tag, tag)
 }
 
 /// Whether the tag of a text on memory of its own is the same, and made owned keeps it.

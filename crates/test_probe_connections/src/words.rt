@@ -45,8 +45,11 @@ pub fn count(request: &Request<'_>) -> usize {
     number(request.word(2))
 }
 
+/// Attributes, where there is a list of them.
+pub type Attributes = Option<IndexMap<String, String>>;
+
 /// The attributes of a word, as `k=v,l=w`: `none` stands for no list of them, `()` for an empty one.
-pub fn attributes(alloc: Global, word: &str) -> Result<Option<IndexMap<String, String>>> {
+pub fn attributes(alloc: Global, word: &str) -> Result<Attributes> {
     if word == "none" {
         return Ok(None);
     }

@@ -3,17 +3,26 @@
 use crate::prelude::*;
 
 impl Shows<Column> for Server {
-    fn fields(record: &Column, out: &mut Out) {
-        fields!(out, record; schema = schema_ref, table = table_ref, org_table = org_table_ref,
-            name = name_ref, org_name = org_name_ref, character_set, column_length);
-        out.show("column_type", u8::from(record.column_type()));
-        fields!(out, record; flags, decimals; texts schema_str = schema_str, table_str = table_str,
+    fn fields(it: &Column, out: &mut Out) {
+        fields!(out, it; schema = schema_ref, table = table_ref, org_table = org_table_ref, name = name_ref,
+            org_name = org_name_ref, character_set, column_length);
+        out.show("column_type", u8::from(it.column_type()));
+        fields!(out, it; flags, decimals; texts schema_str = schema_str, table_str = table_str,
             org_table_str = org_table_str, name_str = name_str, org_name_str = org_name_str)
     }
 
-    fn is_made(record: &Column, alloc: Global) -> Result<bool> {
-        let made = counted!(alloc; made_column(record, alloc))?;
-        is_cloned(alloc, &made, record)
+    fn is_made(it: &Column, alloc: Global) -> Result<bool> {
+        is_anew!(alloc, it; counted!(alloc; made_column(it, alloc))?)
+    }
+}
+
+impl Shows<LocalInfilePacket<'_>> for Server {
+    fn fields(it: &LocalInfilePacket<'_>, out: &mut Out) {
+        fields!(out, it; file_name = file_name_ref; texts file_name_str = file_name_str)
+    }
+
+    fn is_made(it: &LocalInfilePacket<'_>, alloc: Global) -> Result<bool> {
+        is_anew!(alloc, it; owned LocalInfilePacket::new(CowSlice::Borrowed(it.file_name_ref())))
     }
 }
 
@@ -44,16 +53,5 @@ impl InPlace<Column, ColumnRef<'_>> for Server {
             && place.column_type() == owned.column_type()
             && fields!(place, owned; alike schema with schema_ref, table with table_ref, org_table with org_table_ref,
                 name with name_ref, org_name with org_name_ref, character_set, column_length, flags, decimals)
-    }
-}
-
-impl<'a> Shows<LocalInfilePacket<'a>> for Server {
-    fn fields(record: &LocalInfilePacket<'a>, out: &mut Out) {
-        fields!(out, record; file_name = file_name_ref; texts file_name_str = file_name_str)
-    }
-
-    fn is_made(record: &LocalInfilePacket<'a>, alloc: Global) -> Result<bool> {
-        let made = LocalInfilePacket::new(CowSlice::Borrowed(record.file_name_ref()));
-        is_owned!(alloc; made, record)
     }
 }

@@ -19,23 +19,54 @@ fn displayed<T: Display>(record: &T, out: &mut Out) {
     out.show("shown", text.as_str().as_bytes())
 }
 
-impl<'a> Shows<ErrPacket<'a>> for Server {
-    fn fields(record: &ErrPacket<'a>, out: &mut Out) {
-        if record.is_error() {
-            show_error(record.server_error(), out);
+impl Shows<ErrPacket<'_>> for Server {
+    fn fields(it: &ErrPacket<'_>, out: &mut Out) {
+        if it.is_error() {
+            show_error(it.server_error(), out);
         }
-        if record.is_progress_report() {
-            show_progress(record.progress_report(), out);
+        if it.is_progress_report() {
+            show_progress(it.progress_report(), out);
         }
-        displayed(record, out)
+        displayed(it, out)
     }
 
-    fn is_made(record: &ErrPacket<'a>, alloc: Global) -> Result<bool> {
-        let made = match record {
+    fn is_made(it: &ErrPacket<'_>, alloc: Global) -> Result<bool> {
+        is_anew!(alloc, it; match it {
             ErrPacket::Error(error) => ErrPacket::Error(made_error(error, alloc)?),
             ErrPacket::Progress(report) => ErrPacket::Progress(made_progress(report, alloc)?),
-        };
-        is_cloned(alloc, &made, record)
+        })
+    }
+}
+
+impl Shows<ServerError<'_>> for Server {
+    fn fields(it: &ServerError<'_>, out: &mut Out) {
+        show_error(it, out);
+        displayed(it, out)
+    }
+
+    fn is_made(it: &ServerError<'_>, alloc: Global) -> Result<bool> {
+        is_cloned(alloc, &made_error(it, alloc)?, it)
+    }
+}
+
+impl Shows<SqlState> for Server {
+    fn fields(it: &SqlState, out: &mut Out) {
+        fields!(out, it; sql_state = as_bytes; texts sql_state_str = as_str)
+    }
+
+    fn is_made(it: &SqlState, _alloc: Global) -> Result<bool> {
+        Ok(SqlState::new(it.as_bytes()) == *it)
+    }
+}
+
+impl Shows<ProgressReport<'_>> for Server {
+    fn fields(it: &ProgressReport<'_>, out: &mut Out) {
+        show_progress(it, out);
+        displayed(it, out)
+    }
+
+    fn is_made(it: &ProgressReport<'_>, alloc: Global) -> Result<bool> {
+        is_cloned(alloc, &made_progress(it, alloc)?, it)
     }
 }
 
@@ -52,23 +83,10 @@ impl<'a> InPlace<ErrPacket<'a>, ErrPacketRef<'a>> for Server {
     }
 }
 
-impl<'a> Shows<ServerError<'a>> for Server {
-    fn fields(record: &ServerError<'a>, out: &mut Out) {
-        show_error(record, out);
-        displayed(record, out)
-    }
-
-    fn is_made(record: &ServerError<'a>, alloc: Global) -> Result<bool> {
-        is_cloned(alloc, &made_error(record, alloc)?, record)
-    }
-}
-
 fn show_error(error: &ServerError<'_>, out: &mut Out) {
     fields!(out, error; error = error_code);
-    out.show(
-        "sql_state",
-        error.sql_state_ref().map(|state| state.as_bytes()),
-    );
+    let state = error.sql_state_ref().map(|state| state.as_bytes());
+    out.show("sql_state", state);
     fields!(out, error; message = message_ref; texts message_str = message_str)
 }
 
@@ -88,30 +106,9 @@ impl<'a> InPlace<ServerError<'a>, ServerErrorRef<'a>> for Server {
     }
 }
 
-impl Shows<SqlState> for Server {
-    fn fields(record: &SqlState, out: &mut Out) {
-        fields!(out, record; sql_state = as_bytes; texts sql_state_str = as_str)
-    }
-
-    fn is_made(record: &SqlState, _alloc: Global) -> Result<bool> {
-        Ok(SqlState::new(record.as_bytes()) == *record)
-    }
-}
-
 impl InPlace<SqlState, SqlStateRef<'_>> for Server {
     fn is(place: &SqlStateRef<'_>, owned: &SqlState, _out: &mut Out) -> bool {
         place.as_bytes() == owned.as_bytes().as_slice() && place.to_state() == *owned
-    }
-}
-
-impl<'a> Shows<ProgressReport<'a>> for Server {
-    fn fields(record: &ProgressReport<'a>, out: &mut Out) {
-        show_progress(record, out);
-        displayed(record, out)
-    }
-
-    fn is_made(record: &ProgressReport<'a>, alloc: Global) -> Result<bool> {
-        is_cloned(alloc, &made_progress(record, alloc)?, record)
     }
 }
 

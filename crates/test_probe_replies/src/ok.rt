@@ -4,7 +4,7 @@
 //! byte of `ok`).
 
 use crate::prelude::*;
-use crate::state::{is_same_change, show_change};
+use crate::state::{Decoded, is_same_change, show_change};
 use test_probe::places::compare;
 
 /// An OK packet of a kind, and the one that stays in its packet.
@@ -74,11 +74,7 @@ fn show_sent(sent: SessionStateChanges<'_>, out: &mut Out) {
 }
 
 /// Adds the next change of an iterator, where it is not this one. Where it ends, a fault stands for it.
-fn same_change(
-    next: Option<Result<SessionStateChange<'_>, Fault>>,
-    wanted: Result<SessionStateChange<'_>, Fault>,
-    out: &mut Out,
-) {
+fn same_change(next: Option<Decoded<'_>>, wanted: Decoded<'_>, out: &mut Out) {
     let next = next.unwrap_or(Err(Fault::UnexpectedEof));
     if next == wanted {
         return;

@@ -4,27 +4,18 @@
 //! string is put together of the changes that its entries are decoded as.
 
 use crate::prelude::*;
+use crate::state::Decoded;
 
 /// Reads a packet of a kind, and writes it as that kind.
 pub fn sent<'a, K: OkPacketKind + OkPacketLayout>(out: &mut Out, request: &'a Request<'_>) {
     let capabilities = request.capabilities();
-    if let Some(record) = taken_of::<OkPacketDeserializer<'a, K>>(out, request, capabilities) {
+    let bytes = request.bytes.as_slice();
+    if let Some((record, _)) = parse::<OkPacketDeserializer<'a, K>>(out, bytes, capabilities) {
         if let Some(written) = write_packet::<K>(out, request, &record) {
             again(out, &record, request.keep(written), capabilities);
         }
         show_state(&record.into_inner(), out)
     }
-}
-
-/// The record of a request's bytes; or the refusal is added.
-fn taken_of<'a, T: MyDeserialize<'a>>(
-    out: &mut Out,
-    request: &'a Request<'_>,
-    ctx: T::Ctx,
-) -> Option<T> {
-    let (alloc, bytes) = (request.alloc, request.bytes.as_slice());
-    let (answer, left) = counted!(alloc; value parsed::<T>(alloc, bytes, ctx));
-    taken(out, answer, left == bytes.len())
 }
 
 /// Writes a packet of the same fields.
@@ -77,7 +68,7 @@ fn show_state(packet: &OkPacket<'_>, out: &mut Out) {
 /// Appends the entry of a change; or answers a word where there is none, and none where the program runs out of memory.
 fn append_change(
     state: &mut Vec<u8>,
-    change: Result<SessionStateChange<'_>, Fault>,
+    change: Decoded<'_>,
     alloc: Global,
 ) -> Result<(), Option<&'static str>> {
     let Ok(change) = change else {

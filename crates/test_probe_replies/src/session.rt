@@ -5,7 +5,7 @@
 //! `unsupported BYTES`, `variable BYTES`, `variables BYTES`.
 
 use crate::prelude::*;
-use mysql_session::SessionStateChange as Change;
+use mysql_session::{ChangeRef as Place, SessionStateChange as Change};
 use mysql_wire::{BytesRepr, ConstValue, SessionStateType};
 use test_probe::places::both;
 
@@ -31,9 +31,9 @@ fn other_change(out: &mut Out, request: &Request<'_>) {
     }
 }
 
-impl<'a> Shows<Change<'a>> for Server {
-    fn fields(record: &Change<'a>, out: &mut Out) {
-        match record {
+impl Shows<Change<'_>> for Server {
+    fn fields(it: &Change<'_>, out: &mut Out) {
+        match it {
             Change::IsTracked(is_tracked) => out.show("is_tracked", *is_tracked),
             Change::Schema(text) => show_text("schema", text, out),
             Change::SystemVariables(variables) => Server::fields(variables, out),
@@ -44,27 +44,53 @@ impl<'a> Shows<Change<'a>> for Server {
         }
     }
 
-    fn is_made(record: &Change<'a>, alloc: Global) -> Result<bool> {
-        is_owned!(alloc; record, record)
+    fn is_made(it: &Change<'_>, alloc: Global) -> Result<bool> {
+        is_anew!(alloc, it; owned it)
+    }
+}
+
+impl Shows<SystemVariable<'_>> for Server {
+    fn fields(it: &SystemVariable<'_>, out: &mut Out) {
+        fields!(out, it; name = name_bytes, value = value_bytes; texts name_str = name_str, value_str = value_str)
+    }
+
+    fn is_made(it: &SystemVariable<'_>, alloc: Global) -> Result<bool> {
+        is_anew!(alloc, it; owned made_variable(it))
+    }
+}
+
+impl Shows<SystemVariables<'_>> for Server {
+    fn fields(it: &SystemVariables<'_>, out: &mut Out) {
+        out.show("variables", it.as_slice().len());
+        for variable in it.as_slice() {
+            Server::fields(variable, out);
+            out.same("variable", Ok(made_variable(variable) == *variable));
+        }
+    }
+
+    fn is_made(it: &SystemVariables<'_>, alloc: Global) -> Result<bool> {
+        let mut variables = Vec::new(alloc);
+        for variable in it.as_slice() {
+            variables.push(made_variable(variable))?;
+        }
+        let made = SystemVariables::new(SystemVariables::new(variables).into_inner());
+        is_anew!(alloc, it; owned made)
     }
 }
 
 impl<'a> InPlace<Change<'a>, SessionStateChangeRef<'a>> for Server {
     fn is(place: &SessionStateChangeRef<'a>, owned: &Change<'a>, out: &mut Out) -> bool {
         match (place.change(), owned) {
-            (ChangeRef::IsTracked(is_tracked), Change::IsTracked(owned)) => is_tracked == owned,
-            (ChangeRef::Schema(text), Change::Schema(owned)) => *text == owned.as_bytes(),
-            (ChangeRef::SystemVariables(list), Change::SystemVariables(owned)) => {
-                Server::is(list, owned, out)
+            (Place::IsTracked(is_tracked), Change::IsTracked(it)) => is_tracked == it,
+            (Place::Schema(text), Change::Schema(it)) => *text == it.as_bytes(),
+            (Place::SystemVariables(list), Change::SystemVariables(it)) => Server::is(
+                list, it, out,
+            ),
+            (Place::Gtids(text), Change::Gtids(it)) => *text == it.as_bytes(),
+            (Place::TransactionCharacteristics(text), Change::TransactionCharacteristics(it)) => {
+                *text == it.as_bytes()
             }
-            (ChangeRef::Gtids(text), Change::Gtids(owned)) => *text == owned.as_bytes(),
-            (
-                ChangeRef::TransactionCharacteristics(text),
-                Change::TransactionCharacteristics(owned),
-            ) => *text == owned.as_bytes(),
-            (ChangeRef::TransactionState(text), Change::TransactionState(owned)) => {
-                *text == owned.as_bytes()
-            }
+            (Place::TransactionState(text), Change::TransactionState(it)) => *text == it.as_bytes(),
             _ => false,
         }
     }
@@ -82,7 +108,7 @@ impl<'a, N, R: BytesRepr> Shows<SessionText<'a, N, R>> for Server {
 
     fn is_made(record: &SessionText<'a, N, R>, alloc: Global) -> Result<bool> {
         let made = SessionText::<'_, N, R>::new(CowSlice::Borrowed(record.as_bytes()));
-        is_owned!(alloc; made, record)
+        is_anew!(alloc, record; owned made)
     }
 }
 
@@ -92,40 +118,10 @@ fn made_variable<'a>(variable: &'a SystemVariable<'_>) -> SystemVariable<'a> {
     SystemVariable::new(name, CowSlice::Borrowed(variable.value_bytes()))
 }
 
-impl<'a> Shows<SystemVariable<'a>> for Server {
-    fn fields(record: &SystemVariable<'a>, out: &mut Out) {
-        fields!(out, record; name = name_bytes, value = value_bytes;
-            texts name_str = name_str, value_str = value_str)
-    }
-
-    fn is_made(record: &SystemVariable<'a>, alloc: Global) -> Result<bool> {
-        is_owned!(alloc; made_variable(record), record)
-    }
-}
-
 impl<'a> InPlace<SystemVariable<'a>, SystemVariableRef<'a>> for Server {
     fn is(place: &SystemVariableRef<'a>, owned: &SystemVariable<'a>, _out: &mut Out) -> bool {
         fields!(place, owned; alike name with name_bytes, value with value_bytes)
             && place.to_variable() == *owned
-    }
-}
-
-impl<'a> Shows<SystemVariables<'a>> for Server {
-    fn fields(record: &SystemVariables<'a>, out: &mut Out) {
-        out.show("variables", record.as_slice().len());
-        for variable in record.as_slice() {
-            Server::fields(variable, out);
-            out.same("variable", Ok(made_variable(variable) == *variable));
-        }
-    }
-
-    fn is_made(record: &SystemVariables<'a>, alloc: Global) -> Result<bool> {
-        let mut variables = Vec::new(alloc);
-        for variable in record.as_slice() {
-            variables.push(made_variable(variable))?;
-        }
-        let made = SystemVariables::new(SystemVariables::new(variables).into_inner());
-        is_owned!(alloc; made, record)
     }
 }
 

@@ -4,16 +4,19 @@ use crate::prelude::*;
 use test_probe::places::is_same;
 
 /// A change that is decoded, or the fault.
-type Decoded<'a> = Result<SessionStateChange<'a>, Fault>;
+pub type Decoded<'a> = Result<SessionStateChange<'a>, Fault>;
+
+/// The same of a change that stays in its packet.
+pub type DecodedRef<'a> = Result<SessionStateChangeRef<'a>, Fault>;
 
 /// An entry of a state string, and the change that its data begins with.
-impl<'a> Shows<SessionStateInfo<'a>> for Server {
-    fn fields(record: &SessionStateInfo<'a>, out: &mut Out) {
+impl Shows<SessionStateInfo<'_>> for Server {
+    fn fields(it: &SessionStateInfo<'_>, out: &mut Out) {
         let alloc = out.alloc();
-        out.show("data_type", u8::from(record.data_type()));
-        out.show("data", record.data_ref());
-        let change = counted!(alloc; record.decode(alloc));
-        let sent = counted!(alloc; record.decode_as_sent(alloc));
+        out.show("data_type", u8::from(it.data_type()));
+        out.show("data", it.data_ref());
+        let change = counted!(alloc; it.decode(alloc));
+        let sent = counted!(alloc; it.decode_as_sent(alloc));
         let is_same = sent == change;
         show_change("change", change, out);
         if is_same {
@@ -22,8 +25,8 @@ impl<'a> Shows<SessionStateInfo<'a>> for Server {
         show_change("sent", sent, out)
     }
 
-    fn is_made(record: &SessionStateInfo<'a>, alloc: Global) -> Result<bool> {
-        is_owned!(alloc; record, record)
+    fn is_made(it: &SessionStateInfo<'_>, alloc: Global) -> Result<bool> {
+        is_anew!(alloc, it; owned it)
     }
 }
 
@@ -52,11 +55,7 @@ impl<'a> InPlace<SessionStateInfo<'a>, SessionStateInfoRef<'a>> for Server {
 }
 
 /// Whether both are the same change, or the same fault.
-pub fn is_same_change(
-    borrowed: Result<SessionStateChangeRef<'_>, Fault>,
-    owned: Decoded<'_>,
-    out: &mut Out,
-) -> bool {
+pub fn is_same_change(borrowed: DecodedRef<'_>, owned: Decoded<'_>, out: &mut Out) -> bool {
     let again = borrowed.map(|change| SessionStateChangeRef::new(change.into_change()));
     is_same::<Server, SessionStateChange<'_>, SessionStateChangeRef<'_>>(&again, &owned, out)
 }

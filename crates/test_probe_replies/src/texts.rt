@@ -11,5 +11,5 @@ pub fn marker(out: &mut Out, request: &Request<'_>) -> bool {
 pub fn text(out: &mut Out, name: &str) -> bool {
     error_texts!(out, name;
         InvalidCatalog, InvalidFixedLengthFieldsLen, InvalidOkPacketHeader, InvalidErrPacketHeader, InvalidSqlStateMarker,
-        InvalidLocalInfileHeader,;)
+        InvalidLocalInfileHeader,)
 }

@@ -6,18 +6,19 @@
 use crate::forms::column;
 use crate::prelude::*;
 
-/// Whether a borrowed value is written as the value itself.
-fn is_written_alike(alloc: Global, borrowed: ValueRef<'_>, value: &Value) -> Result<bool> {
-    let (mut written, mut wanted) = (Vec::new(alloc), Vec::new(alloc));
-    borrowed.serialize(&mut written)?;
-    value.serialize(&mut wanted)?;
-    Ok(written == wanted && borrowed.defined_len() == written.len())
+/// The bytes of a record.
+fn bytes_of<T: MySerialize>(alloc: Global, record: &T) -> Result<Vec<u8>> {
+    let mut written = Vec::new(alloc);
+    record.serialize(&mut written)?;
+    Ok(written)
 }
 
 /// Whether a borrowed value is sent, written and copied as the value itself.
 pub fn is_alike(alloc: Global, value: &Value) -> Result<bool> {
     let borrowed = counted!(alloc; value value.as_ref());
-    let mut is_alike = is_written_alike(alloc, borrowed, value)?;
+    let written = bytes_of(alloc, &borrowed)?;
+    let mut is_alike = written == bytes_of(alloc, value)?
+        && borrowed.defined_len() == written.len();
     is_alike = is_alike && borrowed.bin_len() == value.bin_len();
     is_alike = is_alike && borrowed.sent_type() == value.sent_type();
     is_alike = is_alike && borrowed.is_uint() == value.is_uint();
@@ -26,15 +27,14 @@ pub fn is_alike(alloc: Global, value: &Value) -> Result<bool> {
     Ok(is_alike && copy == *value && borrowed == copy.as_ref())
 }
 
+/// What is read, and how many bytes are left.
+type Read<T> = (Result<T, Fault>, usize);
+
 /// Adds a word unless a reader that borrows gave what the other did, and left as much.
-fn compare<T>(
-    out: &mut Out,
-    owned: Result<ValueDeserializer<T>, Fault>,
-    borrowed: Result<ValueRef<'_>, Fault>,
-    is_rest_same: bool,
-) {
+fn compare<T>(out: &mut Out, owned: Read<ValueDeserializer<T>>, borrowed: Read<ValueRef<'_>>) {
+    let ((owned, left), (borrowed, rest)) = (owned, borrowed);
     let is_same = match (owned, borrowed) {
-        (Ok(owned), Ok(borrowed)) => is_rest_same && owned.0.as_ref() == borrowed,
+        (Ok(owned), Ok(borrowed)) => left == rest && owned.0.as_ref() == borrowed,
         (Err(owned), Err(borrowed)) => owned == borrowed,
         _ => false,
     };
@@ -44,21 +44,21 @@ fn compare<T>(
 pub fn value_text(out: &mut Out, request: &Request<'_>) {
     let (alloc, bytes) = (request.alloc, request.bytes.as_slice());
     let _ = read::<Statements, ValueDeserializer<TextValue>>(out, bytes, ());
-    let (mut buf, mut place) = (ParseBuf::new(alloc, bytes), ParseBuf::new(alloc, bytes));
-    let owned: Result<ValueDeserializer<TextValue>, Fault> = buf.parse(());
+    let owned = parsed::<ValueDeserializer<TextValue>>(alloc, bytes, ());
+    let mut place = ParseBuf::new(alloc, bytes);
     let borrowed = counted!(alloc; read_text_ref(&mut place));
-    compare(out, owned, borrowed, buf.len() == place.len());
+    compare(out, owned, (borrowed, place.len()));
 }
 
 pub fn value(out: &mut Out, request: &Request<'_>) {
     let (alloc, bytes) = (request.alloc, request.bytes.as_slice());
     let (column_type, flags) = column(out, request);
     let _ = read::<Statements, ValueDeserializer<BinValue>>(out, bytes, (column_type, flags));
-    let (mut buf, mut place) = (ParseBuf::new(alloc, bytes), ParseBuf::new(alloc, bytes));
-    let owned: Result<ValueDeserializer<BinValue>, Fault> = buf.parse((column_type, flags));
+    let owned = parsed::<ValueDeserializer<BinValue>>(alloc, bytes, (column_type, flags));
     let is_unsigned = flags.contains(ColumnFlags::UNSIGNED_FLAG);
+    let mut place = ParseBuf::new(alloc, bytes);
     let borrowed = counted!(alloc; read_bin_ref(column_type, is_unsigned, &mut place));
-    compare(out, owned, borrowed, buf.len() == place.len());
+    compare(out, owned, (borrowed, place.len()));
 }
 
 /// Whether a borrowed value is handed back as the value itself, with the same text.

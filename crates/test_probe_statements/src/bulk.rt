@@ -23,46 +23,46 @@ type Columns = Vec<(ColumnType, ColumnFlags)>;
 
 /// The types, the values, and the indicators before them, up to the place that has none.
 impl Shows<ComStmtBulkExecuteRequest> for Statements {
-    fn fields(record: &ComStmtBulkExecuteRequest, out: &mut Out) {
-        fields!(out, record; stmt_id, bulk_flags);
-        for column in record.types() {
+    fn fields(it: &ComStmtBulkExecuteRequest, out: &mut Out) {
+        fields!(out, it; stmt_id, bulk_flags);
+        for column in it.types() {
             Statements::fields(column, out);
         }
-        out.show("values", SpelledRow(record.values()));
+        out.show("values", SpelledRow(it.values()));
         out.field("indicators", "");
-        for place in 0..record.values().len().saturating_add(1) {
-            match counted!(out.alloc(); value record.indicator(place)) {
+        for place in 0..it.values().len().saturating_add(1) {
+            match counted!(out.alloc(); value it.indicator(place)) {
                 Some(indicator) => u8::from(indicator).shown(out),
                 None => out.push("."),
             }
         }
     }
 
-    fn is_made(record: &ComStmtBulkExecuteRequest, alloc: Global) -> Result<bool> {
-        is_cloned(alloc, record, record)
+    fn is_made(it: &ComStmtBulkExecuteRequest, alloc: Global) -> Result<bool> {
+        is_cloned(alloc, it, it)
     }
 }
 
 impl Shows<StmtBulkExecuteParamValue> for Statements {
-    fn fields(record: &StmtBulkExecuteParamValue, out: &mut Out) {
-        out.show("indicator", u8::from(record.indicator()));
-        out.show("value", Spelled(record.value().as_ref()));
+    fn fields(it: &StmtBulkExecuteParamValue, out: &mut Out) {
+        out.show("indicator", u8::from(it.indicator()));
+        out.show("value", Spelled(it.value().as_ref()))
     }
 
-    fn is_made(record: &StmtBulkExecuteParamValue, alloc: Global) -> Result<bool> {
-        is_cloned(alloc, record, record)
+    fn is_made(it: &StmtBulkExecuteParamValue, alloc: Global) -> Result<bool> {
+        is_cloned(alloc, it, it)
     }
 }
 
 impl Shows<StmtBulkExecuteParamValues> for Statements {
-    fn fields(record: &StmtBulkExecuteParamValues, out: &mut Out) {
-        for value in record.as_slice() {
+    fn fields(it: &StmtBulkExecuteParamValues, out: &mut Out) {
+        for value in it.as_slice() {
             Statements::fields(value, out);
         }
     }
 
-    fn is_made(record: &StmtBulkExecuteParamValues, alloc: Global) -> Result<bool> {
-        is_cloned(alloc, record, record)
+    fn is_made(it: &StmtBulkExecuteParamValues, alloc: Global) -> Result<bool> {
+        is_cloned(alloc, it, it)
     }
 }
 
@@ -95,15 +95,11 @@ pub fn bulk_rows(out: &mut Out, request: &Request<'_>) {
     let columns = or_empty(out, request.columns());
     let mut buf = ParseBuf::new(alloc, bytes);
     let answer: Result<_, Fault> = counted!(alloc; read_bulk_rows(&columns, &mut buf));
-    match answer {
-        Ok(rows) => {
-            out.word("read");
-            for row in &rows {
-                out.show("values", SpelledRow(row));
-            }
-            out.show("rest", buf.len());
+    if let Some(rows) = taken(out, answer, buf.len() == bytes.len()) {
+        for row in &rows {
+            out.show("values", SpelledRow(row));
         }
-        Err(fault) => out.refused(fault, buf.len() == bytes.len()),
+        out.show("rest", buf.len());
     }
 }
 
@@ -129,10 +125,9 @@ fn show_written(out: &mut Out, made: &ComStmtBulkExecuteRequest, text: &str) {
     let mut buf = ParseBuf::new(out.alloc(), &written);
     let again: Result<_, Fault> = read_bulk_rows(&columns, &mut buf);
     out.same("rows_again", Ok(again.is_ok_and(|again| again == handed)));
-    let mut buf = ParseBuf::new(out.alloc(), &written);
-    let again = read_one(&mut buf, columns);
-    out.same("again", Ok(again.is_some_and(|again| again == *made)));
-    out.show("left", buf.len());
+    let (again, left) = parsed::<ComStmtBulkExecuteRequest>(out.alloc(), &written, columns);
+    out.same("again", Ok(again.is_ok_and(|again| again == *made)));
+    out.show("left", left);
 }
 
 /// The columns of the types of the first row.
@@ -152,21 +147,15 @@ fn columns_of(out: &mut Out, rows: &[Vec<Value>]) -> Columns {
     columns
 }
 
-/// The request of one row that bytes begin with, if they do.
-fn read_one(buf: &mut ParseBuf<'_>, columns: Columns) -> Option<ComStmtBulkExecuteRequest> {
-    let answer: Result<_, FaultOf<'_>> = buf.parse(columns);
-    answer.ok()
-}
-
 /// Whether both are read, and as the same request.
 pub fn are_same(out: &mut Out, request: &Request<'_>) {
     let first = bytes(out, request.word(2));
-    let mut buf = ParseBuf::new(out.alloc(), &first);
-    let one = read_one(&mut buf, or_empty(out, request.columns()));
-    let mut buf = ParseBuf::new(out.alloc(), &request.bytes);
-    let other = read_one(&mut buf, or_empty(out, request.columns()));
+    let columns = or_empty(out, request.columns());
+    let (one, _) = parsed::<ComStmtBulkExecuteRequest>(out.alloc(), &first, columns);
+    let columns = or_empty(out, request.columns());
+    let (other, _) = parsed::<ComStmtBulkExecuteRequest>(out.alloc(), &request.bytes, columns);
     match (one, other) {
-        (Some(one), Some(other)) => same_or_other(out, counted!(out.alloc(); value one == other)),
+        (Ok(one), Ok(other)) => same_or_other(out, counted!(out.alloc(); value one == other)),
         _ => out.word("refused"),
     }
 }

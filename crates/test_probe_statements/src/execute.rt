@@ -53,10 +53,8 @@ pub fn execute_many(out: &mut Out, request: &Request<'_>) {
         push(out, &mut values, value);
     }
     if let Some(execution) = shown(out, request, &values) {
-        out.show(
-            "bitmap_at",
-            ComStmtExecuteRequestBuilder::NULL_BITMAP_OFFSET,
-        );
+        let bitmap_at = ComStmtExecuteRequestBuilder::NULL_BITMAP_OFFSET;
+        out.show("bitmap_at", bitmap_at);
         out.show("bitmap_len", execution.bitmap().len());
         out.show("len", execution.defined_len());
         let mut written = Vec::new(out.alloc());
@@ -95,13 +93,13 @@ fn params_of<'v>(out: &mut Out, text: &str, values: &'v [Value]) -> Vec<ExecuteP
     params
 }
 
+fn attribute_of<'n>(named: &'n (Vec<u8>, Value)) -> QueryAttribute<'n> {
+    let (name, value) = (named.0.as_slice(), named.1.as_ref());
+    QueryAttribute { name, value }
+}
+
 fn attributes_of<'n>(out: &mut Out, named: &'n [(Vec<u8>, Value)]) -> Vec<QueryAttribute<'n>> {
-    let mut attributes = Vec::new(out.alloc());
-    for (name, value) in named {
-        let (name, value) = (name.as_slice(), value.as_ref());
-        push(out, &mut attributes, QueryAttribute { name, value });
-    }
-    attributes
+    or_empty(out, named.iter().map(attribute_of).collect(out.alloc()))
 }
 
 /// The execution that a request asks for, with these parameters and attributes.
@@ -156,15 +154,10 @@ fn write_at_once<V: AsExecuteParam>(out: &mut Out, id: u32, params: &[V]) {
 pub fn at_once(out: &mut Out, request: &Request<'_>) {
     let (id, text) = (request.number(2), request.word(3));
     let values = Vec::<Value>::from_word(out, text);
+    let (refs, params) = (refs(out, &values), params_of(out, text, &values));
     match request.word(1) {
         "values" => write_at_once(out, id, &values),
-        "refs" => {
-            let refs = refs(out, &values);
-            write_at_once(out, id, &refs);
-        }
-        _ => {
-            let params = params_of(out, text, &values);
-            write_at_once(out, id, &params);
-        }
+        "refs" => write_at_once(out, id, &refs),
+        _ => write_at_once(out, id, &params),
     }
 }

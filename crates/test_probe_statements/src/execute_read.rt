@@ -4,13 +4,12 @@
 use crate::prelude::*;
 
 impl Shows<ComStmtExecuteHead> for Statements {
-    fn fields(record: &ComStmtExecuteHead, out: &mut Out) {
-        fields!(out, record; stmt_id, flags);
+    fn fields(it: &ComStmtExecuteHead, out: &mut Out) {
+        fields!(out, it; stmt_id, flags)
     }
 
-    fn is_made(record: &ComStmtExecuteHead, alloc: Global) -> Result<bool> {
-        let made = ComStmtExecuteHead::new(record.stmt_id(), record.flags());
-        is_cloned(alloc, &made, record)
+    fn is_made(it: &ComStmtExecuteHead, alloc: Global) -> Result<bool> {
+        is_anew!(alloc, it; ComStmtExecuteHead::new(it.stmt_id(), it.flags()))
     }
 }
 

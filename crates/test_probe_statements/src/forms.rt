@@ -28,14 +28,13 @@ impl<T> Shows<ValueDeserializer<T>> for Statements {
 }
 
 impl Shows<ParamType> for Statements {
-    fn fields(record: &ParamType, out: &mut Out) {
-        out.show("type", u8::from(record.column_type()));
-        out.show("flags", record.flags());
+    fn fields(it: &ParamType, out: &mut Out) {
+        out.show("type", u8::from(it.column_type()));
+        out.show("flags", it.flags())
     }
 
-    fn is_made(record: &ParamType, alloc: Global) -> Result<bool> {
-        let made = counted!(alloc; value ParamType::new(record.column_type(), record.flags()));
-        Ok(made == *record)
+    fn is_made(it: &ParamType, alloc: Global) -> Result<bool> {
+        Ok(*it == counted!(alloc; value ParamType::new(it.column_type(), it.flags())))
     }
 }
 

@@ -18,6 +18,7 @@ pub mod written;
 
 use crate::prelude::*;
 use crate::rows::calls::call;
+use test_probe::request::column_type;
 
 /// The columns of a request, without names.
 pub fn columns(request: &Request<'_>) -> Result<RcSlice<Column>> {
@@ -68,9 +69,7 @@ type TextRow = RowDeserializer<ServerSide, Text>;
 
 /// The text row that digits spell.
 fn text_row(out: &Out, digits: &str, columns: RcSlice<Column>) -> Option<TextRow> {
-    let bytes = bytes(out, digits);
-    let mut buf = ParseBuf::new(out.alloc(), &bytes);
-    let read: Result<_, Fault> = buf.parse(columns);
+    let (read, _) = parsed::<TextRow>(out.alloc(), &bytes(out, digits), columns);
     read.ok()
 }
 
@@ -91,8 +90,7 @@ pub fn row_equal(out: &mut Out, request: &Request<'_>) -> Result {
 impl FromWord for Column {
     fn from_word(out: &mut Out, word: &str) -> Self {
         let (name, digits) = word.split_once(':').unwrap_or((word, ""));
-        let column_type = ColumnType::from_code(digits.parse::<u8>().unwrap_or(253));
-        let column_type = column_type.unwrap_or(ColumnType::MYSQL_TYPE_VAR_STRING);
+        let column_type = column_type(digits);
         let named = Column::new(column_type).with_name(out.alloc(), name.as_bytes());
         or_lost(out, named).unwrap_or(Column::new(column_type))
     }
@@ -101,6 +99,15 @@ impl FromWord for Column {
 /// The columns with names that stand at place 1.
 fn named_columns(out: &mut Out, request: &Request<'_>) -> Result<RcSlice<Column>> {
     RcSlice::from_vec(list(out, request.word(1), "()", ','))
+}
+
+/// The row of these cells; or `?` is added, where there are not as many columns.
+fn raw_row(out: &mut Out, cells: Vec<Option<Value>>, columns: RcSlice<Column>) -> Option<Row> {
+    if cells.len() != columns.len() {
+        out.word("?");
+        return None;
+    }
+    Some(new_row_raw(cells, columns))
 }
 
 /// Answers the calls that stand from the fourth word on.
@@ -127,10 +134,8 @@ pub fn made_row(out: &mut Out, request: &Request<'_>) -> Result {
 pub fn made_row_raw(out: &mut Out, request: &Request<'_>) -> Result {
     let columns = named_columns(out, request)?;
     let cells = list::<Option<Value>>(out, request.word(2), "()", ',');
-    if cells.len() == columns.len() {
-        answer_calls(out, &mut new_row_raw(cells, columns), request);
-    } else {
-        out.word("?");
+    if let Some(mut row) = raw_row(out, cells, columns) {
+        answer_calls(out, &mut row, request);
     }
     Ok(())
 }
@@ -158,9 +163,8 @@ fn typed<C: TypedColumn>(column: &C) -> (ColumnType, bool) {
 
 pub fn column_typed(out: &mut Out, request: &Request<'_>) {
     let (alloc, bytes) = (request.alloc, request.bytes.as_slice());
-    let (mut buf, mut place) = (ParseBuf::new(alloc, bytes), ParseBuf::new(alloc, bytes));
-    let owned: Result<Column, Fault> = buf.parse(());
-    let borrowed: Result<ColumnRef<'_>, Fault> = place.parse(());
+    let (owned, _) = parsed::<Column>(alloc, bytes, ());
+    let (borrowed, _) = parsed::<ColumnRef<'_>>(alloc, bytes, ());
     let is_same = match (owned, borrowed) {
         (Ok(owned), Ok(borrowed)) => typed(&owned) == typed(&borrowed),
         _ => false,

@@ -6,50 +6,45 @@
 use crate::prelude::*;
 
 impl Shows<StmtPacket> for Statements {
-    fn fields(record: &StmtPacket, out: &mut Out) {
-        fields!(out, record; statement_id, num_columns, num_params, warning_count);
+    fn fields(it: &StmtPacket, out: &mut Out) {
+        fields!(out, it; statement_id, num_columns, num_params, warning_count)
     }
 
-    fn is_made(record: &StmtPacket, alloc: Global) -> Result<bool> {
-        let (columns, params) = (record.num_columns(), record.num_params());
-        let (id, warnings) = (record.statement_id(), record.warning_count());
-        let made = StmtPacket::new(id, columns, params, warnings);
-        is_cloned(alloc, &made, record)
+    fn is_made(it: &StmtPacket, alloc: Global) -> Result<bool> {
+        is_anew!(alloc, it; StmtPacket::new(it.statement_id(), it.num_columns(), it.num_params(), it.warning_count()))
     }
 }
 
 impl Shows<StmtPacketWithMetadata> for Statements {
-    fn fields(record: &StmtPacketWithMetadata, out: &mut Out) {
-        Self::fields(record.packet(), out);
-        fields!(out, record; metadata);
+    fn fields(it: &StmtPacketWithMetadata, out: &mut Out) {
+        Self::fields(it.packet(), out);
+        fields!(out, it; metadata)
     }
 
-    fn is_made(record: &StmtPacketWithMetadata, alloc: Global) -> Result<bool> {
-        let packet = counted!(alloc; record.packet().clone())?;
-        let made = StmtPacketWithMetadata::new(packet, record.metadata());
-        is_cloned(alloc, &made, record)
+    fn is_made(it: &StmtPacketWithMetadata, alloc: Global) -> Result<bool> {
+        let packet = counted!(alloc; it.packet().clone())?;
+        is_anew!(alloc, it; StmtPacketWithMetadata::new(packet, it.metadata()))
     }
 }
 
 impl Shows<ComStmtClose> for Statements {
-    fn fields(record: &ComStmtClose, out: &mut Out) {
-        out.show("stmt_id", record.stmt_id);
+    fn fields(it: &ComStmtClose, out: &mut Out) {
+        out.show("stmt_id", it.stmt_id)
     }
 
-    fn is_made(record: &ComStmtClose, alloc: Global) -> Result<bool> {
-        is_cloned(alloc, &ComStmtClose::new(record.stmt_id), record)
+    fn is_made(it: &ComStmtClose, alloc: Global) -> Result<bool> {
+        is_anew!(alloc, it; ComStmtClose::new(it.stmt_id))
     }
 }
 
 impl Shows<ComStmtSendLongData<'_>> for Statements {
-    fn fields(record: &ComStmtSendLongData<'_>, out: &mut Out) {
-        fields!(out, record; stmt_id, param_index, data_ref);
+    fn fields(it: &ComStmtSendLongData<'_>, out: &mut Out) {
+        fields!(out, it; stmt_id, param_index, data_ref)
     }
 
-    fn is_made(record: &ComStmtSendLongData<'_>, alloc: Global) -> Result<bool> {
-        let data = CowSlice::Borrowed(record.data_ref());
-        let made = ComStmtSendLongData::new(record.stmt_id(), record.param_index(), data);
-        is_owned!(alloc; made, record)
+    fn is_made(it: &ComStmtSendLongData<'_>, alloc: Global) -> Result<bool> {
+        let data = CowSlice::Borrowed(it.data_ref());
+        is_anew!(alloc, it; owned ComStmtSendLongData::new(it.stmt_id(), it.param_index(), data))
     }
 }
 

@@ -14,7 +14,7 @@
 //! An index is a place where it is digits, and else a name.
 
 use crate::prelude::*;
-use crate::rows::push_cell;
+use crate::rows::{push_cell, raw_row};
 
 /// Makes a call, and adds what it answered.
 pub fn call(out: &mut Out, row: &mut Row, word: &str) {
@@ -49,12 +49,9 @@ pub fn call(out: &mut Out, row: &mut Row, word: &str) {
 
 /// Whether the row of these values, in the same columns, is equal.
 fn equal(out: &mut Out, row: &Row, values: &str) -> Result {
-    let columns = row.columns()?;
     let values = list::<Option<Value>>(out, values, "()", ',');
-    if values.len() == columns.len() {
-        out.same("equal", Ok(new_row_raw(values, columns) == *row));
-    } else {
-        out.word("?");
+    if let Some(other) = raw_row(out, values, row.columns()?) {
+        out.same("equal", Ok(other == *row));
     }
     Ok(())
 }

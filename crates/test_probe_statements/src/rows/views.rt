@@ -55,13 +55,9 @@ fn compare<S: SerializationSide, P: RowProtocol>(
 ) -> Result {
     let bytes = request.bytes.as_slice();
     let _ = read::<Statements, RowDeserializer<S, P>>(out, bytes, columns(request)?);
-    let mut buf = ParseBuf::new(out.alloc(), bytes);
-    let read: Result<RowDeserializer<S, P>, Fault> = buf.parse(columns(request)?);
+    let (read, left) = parsed::<RowDeserializer<S, P>>(out.alloc(), bytes, columns(request)?);
     let is_same = match read {
-        Ok(row) => {
-            let is_read = viewed.end.is_ok() && viewed.rest == buf.len();
-            is_read && has_values(row, &viewed.values)
-        }
+        Ok(row) => viewed.end.is_ok() && viewed.rest == left && has_values(row, &viewed.values),
         Err(fault) => viewed.end == Err(fault),
     };
     out.or_other("view", Ok(is_same && viewed.is_one_by_one));

@@ -58,9 +58,9 @@ pub fn binary(out: &mut Out, request: &Request<'_>) -> Result {
     let buffer = write_values(out, &columns, &values, None);
     let written = after(&buffer);
     if !written.is_empty() {
-        let mut buf = ParseBuf::new(out.alloc(), written);
-        let read: Result<RowDeserializer<ServerSide, Binary>, Fault> = buf.parse(columns);
-        let is_same = read.is_ok_and(|row| buf.is_empty() && has_values(row, &values));
+        let alloc = out.alloc();
+        let (read, left) = parsed::<RowDeserializer<ServerSide, Binary>>(alloc, written, columns);
+        let is_same = read.is_ok_and(|row| left == 0 && has_values(row, &values));
         out.same("again", Ok(is_same));
     }
     Ok(())
