@@ -15,6 +15,8 @@ mod ok_kinds;
 #[cfg(test)]
 mod own_types;
 #[cfg(test)]
+mod prelude;
+#[cfg(test)]
 mod premises;
 #[cfg(test)]
 mod sizes;

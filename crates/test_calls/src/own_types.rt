@@ -1,44 +1,12 @@
 //! A user's own index of columns, own conversion of values, and own constant.
 
+use crate::prelude::*;
 use crate::switch::Switch;
-use mysql_packets::constants::ColumnType;
-use mysql_packets::io::{Fault, ParseBuf};
-use mysql_packets::misc::raw::{ConstBytes, ConstBytesValue, ConstFault};
-use mysql_packets::packets::Column;
-use mysql_packets::proto::MySerialize;
-use mysql_packets::row::{ColumnIndex, Row, new_row_raw};
-use mysql_packets::value::Value;
-use mysql_packets::value::convert::FromValueError;
-use std::alloc::{AllocError, Global};
-use std::process::Abort;
-use std::rc::RcSlice;
-use std::test::Fail;
-
-/// Four bytes that stand at the head of a packet of a user's.
-#[derive(Clone, Copy, Debug)]
-pub struct Marker;
-
-impl ConstFault for Marker {
-    const MESSAGE: &'static str = "Invalid marker";
-}
-
-impl ConstBytesValue<4> for Marker {
-    ghost use Rattle.std.specs.Prelude.{◌∷◌, [], refl};
-
-    ghost VALUE = { 3 ∷ 100 ∷ 101 ∷ 102 ∷ [] };
-
-    const VALUE: [u8; 4] = [3, b'd', b'e', b'f'];
-
-    type Error = Marker;
-
-    ghost len_is = { refl };
-}
 
 /// The fault of the marker in these bytes, and how many are left.
 fn read_marker(alloc: Global, bytes: &[u8]) -> (Option<Fault>, usize) {
-    let mut buf = ParseBuf::new(alloc, bytes);
-    let read: Result<ConstBytes<Marker, 4>, Fault> = buf.parse(());
-    (read.err(), buf.len())
+    let (read, left) = parsed::<ConstBytes<Marker, 4>>(alloc, bytes, ());
+    (read.err(), left)
 }
 
 #[test]

@@ -1,31 +1,15 @@
 //! Laws on a value at hand, used from outside on packets that were read: none asks for what its caller can't know.
 
-use mysql_packets::constants::CapabilityFlags;
-use mysql_packets::io::{FaultOf, ParseBuf};
+use crate::prelude::*;
 use mysql_packets::laws::replies::values as replies;
 use mysql_packets::laws::stmt::values as stmt;
 use mysql_packets::laws::{auth, repl};
-use mysql_packets::packets::*;
-use mysql_packets::proto::MyDeserialize;
-use std::alloc::Global;
-use std::test::Fail;
-
-/// The packet of some bytes.
-fn read<'a, T: MyDeserialize<'a> + Drop>(
-    alloc: Global,
-    bytes: &'a [u8],
-    ctx: T::Ctx,
-) -> Result<T, Fail> {
-    let mut buf = ParseBuf::new(alloc, bytes);
-    let answer: Result<T, FaultOf<'_>> = buf.parse(ctx);
-    Ok(answer.ok().ok_or("the bytes are a packet")?)
-}
 
 /// Each packet is read of its bytes, and its law used on it.
 macro_rules! round_trip {
     ($rt:expr; $($law:path: $type:ty, $bytes:expr $(, of $flags:expr)?;)+) => {{
         $({
-            let packet: $type = read($rt.alloc(), $bytes, ($($flags)?))?;
+            let packet = parsed::<$type>($rt.alloc(), $bytes, ($($flags)?)).0?;
             $law($($flags,)? &packet);
         })+
     }};
@@ -45,7 +29,7 @@ fn replies_that_were_read_round_trip(rt: HostRuntime) -> Result<(), Fail> {
 #[test]
 fn errors_that_were_read_round_trip(rt: HostRuntime) -> Result<(), Fail> {
     let flags = CapabilityFlags::CLIENT_PROTOCOL_41;
-    let packet: ErrPacket<'_> = read(rt.alloc(), b"\xffH\x04#HY000", flags)?;
+    let packet = parsed::<ErrPacket<'_>>(rt.alloc(), b"\xffH\x04#HY000", flags).0?;
     if let ErrPacket::Error(error) = &packet {
         replies::this_server_error_round_trips(error);
         if let Some(state) = error.sql_state_ref() {
@@ -54,7 +38,7 @@ fn errors_that_were_read_round_trip(rt: HostRuntime) -> Result<(), Fail> {
     }
     let flags = CapabilityFlags::CLIENT_PROGRESS_OBSOLETE;
     let bytes = b"\xff\xff\xff\x01\x01\x0a\xcc[\x00\x0astage name";
-    let packet: ErrPacket<'_> = read(rt.alloc(), bytes, flags)?;
+    let packet = parsed::<ErrPacket<'_>>(rt.alloc(), bytes, flags).0?;
     if let ErrPacket::Progress(report) = &packet {
         replies::this_progress_report_round_trips(report);
     }

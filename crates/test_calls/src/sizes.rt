@@ -1,14 +1,7 @@
 //! The sizes of types with type parameters: no law can name them.
 
-use crate::own_types::Marker;
-use mysql_packets::constants::*;
-use mysql_packets::io::ParseBuf;
-use mysql_packets::misc::raw::*;
+use crate::prelude::*;
 use mysql_packets::packets::session_state_change::*;
-use mysql_packets::packets::{CommonOkPacket, NullBitmap, OkPacketDeserializer};
-use mysql_packets::proto::{Binary, MyDeserialize, Text};
-use mysql_packets::row::RowDeserializer;
-use mysql_packets::value::{BinValue, ClientSide, ServerSide, TextValue, ValueDeserializer};
 
 /// Each of these types has that size.
 macro_rules! assert_sizes {
@@ -26,6 +19,10 @@ fn a_fixed_width_is_the_size(rt: HostRuntime) {
         Const<MariadbBulkIndicator, u8>);
     assert_sizes!(rt, Some(2); RawInt<LeU16>, Const<StatusFlags, LeU16>);
     assert_sizes!(rt, Some(3); RawInt<LeU24>);
+}
+
+#[test]
+fn a_wider_width_is_the_size(rt: HostRuntime) {
     assert_sizes!(rt, Some(4); RawInt<LeU32>, ConstU32<Marker, 1>, ConstBytes<Marker, 4>, Const<CapabilityFlags, LeU32>);
     assert_sizes!(rt, Some(8); RawInt<LeU64>, [u8; 8]);
     assert_sizes!(rt, Some(20); [u8; 20]);

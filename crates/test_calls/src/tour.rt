@@ -1,15 +1,6 @@
 //! The tour of the README, as a test.
 
-use mysql_packets::constants::CapabilityFlags;
-use mysql_packets::io::ParseBuf;
-use mysql_packets::packets::{
-    ComStmtBulkExecuteRequestBuilder, CommonOkPacket, OkPacket, OkPacketDeserializer, StmtPacket,
-};
-use mysql_packets::proto::MySerialize;
-use mysql_packets::row::TextRowView;
-use mysql_packets::value::{Value, ValueRef};
-use std::alloc::Global;
-use std::test::Fail;
+use crate::prelude::*;
 
 #[test]
 fn a_statement_is_read_and_written(rt: HostRuntime) -> Result<(), Fail> {
@@ -25,10 +16,8 @@ fn a_statement_is_read_and_written(rt: HostRuntime) -> Result<(), Fail> {
 
 #[test]
 fn an_ok_packet_has_one_change(rt: HostRuntime) -> Result<(), Fail> {
-    let (alloc, payload) = (
-        rt.alloc(),
-        b"\x00\x00\x00\x02\x40\x00\x00\x00\x11\x00\x0f\x0aautocommit\x03OFF",
-    );
+    let alloc = rt.alloc();
+    let payload = b"\x00\x00\x00\x02\x40\x00\x00\x00\x11\x00\x0f\x0aautocommit\x03OFF";
     let mut buf = ParseBuf::new(alloc, payload);
     let flags = CapabilityFlags::CLIENT_SESSION_TRACK;
     let ok: OkPacketDeserializer<'_, CommonOkPacket> = buf.parse(flags)?;

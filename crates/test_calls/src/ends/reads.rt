@@ -1,9 +1,9 @@
 //! Readers that fail, that give one byte a read, that are interrupted, that never end.
 
 use crate::ends::calls::{CALLS, Call, status_of, text_of};
+use crate::prelude::*;
 use std::io;
 use std::io::{ErrorKind, Read};
-use std::process::Abort;
 
 /// Gives one byte of another reader a read, for so many reads. Each read after those fails so.
 #[derive(Drop)]
@@ -11,6 +11,10 @@ struct SlowReader<R> {
     inner: R,
     left: u32,
     fault: ErrorKind,
+}
+
+fn slow<R>(inner: R, left: u32, fault: ErrorKind) -> SlowReader<R> {
+    SlowReader { inner, left, fault }
 }
 
 impl<R: Read> Read for SlowReader<R> {
@@ -46,24 +50,12 @@ fn reads_input((call, input, status): Call) -> bool {
 /// one for the end, or none. Where none of these fails, it answers as ever.
 fn assert_each_read_fails(rt: &(impl Abort + AllocGlobal), call: Call, fault: ErrorKind) {
     let text = text_of(rt, call);
-    let bytes = u32::try_from(call.1.len()).unwrap_or(0);
-    let reads = if reads_input(call) {
-        bytes.saturating_add(1)
-    } else {
-        0
-    };
+    let (failed, answered) = ((3, b"".as_slice()), (call.2, text.as_slice()));
+    let all = u32::try_from(call.1.len().saturating_add(1)).unwrap_or(0);
+    let reads = if reads_input(call) { all } else { 0 };
     for left in 0..=reads {
-        let wanted = if left < reads {
-            (3, b"".as_slice())
-        } else {
-            (call.2, text.as_slice())
-        };
-        let reader = SlowReader {
-            inner: call.1,
-            left,
-            fault,
-        };
-        assert_eq!(rt; left_of(rt, call.0, reader, wanted), 0);
+        let wanted = if left < reads { failed } else { answered };
+        assert_eq!(rt; left_of(rt, call.0, slow(call.1, left, fault), wanted), 0);
     }
 }
 
@@ -80,11 +72,8 @@ const MOST_READS: u32 = 1_048_576;
 
 #[test]
 fn an_input_without_end_is_a_failed_read(rt: HostRuntime) {
-    let reader = SlowReader {
-        inner: b"i1".as_slice().chain(io::repeat(b'\n')),
-        left: MOST_READS + 1,
-        fault: ErrorKind::Other,
-    };
+    let inner = b"i1".as_slice().chain(io::repeat(b'\n'));
+    let reader = slow(inner, MOST_READS + 1, ErrorKind::Other);
     assert_eq!(rt; left_of(&rt, "bulk 1 31", reader, (3, b"")), 1);
 }
 
@@ -93,12 +82,7 @@ fn a_call_that_reads_nothing_needs_no_end(rt: HostRuntime) {
     for call in CALLS {
         if !reads_input(*call) {
             let text = text_of(&rt, *call);
-            let inner = io::repeat(b'\n');
-            let reader = SlowReader {
-                inner,
-                left: 1,
-                fault: ErrorKind::Other,
-            };
+            let reader = slow(io::repeat(b'\n'), 1, ErrorKind::Other);
             assert_eq!(rt; left_of(&rt, call.0, reader, (call.2, &text)), 1);
         }
     }

@@ -1,9 +1,9 @@
 //! Writers that fail, that take one byte a write, that are interrupted, that take nothing.
 
 use crate::ends::calls::{CALLS, Call, status_of, text_of};
+use crate::prelude::*;
 use std::io;
 use std::io::{ErrorKind, Write};
-use std::process::Abort;
 
 /// What a writer does at the writes after those that it takes.
 #[derive(Clone, Copy)]
@@ -54,12 +54,7 @@ impl Write for SlowWriter<'_> {
 
 /// The call ends with status 3 where a write fails, having written what stands before it; and as it does where the last
 /// write is taken.
-fn assert_each_write_fails(
-    rt: &(impl Abort + AllocGlobal),
-    call: Call,
-    then: Then,
-    interrupts: bool,
-) {
+fn each_write_fails(rt: &(impl Abort + AllocGlobal), call: Call, then: Then, interrupts: bool) {
     let text = text_of(rt, call);
     for left in 0..=text.len() {
         let mut reader = call.1;
@@ -79,8 +74,8 @@ fn assert_each_write_fails(
 #[test]
 fn each_write_fails_in_turn_or_takes_nothing(rt: HostRuntime) {
     for call in CALLS {
-        assert_each_write_fails(&rt, *call, Then::Fails, false);
-        assert_each_write_fails(&rt, *call, Then::TakesNothing, false);
+        each_write_fails(&rt, *call, Then::Fails, false);
+        each_write_fails(&rt, *call, Then::TakesNothing, false);
     }
 }
 
@@ -88,6 +83,6 @@ fn each_write_fails_in_turn_or_takes_nothing(rt: HostRuntime) {
 #[test]
 fn an_interrupted_write_is_made_again(rt: HostRuntime) {
     for call in CALLS {
-        assert_each_write_fails(&rt, *call, Then::Fails, true);
+        each_write_fails(&rt, *call, Then::Fails, true);
     }
 }

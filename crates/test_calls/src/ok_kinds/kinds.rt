@@ -3,10 +3,10 @@
 ghost use Rattle.mysql_packets.specs.OkBody.{common_ok_body};
 ghost use Rattle.test_calls.specs.Bodies.{after_a_byte, never, nothing};
 
-use mysql_packets::constants::CapabilityFlags;
-use mysql_packets::io::{FaultOf, ParseBuf};
-use mysql_packets::misc::raw::RawInt;
-use mysql_packets::packets::{CommonOkPacket, OkPacketBody, OkPacketKind, OldEofPacket};
+use crate::prelude::*;
+
+/// The body of a kind, or the fault.
+type Body<'s, 'a> = Result<OkPacketBody<'a>, FaultOf<'s>>;
 
 /// A header of its own, and a body of its own: a byte that is skipped, and the body of an old end.
 pub struct Versioned;
@@ -18,10 +18,7 @@ impl OkPacketKind for Versioned {
 
     ghost body = { after_a_byte };
 
-    fn parse_body<'s, 'de>(
-        capabilities: CapabilityFlags,
-        buf: &mut ParseBuf<'de>,
-    ) -> Result<OkPacketBody<'de>, FaultOf<'s>> {
+    fn parse_body<'s, 'a>(capabilities: CapabilityFlags, buf: &mut ParseBuf<'a>) -> Body<'s, 'a> {
         let mut rest = buf.rest();
         let _version: RawInt<u8> = rest.parse(())?;
         let body = OldEofPacket::parse_body(capabilities, &mut rest)?;
@@ -40,10 +37,7 @@ impl OkPacketKind for Refusing {
 
     ghost body = { never };
 
-    fn parse_body<'s, 'de>(
-        _capabilities: CapabilityFlags,
-        _buf: &mut ParseBuf<'de>,
-    ) -> Result<OkPacketBody<'de>, FaultOf<'s>> {
+    fn parse_body<'s, 'a>(_capabilities: CapabilityFlags, _buf: &mut ParseBuf<'a>) -> Body<'s, 'a> {
         Err(FaultOf::InvalidData("No body is one"))
     }
 }
@@ -58,10 +52,7 @@ impl OkPacketKind for Empty {
 
     ghost body = { nothing };
 
-    fn parse_body<'s, 'de>(
-        capabilities: CapabilityFlags,
-        buf: &mut ParseBuf<'de>,
-    ) -> Result<OkPacketBody<'de>, FaultOf<'s>> {
+    fn parse_body<'s, 'a>(capabilities: CapabilityFlags, buf: &mut ParseBuf<'a>) -> Body<'s, 'a> {
         let mut zeros = ParseBuf::new(buf.alloc(), &[0, 0, 0, 0]);
         match OldEofPacket::parse_body(capabilities, &mut zeros) {
             Ok(body) => Ok(body),
@@ -80,10 +71,7 @@ impl OkPacketKind for Seventh {
 
     ghost body = { common_ok_body };
 
-    fn parse_body<'s, 'de>(
-        capabilities: CapabilityFlags,
-        buf: &mut ParseBuf<'de>,
-    ) -> Result<OkPacketBody<'de>, FaultOf<'s>> {
+    fn parse_body<'s, 'a>(capabilities: CapabilityFlags, buf: &mut ParseBuf<'a>) -> Body<'s, 'a> {
         CommonOkPacket::parse_body(capabilities, buf)
     }
 }

@@ -1,55 +1,33 @@
 //! Packets of a user's kinds.
 
 use crate::ok_kinds::kinds::{Empty, Refusing, Seventh, Versioned};
-use mysql_packets::constants::{CapabilityFlags, Flags};
-use mysql_packets::io::{Fault, ParseBuf};
-use mysql_packets::packets::OkPacketDeserializer;
-use std::alloc::Global;
-use std::process::Abort;
+use crate::prelude::*;
 
 /// What was answered: the status flags and the warnings, or the fault; and how many bytes are left.
 type Answer = (Result<(u16, u16), Fault>, usize);
 
 /// What a kind answers to these bytes.
-macro_rules! answered {
-    ($kind:ty, $alloc:expr, $bytes:expr) => {{
-        let mut buf = ParseBuf::new($alloc, $bytes);
-        let read: Result<OkPacketDeserializer<'_, $kind>, Fault> = buf.parse(CapabilityFlags::empty());
-        let left = buf.len();
-        match read {
-            Ok(read) => {
-                let packet = read.into_inner();
-                (Ok((packet.status_flags().bits(), packet.warnings())), left)
-            }
-            Err(fault) => (Err(fault), left),
+fn answered<K: OkPacketKind>(alloc: Global, bytes: &[u8]) -> Answer {
+    let flags = CapabilityFlags::empty();
+    let (read, left) = parsed::<OkPacketDeserializer<'_, K>>(alloc, bytes, flags);
+    match read {
+        Ok(read) => {
+            let packet = read.into_inner();
+            let (status, warnings) = (packet.status_flags().bits(), packet.warnings());
+            (Ok((status, warnings)), left)
         }
-    }};
+        Err(fault) => (Err(fault), left),
+    }
 }
 
-fn versioned(alloc: Global, bytes: &[u8]) -> Answer {
-    answered!(Versioned, alloc, bytes)
-}
-
-fn refusing(alloc: Global, bytes: &[u8]) -> Answer {
-    answered!(Refusing, alloc, bytes)
-}
-
-fn reading_nothing(alloc: Global, bytes: &[u8]) -> Answer {
-    answered!(Empty, alloc, bytes)
-}
-
-fn seventh(alloc: Global, bytes: &[u8]) -> Answer {
-    answered!(Seventh, alloc, bytes)
-}
-
-fn assert_answer(rt: &impl Abort, given: Answer, wanted: Answer) {
-    assert!(rt; given == wanted);
+fn assert_answer<K: OkPacketKind>(rt: &(impl Abort + AllocGlobal), bytes: &[u8], wanted: Answer) {
+    assert!(rt; answered::<K>(rt.alloc(), bytes) == wanted);
 }
 
 /// Each of these byte strings has that answer of a kind.
 macro_rules! assert_answers {
-    ($rt:expr, $kind:ident; $($bytes:expr => $answer:expr;)+) => {
-        $(assert_answer(&$rt, $kind($rt.alloc(), $bytes), $answer);)+
+    ($rt:expr, $kind:ty; $($bytes:expr => $answer:expr;)+) => {
+        $(assert_answer::<$kind>(&$rt, $bytes, $answer);)+
     };
 }
 
@@ -58,18 +36,18 @@ const OTHER_HEADER: Fault = Fault::InvalidData("Invalid OK packet header");
 #[test]
 fn a_body_of_ones_own_is_read(rt: HostRuntime) {
     let bytes = b"\x2a\x07\x03\0\x02\0";
-    assert_answers!(rt, versioned;
+    assert_answers!(rt, Versioned;
         bytes => (Ok((2, 3)), 0);
         b"\x2a\x07\x03\0\x02\0\xff" => (Ok((2, 3)), 1);
         b"\xfe\x07\x03\0\x02\0" => (Err(OTHER_HEADER), 6););
     for n in 0..bytes.len() {
-        assert_answers!(rt, versioned; &bytes[..n] => (Err(Fault::UnexpectedEof), n););
+        assert_answers!(rt, Versioned; &bytes[..n] => (Err(Fault::UnexpectedEof), n););
     }
 }
 
 #[test]
 fn a_kind_that_refuses_each_body_takes_none(rt: HostRuntime) {
-    assert_answers!(rt, refusing;
+    assert_answers!(rt, Refusing;
         b"\0\x01\0\x02\0\0\0" => (Err(Fault::InvalidData("No body is one")), 7);
         b"\0\x01" => (Err(Fault::InvalidData("No body is one")), 2);
         b"\x01" => (Err(OTHER_HEADER), 1);
@@ -78,7 +56,7 @@ fn a_kind_that_refuses_each_body_takes_none(rt: HostRuntime) {
 
 #[test]
 fn a_kind_that_reads_nothing_leaves_all(rt: HostRuntime) {
-    assert_answers!(rt, reading_nothing;
+    assert_answers!(rt, Empty;
         b"\x01" => (Ok((0, 0)), 0);
         b"\x01\x02\x03" => (Ok((0, 0)), 2);
         b"\0" => (Err(OTHER_HEADER), 1);
@@ -87,7 +65,7 @@ fn a_kind_that_reads_nothing_leaves_all(rt: HostRuntime) {
 
 #[test]
 fn a_body_of_a_kind_that_is_there(rt: HostRuntime) {
-    assert_answers!(rt, seventh;
+    assert_answers!(rt, Seventh;
         b"\x07\x01\x00\x02\x00\x00\x00" => (Ok((2, 0)), 0);
         b"\x00\x01\x00\x02\x00\x00\x00" => (Err(OTHER_HEADER), 7););
 }
