@@ -43,18 +43,17 @@ fn switch<R: Read, W: Write, A: Answers>(
     scramble: &mut Vec<u8>,
     answers: &mut A,
 ) -> Result<()> {
-    let sent = switched(connection.alloc, payload, scramble, answers)?;
+    let request: AuthSwitchRequest<'_> = ParseBuf::new(connection.alloc, payload).parse(())?;
+    let sent = switched(&request, scramble, answers)?;
     connection.send(&sent)
 }
 
 /// The answer of another plugin to its scramble, which is kept. `client_ed25519` signs the whole of it.
 fn switched<A: Answers>(
-    alloc: Global,
-    payload: &[u8],
+    request: &AuthSwitchRequest<'_>,
     scramble: &mut Vec<u8>,
     answers: &mut A,
 ) -> Result<Vec<u8>> {
-    let request: AuthSwitchRequest<'_> = ParseBuf::new(alloc, payload).parse(())?;
     let plugin = request.auth_plugin();
     scramble.clear();
     scramble.extend_from_slice(match plugin {

@@ -5,7 +5,9 @@ ghost use Rattle.std.specs.Iterator.{IsFinite};
 use crate::connection::Connection;
 use crate::error::Result;
 use crate::errors::answer;
-use mysql_packets::packets::{ComStmtBulkExecuteRequestBuilder, StmtPacket};
+use mysql_packets::packets::{
+    ComStmtBulkExecuteRequest, ComStmtBulkExecuteRequestBuilder, StmtPacket,
+};
 use mysql_packets::value::{ParamType, Value};
 use std::io::{Read, Write};
 
@@ -31,9 +33,17 @@ pub fn insert<R: Read, W: Write, I: Iterator<Item = Vec<Value>> + Drop>(
     let mut builder = builder.with_column_types(types)?;
     let mut sent = 0usize;
     for request in builder.build_iter(rows) {
-        connection.command_packet(&request?)?;
-        answer(connection)?;
+        send(connection, &request?)?;
         sent = sent.saturating_add(1);
     }
     Ok(sent)
+}
+
+fn send<R: Read, W: Write>(
+    connection: &mut Connection<R, W>,
+    request: &ComStmtBulkExecuteRequest,
+) -> Result<()> {
+    connection.command_packet(request)?;
+    answer(connection)?;
+    Ok(())
 }

@@ -68,15 +68,14 @@ fn respond<R: Read, W: Write>(
 /// Answers a greeting, and hands out its scramble.
 fn greeted<R: Read, W: Write, A: Answers>(
     connection: &mut Connection<R, W>,
-    payload: &[u8],
+    greeting: &HandshakePacket<'_>,
     user: &str,
     database: &str,
     answers: &mut A,
 ) -> Result<Vec<u8>> {
-    let greeting: HandshakePacket<'_> = ParseBuf::new(connection.alloc, payload).parse(())?;
     let scramble = greeting.nonce(connection.alloc)?;
-    let sent = answers.answer(&plugin_of(&greeting), &scramble)?;
-    respond(connection, &greeting, &sent, user, database)?;
+    let sent = answers.answer(&plugin_of(greeting), &scramble)?;
+    respond(connection, greeting, &sent, user, database)?;
     Ok(scramble)
 }
 
@@ -88,6 +87,7 @@ pub fn login<R: Read, W: Write, A: Answers>(
     answers: &mut A,
 ) -> Result<()> {
     let payload = answer(connection)?;
-    let mut scramble = greeted(connection, &payload, user, database, answers)?;
+    let greeting: HandshakePacket<'_> = ParseBuf::new(connection.alloc, &payload).parse(())?;
+    let mut scramble = greeted(connection, &greeting, user, database, answers)?;
     authenticate(connection, &mut scramble, answers)
 }

@@ -52,12 +52,23 @@ pub fn rows<P: RowProtocol, R: Read, W: Write>(
     let count: RawInt<LenEnc> = ParseBuf::new(connection.alloc, payload).parse(())?;
     let columns = columns(connection, count.0)?;
     for _ in 0..u64::MAX {
-        let payload = answer(connection)?;
-        // A row may begin with fe too, where its first text is of 16 MiB. The packet that ends the rows is shorter.
-        if payload.first().copied() == Some(0xfe) && payload.len() < 0xff_ffff {
+        let Some(row) = next_row::<P, R, W>(connection, &columns)? else {
             break;
-        }
-        rows.push(row::<P>(connection.alloc, &payload, &columns)?)?;
+        };
+        rows.push(row)?;
     }
     Ok(rows)
+}
+
+/// The next row, if there is one. A row may begin with fe too, where its first text is of 16 MiB: the packet that ends the rows is
+/// shorter.
+fn next_row<P: RowProtocol, R: Read, W: Write>(
+    connection: &mut Connection<R, W>,
+    columns: &RcSlice<Column>,
+) -> Result<Option<Row>> {
+    let payload = answer(connection)?;
+    if payload.first().copied() == Some(0xfe) && payload.len() < 0xff_ffff {
+        return Ok(None);
+    }
+    Ok(Some(row::<P>(connection.alloc, &payload, columns)?))
 }
