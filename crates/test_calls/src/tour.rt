@@ -1,6 +1,15 @@
 //! The tour of the README, as a test.
 
-use crate::prelude::*;
+use mysql_packets::constants::CapabilityFlags;
+use mysql_packets::io::ParseBuf;
+use mysql_packets::packets::{
+    ComStmtBulkExecuteRequestBuilder, CommonOkPacket, OkPacket, OkPacketDeserializer, StmtPacket,
+};
+use mysql_packets::proto::MySerialize;
+use mysql_packets::row::TextRowView;
+use mysql_packets::value::{Value, ValueRef};
+use std::alloc::Global;
+use std::test::Fail;
 
 #[test]
 fn a_statement_is_read_and_written(rt: HostRuntime) -> Result<(), Fail> {
