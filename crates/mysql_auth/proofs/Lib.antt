@@ -1,5 +1,5 @@
 mod Rounds
-mod Ended
+pub mod Ended
 mod HandshakeFits
 mod HandshakeResponseFits
 mod ChangeUserFits

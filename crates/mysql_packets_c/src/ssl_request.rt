@@ -16,7 +16,7 @@ use bitflags::Flags;
 use mysql_auth::SslRequest;
 use mysql_wire::{
     CapabilityFlags, Const, FaultOf, Fixed, LeU32, MariadbCapabilities, MyDeserialize, ParseBuf,
-    RawInt, Skip,
+    RawInt, Skip, eat_skip, eat_u8, eat_u32,
 };
 use std::alloc::Global;
 use std::marker::Model;
@@ -61,15 +61,16 @@ impl<'de> MyDeserialize<'de> for SslRequestRead {
     #[tactic(auto, using(mysql_wire::proofs::Packets::packets), unfolding(mysql_auth::specs::SslRequest::ssl_request))]
     fn deserialize<'s>(_ctx: (), buf: &mut ParseBuf<'de>) -> Result<Self, FaultOf<'s>> {
         let mut fields: ParseBuf<'de> = buf.parse(32)?;
-        let capabilities = fields.parse_unchecked(())?;
-        let max_packet_size = fields.parse_unchecked(())?;
-        let character_set = fields.parse_unchecked(())?;
-        let _skipped: Skip<19> = fields.parse_unchecked(())?;
+        let capabilities = CapabilityFlags::from_bits_retain(eat_u32(&mut fields));
+        let max_packet_size = RawInt::new(eat_u32(&mut fields));
+        let character_set = RawInt::new(eat_u8(&mut fields));
+        let _skipped: Skip<19> = eat_skip(&mut fields);
+        let mariadb_capabilities = MariadbCapabilities::from_bits_retain(eat_u32(&mut fields));
         Ok(SslRequestRead {
-            capabilities,
+            capabilities: Const::new(capabilities),
             max_packet_size,
             character_set,
-            mariadb_capabilities: fields.parse_unchecked(())?,
+            mariadb_capabilities: Const::new(mariadb_capabilities),
         })
     }
 
