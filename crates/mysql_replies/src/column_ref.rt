@@ -134,7 +134,7 @@ impl<'de> MyDeserialize<'de> for ColumnRef<'de> {
     fn deserialize<'s>(_ctx: (), buf: &mut ParseBuf<'de>) -> Result<Self, FaultOf<'s>> {
         let mut rest = buf.rest();
         let _catalog: ColumnDefinitionCatalog = rest.parse(())?;
-        let names = read_names(&mut rest)?;
+        let names = read_names::<false>(&mut rest)?;
         let fields: ColumnFields = rest.parse(())?;
         *buf = rest;
         Ok(ColumnRef { names, fields })
