@@ -5,6 +5,11 @@ set -uo pipefail
 top=$(cd -- "$(dirname -- "${BASH_SOURCE[0]}")/.." && pwd) || exit 1
 work=$(mktemp -d) || exit 1
 trap 'rm -rf -- "$work"' EXIT
+# In a copy of the checkout: beside rt ci, which ./check runs, rt waits in the same one.
+mkdir -- "$work/copy" && tar -C "$top" --exclude='crates/*/out' -cf - HANDLES crates.txt mypackets crates | tar -C "$work/copy" -xf - || exit 1
+mkdir -- "$work/copy/crates/mypackets/out" || exit 1
+[[ ! -x $top/crates/mypackets/out/mypackets ]] || cp -p -- "$top/crates/mypackets/out/mypackets" "$work/copy/crates/mypackets/out/" || exit 1
+top=$work/copy
 # (from another folder, and by a relative path and by a link, as it may be called)
 mkdir -- "$work/an other folder" && cd -- "$work/an other folder" || exit 1
 ln -s -- "$top/mypackets" linked
