@@ -88,7 +88,7 @@ def differing_rows(packet, words):
         answered = [it.removeprefix("values=").split(",") for it in words if it.startswith("values=")]
         wanted = bound_rows(packet, PACKETS)[1]
     else:
-        answered, wanted = [words[1:words.index("rest=0")]], [row_of(packet, columns(packet).count(",") + 1)]
+        answered, wanted = [words[1:words.index("made=same")]], [row_of(packet, columns(packet).count(",") + 1)]
     if len(answered) != len(wanted):
         return 0, [f"{len(wanted)} rows were reported, and not {len(answered)}"]
     pairs = [pair for row in zip(answered, wanted) for pair in zip_longest(*row, fillvalue="nothing")]

@@ -17,8 +17,6 @@ mod own_types;
 #[cfg(test)]
 mod prelude;
 #[cfg(test)]
-mod premises;
-#[cfg(test)]
 mod sizes;
 pub mod switch;
 #[cfg(test)]

@@ -29,19 +29,15 @@ impl Ends for Result {
     }
 }
 
-/// The answer to a name. The record that it stands for is read, of a context, and shown; after `with` it is written and read
-/// again too, and after `both` it is compared with one that stays in its packet; or a call answers. Else it is false.
+/// The answer to a name. The record that it stands for, of the context after `with`, is read and shown, written, and read again;
+/// after `both` it is compared with one that stays in its packet too; or a call answers. Else it is false.
 #[macro_export]
 macro_rules! answers {
     ($shows:ty, $out:expr, $request:expr, $name:expr;
-        $(read $of:expr => $($read:literal: $read_type:ty,)*)*
         $(with $context:expr => $($record:literal: $type:ty,)*)*
         $(both $beside:expr => $($owned:literal: $owned_type:ty, $place_type:ty,)*)*
         $(call $($called:literal: $call:path,)*)?) => {{
         match $name {
-            $($($read => {
-                let _ = $crate::record::read::<$shows, $read_type>($out, $request.bytes.as_slice(), $of);
-            })*)*
             $($($record => $crate::record::round_trip::<$shows, $type>($out, $request, $context, $context),)*)*
             $($($owned => $crate::places::both::<$shows, $owned_type, $place_type>($out, $request, $beside),)*)*
             $($($called => $crate::Ends::end($call($out, $request), $out),)*)?
@@ -74,7 +70,7 @@ macro_rules! error_texts {
 
 /// The answer to a line.
 fn line<A: Answers>(alloc: Global, line: &str) -> Result<String> {
-    let request = Request::of(alloc, line)?;
+    let request = Request::of(alloc, line);
     let mut out = Out::new(alloc);
     if !A::answer(&mut out, &request) {
         out.word("unknown");

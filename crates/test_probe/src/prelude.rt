@@ -1,14 +1,14 @@
 //! What the modules of programs share.
 
-pub use crate::out::Out;
+pub use crate::out::{Out, or_empty, or_lost, push};
 pub use crate::places::InPlace;
 pub use crate::record::{
-    Shows, again, is_cloned, parse, parsed, read, record, round_trip, taken, write, write_and_read,
-    write_made,
+    Shows, after, again, begun, is_cloned, made_anew, parse, parsed, read, record, round_trip,
+    show_written, taken, write, write_and_read, write_made,
 };
 pub use crate::request::Request;
 pub use crate::shown::{Shown, Variant};
-pub use crate::{answers, counted, error_texts, fields, is_anew};
+pub use crate::{anew, answers, counted, error_texts, fields};
 pub use mysql_wire::{Fault, Flags, MyDeserialize, MySerialize, ParseBuf};
 pub use std::alloc::{AllocError, Global};
 pub use std::borrow::CowSlice;

@@ -3,33 +3,31 @@
 use crate::prelude::*;
 use mysql_wire::{ConstBytes, ConstU8, ConstU32, FaultOf};
 
-/// How a program shows a record in words, and makes it anew.
+/// How a program shows a record in words.
 pub trait Shows<T> {
-    /// Adds its fields.
-    fn fields(_record: &T, _out: &mut Out) {}
-
-    /// Whether the record that is made of what its getters answer, copied and made owned, is the same.
-    fn is_made(_record: &T, _alloc: Global) -> Result<bool> {
-        Ok(true)
-    }
+    /// Adds its fields, and whether the record that is made of what its getters answer, copied and made owned, is the same.
+    fn show(record: &T, out: &mut Out);
 }
 
 /// A constant field, which has no fields of its own.
 impl<P, E, const VALUE: u8> Shows<ConstU8<E, VALUE>> for P {
-    fn is_made(record: &ConstU8<E, VALUE>, _alloc: Global) -> Result<bool> {
-        Ok(ConstU8::new() == *record && ConstU8::default() == *record)
+    fn show(record: &ConstU8<E, VALUE>, out: &mut Out) {
+        let is_same = ConstU8::new() == *record && ConstU8::default() == *record;
+        out.same("made", Ok(is_same))
     }
 }
 
 impl<P, E, const VALUE: u32> Shows<ConstU32<E, VALUE>> for P {
-    fn is_made(record: &ConstU32<E, VALUE>, _alloc: Global) -> Result<bool> {
-        Ok(ConstU32::new() == *record && ConstU32::default() == *record)
+    fn show(record: &ConstU32<E, VALUE>, out: &mut Out) {
+        let is_same = ConstU32::new() == *record && ConstU32::default() == *record;
+        out.same("made", Ok(is_same))
     }
 }
 
 impl<P, E, const LEN: usize> Shows<ConstBytes<E, LEN>> for P {
-    fn is_made(record: &ConstBytes<E, LEN>, _alloc: Global) -> Result<bool> {
-        Ok(ConstBytes::new() == *record && ConstBytes::default() == *record)
+    fn show(record: &ConstBytes<E, LEN>, out: &mut Out) {
+        let is_same = ConstBytes::new() == *record && ConstBytes::default() == *record;
+        out.same("made", Ok(is_same))
     }
 }
 
@@ -89,37 +87,43 @@ pub fn read<'a, P: Shows<T>, T: MyDeserialize<'a> + Drop>(
     ctx: T::Ctx,
 ) -> Option<T> {
     let (record, left) = parse::<T>(out, bytes, ctx)?;
-    P::fields(&record, out);
+    P::show(&record, out);
     out.show("rest", left);
-    out.same("made", P::is_made(&record, out.alloc()));
     Some(record)
 }
 
-/// Writes a record, and tells the bytes, which are the `same` where those that were read begin so; or that memory ran out, and
-/// the buffer then, in which a byte stood before. The answer is what is written.
-pub fn write<T: MySerialize>(out: &mut Out, record: &T, bytes: &[u8]) -> Option<Vec<u8>> {
-    let alloc = out.alloc();
-    let Ok(mut buffer) = Vec::from_slice(alloc, b"\xaa") else {
-        out.lose();
-        return None;
-    };
-    match counted!(alloc; record.serialize(&mut buffer)) {
-        Ok(()) => {
-            buffer.remove(0);
-            if bytes.starts_with(buffer.as_slice()) {
-                out.field("written", "same");
-            } else {
-                out.show("written", buffer.as_slice());
-            }
-            out.show("len", record.defined_len());
-            Some(buffer)
-        }
-        Err(AllocError) => {
-            out.field("written", "Memory");
-            out.show("buffer", buffer.as_slice());
-            None
-        }
+/// A buffer in which a byte stands.
+pub fn begun(out: &mut Out) -> Vec<u8> {
+    or_empty(out, Vec::from_slice(out.alloc(), b"\xaa"))
+}
+
+/// What stands after it.
+pub fn after(buffer: &[u8]) -> &[u8] {
+    buffer.strip_prefix(b"\xaa").unwrap_or(b"")
+}
+
+/// Adds what was written after it, which is the `same` where these bytes begin so; or that memory ran out, and the buffer then.
+pub fn show_written(out: &mut Out, is_written: bool, buffer: &[u8], bytes: Option<&[u8]>) {
+    if !is_written {
+        out.field("written", "Memory");
+        out.show("buffer", buffer);
+    } else if bytes.is_some_and(|bytes| bytes.starts_with(after(buffer))) {
+        out.field("written", "same");
+    } else {
+        out.show("written", after(buffer));
     }
+}
+
+/// Writes a record, which is shown so, and its length. The answer is a buffer with what is written after a byte.
+pub fn write<T: MySerialize>(out: &mut Out, record: &T, bytes: &[u8]) -> Option<Vec<u8>> {
+    let mut buffer = begun(out);
+    let is_written = counted!(out.alloc(); record.serialize(&mut buffer)).is_ok();
+    show_written(out, is_written, &buffer, Some(bytes));
+    if !is_written {
+        return None;
+    }
+    out.show("len", record.defined_len());
+    Some(buffer)
 }
 
 /// The same of a record that was made.
@@ -159,15 +163,29 @@ pub fn is_cloned<T: Clone + PartialEq + Drop>(alloc: Global, owned: &T, other: &
     Ok(copy == *other && *owned == *other)
 }
 
-/// Whether what is made, and a clone of it, is the same as a record; after `owned`, what is copied, made owned, and copied again.
+/// Adds whether what is made of a record, and a clone of it, is the same.
+pub fn made_anew<T: Clone + PartialEq + Drop>(out: &mut Out, record: &T, made: Result<T>) {
+    let is_same = match made {
+        Ok(made) => is_cloned(out.alloc(), &made, record),
+        Err(AllocError) => Err(AllocError),
+    };
+    out.same("made", is_same)
+}
+
+/// The same of what a call makes; after `owned`, of its copy that is made owned; after `copied`, of a copy that may have failed.
 #[macro_export]
-macro_rules! is_anew {
-    ($alloc:expr, $record:expr; owned $made:expr) => {{
-        let copy = $crate::counted!($alloc; $made.clone())?;
-        let owned = $crate::counted!($alloc; copy.into_owned($alloc))?;
-        $crate::record::is_cloned($alloc, &owned, $record)
+macro_rules! anew {
+    ($out:expr, $record:expr; copied $copy:expr) => {{
+        let alloc = $out.alloc();
+        match $copy {
+            Ok(copy) => $crate::record::made_anew($out, $record, $crate::counted!(alloc; copy.into_owned(alloc))),
+            Err(AllocError) => $out.field("made", "Memory"),
+        }
     }};
-    ($alloc:expr, $record:expr; $made:expr) => { $crate::record::is_cloned($alloc, &$made, $record) };
+    ($out:expr, $record:expr; owned $made:expr) => {
+        $crate::anew!($out, $record; copied $crate::counted!($out.alloc(); $made.clone()))
+    };
+    ($out:expr, $record:expr; $made:expr) => { $crate::record::made_anew($out, $record, Ok($made)) };
 }
 
 /// Reads the record of a request's bytes and shows it as a program does, writes it, and reads it again.

@@ -11,31 +11,20 @@ pub trait Shown {
     fn shown(self, out: &mut Out);
 }
 
-impl Shown for u8 {
-    fn shown(self, out: &mut Out) {
-        out.display(&self);
-    }
-}
+/// A number, which is shown in digits.
+pub trait Number: Display + Copy {}
 
-impl Shown for u16 {
-    fn shown(self, out: &mut Out) {
-        out.display(&self);
-    }
-}
+impl Number for u8 {}
 
-impl Shown for u32 {
-    fn shown(self, out: &mut Out) {
-        out.display(&self);
-    }
-}
+impl Number for u16 {}
 
-impl Shown for u64 {
-    fn shown(self, out: &mut Out) {
-        out.display(&self);
-    }
-}
+impl Number for u32 {}
 
-impl Shown for usize {
+impl Number for u64 {}
+
+impl Number for usize {}
+
+impl<N: Number> Shown for N {
     fn shown(self, out: &mut Out) {
         out.display(&self);
     }

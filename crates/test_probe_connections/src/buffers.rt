@@ -79,19 +79,8 @@ pub fn varlen(out: &mut Out, request: &Request<'_>) {
 
 /// Adds how long a number of varying length is, and how it is written.
 fn show_varlen(out: &mut Out, value: u64) {
-    let alloc = out.alloc();
-    out.show("size", varlen_uint_size(value));
-    let Ok(mut buffer) = Vec::from_slice(alloc, b"\xaa") else {
-        return out.lose();
-    };
-    match counted!(alloc; write_varlen_uint(&mut buffer, value)) {
-        Ok(()) => {
-            let written = buffer.as_slice().strip_prefix(b"\xaa");
-            out.show("shortest", written.unwrap_or(b""))
-        }
-        Err(AllocError) => {
-            out.field("written", "Memory");
-            out.show("buffer", buffer.as_slice())
-        }
-    }
+    out.show("len", varlen_uint_size(value));
+    let mut buffer = begun(out);
+    let is_written = counted!(out.alloc(); write_varlen_uint(&mut buffer, value)).is_ok();
+    show_written(out, is_written, &buffer, None)
 }

@@ -7,33 +7,42 @@
 use crate::plugins::show_plugin;
 use crate::prelude::*;
 use crate::words::Attributes;
+use mysql_auth::laws;
+
+fn show_response(it: &HandshakeResponse<'_>, out: &mut Out) {
+    fields!(out, it; capabilities, collation, mariadb = mariadb_ext_capabilities, user, scramble_buf, db_name);
+    show_plugin(it.auth_plugin(), out);
+    show_attributes(it, out)
+}
 
 impl Shows<HandshakeResponse<'_>> for Connections {
-    fn fields(it: &HandshakeResponse<'_>, out: &mut Out) {
-        fields!(out, it; capabilities, collation, mariadb = mariadb_ext_capabilities, user, scramble_buf, db_name);
-        show_plugin(it.auth_plugin(), out);
-        show_attributes(it, out)
+    fn show(it: &HandshakeResponse<'_>, out: &mut Out) {
+        show_response(it, out);
+        out.same("made", is_response_made(it, out.alloc()));
+        laws::this_handshake_response_round_trips(it)
     }
+}
 
-    fn is_made(it: &HandshakeResponse<'_>, alloc: Global) -> Result<bool> {
-        let made = counted!(alloc; made_again(it, alloc))?;
-        // (a made one has attributes as texts, a collation by the server's version, and flags by its fields)
-        let is_same = made.user() == it.user() && made.db_name() == it.db_name();
-        Ok(is_same && is_cloned(alloc, &made, &made)? && is_cloned(alloc, it, it)?)
-    }
+fn is_response_made(it: &HandshakeResponse<'_>, alloc: Global) -> Result<bool> {
+    let made = counted!(alloc; made_again(it, alloc))?;
+    // (a made one has attributes as texts, a collation by the server's version, and flags by its fields)
+    let is_same = made.user() == it.user() && made.db_name() == it.db_name();
+    Ok(is_same && is_cloned(alloc, &made, &made)? && is_cloned(alloc, it, it)?)
 }
 
 /// It has no getters: what is written of it says what it is.
 impl Shows<ComChangeUser<'_>> for Connections {
-    fn is_made(it: &ComChangeUser<'_>, alloc: Global) -> Result<bool> {
-        is_anew!(alloc, it; owned it)
+    fn show(it: &ComChangeUser<'_>, out: &mut Out) {
+        anew!(out, it; owned it);
+        laws::this_change_user_round_trips(CapabilityFlags::CLIENT_PROTOCOL_41, it)
     }
 }
 
 /// They have no getters either.
 impl Shows<ComChangeUserMoreData<'_>> for Connections {
-    fn is_made(it: &ComChangeUserMoreData<'_>, alloc: Global) -> Result<bool> {
-        is_anew!(alloc, it; owned it)
+    fn show(it: &ComChangeUserMoreData<'_>, out: &mut Out) {
+        anew!(out, it; owned it);
+        laws::this_more_data_round_trips(CapabilityFlags::CLIENT_PROTOCOL_41, it)
     }
 }
 
@@ -75,7 +84,7 @@ fn made_again<'b>(
 pub fn make_response(out: &mut Out, request: &Request<'_>) -> Result {
     let attributes = words::attributes(out.alloc(), request.word(9))?;
     if let Some(packet) = out.made(response_of(request, attributes)) {
-        Connections::fields(&packet, out);
+        show_response(&packet, out);
         write_and_read(out, &packet, request, ());
     }
     Ok(())
@@ -109,7 +118,7 @@ pub fn tls_of(out: &mut Out, request: &Request<'_>) {
     if let Some(response) = record::<HandshakeResponse<'_>>(out, request, ()) {
         let packet = response.ssl_request();
         out.word("made");
-        Connections::fields(&packet, out);
+        Connections::show(&packet, out);
         write_and_read(out, &packet, request, ())
     }
 }

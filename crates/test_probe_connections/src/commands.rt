@@ -5,59 +5,54 @@
 
 use crate::prelude::*;
 use crate::sids::made_sids;
+use mysql_repl::laws;
 
 impl Shows<ComRegisterSlave<'_>> for Connections {
-    fn fields(it: &ComRegisterSlave<'_>, out: &mut Out) {
+    fn show(it: &ComRegisterSlave<'_>, out: &mut Out) {
         fields!(out, it; server_id, hostname = hostname_raw, user = user_raw, password = password_raw, port,
-            replication_rank, master_id; texts hostname_str = hostname, user_str = user, password_str = password)
-    }
-
-    fn is_made(it: &ComRegisterSlave<'_>, alloc: Global) -> Result<bool> {
-        is_anew!(alloc, it; ComRegisterSlave::new(it.server_id())
-            .with_hostname(words::owned(alloc, it.hostname_raw())?)
-            .with_user(words::owned(alloc, it.user_raw())?)
-            .with_password(words::owned(alloc, it.password_raw())?)
+            replication_rank, master_id; texts hostname_str = hostname, user_str = user, password_str = password);
+        let made = ComRegisterSlave::new(it.server_id())
+            .with_hostname(words::owned(out, it.hostname_raw()))
+            .with_user(words::owned(out, it.user_raw()))
+            .with_password(words::owned(out, it.password_raw()))
             .with_port(it.port())
             .with_replication_rank(it.replication_rank())
-            .with_master_id(it.master_id()))
+            .with_master_id(it.master_id());
+        anew!(out, it; made);
+        laws::this_register_slave_round_trips(it)
     }
 }
 
 impl Shows<ComTableDump<'_>> for Connections {
-    fn fields(it: &ComTableDump<'_>, out: &mut Out) {
-        fields!(out, it; database = database_raw, table = table_raw; texts database_str = database, table_str = table)
-    }
-
-    fn is_made(it: &ComTableDump<'_>, alloc: Global) -> Result<bool> {
-        let table = words::owned(alloc, it.table_raw())?;
-        is_anew!(alloc, it; ComTableDump::new(words::owned(alloc, it.database_raw())?, table))
+    fn show(it: &ComTableDump<'_>, out: &mut Out) {
+        fields!(out, it; database = database_raw, table = table_raw; texts database_str = database, table_str = table);
+        let database = words::owned(out, it.database_raw());
+        let table = words::owned(out, it.table_raw());
+        anew!(out, it; ComTableDump::new(database, table));
+        laws::this_table_dump_round_trips(it)
     }
 }
 
 impl Shows<ComBinlogDump<'_>> for Connections {
-    fn fields(it: &ComBinlogDump<'_>, out: &mut Out) {
-        fields!(out, it; pos, flags, server_id, filename = filename_raw; texts filename_str = filename)
-    }
-
-    fn is_made(it: &ComBinlogDump<'_>, alloc: Global) -> Result<bool> {
-        let filename = words::owned(alloc, it.filename_raw())?;
+    fn show(it: &ComBinlogDump<'_>, out: &mut Out) {
+        fields!(out, it; pos, flags, server_id, filename = filename_raw; texts filename_str = filename);
+        let filename = words::owned(out, it.filename_raw());
         let made = ComBinlogDump::new(it.server_id())
             .with_pos(it.pos())
             .with_flags(it.flags());
-        is_anew!(alloc, it; made.with_filename(filename))
+        anew!(out, it; made.with_filename(filename));
+        laws::this_binlog_dump_round_trips(it)
     }
 }
 
 /// It is never copied.
 impl Shows<SemiSyncAckPacket<'_>> for Connections {
-    fn fields(it: &SemiSyncAckPacket<'_>, out: &mut Out) {
-        fields!(out, it; position, filename = filename_raw; texts filename_str = filename)
-    }
-
-    fn is_made(it: &SemiSyncAckPacket<'_>, alloc: Global) -> Result<bool> {
-        let filename = words::owned(alloc, it.filename_raw())?;
+    fn show(it: &SemiSyncAckPacket<'_>, out: &mut Out) {
+        fields!(out, it; position, filename = filename_raw; texts filename_str = filename);
+        let filename = words::owned(out, it.filename_raw());
         let made = SemiSyncAckPacket::new(0, CowSlice::Borrowed(b"a")).with_position(it.position());
-        Ok(made.with_filename(filename) == *it)
+        out.same("made", Ok(made.with_filename(filename) == *it));
+        laws::this_semi_sync_ack_round_trips(it)
     }
 }
 
@@ -77,16 +72,14 @@ pub fn new_request(out: &mut Out, request: &Request<'_>) {
 
 /// The request that words tell of, whose file name and sids are on memory of its own.
 pub fn request(out: &mut Out, request: &Request<'_>) -> Result {
-    let alloc = out.alloc();
     let name = words::bytes(request.word(5)).unwrap_or(b"");
-    let filename = words::owned(alloc, name)?;
-    let sids = made_sids(alloc, request.word(6))?;
+    let sids = made_sids(out.alloc(), request.word(6))?;
     let made = BinlogRequest::new(0)
         .with_server_id(request.number(2))
         .with_use_gtid(request.word(1) == "gtid")
         .with_flags(BinlogDumpFlags::from_bits_retain(words::number(request.word(3))))
         .with_pos(words::number(request.word(4)))
-        .with_filename(filename)
+        .with_filename(words::owned(out, name))
         .with_sids(sids);
     show_request(out, &made);
     Ok(())

@@ -5,26 +5,33 @@
 
 use crate::prelude::*;
 use crate::sids::{made_sids, numbered_sids, one_sid, show_sid, text_of};
+use mysql_repl::laws::this_binlog_dump_gtid_round_trips;
+
+fn show_dump(it: &ComBinlogDumpGtid<'_>, out: &mut Out) {
+    fields!(out, it; server_id, flags, filename = filename_raw; texts filename_str = filename);
+    fields!(out, it; pos);
+    out.show("sids", it.sids().len());
+    for sid in it.sids() {
+        show_sid(sid, out);
+    }
+}
 
 impl Shows<ComBinlogDumpGtid<'_>> for Connections {
-    fn fields(it: &ComBinlogDumpGtid<'_>, out: &mut Out) {
-        fields!(out, it; server_id, flags, filename = filename_raw; texts filename_str = filename);
-        fields!(out, it; pos);
-        out.show("sids", it.sids().len());
-        for sid in it.sids() {
-            show_sid(sid, out);
-        }
+    fn show(it: &ComBinlogDumpGtid<'_>, out: &mut Out) {
+        show_dump(it, out);
+        out.same("made", is_dump_made(it, out.alloc()));
+        this_binlog_dump_gtid_round_trips(it)
     }
+}
 
-    fn is_made(it: &ComBinlogDumpGtid<'_>, alloc: Global) -> Result<bool> {
-        // (the sids change a flag, so the flags come last)
-        let made = ComBinlogDumpGtid::new(it.server_id())
-            .with_pos(it.pos())
-            .with_filename(CowSlice::Borrowed(it.filename_raw()))
-            .with_sids(CowSlice::Borrowed(it.sids()))
-            .with_flags(it.flags());
-        Ok(is_cloned(alloc, &made, it)? && is_cloned(alloc, it, it)?)
-    }
+fn is_dump_made(it: &ComBinlogDumpGtid<'_>, alloc: Global) -> Result<bool> {
+    // (the sids change a flag, so the flags come last)
+    let made = ComBinlogDumpGtid::new(it.server_id())
+        .with_pos(it.pos())
+        .with_filename(CowSlice::Borrowed(it.filename_raw()))
+        .with_sids(CowSlice::Borrowed(it.sids()))
+        .with_flags(it.flags());
+    Ok(is_cloned(alloc, &made, it)? && is_cloned(alloc, it, it)?)
 }
 
 /// A dump by the strict reader.
@@ -32,7 +39,7 @@ pub fn strict(out: &mut Out, request: &Request<'_>) {
     let (bytes, mut buf) = (request.bytes.as_slice(), request.buf());
     let answer = counted!(request.alloc; ComBinlogDumpGtid::parse_strict(&mut buf));
     if let Some(dump) = taken(out, answer, buf.len() == bytes.len()) {
-        Connections::fields(&dump, out);
+        show_dump(&dump, out);
         out.show("rest", buf.len());
         let _ = write(out, &dump, bytes);
     }
@@ -98,11 +105,11 @@ pub fn make(out: &mut Out, request: &Request<'_>) -> Result {
 }
 
 fn show_made(out: &mut Out, dump: &ComBinlogDumpGtid<'_>) {
-    Connections::fields(dump, out);
+    show_dump(dump, out);
     let is_same = is_cloned(out.alloc(), dump, dump);
     out.same("copy", is_same);
     if let Some(written) = write(out, dump, b"") {
-        show_again(out, dump, written.as_slice());
+        show_again(out, dump, after(&written));
     }
 }
 

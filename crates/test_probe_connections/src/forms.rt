@@ -30,12 +30,12 @@ fn number_or_list(out: &mut Out, request: &Request<'_>) -> bool {
 /// Byte strings, and bytes that are skipped.
 fn string(out: &mut Out, request: &Request<'_>) -> bool {
     answers!(Connections, out, request, request.word(1);
-        read words::count(request) => "block": ParseBuf<'_>,
         with () => "lenenc_bytes": RawBytes<'_, LenEnc>, "null_bytes": RawBytes<'_, NullBytes>,
             "eof_bytes": RawBytes<'_, EofBytes>, "u8_bytes": RawBytes<'_, U8Bytes>,
             "u32_bytes": RawBytes<'_, U32Bytes>, "eof_name": RawBytes<'_, EofName>,
             "array": [u8; 8], "array_of_2": [u8; 2], "skip": Skip<6>,
-        with words::count(request) => "bare_bytes": RawBytes<'_, BareBytes<247>>,)
+        with words::count(request) => "bare_bytes": RawBytes<'_, BareBytes<247>>,
+        call "block": block,)
 }
 
 /// Constants, coded bytes, and flag words.
@@ -51,51 +51,44 @@ fn constant(out: &mut Out, request: &Request<'_>) -> bool {
 }
 
 impl<'a, R: BytesRepr> Shows<RawBytes<'a, R>> for Connections {
-    fn fields(record: &RawBytes<'a, R>, out: &mut Out) {
-        fields!(out, record; content = as_bytes; texts content_str = as_str)
-    }
-
-    fn is_made(record: &RawBytes<'a, R>, alloc: Global) -> Result<bool> {
-        let made: RawBytes<'_, R> = RawBytes::new(CowSlice::Borrowed(record.as_bytes()));
-        let copy = counted!(alloc; made.clone())?;
-        let owned = counted!(alloc; copy.into_owned(alloc))?;
-        // (what owns its bytes keeps them)
-        let kept = counted!(alloc; owned.into_owned(alloc))?;
-        is_cloned(alloc, &kept, record)
+    fn show(record: &RawBytes<'a, R>, out: &mut Out) {
+        fields!(out, record; content = as_bytes; texts content_str = as_str);
+        anew!(out, record; copied made(out.alloc(), record.as_bytes()))
     }
 }
 
+/// The content of some bytes, on memory of its own.
+fn made<R: BytesRepr>(alloc: Global, bytes: &[u8]) -> Result<RawBytes<'static, R>> {
+    let made: RawBytes<'_, R> = RawBytes::new(CowSlice::Borrowed(bytes));
+    let copy = counted!(alloc; made.clone())?;
+    counted!(alloc; copy.into_owned(alloc))
+}
+
 impl<const N: usize> Shows<[u8; N]> for Connections {
-    fn fields(record: &[u8; N], out: &mut Out) {
+    fn show(record: &[u8; N], out: &mut Out) {
         out.show("content", *record)
     }
 }
 
 impl<const N: usize> Shows<Skip<N>> for Connections {
-    fn is_made(record: &Skip<N>, _alloc: Global) -> Result<bool> {
-        Ok(Skip::<N>::default() == *record)
+    fn show(record: &Skip<N>, out: &mut Out) {
+        out.same("made", Ok(Skip::<N>::default() == *record))
     }
 }
 
 impl<R: IntRepr> Shows<RawInt<R>> for Connections {
-    fn fields(record: &RawInt<R>, out: &mut Out) {
-        record.show(out)
-    }
-
-    fn is_made(record: &RawInt<R>, alloc: Global) -> Result<bool> {
-        is_anew!(alloc, record; RawInt::<R>::new(record.0))
+    fn show(record: &RawInt<R>, out: &mut Out) {
+        record.item(out);
+        anew!(out, record; RawInt::<R>::new(record.0))
     }
 }
 
 impl<T: ConstValue<U::Primitive> + Copy + PartialEq, U: IntRepr> Shows<Const<T, U>>
     for Connections {
-    fn fields(record: &Const<T, U>, out: &mut Out) {
+    fn show(record: &Const<T, U>, out: &mut Out) {
         let code = record.0.code();
-        out.text("code", &format_args!("{code:?}"))
-    }
-
-    fn is_made(record: &Const<T, U>, _alloc: Global) -> Result<bool> {
-        Ok(Const::<T, U>::new(record.0) == *record)
+        out.text("code", &format_args!("{code:?}"));
+        out.same("made", Ok(Const::<T, U>::new(record.0) == *record))
     }
 }
 
@@ -119,78 +112,45 @@ pub fn code(out: &mut Out, request: &Request<'_>) {
 
 /// A value as a list shows it.
 trait Item {
-    fn show(&self, out: &mut Out);
+    fn item(&self, _out: &mut Out) {}
 }
 
 impl<R: IntRepr> Item for RawInt<R> {
-    fn show(&self, out: &mut Out) {
+    fn item(&self, out: &mut Out) {
         let value = self.0;
         out.text("value", &format_args!("{value:?}"))
     }
 }
 
 impl Item for RawBytes<'_, LenEnc> {
-    fn show(&self, out: &mut Out) {
+    fn item(&self, out: &mut Out) {
         out.show("value", self.as_bytes())
     }
 }
 
-impl<const N: usize> Item for Skip<N> {
-    fn show(&self, _out: &mut Out) {}
-}
+impl<const N: usize> Item for Skip<N> {}
 
 /// Adds how many values there are, and each of them.
 fn show_items<T: Item>(out: &mut Out, items: &[T]) {
     out.show("count", items.len());
     for item in items {
-        item.show(out);
+        item.item(out);
     }
 }
 
 /// A block of so many bytes, which is no record: it is its bytes.
-impl Shows<ParseBuf<'_>> for Connections {
-    fn fields(it: &ParseBuf<'_>, out: &mut Out) {
-        out.show("content", it.rest().eat_all())
+fn block(out: &mut Out, request: &Request<'_>) {
+    let count = words::count(request);
+    if let Some((block, left)) = parse::<ParseBuf<'_>>(out, request.bytes.as_slice(), count) {
+        out.show("content", block.rest().eat_all());
+        out.show("rest", left)
     }
 }
 
-/// Whether the lists that a copy of this one lends and gives up are the same.
-macro_rules! is_list_made {
-    ($alloc:expr; $list:expr) => {{
-        let copy = counted!($alloc; $list.clone())?;
-        let is_same = Seq::borrowed(copy.as_slice()) == *$list;
-        let values = copy.into_inner();
-        Ok(is_same && Seq::borrowed(values.as_slice()) == *$list)
-    }};
-}
-
-impl<'a> Shows<Numbers<'a>> for Connections {
-    fn fields(it: &Numbers<'a>, out: &mut Out) {
-        show_items(out, it.as_slice())
-    }
-
-    fn is_made(it: &Numbers<'a>, alloc: Global) -> Result<bool> {
-        is_list_made!(alloc; it)
-    }
-}
-
-impl<'a> Shows<Bytes<'a>> for Connections {
-    fn fields(it: &Bytes<'a>, out: &mut Out) {
-        show_items(out, it.as_slice())
-    }
-
-    fn is_made(it: &Bytes<'a>, alloc: Global) -> Result<bool> {
-        is_list_made!(alloc; it)
-    }
-}
-
-impl Shows<Strings<'_>> for Connections {
-    fn fields(it: &Strings<'_>, out: &mut Out) {
-        show_items(out, it.as_slice())
-    }
-
-    fn is_made(it: &Strings<'_>, _alloc: Global) -> Result<bool> {
-        Ok(Seq::borrowed(it.as_slice()) == *it)
+impl<'a, T: Item + PartialEq + Drop, L> Shows<Seq<'a, T, L>> for Connections {
+    fn show(it: &Seq<'a, T, L>, out: &mut Out) {
+        show_items(out, it.as_slice());
+        out.same("made", Ok(Seq::borrowed(it.as_slice()) == *it))
     }
 }
 
@@ -212,6 +172,11 @@ pub fn push(out: &mut Out, request: &Request<'_>) {
         return;
     };
     push_to_borrowed(out, &list);
+    let copy = counted!(alloc; list.clone());
+    out.same(
+        "owned_copy",
+        copy.map(|copy| copy.into_inner().as_slice() == list.as_slice()),
+    );
     let before = list.len();
     let pushed = counted!(alloc; list.push(alloc, RawInt::new(7)));
     show_push(out, "owned", pushed, &list, before);

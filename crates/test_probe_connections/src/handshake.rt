@@ -4,6 +4,7 @@
 
 use crate::plugins::show_plugin;
 use crate::prelude::*;
+use mysql_auth::laws;
 
 /// The versions that a server's version says.
 pub fn version(out: &mut Out, request: &Request<'_>) {
@@ -23,7 +24,7 @@ pub fn make(out: &mut Out, request: &Request<'_>) {
 }
 
 impl Shows<HandshakePacket<'_>> for Connections {
-    fn fields(it: &HandshakePacket<'_>, out: &mut Out) {
+    fn show(it: &HandshakePacket<'_>, out: &mut Out) {
         fields!(out, it; protocol_version, server_version = server_version_ref, connection_id,
             scramble_1 = scramble_1_ref, scramble_2 = scramble_2_ref, capabilities, default_collation, status_flags,
             mariadb = mariadb_ext_capabilities, auth_plugin_name = auth_plugin_name_ref);
@@ -35,10 +36,8 @@ impl Shows<HandshakePacket<'_>> for Connections {
             Ok(nonce) => out.show("nonce", nonce.as_slice()),
             Err(AllocError) => out.field("nonce", "Memory"),
         }
-    }
-
-    fn is_made(it: &HandshakePacket<'_>, alloc: Global) -> Result<bool> {
-        is_anew!(alloc, it; owned made_again(it))
+        anew!(out, it; owned made_again(it));
+        laws::this_handshake_round_trips(it)
     }
 }
 

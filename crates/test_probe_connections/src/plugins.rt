@@ -5,6 +5,7 @@
 //! `make_tls CAPABILITIES SIZE CHARACTER_SET MARIADB`.
 
 use crate::prelude::*;
+use mysql_auth::laws::this_ssl_request_round_trips;
 
 /// Adds a plugin's name, where there is one, and whether it is one that the client knows.
 pub fn show_plugin(plugin: Option<&AuthPlugin<'_>>, out: &mut Out) {
@@ -28,85 +29,71 @@ fn show_rounds(plugin: &AuthPlugin<'_>, out: &mut Out) {
 }
 
 impl Shows<AuthPlugin<'_>> for Connections {
-    fn fields(it: &AuthPlugin<'_>, out: &mut Out) {
+    fn show(it: &AuthPlugin<'_>, out: &mut Out) {
         show_plugin(Some(it), out);
         out.show("variant", Variant(it));
-        show_rounds(it, out)
-    }
-
-    fn is_made(it: &AuthPlugin<'_>, alloc: Global) -> Result<bool> {
-        let copy = counted!(alloc; it.borrow().clone())?;
-        let owned = counted!(alloc; copy.into_owned(alloc))?;
-        Ok(is_cloned(alloc, &owned, it)? && owned.borrow() == *it)
+        show_rounds(it, out);
+        anew!(out, it; owned it.borrow())
     }
 }
 
 impl Shows<AuthPluginData<'_>> for Connections {
-    fn is_made(it: &AuthPluginData<'_>, alloc: Global) -> Result<bool> {
-        is_anew!(alloc, it; owned it)
+    fn show(it: &AuthPluginData<'_>, out: &mut Out) {
+        anew!(out, it; owned it)
     }
 }
 
 impl Shows<AuthSwitchRequest<'_>> for Connections {
-    fn fields(it: &AuthSwitchRequest<'_>, out: &mut Out) {
+    fn show(it: &AuthSwitchRequest<'_>, out: &mut Out) {
         show_plugin(Some(&it.auth_plugin()), out);
         out.show("plugin_data", it.plugin_data());
-        out.show("raw", it.plugin_data_raw())
-    }
-
-    fn is_made(it: &AuthSwitchRequest<'_>, alloc: Global) -> Result<bool> {
-        is_anew!(alloc, it; owned it)
+        out.show("raw", it.plugin_data_raw());
+        anew!(out, it; owned it)
     }
 }
 
 impl Shows<OldAuthSwitchRequest> for Connections {
-    fn fields(it: &OldAuthSwitchRequest, out: &mut Out) {
-        show_plugin(Some(&it.auth_plugin()), out)
-    }
-
-    fn is_made(it: &OldAuthSwitchRequest, alloc: Global) -> Result<bool> {
-        is_anew!(alloc, it; OldAuthSwitchRequest::new())
+    fn show(it: &OldAuthSwitchRequest, out: &mut Out) {
+        show_plugin(Some(&it.auth_plugin()), out);
+        anew!(out, it; OldAuthSwitchRequest::new())
     }
 }
 
 impl Shows<AuthMoreData<'_>> for Connections {
-    fn fields(it: &AuthMoreData<'_>, out: &mut Out) {
-        fields!(out, it; data)
-    }
-
-    fn is_made(it: &AuthMoreData<'_>, alloc: Global) -> Result<bool> {
-        is_anew!(alloc, it; owned AuthMoreData::new(CowSlice::Borrowed(it.data())))
+    fn show(it: &AuthMoreData<'_>, out: &mut Out) {
+        fields!(out, it; data);
+        anew!(out, it; owned AuthMoreData::new(CowSlice::Borrowed(it.data())))
     }
 }
 
 impl Shows<PublicKeyRequest> for Connections {
-    fn is_made(it: &PublicKeyRequest, alloc: Global) -> Result<bool> {
-        is_anew!(alloc, it; PublicKeyRequest::new())
+    fn show(it: &PublicKeyRequest, out: &mut Out) {
+        anew!(out, it; PublicKeyRequest::new())
     }
 }
 
 /// The key is shown as text alone: there is no other way to it. The one of the text has the same text, on memory of its own.
 impl Shows<PublicKeyResponse<'_>> for Connections {
-    fn fields(it: &PublicKeyResponse<'_>, out: &mut Out) {
-        fields!(out, it; ; texts rsa_key = rsa_key)
+    fn show(it: &PublicKeyResponse<'_>, out: &mut Out) {
+        fields!(out, it; ; texts rsa_key = rsa_key);
+        out.same("made", is_key_made(it, out.alloc()))
     }
+}
 
-    fn is_made(it: &PublicKeyResponse<'_>, alloc: Global) -> Result<bool> {
-        let text = it.rsa_key(alloc)?;
-        let made = PublicKeyResponse::new(words::owned(alloc, text.as_str().as_bytes())?);
-        let is_same = made.rsa_key(alloc)?.as_str() == text.as_str();
-        Ok(is_same && is_cloned(alloc, &made, &made)? && is_cloned(alloc, it, it)?)
-    }
+fn is_key_made(key: &PublicKeyResponse<'_>, alloc: Global) -> Result<bool> {
+    let text = key.rsa_key(alloc)?;
+    let bytes = Vec::from_slice(alloc, text.as_str().as_bytes())?;
+    let made = PublicKeyResponse::new(CowSlice::Owned(bytes));
+    let is_same = made.rsa_key(alloc)?.as_str() == text.as_str();
+    Ok(is_same && is_cloned(alloc, &made, &made)? && is_cloned(alloc, key, key)?)
 }
 
 /// There is no getter for MariaDB's capabilities.
 impl Shows<SslRequest> for Connections {
-    fn fields(it: &SslRequest, out: &mut Out) {
-        fields!(out, it; capabilities, max_packet_size, character_set)
-    }
-
-    fn is_made(it: &SslRequest, alloc: Global) -> Result<bool> {
-        is_cloned(alloc, it, it)
+    fn show(it: &SslRequest, out: &mut Out) {
+        fields!(out, it; capabilities, max_packet_size, character_set);
+        out.same("made", is_cloned(out.alloc(), it, it));
+        this_ssl_request_round_trips(it)
     }
 }
 
@@ -149,7 +136,7 @@ fn answer_of<'a>(kind: &str, bytes: &'a [u8]) -> AuthPluginData<'a> {
 pub fn plugin_data(out: &mut Out, request: &Request<'_>) {
     let answer = answer_of(request.word(1), request.bytes.as_slice());
     out.show("bytes", answer.as_bytes());
-    out.same("made", Connections::is_made(&answer, request.alloc));
+    Connections::show(&answer, out);
     write_made(out, &answer)
 }
 

@@ -3,6 +3,7 @@
 //! `sid TEXT`, `gtid_set TEXT`, `sid_bytes BYTES`, `make_sid TAG INTERVALS`, `merge_sid TAG INTERVALS`, `interval BYTES`, `check_interval START END`, `tag TEXT`.
 
 use crate::prelude::*;
+use mysql_repl::laws::{this_sid_round_trips, this_sid_text_round_trips};
 use std::borrow::CowStr;
 use std::str;
 
@@ -16,32 +17,33 @@ pub fn show_sid(sid: &Sid<'_>, out: &mut Out) {
     }
 }
 
+/// The same, and its text.
+fn show_with_text(sid: &Sid<'_>, out: &mut Out) {
+    show_sid(sid, out);
+    out.text("shown", sid)
+}
+
 /// It is made anew in the form without tags.
 impl Shows<Sid<'_>> for Connections {
-    fn fields(it: &Sid<'_>, out: &mut Out) {
-        show_sid(it, out);
-        out.text("shown", it)
-    }
-
-    fn is_made(it: &Sid<'_>, alloc: Global) -> Result<bool> {
-        let intervals = Vec::from_slice(alloc, it.intervals())?;
-        is_anew!(alloc, it; Sid::new(it.uuid()).with_intervals(intervals))
+    fn show(it: &Sid<'_>, out: &mut Out) {
+        show_with_text(it, out);
+        let intervals = or_empty(out, Vec::from_slice(out.alloc(), it.intervals()));
+        anew!(out, it; Sid::new(it.uuid()).with_intervals(intervals));
+        this_sid_round_trips(it);
+        this_sid_text_round_trips(it)
     }
 }
 
 impl Shows<Tag<'_>> for Connections {
-    fn is_made(it: &Tag<'_>, alloc: Global) -> Result<bool> {
-        is_anew!(alloc, it; owned it)
+    fn show(it: &Tag<'_>, out: &mut Out) {
+        anew!(out, it; owned it)
     }
 }
 
 impl Shows<GnoInterval> for Connections {
-    fn fields(it: &GnoInterval, out: &mut Out) {
-        fields!(out, it; start, end)
-    }
-
-    fn is_made(it: &GnoInterval, _alloc: Global) -> Result<bool> {
-        Ok(GnoInterval::new(it.start(), it.end()) == *it)
+    fn show(it: &GnoInterval, out: &mut Out) {
+        fields!(out, it; start, end);
+        out.same("made", Ok(GnoInterval::new(it.start(), it.end()) == *it))
     }
 }
 
@@ -49,7 +51,7 @@ impl Shows<GnoInterval> for Connections {
 pub fn of_text(out: &mut Out, request: &Request<'_>) {
     let answer = counted!(request.alloc; Sid::from_str(request.alloc, request.word(1)));
     if let Some(sid) = out.accepted("read", answer) {
-        Connections::fields(&sid, out);
+        show_with_text(&sid, out);
         write_made(out, &sid)
     }
 }
@@ -121,7 +123,7 @@ pub fn make(out: &mut Out, request: &Request<'_>) {
     let made = counted!(alloc; with_intervals(alloc, Sid::new([0x11; 16]), request.word(2)));
     if let Some(sid) = out.made(made) {
         let sid = with_tag(sid, request.word(1));
-        Connections::fields(&sid, out);
+        show_with_text(&sid, out);
         out.same("copy", is_cloned(alloc, &sid, &sid));
         write_and_read(out, &sid, request, ())
     }
@@ -191,7 +193,7 @@ pub fn tag(out: &mut Out, request: &Request<'_>) {
     if let Some(tag) = out.accepted("read", answer) {
         out.field("text", tag.as_str());
         out.text("shown", &tag);
-        out.same("made", Connections::is_made(&tag, alloc));
+        Connections::show(&tag, out);
         out.same("of_text", is_of_text(alloc, &tag))
     }
 }

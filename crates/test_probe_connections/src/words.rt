@@ -17,19 +17,19 @@ pub fn borrowed<'a>(word: &'a str) -> Option<CowSlice<'a, u8>> {
     lent(bytes(word))
 }
 
-/// The same, with no byte in place of none.
-pub fn name<'a>(word: &'a str) -> CowSlice<'a, u8> {
-    CowSlice::Borrowed(bytes(word).unwrap_or(b""))
-}
-
 /// The bytes, borrowed, where there are some.
 pub fn lent<'b>(bytes: Option<&'b [u8]>) -> Option<CowSlice<'b, u8>> {
     bytes.map(|bytes| CowSlice::Borrowed(bytes))
 }
 
+/// The same, with no byte in place of none.
+pub fn name<'a>(word: &'a str) -> CowSlice<'a, u8> {
+    CowSlice::Borrowed(bytes(word).unwrap_or(b""))
+}
+
 /// The bytes, on memory of their own.
-pub fn owned(alloc: Global, bytes: &[u8]) -> Result<CowSlice<'static, u8>> {
-    Ok(CowSlice::Owned(Vec::from_slice(alloc, bytes)?))
+pub fn owned(out: &mut Out, bytes: &[u8]) -> CowSlice<'static, u8> {
+    CowSlice::Owned(or_empty(out, Vec::from_slice(out.alloc(), bytes)))
 }
 
 /// The number that a word spells, or 0.

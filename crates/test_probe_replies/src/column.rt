@@ -3,26 +3,23 @@
 use crate::prelude::*;
 
 impl Shows<Column> for Server {
-    fn fields(it: &Column, out: &mut Out) {
+    fn show(it: &Column, out: &mut Out) {
+        let alloc = out.alloc();
         fields!(out, it; schema = schema_ref, table = table_ref, org_table = org_table_ref, name = name_ref,
             org_name = org_name_ref, character_set, column_length);
         out.show("column_type", u8::from(it.column_type()));
         fields!(out, it; flags, decimals; texts schema_str = schema_str, table_str = table_str,
-            org_table_str = org_table_str, name_str = name_str, org_name_str = org_name_str)
-    }
-
-    fn is_made(it: &Column, alloc: Global) -> Result<bool> {
-        is_anew!(alloc, it; counted!(alloc; made_column(it, alloc))?)
+            org_table_str = org_table_str, name_str = name_str, org_name_str = org_name_str);
+        made_anew(out, it, counted!(alloc; made_column(it, alloc)));
+        laws::this_column_round_trips(it)
     }
 }
 
 impl Shows<LocalInfilePacket<'_>> for Server {
-    fn fields(it: &LocalInfilePacket<'_>, out: &mut Out) {
-        fields!(out, it; file_name = file_name_ref; texts file_name_str = file_name_str)
-    }
-
-    fn is_made(it: &LocalInfilePacket<'_>, alloc: Global) -> Result<bool> {
-        is_anew!(alloc, it; owned LocalInfilePacket::new(CowSlice::Borrowed(it.file_name_ref())))
+    fn show(it: &LocalInfilePacket<'_>, out: &mut Out) {
+        fields!(out, it; file_name = file_name_ref; texts file_name_str = file_name_str);
+        anew!(out, it; owned LocalInfilePacket::new(CowSlice::Borrowed(it.file_name_ref())));
+        laws::this_local_infile_round_trips(it)
     }
 }
 
@@ -45,11 +42,8 @@ fn made_column(column: &Column, alloc: Global) -> Result<Column> {
 impl InPlace<Column, ColumnRef<'_>> for Server {
     fn is(place: &ColumnRef<'_>, owned: &Column, out: &mut Out) -> bool {
         let alloc = out.alloc();
-        let Ok(made) = counted!(alloc; place.to_column(alloc)) else {
-            out.lose();
-            return false;
-        };
-        made == *owned
+        let made = counted!(alloc; place.to_column(alloc));
+        or_lost(out, made).is_some_and(|made| made == *owned)
             && place.column_type() == owned.column_type()
             && fields!(place, owned; alike schema with schema_ref, table with table_ref, org_table with org_table_ref,
                 name with name_ref, org_name with org_name_ref, character_set, column_length, flags, decimals)

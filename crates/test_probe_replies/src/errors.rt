@@ -13,60 +13,50 @@ pub fn context(request: &Request<'_>) -> (u16, bool) {
 
 /// Adds the text that a record is displayed as.
 fn displayed<T: Display>(record: &T, out: &mut Out) {
-    let Ok(text) = format!(in out.alloc(); "{record}") else {
-        return out.lose();
-    };
-    out.show("shown", text.as_str().as_bytes())
+    if let Some(text) = or_lost(out, format!(in out.alloc(); "{record}")) {
+        out.show("shown", text.as_str().as_bytes())
+    }
 }
 
 impl Shows<ErrPacket<'_>> for Server {
-    fn fields(it: &ErrPacket<'_>, out: &mut Out) {
+    fn show(it: &ErrPacket<'_>, out: &mut Out) {
         if it.is_error() {
             show_error(it.server_error(), out);
         }
         if it.is_progress_report() {
             show_progress(it.progress_report(), out);
         }
-        displayed(it, out)
-    }
-
-    fn is_made(it: &ErrPacket<'_>, alloc: Global) -> Result<bool> {
-        is_anew!(alloc, it; match it {
-            ErrPacket::Error(error) => ErrPacket::Error(made_error(error, alloc)?),
-            ErrPacket::Progress(report) => ErrPacket::Progress(made_progress(report, alloc)?),
-        })
+        displayed(it, out);
+        let alloc = out.alloc();
+        let made = match it {
+            ErrPacket::Error(error) => made_error(error, alloc).map(ErrPacket::Error),
+            ErrPacket::Progress(report) => made_progress(report, alloc).map(ErrPacket::Progress),
+        };
+        made_anew(out, it, made)
     }
 }
 
 impl Shows<ServerError<'_>> for Server {
-    fn fields(it: &ServerError<'_>, out: &mut Out) {
+    fn show(it: &ServerError<'_>, out: &mut Out) {
         show_error(it, out);
-        displayed(it, out)
-    }
-
-    fn is_made(it: &ServerError<'_>, alloc: Global) -> Result<bool> {
-        is_cloned(alloc, &made_error(it, alloc)?, it)
+        displayed(it, out);
+        made_anew(out, it, made_error(it, out.alloc()))
     }
 }
 
 impl Shows<SqlState> for Server {
-    fn fields(it: &SqlState, out: &mut Out) {
-        fields!(out, it; sql_state = as_bytes; texts sql_state_str = as_str)
-    }
-
-    fn is_made(it: &SqlState, _alloc: Global) -> Result<bool> {
-        Ok(SqlState::new(it.as_bytes()) == *it)
+    fn show(it: &SqlState, out: &mut Out) {
+        fields!(out, it; sql_state = as_bytes; texts sql_state_str = as_str);
+        out.same("made", Ok(SqlState::new(it.as_bytes()) == *it));
+        laws::this_sql_state_round_trips(it)
     }
 }
 
 impl Shows<ProgressReport<'_>> for Server {
-    fn fields(it: &ProgressReport<'_>, out: &mut Out) {
+    fn show(it: &ProgressReport<'_>, out: &mut Out) {
         show_progress(it, out);
-        displayed(it, out)
-    }
-
-    fn is_made(it: &ProgressReport<'_>, alloc: Global) -> Result<bool> {
-        is_cloned(alloc, &made_progress(it, alloc)?, it)
+        displayed(it, out);
+        made_anew(out, it, made_progress(it, out.alloc()))
     }
 }
 
@@ -87,7 +77,8 @@ fn show_error(error: &ServerError<'_>, out: &mut Out) {
     fields!(out, error; error = error_code);
     let state = error.sql_state_ref().map(|state| state.as_bytes());
     out.show("sql_state", state);
-    fields!(out, error; message = message_ref; texts message_str = message_str)
+    fields!(out, error; message = message_ref; texts message_str = message_str);
+    laws::this_server_error_round_trips(error)
 }
 
 /// The error of the same parts, on memory of its own.
@@ -114,7 +105,8 @@ impl InPlace<SqlState, SqlStateRef<'_>> for Server {
 
 fn show_progress(report: &ProgressReport<'_>, out: &mut Out) {
     fields!(out, report; stage, max_stage, progress, stage_info = stage_info_ref;
-        texts stage_info_str = stage_info_str)
+        texts stage_info_str = stage_info_str);
+    laws::this_progress_report_round_trips(report)
 }
 
 /// The report of the same parts, on memory of its own.

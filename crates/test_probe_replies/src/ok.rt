@@ -4,7 +4,7 @@
 //! byte of `ok`).
 
 use crate::prelude::*;
-use crate::state::{Decoded, is_same_change, show_change};
+use crate::state::{Decoded, is_same_change, show_decoded, show_info};
 use test_probe::places::compare;
 
 /// An OK packet of a kind, and the one that stays in its packet.
@@ -28,17 +28,13 @@ fn inner<'a, K>(packet: Result<OkPacketDeserializer<'a, K>, Fault>) -> Result<Ok
 }
 
 impl<'a, K> Shows<OkPacketDeserializer<'a, K>> for Server {
-    fn fields(record: &OkPacketDeserializer<'a, K>, out: &mut Out) {
-        match record.clone() {
-            Ok(record) => show_packet(&record.into_inner(), out),
-            Err(AllocError) => out.lose(),
+    fn show(record: &OkPacketDeserializer<'a, K>, out: &mut Out) {
+        if let Some(copy) = or_lost(out, record.clone()) {
+            let packet = copy.into_inner();
+            show_packet(&packet, out);
+            let copy = counted!(out.alloc(); record.clone());
+            anew!(out, &packet; copied copy.map(OkPacket::from))
         }
-    }
-
-    fn is_made(record: &OkPacketDeserializer<'a, K>, alloc: Global) -> Result<bool> {
-        let copy = OkPacket::from(counted!(alloc; record.clone())?);
-        let owned = counted!(alloc; copy.into_owned(alloc))?;
-        is_cloned(alloc, &owned, &record.clone()?.into_inner())
     }
 }
 
@@ -53,33 +49,30 @@ fn show_packet(packet: &OkPacket<'_>, out: &mut Out) {
         Ok(changes) => {
             out.show("changes", changes.len());
             for change in changes.as_slice() {
-                Server::fields(change, out);
+                show_info(change, out);
                 let next = counted!(alloc; value sent.next());
-                same_change(next, change.decode_as_sent(alloc), out);
+                same_change(next.as_ref(), &change.decode_as_sent(alloc), out);
             }
-            same_change(sent.next(), Err(Fault::UnexpectedEof), out)
         }
-        Err(fault) => {
-            out.show("changes", Variant(&fault.kind()));
-            show_sent(sent, out)
-        }
+        Err(fault) => out.show("changes", Variant(&fault.kind())),
     }
+    show_sent(sent, out)
 }
 
 /// Adds each change that is left, or the kind of its fault.
 fn show_sent(sent: SessionStateChanges<'_>, out: &mut Out) {
     for change in sent {
-        show_change("sent", change, out);
+        show_decoded("sent", &change, out);
     }
 }
 
-/// Adds the next change of an iterator, where it is not this one. Where it ends, a fault stands for it.
-fn same_change(next: Option<Decoded<'_>>, wanted: Decoded<'_>, out: &mut Out) {
-    let next = next.unwrap_or(Err(Fault::UnexpectedEof));
-    if next == wanted {
-        return;
+/// Adds the next change of an iterator, where it is not this one.
+fn same_change(next: Option<&Decoded<'_>>, wanted: &Decoded<'_>, out: &mut Out) {
+    match next {
+        Some(next) if next == wanted => {}
+        Some(next) => show_decoded("sent", next, out),
+        None => out.field("sent", "none"),
     }
-    show_change("sent", next, out)
 }
 
 /// Both have the same fields, and give the same changes, one after another.
@@ -91,7 +84,7 @@ impl<'a> InPlace<OkPacket<'a>, OkPacketRef<'a>> for Server {
             let Some(next) = next else {
                 return false;
             };
-            if !is_same_change(next, change, out) {
+            if !is_same_change(next, &change, out) {
                 return false;
             }
         }
@@ -108,13 +101,13 @@ pub fn body(out: &mut Out, request: &Request<'_>) {
     let answer: Result<OkPacketBody<'_>, Fault> =
         counted!(alloc; CommonOkPacket::parse_body(request.capabilities(), &mut buf));
     if let Some(body) = taken(out, answer, buf.len() == bytes.len()) {
-        show_body(body, out);
+        show_body(&body, out);
         out.show("rest", buf.len())
     }
 }
 
 /// Adds the packet of a copy of the body.
-fn show_body(body: OkPacketBody<'_>, out: &mut Out) {
+fn show_body(body: &OkPacketBody<'_>, out: &mut Out) {
     let alloc = out.alloc();
     match counted!(alloc; body.clone()) {
         Ok(copy) => match OkPacket::try_from(copy) {

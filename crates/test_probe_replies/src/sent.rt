@@ -5,6 +5,7 @@
 
 use crate::prelude::*;
 use crate::state::Decoded;
+use test_probe::Ends;
 
 /// Reads a packet of a kind, and writes it as that kind.
 pub fn sent<'a, K: OkPacketKind + OkPacketLayout>(out: &mut Out, request: &'a Request<'_>) {
@@ -24,11 +25,7 @@ fn write_packet<'a, K: OkPacketLayout>(
     request: &Request<'_>,
     record: &OkPacketDeserializer<'a, K>,
 ) -> Option<Vec<u8>> {
-    let Ok(copy) = record.clone() else {
-        out.lose();
-        return None;
-    };
-    let packet = copy.into_inner();
+    let packet = or_lost(out, record.clone())?.into_inner();
     let made = made(&packet);
     out.same("made", Ok(made == packet));
     let sent = OkPacketSerializer::<'_, '_, K>::new(&made, request.capabilities());
@@ -49,14 +46,17 @@ fn made<'s>(packet: &'s OkPacket<'_>) -> OkPacket<'s> {
     .with_session_state_info(CowSlice::Borrowed(state))
 }
 
-/// Adds the state string of the packet's changes, which is the `same` where the packet has it.
+/// Adds the state string of the packet's changes, which is the `same` where the packet has it; or why there is none.
 fn show_state(packet: &OkPacket<'_>, out: &mut Out) {
     let mut state: Vec<u8> = Vec::new(out.alloc());
     for change in packet.session_state_changes(out.alloc()) {
-        match append_change(&mut state, change, out.alloc()) {
-            Ok(()) => {}
-            Err(Some(word)) => return out.field("state", word),
-            Err(None) => return out.lose(),
+        match entry(&change, out.alloc()) {
+            Ok(info) => {
+                let content = CowSlice::Borrowed(info.data_ref());
+                let entry = SessionStateInfo::new(info.data_type(), content);
+                entry.serialize(&mut state).end(out)
+            }
+            Err(word) => return out.field("state", word),
         }
     }
     if packet.session_state_info_ref().unwrap_or(b"") == state.as_slice() {
@@ -65,22 +65,13 @@ fn show_state(packet: &OkPacket<'_>, out: &mut Out) {
     out.show("state", state.as_slice())
 }
 
-/// Appends the entry of a change; or answers a word where there is none, and none where the program runs out of memory.
-fn append_change(
-    state: &mut Vec<u8>,
-    change: Decoded<'_>,
-    alloc: Global,
-) -> Result<(), Option<&'static str>> {
+/// The entry of a change, or a word where there is none.
+fn entry(change: &Decoded<'_>, alloc: Global) -> Result<SessionStateInfo<'static>, &'static str> {
     let Ok(change) = change else {
-        return Err(Some("refused"));
+        return Err("refused");
     };
-    match counted!(alloc; SessionStateInfo::from_change(alloc, &change)) {
-        Ok(Some(info)) => {
-            let content = CowSlice::Borrowed(info.data_ref());
-            let entry = SessionStateInfo::new(info.data_type(), content);
-            entry.serialize(state).map_err(|_| None)
-        }
-        Ok(None) => Err(Some("none")),
-        Err(AllocError) => Err(Some("Memory")),
+    match counted!(alloc; SessionStateInfo::from_change(alloc, change)) {
+        Ok(info) => info.ok_or("none"),
+        Err(AllocError) => Err("Memory"),
     }
 }

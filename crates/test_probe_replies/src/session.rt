@@ -25,56 +25,60 @@ fn other_change(out: &mut Out, request: &Request<'_>) {
     let bytes = request.bytes.as_slice();
     if let Some(text) = read::<Server, Unsupported<'_>>(out, bytes, ()) {
         let change = Change::Unsupported(text);
-        Server::fields(&change, out);
-        out.same("change", Server::is_made(&change, out.alloc()));
+        show_change(&change, out);
+        anew!(out, &change; owned change);
         let _ = write(out, &change, bytes);
     }
 }
 
-impl Shows<Change<'_>> for Server {
-    fn fields(it: &Change<'_>, out: &mut Out) {
-        match it {
-            Change::IsTracked(is_tracked) => out.show("is_tracked", *is_tracked),
-            Change::Schema(text) => show_text("schema", text, out),
-            Change::SystemVariables(variables) => Server::fields(variables, out),
-            Change::Gtids(text) => show_text("gtids", text, out),
-            Change::TransactionCharacteristics(text) => show_text("characteristics", text, out),
-            Change::TransactionState(text) => show_text("state", text, out),
-            Change::Unsupported(text) => show_text("unsupported", text, out),
-        }
-    }
-
-    fn is_made(it: &Change<'_>, alloc: Global) -> Result<bool> {
-        is_anew!(alloc, it; owned it)
+/// Adds what changed.
+pub fn show_change(change: &Change<'_>, out: &mut Out) {
+    match change {
+        Change::IsTracked(is_tracked) => out.show("is_tracked", *is_tracked),
+        Change::Schema(text) => show_text("schema", text, out),
+        Change::SystemVariables(variables) => show_variables(variables, out),
+        Change::Gtids(text) => show_text("gtids", text, out),
+        Change::TransactionCharacteristics(text) => show_text("characteristics", text, out),
+        Change::TransactionState(text) => show_text("state", text, out),
+        Change::Unsupported(text) => show_text("unsupported", text, out),
     }
 }
 
-impl Shows<SystemVariable<'_>> for Server {
-    fn fields(it: &SystemVariable<'_>, out: &mut Out) {
-        fields!(out, it; name = name_bytes, value = value_bytes; texts name_str = name_str, value_str = value_str)
+impl Shows<Change<'_>> for Server {
+    fn show(it: &Change<'_>, out: &mut Out) {
+        show_change(it, out);
+        anew!(out, it; owned it)
     }
+}
 
-    fn is_made(it: &SystemVariable<'_>, alloc: Global) -> Result<bool> {
-        is_anew!(alloc, it; owned made_variable(it))
+fn show_variable(variable: &SystemVariable<'_>, out: &mut Out) {
+    fields!(out, variable; name = name_bytes, value = value_bytes; texts name_str = name_str, value_str = value_str)
+}
+
+impl Shows<SystemVariable<'_>> for Server {
+    fn show(it: &SystemVariable<'_>, out: &mut Out) {
+        show_variable(it, out);
+        anew!(out, it; owned made_variable(it))
+    }
+}
+
+fn show_variables(variables: &SystemVariables<'_>, out: &mut Out) {
+    out.show("variables", variables.as_slice().len());
+    for variable in variables.as_slice() {
+        show_variable(variable, out);
+        out.same("variable", Ok(made_variable(variable) == *variable));
     }
 }
 
 impl Shows<SystemVariables<'_>> for Server {
-    fn fields(it: &SystemVariables<'_>, out: &mut Out) {
-        out.show("variables", it.as_slice().len());
+    fn show(it: &SystemVariables<'_>, out: &mut Out) {
+        show_variables(it, out);
+        let mut variables = Vec::new(out.alloc());
         for variable in it.as_slice() {
-            Server::fields(variable, out);
-            out.same("variable", Ok(made_variable(variable) == *variable));
-        }
-    }
-
-    fn is_made(it: &SystemVariables<'_>, alloc: Global) -> Result<bool> {
-        let mut variables = Vec::new(alloc);
-        for variable in it.as_slice() {
-            variables.push(made_variable(variable))?;
+            push(out, &mut variables, made_variable(variable));
         }
         let made = SystemVariables::new(SystemVariables::new(variables).into_inner());
-        is_anew!(alloc, it; owned made)
+        anew!(out, it; owned made)
     }
 }
 
@@ -83,9 +87,7 @@ impl<'a> InPlace<Change<'a>, SessionStateChangeRef<'a>> for Server {
         match (place.change(), owned) {
             (Place::IsTracked(is_tracked), Change::IsTracked(it)) => is_tracked == it,
             (Place::Schema(text), Change::Schema(it)) => *text == it.as_bytes(),
-            (Place::SystemVariables(list), Change::SystemVariables(it)) => Server::is(
-                list, it, out,
-            ),
+            (Place::SystemVariables(all), Change::SystemVariables(it)) => Server::is(all, it, out),
             (Place::Gtids(text), Change::Gtids(it)) => *text == it.as_bytes(),
             (Place::TransactionCharacteristics(text), Change::TransactionCharacteristics(it)) => {
                 *text == it.as_bytes()
@@ -102,13 +104,10 @@ fn show_text<N, R: BytesRepr>(name: &str, text: &SessionText<'_, N, R>, out: &mu
 }
 
 impl<'a, N, R: BytesRepr> Shows<SessionText<'a, N, R>> for Server {
-    fn fields(record: &SessionText<'a, N, R>, out: &mut Out) {
-        show_text("bytes", record, out)
-    }
-
-    fn is_made(record: &SessionText<'a, N, R>, alloc: Global) -> Result<bool> {
+    fn show(record: &SessionText<'a, N, R>, out: &mut Out) {
+        show_text("bytes", record, out);
         let made = SessionText::<'_, N, R>::new(CowSlice::Borrowed(record.as_bytes()));
-        is_anew!(alloc, record; owned made)
+        anew!(out, record; owned made)
     }
 }
 

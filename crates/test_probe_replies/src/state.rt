@@ -1,6 +1,7 @@
 //! Entries of a state string, and the changes that they are decoded as: `session_info BYTES`.
 
 use crate::prelude::*;
+use crate::session::show_change;
 use test_probe::places::is_same;
 
 /// A change that is decoded, or the fault.
@@ -9,33 +10,33 @@ pub type Decoded<'a> = Result<SessionStateChange<'a>, Fault>;
 /// The same of a change that stays in its packet.
 pub type DecodedRef<'a> = Result<SessionStateChangeRef<'a>, Fault>;
 
-/// An entry of a state string, and the change that its data begins with.
-impl Shows<SessionStateInfo<'_>> for Server {
-    fn fields(it: &SessionStateInfo<'_>, out: &mut Out) {
-        let alloc = out.alloc();
-        out.show("data_type", u8::from(it.data_type()));
-        out.show("data", it.data_ref());
-        let change = counted!(alloc; it.decode(alloc));
-        let sent = counted!(alloc; it.decode_as_sent(alloc));
-        let is_same = sent == change;
-        show_change("change", change, out);
-        if is_same {
-            return;
-        }
-        show_change("sent", sent, out)
+/// Adds an entry of a state string, and the change that its data begins with.
+pub fn show_info(info: &SessionStateInfo<'_>, out: &mut Out) {
+    let alloc = out.alloc();
+    out.show("data_type", u8::from(info.data_type()));
+    out.show("data", info.data_ref());
+    let change = counted!(alloc; info.decode(alloc));
+    let sent = counted!(alloc; info.decode_as_sent(alloc));
+    show_decoded("change", &change, out);
+    if sent != change {
+        show_decoded("sent", &sent, out);
     }
+}
 
-    fn is_made(it: &SessionStateInfo<'_>, alloc: Global) -> Result<bool> {
-        is_anew!(alloc, it; owned it)
+impl Shows<SessionStateInfo<'_>> for Server {
+    fn show(it: &SessionStateInfo<'_>, out: &mut Out) {
+        show_info(it, out);
+        anew!(out, it; owned it);
+        laws::this_session_state_info_round_trips(it)
     }
 }
 
 /// Adds a change, or the kind of its fault.
-pub fn show_change(name: &str, change: Decoded<'_>, out: &mut Out) {
+pub fn show_decoded(name: &str, change: &Decoded<'_>, out: &mut Out) {
     match change {
         Ok(change) => {
             out.field(name, "read");
-            Server::fields(&change, out)
+            show_change(change, out)
         }
         Err(fault) => out.show(name, Variant(&fault.kind())),
     }
@@ -48,14 +49,14 @@ impl<'a> InPlace<SessionStateInfo<'a>, SessionStateInfoRef<'a>> for Server {
         let sent = counted!(alloc; value place.decode_as_sent());
         place.data_type() == owned.data_type()
             && place.data_bytes() == owned.data_ref()
-            && is_same_change(decoded, owned.decode(alloc), out)
-            && is_same_change(sent, owned.decode_as_sent(alloc), out)
+            && is_same_change(decoded, &owned.decode(alloc), out)
+            && is_same_change(sent, &owned.decode_as_sent(alloc), out)
             && place.to_info() == *owned
     }
 }
 
 /// Whether both are the same change, or the same fault.
-pub fn is_same_change(borrowed: DecodedRef<'_>, owned: Decoded<'_>, out: &mut Out) -> bool {
+pub fn is_same_change(borrowed: DecodedRef<'_>, owned: &Decoded<'_>, out: &mut Out) -> bool {
     let again = borrowed.map(|change| SessionStateChangeRef::new(change.into_change()));
-    is_same::<Server, SessionStateChange<'_>, SessionStateChangeRef<'_>>(&again, &owned, out)
+    is_same::<Server, SessionStateChange<'_>, SessionStateChangeRef<'_>>(&again, owned, out)
 }

@@ -34,22 +34,23 @@ pub fn bit_offsets(out: &mut Out, _request: &Request<'_>) {
 }
 
 impl<'a, S: SerializationSide> Shows<NullBitmap<'a, S>> for Statements {
-    fn fields(record: &NullBitmap<'a, S>, out: &mut Out) {
+    fn show(record: &NullBitmap<'a, S>, out: &mut Out) {
         out.show("bytes", record.as_bytes());
         for place in 0..64 {
             if is_there(record, place) && record.is_null(place) {
                 out.show("null", place);
             }
         }
+        made_anew(out, record, made(out.alloc(), record.as_bytes()))
     }
+}
 
-    fn is_made(record: &NullBitmap<'a, S>, alloc: Global) -> Result<bool> {
-        let borrowed = NullBitmap::<'_, S>::from_bytes(CowSlice::Borrowed(record.as_bytes()));
-        let copy = counted!(alloc; borrowed.clone())?;
-        let bytes = Vec::from_slice(alloc, copy.as_bytes())?;
-        let owned = NullBitmap::<'_, S>::from_bytes(CowSlice::Owned(bytes));
-        is_cloned(alloc, &owned, record)
-    }
+/// The bitmap of some bytes, of a copy of them.
+fn made<S: SerializationSide>(alloc: Global, bytes: &[u8]) -> Result<NullBitmap<'static, S>> {
+    let borrowed = NullBitmap::<'_, S>::from_bytes(CowSlice::Borrowed(bytes));
+    let copy = counted!(alloc; borrowed.clone())?;
+    let bytes = Vec::from_slice(alloc, copy.as_bytes())?;
+    Ok(NullBitmap::from_bytes(CowSlice::Owned(bytes)))
 }
 
 /// Whether the bit of the value at a place, which is one of the first million, lies in the bytes.

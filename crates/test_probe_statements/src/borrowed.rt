@@ -32,9 +32,8 @@ type Read<T> = (Result<T, Fault>, usize);
 
 /// Adds a word unless a reader that borrows gave what the other did, and left as much.
 fn compare<T>(out: &mut Out, owned: Read<ValueDeserializer<T>>, borrowed: Read<ValueRef<'_>>) {
-    let ((owned, left), (borrowed, rest)) = (owned, borrowed);
-    let is_same = match (owned, borrowed) {
-        (Ok(owned), Ok(borrowed)) => left == rest && owned.0.as_ref() == borrowed,
+    let is_same = match (&owned.0, &borrowed.0) {
+        (Ok(value), Ok(place)) => owned.1 == borrowed.1 && value.0.as_ref() == *place,
         (Err(owned), Err(borrowed)) => owned == borrowed,
         _ => false,
     };

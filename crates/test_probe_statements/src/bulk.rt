@@ -13,7 +13,7 @@
 
 use crate::builder::answers::show_error;
 use crate::builder::settings::{number, setting};
-use crate::forms::column;
+use crate::forms::{column, show_type};
 use crate::prelude::*;
 use mysql_wire::{MyDeserialize, StmtBulkExecuteFlags, StmtExecuteParamFlags};
 use std::convert::AsSlice;
@@ -23,10 +23,10 @@ type Columns = Vec<(ColumnType, ColumnFlags)>;
 
 /// The types, the values, and the indicators before them, up to the place that has none.
 impl Shows<ComStmtBulkExecuteRequest> for Statements {
-    fn fields(it: &ComStmtBulkExecuteRequest, out: &mut Out) {
+    fn show(it: &ComStmtBulkExecuteRequest, out: &mut Out) {
         fields!(out, it; stmt_id, bulk_flags);
         for column in it.types() {
-            Statements::fields(column, out);
+            show_type(column, out);
         }
         out.show("values", SpelledRow(it.values()));
         out.field("indicators", "");
@@ -36,40 +36,34 @@ impl Shows<ComStmtBulkExecuteRequest> for Statements {
                 None => out.push("."),
             }
         }
-    }
-
-    fn is_made(it: &ComStmtBulkExecuteRequest, alloc: Global) -> Result<bool> {
-        is_cloned(alloc, it, it)
+        out.same("made", is_cloned(out.alloc(), it, it))
     }
 }
 
-impl Shows<StmtBulkExecuteParamValue> for Statements {
-    fn fields(it: &StmtBulkExecuteParamValue, out: &mut Out) {
-        out.show("indicator", u8::from(it.indicator()));
-        out.show("value", Spelled(it.value().as_ref()))
-    }
+fn show_value(value: &StmtBulkExecuteParamValue, out: &mut Out) {
+    out.show("indicator", u8::from(value.indicator()));
+    out.show("value", Spelled(value.value().as_ref()))
+}
 
-    fn is_made(it: &StmtBulkExecuteParamValue, alloc: Global) -> Result<bool> {
-        is_cloned(alloc, it, it)
+impl Shows<StmtBulkExecuteParamValue> for Statements {
+    fn show(it: &StmtBulkExecuteParamValue, out: &mut Out) {
+        show_value(it, out);
+        out.same("made", is_cloned(out.alloc(), it, it))
     }
 }
 
 impl Shows<StmtBulkExecuteParamValues> for Statements {
-    fn fields(it: &StmtBulkExecuteParamValues, out: &mut Out) {
+    fn show(it: &StmtBulkExecuteParamValues, out: &mut Out) {
         for value in it.as_slice() {
-            Statements::fields(value, out);
+            show_value(value, out);
         }
-    }
-
-    fn is_made(it: &StmtBulkExecuteParamValues, alloc: Global) -> Result<bool> {
-        is_cloned(alloc, it, it)
+        out.same("made", is_cloned(out.alloc(), it, it))
     }
 }
 
-/// Shows a record that was made as one that is read, and writes it. The answer is what is written.
+/// Shows a record that was made as one that is read, and writes it. The answer is what is written after a byte.
 fn show_made<P: Shows<T>, T: MySerialize>(out: &mut Out, made: &T) -> Option<Vec<u8>> {
-    P::fields(made, out);
-    out.same("made", P::is_made(made, out.alloc()));
+    P::show(made, out);
     write(out, made, b"")
 }
 
@@ -109,42 +103,37 @@ pub fn bulk_new(out: &mut Out, request: &Request<'_>) {
     let flags = StmtBulkExecuteFlags::from_bits_retain((request.number(1) & 0xffff) as u16);
     let handed = rows(out, request.word(2));
     match counted!(alloc; ComStmtBulkExecuteRequest::new(alloc, 1, flags, handed)) {
-        Ok(made) => show_written(out, &made, request.word(2)),
+        Ok(made) => show_again(out, &made, request.word(2)),
         Err(BulkExecuteRequestError::Memory) => out.word("Memory"),
         Err(error) => show_error(out, &error),
     }
 }
 
 /// Shows a request of rows, and whether what is written is read as the same rows, and as the same request.
-fn show_written(out: &mut Out, made: &ComStmtBulkExecuteRequest, text: &str) {
-    let Some(written) = show_made::<Statements, _>(out, made) else {
+fn show_again(out: &mut Out, made: &ComStmtBulkExecuteRequest, text: &str) {
+    let Some(buffer) = show_made::<Statements, _>(out, made) else {
         return;
     };
+    let written = after(&buffer);
     let handed = rows(out, text);
-    let columns = columns_of(out, &handed);
-    let mut buf = ParseBuf::new(out.alloc(), &written);
+    let first = handed.as_slice().iter().take(1).flatten();
+    let columns = or_empty(out, first.map(column_of).collect(out.alloc()));
+    let mut buf = ParseBuf::new(out.alloc(), written);
     let again: Result<_, Fault> = read_bulk_rows(&columns, &mut buf);
     out.same("rows_again", Ok(again.is_ok_and(|again| again == handed)));
-    let (again, left) = parsed::<ComStmtBulkExecuteRequest>(out.alloc(), &written, columns);
+    let (again, left) = parsed::<ComStmtBulkExecuteRequest>(out.alloc(), written, columns);
     out.same("again", Ok(again.is_ok_and(|again| again == *made)));
     out.show("left", left);
 }
 
-/// The columns of the types of the first row.
-fn columns_of(out: &mut Out, rows: &[Vec<Value>]) -> Columns {
-    let mut columns = Vec::new(out.alloc());
-    let Some(row) = rows.first() else {
-        return columns;
-    };
-    for value in row {
-        let sent = StmtBulkExecuteParamType::from_value(value);
-        let mut flags = ColumnFlags::empty();
-        if sent.flags() == StmtExecuteParamFlags::UNSIGNED {
-            flags = ColumnFlags::UNSIGNED_FLAG;
-        }
-        push(out, &mut columns, (sent.column_type(), flags));
+/// The column of a value's type.
+fn column_of(value: &Value) -> (ColumnType, ColumnFlags) {
+    let sent = StmtBulkExecuteParamType::from_value(value);
+    let mut flags = ColumnFlags::empty();
+    if sent.flags() == StmtExecuteParamFlags::UNSIGNED {
+        flags = ColumnFlags::UNSIGNED_FLAG;
     }
-    columns
+    (sent.column_type(), flags)
 }
 
 /// Whether both are read, and as the same request.
@@ -154,7 +143,7 @@ pub fn are_same(out: &mut Out, request: &Request<'_>) {
     let (one, _) = parsed::<ComStmtBulkExecuteRequest>(out.alloc(), &first, columns);
     let columns = or_empty(out, request.columns());
     let (other, _) = parsed::<ComStmtBulkExecuteRequest>(out.alloc(), &request.bytes, columns);
-    match (one, other) {
+    match (&one, &other) {
         (Ok(one), Ok(other)) => same_or_other(out, counted!(out.alloc(); value one == other)),
         _ => out.word("refused"),
     }
@@ -192,18 +181,6 @@ pub fn row_size(out: &mut Out, request: &Request<'_>) {
     out.show("bytes", counted!(out.alloc(); value bulk_row_size(&row)));
 }
 
-impl FromWord for u64 {
-    fn from_word(_out: &mut Out, word: &str) -> Self {
-        word.parse::<u64>().unwrap_or(0)
-    }
-}
-
-impl FromWord for usize {
-    fn from_word(_out: &mut Out, word: &str) -> Self {
-        word.parse::<usize>().unwrap_or(0)
-    }
-}
-
 /// Whether a cut of rows into requests is one of the fewest.
 pub fn fewest(out: &mut Out, request: &Request<'_>) {
     let settings = request.word(1);
@@ -212,8 +189,16 @@ pub fn fewest(out: &mut Out, request: &Request<'_>) {
         max_rows: setting(settings, "rows=").and_then(|digits| digits.parse::<usize>().ok()),
     };
     let limit = number(settings, "") as u64;
-    let arity = usize::from_word(out, request.word(2));
-    let sizes = list::<u64>(out, request.word(3), "()", ',');
-    let ends = list::<usize>(out, request.word(4), "()", ',');
+    let arity = number(request.word(2), "");
+    let sizes = request
+        .word(3)
+        .split(',')
+        .filter_map(|it| it.parse::<u64>().ok());
+    let sizes = or_empty(out, sizes.collect(out.alloc()));
+    let ends = request
+        .word(4)
+        .split(',')
+        .filter_map(|it| it.parse::<usize>().ok());
+    let ends = or_empty(out, ends.collect(out.alloc()));
     out.item(counted!(out.alloc(); value cut_is_fewest(rule, limit, arity, &sizes, &ends)));
 }

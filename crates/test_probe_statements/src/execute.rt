@@ -8,7 +8,6 @@
 //!
 //! `execute_at_once KIND ID PARAMETERS`: written at once, of `params`, of borrowed `refs`, or of `values`.
 
-use crate::buffer::{after, begun, show_written};
 use crate::prelude::*;
 use mysql_stmt::ComStmtExecuteRequest as Execution;
 
@@ -80,26 +79,23 @@ fn cursor_of(word: &str) -> Option<Cursor> {
     }
 }
 
+/// The parameter of a word, of which this is the value.
+fn param_of<'v>((value, word): (&'v Value, &str)) -> ExecuteParam<'v> {
+    match word {
+        "ahead" => ExecuteParam::SentAhead,
+        _ => ExecuteParam::Value(value.as_ref()),
+    }
+}
+
 /// The parameters that a text spells, of which these are the values.
 fn params_of<'v>(out: &mut Out, text: &str, values: &'v [Value]) -> Vec<ExecuteParam<'v>> {
-    let mut params = Vec::new(out.alloc());
-    for (value, word) in values.iter().zip(text.split(',')) {
-        let param = match word {
-            "ahead" => ExecuteParam::SentAhead,
-            _ => ExecuteParam::Value(value.as_ref()),
-        };
-        push(out, &mut params, param);
-    }
-    params
+    let pairs = values.iter().zip(text.split(','));
+    or_empty(out, pairs.map(param_of).collect(out.alloc()))
 }
 
 fn attribute_of<'n>(named: &'n (Vec<u8>, Value)) -> QueryAttribute<'n> {
     let (name, value) = (named.0.as_slice(), named.1.as_ref());
     QueryAttribute { name, value }
-}
-
-fn attributes_of<'n>(out: &mut Out, named: &'n [(Vec<u8>, Value)]) -> Vec<QueryAttribute<'n>> {
-    or_empty(out, named.iter().map(attribute_of).collect(out.alloc()))
 }
 
 /// The execution that a request asks for, with these parameters and attributes.
@@ -135,7 +131,7 @@ pub fn execute_with(out: &mut Out, request: &Request<'_>) {
     let values = Vec::<Value>::from_word(out, request.word(4));
     let params = params_of(out, request.word(4), &values);
     let named = list::<(Vec<u8>, Value)>(out, request.word(3), "()", '/');
-    let attributes = attributes_of(out, &named);
+    let attributes = or_empty(out, named.iter().map(attribute_of).collect(out.alloc()));
     show_with(out, made_with(request, &params, &attributes));
 }
 

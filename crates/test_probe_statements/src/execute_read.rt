@@ -4,12 +4,9 @@
 use crate::prelude::*;
 
 impl Shows<ComStmtExecuteHead> for Statements {
-    fn fields(it: &ComStmtExecuteHead, out: &mut Out) {
-        fields!(out, it; stmt_id, flags)
-    }
-
-    fn is_made(it: &ComStmtExecuteHead, alloc: Global) -> Result<bool> {
-        is_anew!(alloc, it; ComStmtExecuteHead::new(it.stmt_id(), it.flags()))
+    fn show(it: &ComStmtExecuteHead, out: &mut Out) {
+        fields!(out, it; stmt_id, flags);
+        anew!(out, it; ComStmtExecuteHead::new(it.stmt_id(), it.flags()))
     }
 }
 
@@ -63,9 +60,8 @@ pub fn com_execute(out: &mut Out, request: &Request<'_>) {
     let mut shown = Out::new(out.alloc());
     match show_execution(&mut shown, bound.as_slice(), request.bytes.as_slice()) {
         Ok(()) => {
-            if let Some(text) = or_lost(out, shown.into_text()) {
-                out.word(text.as_str());
-            }
+            out.word("");
+            out.push_made(shown.into_text());
         }
         Err(fault) => out.refused(fault, true),
     }

@@ -17,24 +17,24 @@ pub fn column(out: &mut Out, request: &Request<'_>) -> (ColumnType, ColumnFlags)
 }
 
 impl<T> Shows<ValueDeserializer<T>> for Statements {
-    fn fields(record: &ValueDeserializer<T>, out: &mut Out) {
+    fn show(record: &ValueDeserializer<T>, out: &mut Out) {
         out.item(Spelled(record.0.as_ref()));
         out.show("bin_len", record.0.bin_len());
-    }
-
-    fn is_made(record: &ValueDeserializer<T>, alloc: Global) -> Result<bool> {
-        is_copied(alloc, &record.0)
+        out.same("made", is_copied(out.alloc(), &record.0))
     }
 }
 
-impl Shows<ParamType> for Statements {
-    fn fields(it: &ParamType, out: &mut Out) {
-        out.show("type", u8::from(it.column_type()));
-        out.show("flags", it.flags())
-    }
+/// Adds a type of a parameter.
+pub fn show_type(it: &ParamType, out: &mut Out) {
+    out.show("type", u8::from(it.column_type()));
+    out.show("flags", it.flags())
+}
 
-    fn is_made(it: &ParamType, alloc: Global) -> Result<bool> {
-        Ok(*it == counted!(alloc; value ParamType::new(it.column_type(), it.flags())))
+impl Shows<ParamType> for Statements {
+    fn show(it: &ParamType, out: &mut Out) {
+        show_type(it, out);
+        let made = counted!(out.alloc(); value ParamType::new(it.column_type(), it.flags()));
+        out.same("made", Ok(*it == made))
     }
 }
 
@@ -69,7 +69,7 @@ pub fn bin(out: &mut Out, request: &Request<'_>) {
     out.show("sent", u8::from(counted!(alloc; value value.sent_type())));
     out.show("uint", counted!(alloc; value value.is_uint()));
     let sent = counted!(alloc; value ParamType::from_value(&value));
-    Statements::fields(&sent, out);
+    show_type(&sent, out);
     out.show("bin_len", counted!(alloc; value value.bin_len()));
     out.same("copy", is_copied(alloc, &value));
     write_made(out, &value);

@@ -3,7 +3,6 @@
 
 mod bitmaps;
 mod borrowed;
-mod buffer;
 mod builder;
 mod bulk;
 mod execute;

@@ -2,8 +2,7 @@
 
 pub(crate) use crate::Statements;
 pub use crate::values::{
-    AsValue, FromWord, Spelled, SpelledRow, bytes, list, or_empty, or_lost, or_memory, push, refs,
-    rows, same_or_other,
+    AsValue, FromWord, Spelled, SpelledRow, bytes, list, or_memory, refs, rows, same_or_other,
 };
 pub use mysql_bulk::*;
 pub use mysql_replies::{Column, ColumnRef};

@@ -38,19 +38,17 @@ fn push_cell(out: &mut Out, cell: Option<&Value>) {
 }
 
 impl<S, P> Shows<RowDeserializer<S, P>> for Statements {
-    fn fields(record: &RowDeserializer<S, P>, out: &mut Out) {
+    fn show(record: &RowDeserializer<S, P>, out: &mut Out) {
         if let Some(copy) = or_lost(out, record.clone()) {
             let row = copy.into_inner();
             for place in 0..row.len() {
                 out.word("");
                 push_cell(out, row.as_ref(place));
             }
+            let copy = counted!(out.alloc(); record.clone());
+            let is_same = copy.map(|copy| copy == *record && Row::from(copy) == row);
+            out.same("made", is_same);
         }
-    }
-
-    fn is_made(record: &RowDeserializer<S, P>, alloc: Global) -> Result<bool> {
-        let copy = counted!(alloc; record.clone())?;
-        Ok(copy == *record && Row::from(copy) == record.clone()?.into_inner())
     }
 }
 
@@ -74,9 +72,9 @@ fn text_row(out: &Out, digits: &str, columns: RcSlice<Column>) -> Option<TextRow
 }
 
 pub fn row_equal(out: &mut Out, request: &Request<'_>) -> Result {
-    let (first, second) = (columns(request)?, columns(request)?);
-    let one = text_row(out, request.word(2), first);
-    match (one, text_row(out, request.word(3), second)) {
+    let one = text_row(out, request.word(2), columns(request)?);
+    let other = text_row(out, request.word(3), columns(request)?);
+    match (&one, &other) {
         (Some(one), Some(other)) => {
             out.same("equal", Ok(one == other));
             out.same("not_unequal", Ok(!(one != other)));
@@ -165,8 +163,8 @@ pub fn column_typed(out: &mut Out, request: &Request<'_>) {
     let (alloc, bytes) = (request.alloc, request.bytes.as_slice());
     let (owned, _) = parsed::<Column>(alloc, bytes, ());
     let (borrowed, _) = parsed::<ColumnRef<'_>>(alloc, bytes, ());
-    let is_same = match (owned, borrowed) {
-        (Ok(owned), Ok(borrowed)) => typed(&owned) == typed(&borrowed),
+    let is_same = match (&owned, &borrowed) {
+        (Ok(owned), Ok(borrowed)) => typed(owned) == typed(borrowed),
         _ => false,
     };
     out.same("typed", Ok(is_same));

@@ -4,47 +4,39 @@
 //! `com_long_data BYTES`, `com_close BYTES`.
 
 use crate::prelude::*;
+use mysql_stmt::laws::values as laws;
 
 impl Shows<StmtPacket> for Statements {
-    fn fields(it: &StmtPacket, out: &mut Out) {
-        fields!(out, it; statement_id, num_columns, num_params, warning_count)
-    }
-
-    fn is_made(it: &StmtPacket, alloc: Global) -> Result<bool> {
-        is_anew!(alloc, it; StmtPacket::new(it.statement_id(), it.num_columns(), it.num_params(), it.warning_count()))
+    fn show(it: &StmtPacket, out: &mut Out) {
+        fields!(out, it; statement_id, num_columns, num_params, warning_count);
+        anew!(out, it; StmtPacket::new(it.statement_id(), it.num_columns(), it.num_params(), it.warning_count()));
+        laws::this_stmt_packet_round_trips(it)
     }
 }
 
 impl Shows<StmtPacketWithMetadata> for Statements {
-    fn fields(it: &StmtPacketWithMetadata, out: &mut Out) {
-        Self::fields(it.packet(), out);
-        fields!(out, it; metadata)
-    }
-
-    fn is_made(it: &StmtPacketWithMetadata, alloc: Global) -> Result<bool> {
-        let packet = counted!(alloc; it.packet().clone())?;
-        is_anew!(alloc, it; StmtPacketWithMetadata::new(packet, it.metadata()))
+    fn show(it: &StmtPacketWithMetadata, out: &mut Out) {
+        let packet = it.packet();
+        fields!(out, packet; statement_id, num_columns, num_params, warning_count);
+        fields!(out, it; metadata);
+        let copy = counted!(out.alloc(); packet.clone());
+        let made = copy.map(|packet| StmtPacketWithMetadata::new(packet, it.metadata()));
+        made_anew(out, it, made)
     }
 }
 
 impl Shows<ComStmtClose> for Statements {
-    fn fields(it: &ComStmtClose, out: &mut Out) {
-        out.show("stmt_id", it.stmt_id)
-    }
-
-    fn is_made(it: &ComStmtClose, alloc: Global) -> Result<bool> {
-        is_anew!(alloc, it; ComStmtClose::new(it.stmt_id))
+    fn show(it: &ComStmtClose, out: &mut Out) {
+        out.show("stmt_id", it.stmt_id);
+        anew!(out, it; ComStmtClose::new(it.stmt_id))
     }
 }
 
 impl Shows<ComStmtSendLongData<'_>> for Statements {
-    fn fields(it: &ComStmtSendLongData<'_>, out: &mut Out) {
-        fields!(out, it; stmt_id, param_index, data_ref)
-    }
-
-    fn is_made(it: &ComStmtSendLongData<'_>, alloc: Global) -> Result<bool> {
+    fn show(it: &ComStmtSendLongData<'_>, out: &mut Out) {
+        fields!(out, it; stmt_id, param_index, data_ref);
         let data = CowSlice::Borrowed(it.data_ref());
-        is_anew!(alloc, it; owned ComStmtSendLongData::new(it.stmt_id(), it.param_index(), data))
+        anew!(out, it; owned ComStmtSendLongData::new(it.stmt_id(), it.param_index(), data))
     }
 }
 
@@ -52,7 +44,7 @@ pub fn long_data(out: &mut Out, request: &Request<'_>) {
     let data = CowSlice::Borrowed(request.bytes.as_slice());
     let parameter = (request.number(2) & 0xffff) as u16;
     let packet = ComStmtSendLongData::new(request.number(1), parameter, data);
-    out.same("made", Statements::is_made(&packet, request.alloc));
+    anew!(out, &packet; owned packet);
     write_made(out, &packet);
 }
 

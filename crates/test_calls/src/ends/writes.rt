@@ -5,20 +5,16 @@ use crate::prelude::*;
 use std::io;
 use std::io::{ErrorKind, Write};
 
-/// What a writer does at the writes after those that it takes.
-#[derive(Clone, Copy)]
-enum Then {
-    Fails,
-    TakesNothing,
-}
+/// How a write fails that is not taken; or none where it takes nothing.
+type Then = Option<ErrorKind>;
 
-/// Takes one byte a write, for so many writes, each of which is interrupted first where that is so. It fails at a byte that is
-/// not the next one of those that are wanted.
+/// Takes one byte a write, for so many writes, each of which is interrupted first where that is so. A write after those fails so,
+/// or takes nothing. It fails at a byte that is not the next one of those that are wanted.
 #[derive(Drop)]
 struct SlowWriter<'a> {
     wanted: &'a [u8],
     left: usize,
-    then: Then,
+    fault: Then,
     interrupts: bool,
     was_interrupted: bool,
 }
@@ -29,9 +25,9 @@ impl Write for SlowWriter<'_> {
             return Ok(0);
         };
         if self.left == 0 {
-            return match self.then {
-                Then::Fails => Err(io::Error::from(ErrorKind::Other)),
-                Then::TakesNothing => Ok(0),
+            return match self.fault {
+                Some(fault) => Err(io::Error::from(fault)),
+                None => Ok(0),
             };
         }
         if self.interrupts && !self.was_interrupted {
@@ -54,14 +50,14 @@ impl Write for SlowWriter<'_> {
 
 /// The call ends with status 3 where a write fails, having written what stands before it; and as it does where the last
 /// write is taken.
-fn each_write_fails(rt: &(impl Abort + AllocGlobal), call: Call, then: Then, interrupts: bool) {
+fn each_write_fails(rt: &(impl Abort + AllocGlobal), call: Call, fault: Then, interrupts: bool) {
     let text = text_of(rt, call);
     for left in 0..=text.len() {
         let mut reader = call.1;
         let mut writer = SlowWriter {
             wanted: &text,
             left,
-            then,
+            fault,
             interrupts,
             was_interrupted: false,
         };
@@ -74,8 +70,8 @@ fn each_write_fails(rt: &(impl Abort + AllocGlobal), call: Call, then: Then, int
 #[test]
 fn each_write_fails_in_turn_or_takes_nothing(rt: HostRuntime) {
     for call in CALLS {
-        each_write_fails(&rt, *call, Then::Fails, false);
-        each_write_fails(&rt, *call, Then::TakesNothing, false);
+        each_write_fails(&rt, *call, Some(ErrorKind::Other), false);
+        each_write_fails(&rt, *call, None, false);
     }
 }
 
@@ -83,6 +79,6 @@ fn each_write_fails_in_turn_or_takes_nothing(rt: HostRuntime) {
 #[test]
 fn an_interrupted_write_is_made_again(rt: HostRuntime) {
     for call in CALLS {
-        each_write_fails(&rt, *call, Then::Fails, true);
+        each_write_fails(&rt, *call, Some(ErrorKind::Other), true);
     }
 }

@@ -20,14 +20,10 @@ fn answered<K: OkPacketKind>(alloc: Global, bytes: &[u8]) -> Answer {
     }
 }
 
-fn assert_answer<K: OkPacketKind>(rt: &(impl Abort + AllocGlobal), bytes: &[u8], wanted: Answer) {
-    assert!(rt; answered::<K>(rt.alloc(), bytes) == wanted);
-}
-
 /// Each of these byte strings has that answer of a kind.
 macro_rules! assert_answers {
     ($rt:expr, $kind:ty; $($bytes:expr => $answer:expr;)+) => {
-        $(assert_answer::<$kind>(&$rt, $bytes, $answer);)+
+        $(assert!($rt; answered::<$kind>($rt.alloc(), $bytes) == $answer);)+
     };
 }
 

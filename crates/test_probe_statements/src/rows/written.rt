@@ -1,7 +1,6 @@
 //! Rows that are written: `write_row_text CELLS` of byte strings and `-`, and `write_row COLUMNS VALUES`; and rows that are
 //! read and written anew, `row_text_again COLUMNS BYTES` and `row_again COLUMNS BYTES`.
 
-use crate::buffer::{after, begun, show_written};
 use crate::prelude::*;
 use crate::rows::views::{binary_view, text_view};
 use crate::rows::{columns, has_values};
