@@ -1,6 +1,6 @@
 #!/usr/bin/env python3
 """Runs rt ci, with its checks in an order that leaves no processor idle; and beside the last proofs the mutants, and the parts of ./check
-that take no rt. What it writes and its last line are rt ci's own.
+that prove nothing in this checkout. What it writes and its last line are rt ci's own.
 
 gate.py [FOLDER [PART ..]]: a part is a line 'NAME COMMAND CRATE ..', and is run once these crates are built. FOLDER/NAME gets what it
 wrote, and FOLDER/NAME.ended how many seconds it took and its status; FOLDER/mutants what came of the mutants, as mutants.py says it.

@@ -6,6 +6,8 @@ use mysql_wire::{ConstBytes, ConstU8, ConstU32, FaultOf};
 /// How a program shows a record in words.
 pub trait Shows<T> {
     /// Adds its fields, and whether the record that is made of what its getters answer, copied and made owned, is the same.
+    ///
+    /// A law on a value at hand is used on it: none asks for what who has read a record can't know.
     fn show(record: &T, out: &mut Out);
 }
 
@@ -102,23 +104,24 @@ pub fn after(buffer: &[u8]) -> &[u8] {
     buffer.strip_prefix(b"\xaa").unwrap_or(b"")
 }
 
-/// Adds what was written after it, which is the `same` where these bytes begin so; or that memory ran out, and the buffer then.
+/// Adds what was written after it, which is the `same` where it is these bytes; or that memory ran out, and the buffer then.
 pub fn show_written(out: &mut Out, is_written: bool, buffer: &[u8], bytes: Option<&[u8]>) {
     if !is_written {
         out.field("written", "Memory");
         out.show("buffer", buffer);
-    } else if bytes.is_some_and(|bytes| bytes.starts_with(after(buffer))) {
+    } else if bytes == Some(after(buffer)) {
         out.field("written", "same");
     } else {
         out.show("written", after(buffer));
     }
 }
 
-/// Writes a record, which is shown so, and its length. The answer is a buffer with what is written after a byte.
+/// Writes a record, and shows what is written, which is the `same` where these bytes begin so, and its length. The answer is a
+/// buffer with what is written after a byte.
 pub fn write<T: MySerialize>(out: &mut Out, record: &T, bytes: &[u8]) -> Option<Vec<u8>> {
     let mut buffer = begun(out);
     let is_written = counted!(out.alloc(); record.serialize(&mut buffer)).is_ok();
-    show_written(out, is_written, &buffer, Some(bytes));
+    show_written(out, is_written, &buffer, bytes.get(..after(&buffer).len()));
     if !is_written {
         return None;
     }

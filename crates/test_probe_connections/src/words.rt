@@ -17,14 +17,14 @@ pub fn borrowed<'a>(word: &'a str) -> Option<CowSlice<'a, u8>> {
     lent(bytes(word))
 }
 
-/// The bytes, borrowed, where there are some.
-pub fn lent<'b>(bytes: Option<&'b [u8]>) -> Option<CowSlice<'b, u8>> {
-    bytes.map(|bytes| CowSlice::Borrowed(bytes))
-}
-
 /// The same, with no byte in place of none.
 pub fn name<'a>(word: &'a str) -> CowSlice<'a, u8> {
     CowSlice::Borrowed(bytes(word).unwrap_or(b""))
+}
+
+/// The bytes, borrowed, where there are some.
+pub fn lent<'b>(bytes: Option<&'b [u8]>) -> Option<CowSlice<'b, u8>> {
+    bytes.map(|bytes| CowSlice::Borrowed(bytes))
 }
 
 /// The bytes, on memory of their own.

@@ -5,11 +5,11 @@ use crate::prelude::*;
 use std::io;
 use std::io::{ErrorKind, Write};
 
-/// How a write fails that is not taken; or none where it takes nothing.
+/// How a write that is not taken fails; or none, where it takes nothing.
 type Then = Option<ErrorKind>;
 
-/// Takes one byte a write, for so many writes, each of which is interrupted first where that is so. A write after those fails so,
-/// or takes nothing. It fails at a byte that is not the next one of those that are wanted.
+/// Takes one byte a write, for so many writes, each of which is interrupted first where that is so. Writes after those are not
+/// taken. It fails at a byte that is not the next one of those that are wanted.
 #[derive(Drop)]
 struct SlowWriter<'a> {
     wanted: &'a [u8],
