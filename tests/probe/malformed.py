@@ -123,7 +123,7 @@ def wrong(describer_, content, answer):
     written = content[:size] if answered["written"] == "same" else bytes.fromhex(answered["written"][1:])
     if len(written) != size:
         return f"its length is said to be {size}"
-    again = Reading(describer_, written)
+    again = right if written == content else Reading(describer_, written)
     same = (again.words, getattr(again.words, "record", None)) == (right.words, getattr(right.words, "record", None)) and not again.refused and not again.left
     if "again" in answered and answered["again"] != ("refused" if again.refused else "same" if same else "other"):
         return f"the reference decoder, of what is written: {again.refused or again.words}"

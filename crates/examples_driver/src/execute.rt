@@ -33,14 +33,22 @@ pub fn execute<R: Read, W: Write>(
     statement: &StmtPacket,
     values: &[Value],
 ) -> Result<Vec<Row>> {
+    send_execution(connection, statement, values)?;
+    let payload = answer(connection)?;
+    rows::<Binary, R, W>(connection, &payload)
+}
+
+fn send_execution<R: Read, W: Write>(
+    connection: &mut Connection<R, W>,
+    statement: &StmtPacket,
+    values: &[Value],
+) -> Result<()> {
     let builder = ComStmtExecuteRequestBuilder::new(statement.statement_id());
     let (request, as_long_data) = builder.build(connection.alloc, values)?;
     if as_long_data {
         send_ahead(connection, statement, values)?;
     }
-    connection.command_packet(&request)?;
-    let payload = answer(connection)?;
-    rows::<Binary, R, W>(connection, &payload)
+    connection.command_packet(&request)
 }
 
 /// Sends byte strings ahead of an execution that is too large with them. The server answers nothing to that.

@@ -50,7 +50,7 @@ fn response_to<'a>(
     Ok(response.with_mariadb_ext_capabilities(wanted & greeting.mariadb_ext_capabilities()))
 }
 
-/// Sends the response to a greeting, and keeps what both sides can do.
+/// Keeps what both sides can do, and sends the response to a greeting.
 fn respond<R: Read, W: Write>(
     connection: &mut Connection<R, W>,
     greeting: &HandshakePacket<'_>,
@@ -59,14 +59,24 @@ fn respond<R: Read, W: Write>(
     database: &str,
 ) -> Result<()> {
     let response = response_to(connection.alloc, greeting, sent, user, database)?;
-    connection.send_packet(&response)?;
     connection.capabilities = response.capabilities() | CapabilityFlags::CLIENT_PROGRESS_OBSOLETE;
     connection.is_mariadb = greeting.maria_db_server_version_parsed().is_some();
-    Ok(())
+    connection.send_packet(&response)
 }
 
-/// Answers a greeting, and hands out its scramble.
+/// Reads a greeting and answers it, and hands out its scramble.
 fn greeted<R: Read, W: Write, A: Answers>(
+    connection: &mut Connection<R, W>,
+    payload: &[u8],
+    user: &str,
+    database: &str,
+    answers: &mut A,
+) -> Result<Vec<u8>> {
+    let greeting: HandshakePacket<'_> = ParseBuf::new(connection.alloc, payload).parse(())?;
+    answer_greeting(connection, &greeting, user, database, answers)
+}
+
+fn answer_greeting<R: Read, W: Write, A: Answers>(
     connection: &mut Connection<R, W>,
     greeting: &HandshakePacket<'_>,
     user: &str,
@@ -87,7 +97,6 @@ pub fn login<R: Read, W: Write, A: Answers>(
     answers: &mut A,
 ) -> Result<()> {
     let payload = answer(connection)?;
-    let greeting: HandshakePacket<'_> = ParseBuf::new(connection.alloc, &payload).parse(())?;
-    let mut scramble = greeted(connection, &greeting, user, database, answers)?;
+    let mut scramble = greeted(connection, &payload, user, database, answers)?;
     authenticate(connection, &mut scramble, answers)
 }

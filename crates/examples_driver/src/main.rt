@@ -30,11 +30,7 @@ use std::{env, io};
 
 /// The words of the command line, without the program's name.
 fn command_line(rt: &HostRuntime) -> Result<Vec<String>> {
-    let mut words = Vec::new(rt.alloc());
-    for word in env::args(rt)?.skip(1) {
-        words.push(word)?;
-    }
-    Ok(words)
+    Ok(env::args(rt)?.skip(1).collect(rt.alloc())?)
 }
 
 /// The word at a place, or an empty one.

@@ -5,6 +5,7 @@ use crate::error::{Error, Result};
 use crate::words::{Digits, RowWords, types, value, values};
 use crate::{bulk, execute, infile, query, replica, session_changes};
 use mysql_packets::constants::BinlogDumpFlags;
+use mysql_packets::packets::ProgressReport;
 use mysql_packets::packets::session_state_change::{SessionStateChange, SystemVariable};
 use mysql_packets::row::Row;
 use mysql_packets::value::Value;
@@ -47,7 +48,11 @@ pub fn play<R: Read, W: Write>(
         "replica" => dumped(rt, connection, arguments),
         _ => Err(Error::Unknown("a recipe of this name")),
     }?;
-    for report in &connection.reports {
+    show_reports(rt, &connection.reports)
+}
+
+fn show_reports(rt: &HostRuntime, reports: &[ProgressReport<'_>]) -> Result<()> {
+    for report in reports {
         eprintln!(rt; "report: {report}")?;
     }
     Ok(())
@@ -76,11 +81,12 @@ fn queried<R: Read, W: Write>(
 
 /// The values of the words after the first.
 fn values_of(alloc: Global, arguments: &Arguments<'_>) -> Result<Vec<Value>> {
-    let mut values = Vec::new(alloc);
-    for word in arguments.0.iter().skip(1) {
-        values.push(value(alloc, word.as_str())?)?;
-    }
-    Ok(values)
+    arguments
+        .0
+        .iter()
+        .skip(1)
+        .map(|word| value(alloc, word.as_str()))
+        .try_collect(alloc)
 }
 
 /// `SQL VALUE ..`
@@ -150,12 +156,11 @@ fn show_variable(rt: &HostRuntime, variable: &SystemVariable<'_>) -> Result<()> 
 
 /// The rows of a file, a line each.
 fn rows_of(rt: &HostRuntime, path: &str) -> Result<Vec<Vec<Value>>> {
+    let alloc = rt.alloc();
     let text = fs::read_to_string(rt, path)?;
-    let mut rows = Vec::new(rt.alloc());
-    for line in text.lines() {
-        rows.push(values(rt.alloc(), line)?)?;
-    }
-    Ok(rows)
+    text.lines()
+        .map(|line| values(alloc, line))
+        .try_collect(alloc)
 }
 
 /// `SQL MOST TYPES FILE`, where each line of the file is the values of a row.

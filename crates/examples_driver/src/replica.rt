@@ -16,9 +16,9 @@ pub fn register<R: Read, W: Write>(
     connection: &mut Connection<R, W>,
     server_id: u32,
 ) -> Result<()> {
-    connection.command_packet(&ComRegisterSlave::new(server_id).with_port(3306))?;
-    answer(connection)?;
-    Ok(())
+    let request = ComRegisterSlave::new(server_id).with_port(3306);
+    connection.command_packet(&request)?;
+    answer(connection).map(|_| ())
 }
 
 /// Asks for all events that are not in a GTID set. [`next_event`] hands them out.

@@ -29,11 +29,11 @@ fn changes_in(
     let mut buf = ParseBuf::new(alloc, payload);
     let ok: OkPacketDeserializer<'_, CommonOkPacket> = buf.parse(capabilities)?;
     let ok = ok.into_inner();
-    let mut changes = Vec::new(alloc);
-    for info in &ok.session_state_info(alloc)? {
-        changes.push(owned_change(alloc, info)?)?;
-    }
-    Ok(changes)
+    let infos = ok.session_state_info(alloc)?;
+    infos
+        .iter()
+        .map(|info| owned_change(alloc, info))
+        .try_collect(alloc)
 }
 
 fn owned_change(alloc: Global, info: &SessionStateInfo<'_>) -> Result<SessionStateChange<'static>> {

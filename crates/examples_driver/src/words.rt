@@ -94,14 +94,31 @@ impl fmt::Display for Word<'_> {
             Value::Float(bits) => write!(f, "f{bits}"),
             Value::Double(bits) => write!(f, "d{bits}"),
             Value::Date(year, month, day, hour, minute, second, micros) => {
-                write!(f, "D{year}-{month}-{day}-{hour}-{minute}-{second}-{micros}")
+                let day = [u32::from(*year), u32::from(*month), u32::from(*day)];
+                write_parts(f, "D", day, [*hour, *minute, *second], *micros)
             }
             Value::Time(is_negative, days, hour, minute, second, micros) => {
-                let sign = u8::from(*is_negative);
-                write!(f, "T{sign}-{days}-{hour}-{minute}-{second}-{micros}")
+                let day = [u32::from(*is_negative), *days];
+                write_parts(f, "T", day, [*hour, *minute, *second], *micros)
             }
         }
     }
+}
+
+/// The word of a date or a time, with hyphens between its parts.
+fn write_parts<W: fmt::Write, const N: usize>(
+    f: &mut fmt::Formatter<W>,
+    mut between: &str,
+    day: [u32; N],
+    time: [u8; 3],
+    micros: u32,
+) -> fmt::Result {
+    for part in day {
+        write!(f, "{between}{part}")?;
+        between = "-";
+    }
+    let [hour, minute, second] = time;
+    write!(f, "-{hour}-{minute}-{second}-{micros}")
 }
 
 /// The words of a row's values, with a space before each.
@@ -122,27 +139,26 @@ impl fmt::Display for RowWords<'_> {
 
 /// The values of words with spaces between them.
 pub fn values(alloc: Global, line: &str) -> Result<Vec<Value>> {
-    let mut values = Vec::new(alloc);
-    for word in line.split(' ') {
-        values.push(value(alloc, word)?)?;
-    }
-    Ok(values)
+    line.split(' ')
+        .map(|word| value(alloc, word))
+        .try_collect(alloc)
 }
 
-/// The types of codes with commas between them, and a `u` after the code of an unsigned one.
+/// The type of a code, with a `u` after it where it is unsigned.
+fn param_type(word: &str) -> ParamType {
+    let (digits, flags) = match word.strip_suffix('u') {
+        Some(digits) => (digits, StmtExecuteParamFlags::UNSIGNED),
+        None => (word, StmtExecuteParamFlags::from_bits_retain(0)),
+    };
+    let code = digits.parse::<u8>().unwrap_or(253);
+    let column_type = ColumnType::try_from(code);
+    ParamType::new(
+        column_type.unwrap_or(ColumnType::MYSQL_TYPE_VAR_STRING),
+        flags,
+    )
+}
+
+/// The types of codes with commas between them.
 pub fn types(alloc: Global, words: &str) -> Result<Vec<ParamType>> {
-    let mut types = Vec::new(alloc);
-    for word in words.split(',') {
-        let (digits, flags) = match word.strip_suffix('u') {
-            Some(digits) => (digits, StmtExecuteParamFlags::UNSIGNED),
-            None => (word, StmtExecuteParamFlags::from_bits_retain(0)),
-        };
-        let code = digits.parse::<u8>().unwrap_or(253);
-        let column_type = ColumnType::try_from(code);
-        types.push(ParamType::new(
-            column_type.unwrap_or(ColumnType::MYSQL_TYPE_VAR_STRING),
-            flags,
-        ))?;
-    }
-    Ok(types)
+    Ok(words.split(',').map(param_type).collect(alloc)?)
 }

@@ -42,21 +42,23 @@ fn show_packet(packet: &OkPacket<'_>, out: &mut Out) {
     let alloc = out.alloc();
     fields!(out, packet; affected_rows, last_insert_id, status_flags, warnings, info = info_ref,
         session_state_info = session_state_info_ref; texts info_str = info_str);
-    let changes: Result<Vec<SessionStateInfo<'_>>, Fault> =
-        counted!(alloc; packet.session_state_info(alloc));
+    let changes = counted!(alloc; packet.session_state_info(alloc));
     let mut sent = packet.session_state_changes(alloc);
-    match changes {
-        Ok(changes) => {
-            out.show("changes", changes.len());
-            for change in changes.as_slice() {
-                show_info(change, out);
-                let next = counted!(alloc; value sent.next());
-                same_change(next.as_ref(), &change.decode_as_sent(alloc), out);
-            }
-        }
+    match &changes {
+        Ok(changes) => show_changes(changes, &mut sent, out),
         Err(fault) => out.show("changes", Variant(&fault.kind())),
     }
     show_sent(sent, out)
+}
+
+/// Adds the entries of a state string, which an iterator must give as they are sent.
+fn show_changes(infos: &[SessionStateInfo<'_>], sent: &mut SessionStateChanges<'_>, out: &mut Out) {
+    out.show("changes", infos.len());
+    for info in infos {
+        show_info(info, out);
+        let next = counted!(out.alloc(); value sent.next());
+        same_change(next.as_ref(), &info.decode_as_sent(out.alloc()), out);
+    }
 }
 
 /// Adds each change that is left, or the kind of its fault.
@@ -66,7 +68,7 @@ fn show_sent(sent: SessionStateChanges<'_>, out: &mut Out) {
     }
 }
 
-/// Adds the next change of an iterator, where it is not this one.
+/// Adds a change, where it is not the wanted one.
 fn same_change(next: Option<&Decoded<'_>>, wanted: &Decoded<'_>, out: &mut Out) {
     match next {
         Some(next) if next == wanted => {}
@@ -79,19 +81,28 @@ fn same_change(next: Option<&Decoded<'_>>, wanted: &Decoded<'_>, out: &mut Out) 
 impl<'a> InPlace<OkPacket<'a>, OkPacketRef<'a>> for Server {
     fn is(place: &OkPacketRef<'a>, owned: &OkPacket<'a>, out: &mut Out) -> bool {
         let mut changes = place.session_state_changes();
-        for change in owned.session_state_changes(out.alloc()) {
-            let next = counted!(out.alloc(); value changes.next());
-            let Some(next) = next else {
-                return false;
-            };
-            if !is_same_change(next, &change, out) {
-                return false;
-            }
-        }
-        changes.next().is_none()
+        gives_changes_of(&mut changes, owned, out)
+            && changes.next().is_none()
             && fields!(place, owned; alike affected_rows, last_insert_id, status_flags, warnings, info with info_ref,
                 session_state_info with session_state_info_ref)
     }
+}
+
+/// Whether an iterator gives each change of a packet.
+fn gives_changes_of(
+    changes: &mut SessionStateChangesRef<'_>,
+    owned: &OkPacket<'_>,
+    out: &mut Out,
+) -> bool {
+    let mut are_same = true;
+    for change in owned.session_state_changes(out.alloc()) {
+        let next = counted!(out.alloc(); value changes.next());
+        are_same = match next {
+            Some(next) => is_same_change(next, &change, out) && are_same,
+            None => false,
+        };
+    }
+    are_same
 }
 
 /// The body of an OK packet, and the packet with that body.

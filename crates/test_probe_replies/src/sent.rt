@@ -49,29 +49,37 @@ fn made<'s>(packet: &'s OkPacket<'_>) -> OkPacket<'s> {
 /// Adds the state string of the packet's changes, which is the `same` where the packet has it; or why there is none.
 fn show_state(packet: &OkPacket<'_>, out: &mut Out) {
     let mut state: Vec<u8> = Vec::new(out.alloc());
+    let mut ended = Ok(());
     for change in packet.session_state_changes(out.alloc()) {
-        match entry(&change, out.alloc()) {
-            Ok(info) => {
-                let content = CowSlice::Borrowed(info.data_ref());
-                let entry = SessionStateInfo::new(info.data_type(), content);
-                entry.serialize(&mut state).end(out)
-            }
-            Err(word) => return out.field("state", word),
+        if ended.is_ok() {
+            ended = append_entry(&mut state, &change, out);
         }
     }
-    if packet.session_state_info_ref().unwrap_or(b"") == state.as_slice() {
-        return out.field("state", "same");
+    match ended {
+        Err(word) => out.field("state", word),
+        Ok(()) if packet.session_state_info_ref().unwrap_or(b"") == state.as_slice() => {
+            out.field("state", "same")
+        }
+        Ok(()) => out.show("state", state.as_slice()),
     }
-    out.show("state", state.as_slice())
 }
 
-/// The entry of a change, or a word where there is none.
-fn entry(change: &Decoded<'_>, alloc: Global) -> Result<SessionStateInfo<'static>, &'static str> {
+/// Appends the entry of a change, or says in a word why there is none.
+fn append_entry(
+    state: &mut Vec<u8>,
+    change: &Decoded<'_>,
+    out: &mut Out,
+) -> Result<(), &'static str> {
     let Ok(change) = change else {
         return Err("refused");
     };
-    match counted!(alloc; SessionStateInfo::from_change(alloc, change)) {
-        Ok(info) => info.ok_or("none"),
+    match counted!(out.alloc(); SessionStateInfo::from_change(out.alloc(), change)) {
+        Ok(Some(info)) => {
+            let content = CowSlice::Borrowed(info.data_ref());
+            let entry = SessionStateInfo::new(info.data_type(), content);
+            Ok(entry.serialize(state).end(out))
+        }
+        Ok(None) => Err("none"),
         Err(AllocError) => Err("Memory"),
     }
 }

@@ -73,10 +73,8 @@ fn show_variables(variables: &SystemVariables<'_>, out: &mut Out) {
 impl Shows<SystemVariables<'_>> for Server {
     fn show(it: &SystemVariables<'_>, out: &mut Out) {
         show_variables(it, out);
-        let mut variables = Vec::new(out.alloc());
-        for variable in it.as_slice() {
-            push(out, &mut variables, made_variable(variable));
-        }
+        let variables = it.as_slice().iter().map(made_variable);
+        let variables = or_empty(out, variables.collect(out.alloc()));
         let made = SystemVariables::new(SystemVariables::new(variables).into_inner());
         anew!(out, it; owned made)
     }
@@ -127,12 +125,10 @@ impl<'a> InPlace<SystemVariable<'a>, SystemVariableRef<'a>> for Server {
 impl<'a> InPlace<SystemVariables<'a>, SystemVariablesRef<'a>> for Server {
     fn is(place: &SystemVariablesRef<'a>, owned: &SystemVariables<'a>, out: &mut Out) -> bool {
         let mut left = place.iter();
-        for owned in owned.as_slice() {
+        let are_same = owned.as_slice().iter().all(|owned| {
             let next = counted!(out.alloc(); value left.next());
-            if !next.is_some_and(|variable| Server::is(&variable, owned, out)) {
-                return false;
-            }
-        }
-        left.next().is_none()
+            next.is_some_and(|variable| Server::is(&variable, owned, out))
+        });
+        are_same && left.next().is_none()
     }
 }

@@ -16,9 +16,14 @@ pub fn show_info(info: &SessionStateInfo<'_>, out: &mut Out) {
     out.show("data_type", u8::from(info.data_type()));
     out.show("data", info.data_ref());
     let change = counted!(alloc; info.decode(alloc));
-    let sent = counted!(alloc; info.decode_as_sent(alloc));
     show_decoded("change", &change, out);
-    if sent != change {
+    show_as_sent(info, &change, out)
+}
+
+/// Adds the change as it is sent, where it is another.
+fn show_as_sent(info: &SessionStateInfo<'_>, change: &Decoded<'_>, out: &mut Out) {
+    let sent = counted!(out.alloc(); info.decode_as_sent(out.alloc()));
+    if sent != *change {
         show_decoded("sent", &sent, out);
     }
 }

@@ -22,11 +22,9 @@ use test_probe::request::column_type;
 
 /// The columns of a request, without names.
 pub fn columns(request: &Request<'_>) -> Result<RcSlice<Column>> {
-    let mut columns = Vec::new(request.alloc);
-    for (column_type, flags) in request.columns()? {
-        columns.push(Column::new(column_type).with_flags(flags))?;
-    }
-    RcSlice::from_vec(columns)
+    let columns = request.columns()?.into_iter();
+    let columns = columns.map(|(column_type, flags)| Column::new(column_type).with_flags(flags));
+    RcSlice::from_vec(columns.collect(request.alloc)?)
 }
 
 /// Adds a value that is there, or `-`.

@@ -7,14 +7,11 @@ use crate::rows::{columns, has_values};
 
 /// Writes a text row of the byte strings among these values, with NULL for each other.
 fn write_cells<T: AsValue>(out: &mut Out, values: &[T], bytes: Option<&[u8]>) {
-    let mut cells = Vec::new(out.alloc());
-    for value in values {
-        let cell = match value.as_value() {
-            ValueRef::Bytes(content) => Some(content),
-            _ => None,
-        };
-        push(out, &mut cells, cell);
-    }
+    let cells = values.iter().map(|value| match value.as_value() {
+        ValueRef::Bytes(content) => Some(content),
+        _ => None,
+    });
+    let cells = or_empty(out, cells.collect(out.alloc()));
     let mut buffer = begun(out);
     let made = counted!(out.alloc(); write_text_row(&cells, &mut buffer));
     show_written(out, made.is_ok(), &buffer, bytes);
