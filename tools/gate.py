@@ -9,8 +9,8 @@ Without FOLDER no mutant is tried.
 rt ci gives a check the processors that are idle when it begins, and begins none for which it reckons that memory could run short: where
 most crates wait for one library, most processors wait too, and the longest chain of crates ends alone. Here as many checks run at a
 time as there are processors, where memory allows, those with the longest chain after them first; a check gets more processors where
-they would be idle. It is no quicker to give it more: a check on two processors takes a third more of them in all, one on four half as much
-again; and seven checks on four processors take a fifth more.
+they would be idle. More for each would not end it sooner: a small crate's check on two processors takes a third more of them in all, a
+large one's on four a tenth more, and seven checks on four processors take a fifth more.
 
 Each check, its flags and what counts as proved are rt's own: its function that orders the checks is replaced, and a static library is
 built by its check, which leaves the archive that the tests of the library for C take, and is kept with its proof where rt keeps proofs. Where
