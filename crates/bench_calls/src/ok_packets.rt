@@ -1,40 +1,27 @@
 //! OK packets with a session's state.
 
 use crate::packets::Packets;
-use mysql_replies::{CommonOkPacket, OkPacket, OkPacketDeserializer, SessionStateInfo};
+use mysql_replies::{CommonOkPacket, OkPacketDeserializer};
 use mysql_session::SessionStateChange;
 use mysql_wire::{CapabilityFlags, Fault, ParseBuf};
 use std::alloc::Global;
 
-fn read(alloc: Global, packet: &[u8]) -> Result<OkPacket<'_>, Fault> {
+fn sum_of(alloc: Global, packet: &[u8]) -> Result<u64, Fault> {
     let mut buf = ParseBuf::new(alloc, packet);
     let ok: OkPacketDeserializer<'_, CommonOkPacket> = buf.parse(
         CapabilityFlags::CLIENT_SESSION_TRACK,
     )?;
-    Ok(ok.into_inner())
-}
-
-fn sum_of(alloc: Global, packet: &[u8]) -> Result<u64, Fault> {
-    let ok = read(alloc, packet)?;
-    let changes = sum_of_changes(alloc, &ok.session_state_info(alloc)?)?;
-    Ok(ok.affected_rows().wrapping_add(changes))
-}
-
-fn sum_of_changes(alloc: Global, infos: &[SessionStateInfo<'_>]) -> Result<u64, Fault> {
-    let mut sum = 0u64;
-    for info in infos {
-        sum = sum.wrapping_add(sum_of_change(alloc, info)?);
+    let ok = ok.into_inner();
+    let mut sum = ok.affected_rows();
+    for info in ok.session_state_info(alloc)?.as_slice() {
+        let change: SessionStateChange<'_> = info.decode(alloc)?;
+        sum = sum.wrapping_add(match change {
+            SessionStateChange::SystemVariables(_) => 1,
+            SessionStateChange::Schema(schema) => schema.as_bytes().len() as u64,
+            _ => 0,
+        });
     }
     Ok(sum)
-}
-
-fn sum_of_change(alloc: Global, info: &SessionStateInfo<'_>) -> Result<u64, Fault> {
-    let change: SessionStateChange<'_> = info.decode(alloc)?;
-    Ok(match &change {
-        SessionStateChange::SystemVariables(_) => 1,
-        SessionStateChange::Schema(schema) => schema.as_bytes().len() as u64,
-        _ => 0,
-    })
 }
 
 /// Reads OK packets down to the changes of the session's state, and answers a sum over their fields.

@@ -114,12 +114,12 @@ impl<'a> Command<'a> {
         ensures value { result ≡ spec.with_one name.now word.now }
     {
         match name {
-            "stmt" => HexDigits::new(word.as_bytes()).map(Command::Stmt),
-            "infile" => HexDigits::new(word.as_bytes()).map(Command::Infile),
-            "column" => HexDigits::new(word.as_bytes()).map(Command::Column),
-            "handshake" => HexDigits::new(word.as_bytes()).map(Command::Handshake),
-            "gtid" => HexDigits::new(word.as_bytes()).map(Command::Gtid),
-            "gtidstrict" => HexDigits::new(word.as_bytes()).map(Command::GtidStrict),
+            "stmt" => Some(Command::Stmt(HexDigits::new(word.as_bytes())?)),
+            "infile" => Some(Command::Infile(HexDigits::new(word.as_bytes())?)),
+            "column" => Some(Command::Column(HexDigits::new(word.as_bytes())?)),
+            "handshake" => Some(Command::Handshake(HexDigits::new(word.as_bytes())?)),
+            "gtid" => Some(Command::Gtid(HexDigits::new(word.as_bytes())?)),
+            "gtidstrict" => Some(Command::GtidStrict(HexDigits::new(word.as_bytes())?)),
             "sid" => Some(Command::Sid(Word::new(word))),
             "gtidset" => Some(Command::GtidSet(Word::new(word))),
             _ => None,

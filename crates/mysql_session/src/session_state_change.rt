@@ -41,23 +41,21 @@ impl<'a> SessionStateChange<'a> {
     pub fn into_owned(self, alloc: Global) -> Result<SessionStateChange<'static>, AllocError>
         ensures value { IfOk result (λ owned. owned ≡ self.entry) }
     {
-        match self {
-            Self::IsTracked(is_tracked) => Ok(SessionStateChange::IsTracked(is_tracked)),
-            Self::Schema(schema) => schema.into_owned(alloc).map(SessionStateChange::Schema),
-            Self::SystemVariables(variables) => variables
-                .into_owned(alloc)
-                .map(SessionStateChange::SystemVariables),
-            Self::Gtids(gtids) => gtids.into_owned(alloc).map(SessionStateChange::Gtids),
-            Self::TransactionCharacteristics(characteristics) => characteristics
-                .into_owned(alloc)
-                .map(SessionStateChange::TransactionCharacteristics),
-            Self::TransactionState(state) => state
-                .into_owned(alloc)
-                .map(SessionStateChange::TransactionState),
-            Self::Unsupported(change) => change
-                .into_owned(alloc)
-                .map(SessionStateChange::Unsupported),
-        }
+        Ok(match self {
+            Self::IsTracked(is_tracked) => SessionStateChange::IsTracked(is_tracked),
+            Self::Schema(schema) => SessionStateChange::Schema(schema.into_owned(alloc)?),
+            Self::SystemVariables(variables) => {
+                SessionStateChange::SystemVariables(variables.into_owned(alloc)?)
+            }
+            Self::Gtids(gtids) => SessionStateChange::Gtids(gtids.into_owned(alloc)?),
+            Self::TransactionCharacteristics(characteristics) => {
+                SessionStateChange::TransactionCharacteristics(characteristics.into_owned(alloc)?)
+            }
+            Self::TransactionState(state) => {
+                SessionStateChange::TransactionState(state.into_owned(alloc)?)
+            }
+            Self::Unsupported(change) => SessionStateChange::Unsupported(change.into_owned(alloc)?),
+        })
     }
 }
 
@@ -74,19 +72,19 @@ impl<'de> MyDeserialize<'de> for SessionStateChange<'de> {
     ghost form = { spec.session_state_change };
 
     fn deserialize<'s>(kind: Kind, buf: &mut ParseBuf<'de>) -> Result<Self, FaultOf<'s>> {
-        match kind {
-            Kind::SESSION_TRACK_SYSTEM_VARIABLES => buf.parse(()).map(Self::SystemVariables),
-            Kind::SESSION_TRACK_SCHEMA => buf.parse(()).map(Self::Schema),
+        Ok(match kind {
+            Kind::SESSION_TRACK_SYSTEM_VARIABLES => Self::SystemVariables(buf.parse(())?),
+            Kind::SESSION_TRACK_SCHEMA => Self::Schema(buf.parse(())?),
             Kind::SESSION_TRACK_STATE_CHANGE => {
                 let tracked: RawBytes<'de, LenEnc> = buf.parse(())?;
-                Ok(Self::IsTracked(tracked.as_bytes() == b"1".as_slice()))
+                Self::IsTracked(tracked.as_bytes() == b"1".as_slice())
             }
-            Kind::SESSION_TRACK_GTIDS => buf.parse(()).map(Self::Gtids),
-            Kind::SESSION_TRACK_TRANSACTION_CHARACTERISTICS => buf
-                .parse(())
-                .map(Self::TransactionCharacteristics),
-            Kind::SESSION_TRACK_TRANSACTION_STATE => buf.parse(()).map(Self::TransactionState),
-        }
+            Kind::SESSION_TRACK_GTIDS => Self::Gtids(buf.parse(())?),
+            Kind::SESSION_TRACK_TRANSACTION_CHARACTERISTICS => Self::TransactionCharacteristics(
+                buf.parse(())?,
+            ),
+            Kind::SESSION_TRACK_TRANSACTION_STATE => Self::TransactionState(buf.parse(())?),
+        })
     }
 
     ghost size_is = { spec.size-session_state_change };
