@@ -8,9 +8,10 @@ Without FOLDER no mutant is tried.
 
 rt ci gives a check the processors that are idle when it begins, and begins none for which it reckons that memory could run short: where
 most crates wait for one library, most processors wait too, and the longest chain of crates ends alone. Here as many checks run at a
-time as there are processors, where memory allows, those with the longest chain after them first; a check gets more processors where
-they would be idle. More for each would not end it sooner: a small crate's check on two processors takes a third more of them in all, a
-large one's on four a tenth more, and seven checks on four processors take a fifth more.
+time as there are processors, where memory allows, those with the longest chain after them first. A check is put to two processors
+where its chain is a tenth more than a processor's share of all that has not begun, also where one alone is idle, and to more where
+they would be idle. Elsewhere that would not pay: a small crate's check on two processors takes a third more of them in all, a large
+one's on four a tenth more.
 
 Each check, its flags and what counts as proved are rt's own: its function that orders the checks is replaced, and a static library is
 built by its check, which leaves the archive that the tests of the library for C take, and is kept with its proof where rt keeps proofs. Where
@@ -44,16 +45,20 @@ def loaded():
 
 
 def work(key, lines):
-    """How much work a task is, by its lines: a program is built by two compilers too."""
-    return lines * (2 if (TOP / "crates" / key[0] / "src/main.rt").exists() else 1)
+    """How much work a task is: a check, by the lines of its crate's source, three times as much for a program, which owns what it calls
+    for, and is built by two compilers besides."""
+    if not lines or key[1] not in ("proof", "tests"):
+        return lines
+    source = TOP / "crates" / key[0] / "src"
+    return sum(it.read_bytes().count(b"\n") for it in source.rglob("*.rt")) * (3 if (source / "main.rt").exists() else 1)
 
 
-def chains(tasks):
+def chains(tasks, own):
     """How much work stands from the beginning of each task to the end of the last one that waits for it."""
     chain = dict.fromkeys(tasks, 0)
     # (a task comes after those that it waits for)
     for key in reversed([*tasks]):
-        chain[key] += work(key, tasks[key][1])
+        chain[key] += own[key]
         for it in tasks[key][0]:
             chain[it] = max(chain[it], chain[key])
     return chain
@@ -62,22 +67,29 @@ def chains(tasks):
 def in_lanes(tasks, processors, memory):
     """Runs tasks side by side, each once those that it waits for have ended, and gives what each gave. A task is what it waits for, its
     work in lines, its memory, and a call that gets what was given and how many processors it may use."""
-    chain = chains(tasks)
+    own = {key: work(key, it[1]) for key, it in tasks.items()}
+    chain = chains(tasks, own)
     lanes = max(1, min(processors, memory // CHECK))
     left, running, given = sorted(tasks, key=lambda it: -chain[it]), {}, {}
     with ThreadPoolExecutor(len(tasks)) as pool:
         while left or running:
             ready = [it for it in left if all(lower in given for lower in tasks[it][0])]
             # (mutants and parts take what is left over)
-            waiting = sum(tasks[it][1] > 0 for it in ready if it[1] not in BESIDE)
+            waiting = sum(own[it] > 0 for it in ready if it[1] not in BESIDE)
             for key in ready:
-                idle = lanes - sum(jobs for _, jobs in running.values())
+                # (a check on several processors leaves one idle at its beginning and its end)
+                idle = lanes - sum(jobs - (jobs > 1) / 2 for _, jobs in running.values())
                 # (what has no work ends at once)
-                if idle > 0 or not tasks[key][1]:
-                    waiting -= tasks[key][1] > 0 and key[1] not in BESIDE
-                    jobs = max(1, min(4, idle - waiting))
+                if idle > 0 or not own[key]:
+                    jobs = 1
+                    if own[key] > 0 and key[1] not in BESIDE:
+                        waiting -= 1
+                        # (of what runs half is done)
+                        rest = sum(own[it] for it in left) + sum(own[it] for it, _ in running.values()) / 2
+                        is_late = chain[key] * lanes > 1.1 * rest
+                        jobs = max(1, min(4, int(idle) - waiting), min(2, lanes) * is_late)
                     left.remove(key)
-                    running[pool.submit(tasks[key][3], given, jobs)] = key, jobs * (tasks[key][1] > 0)
+                    running[pool.submit(tasks[key][3], given, jobs)] = key, jobs * (own[key] > 0)
             for it in wait(running, return_when=FIRST_COMPLETED).done:
                 given[running.pop(it)[0]] = it.result()
     return given

@@ -34,11 +34,22 @@ pub type AuthSwitchRequestHeader = ConstU8<InvalidAuthSwitchRequestHeader, 0xfe>
 ///
 /// A packet that begins with another byte is `InvalidData`; an empty one, or a name without its zero, is
 /// `UnexpectedEof`.
-#[derive(Clone, Debug, PartialEq, Eq, Drop)]
+#[derive(Clone, Debug, PartialEq, Eq)]
 pub struct AuthSwitchRequest<'a> {
     header: AuthSwitchRequestHeader,
     auth_plugin: RawBytes<'a, NullBytes>,
     plugin_data: RawBytes<'a, EofBytes>,
+}
+
+impl Drop for AuthSwitchRequest<'_> {
+    #[inline(always)]
+    fn drop(self) {
+        let AuthSwitchRequest {
+            header: _,
+            auth_plugin: _,
+            plugin_data: _,
+        } = self;
+    }
 }
 
 impl<'a> AuthSwitchRequest<'a> {
@@ -90,10 +101,15 @@ impl<'a> AuthSwitchRequest<'a> {
     pub fn into_owned(self, alloc: Global) -> Result<AuthSwitchRequest<'static>, AllocError>
         ensures value { IfOk result (λ owned. owned ≡ self.entry) }
     {
+        let AuthSwitchRequest {
+            header,
+            auth_plugin,
+            plugin_data,
+        } = self;
         Ok(AuthSwitchRequest {
-            header: self.header,
-            auth_plugin: self.auth_plugin.into_owned(alloc)?,
-            plugin_data: self.plugin_data.into_owned(alloc)?,
+            header,
+            auth_plugin: auth_plugin.into_owned(alloc)?,
+            plugin_data: plugin_data.into_owned(alloc)?,
         })
     }
 }

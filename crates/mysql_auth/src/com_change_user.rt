@@ -40,13 +40,26 @@ pub type ComChangeUserHeader = ConstU8<InvalidComChangeUserHeader, 0x11>;
 /// A packet that begins with another byte is `InvalidData`; missing bytes are `UnexpectedEof`. Reading takes memory for
 /// the attributes alone. Of an answer the first 255
 /// bytes are written, of a name those up to its first zero.
-#[derive(Clone, Debug, PartialEq, Eq, Drop)]
+#[derive(Clone, Debug, PartialEq, Eq)]
 pub struct ComChangeUser<'a> {
     header: ComChangeUserHeader,
     user: RawBytes<'a, NullBytes>,
     auth_plugin_data: RawBytes<'a, U8Bytes>,
     database: RawBytes<'a, NullBytes>,
     more_data: Option<ComChangeUserMoreData<'a>>,
+}
+
+impl Drop for ComChangeUser<'_> {
+    #[inline(always)]
+    fn drop(self) {
+        let ComChangeUser {
+            header: _,
+            user: _,
+            auth_plugin_data: _,
+            database: _,
+            more_data: _,
+        } = self;
+    }
 }
 
 /// These bytes, or none.

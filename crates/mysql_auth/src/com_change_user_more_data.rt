@@ -25,11 +25,22 @@ use std::alloc::{AllocError, Global};
 ///
 /// A writer isn't passed the flags: it writes a plugin where one is given, and attributes always, empty where none are
 /// given. Reading takes memory for the attributes alone.
-#[derive(Clone, Debug, PartialEq, Eq, Drop)]
+#[derive(Clone, Debug, PartialEq, Eq)]
 pub struct ComChangeUserMoreData<'a> {
     character_set: RawInt<LeU16>,
     auth_plugin: Option<AuthPlugin<'a>>,
     connect_attributes: Option<Attributes<'a>>,
+}
+
+impl Drop for ComChangeUserMoreData<'_> {
+    #[inline(always)]
+    fn drop(self) {
+        let ComChangeUserMoreData {
+            character_set: _,
+            auth_plugin: _,
+            connect_attributes: _,
+        } = self;
+    }
 }
 
 impl<'a> ComChangeUserMoreData<'a> {

@@ -48,11 +48,22 @@ const NONCE_LEN: usize = 20;
 /// A server that refuses a connection sends an error in place of the handshake, as `ff 1004 "Too many connections"`. No
 /// flags are agreed yet, and no server puts an SQL state into it: an `ErrPacket` reads it with `CapabilityFlags::empty()`
 /// as its context, and refuses it under `CLIENT_PROTOCOL_41`.
-#[derive(Clone, Debug, PartialEq, Eq, Hash, Drop)]
+#[derive(Clone, Debug, PartialEq, Eq, Hash)]
 pub struct HandshakePacket<'a> {
     pub(crate) head: HandshakeHead<'a>,
     pub(crate) scramble_2: Option<RawBytes<'a, BareBytes<247>>>,
     pub(crate) auth_plugin_name: Option<RawBytes<'a, EofName>>,
+}
+
+impl Drop for HandshakePacket<'_> {
+    #[inline(always)]
+    fn drop(self) {
+        let HandshakePacket {
+            head: _,
+            scramble_2: _,
+            auth_plugin_name: _,
+        } = self;
+    }
 }
 
 /// The 20 bytes of both scrambles.

@@ -47,7 +47,7 @@ use std::borrow::CowSlice;
 ///
 /// Missing bytes are `UnexpectedEof`; a length that begins with `fb` or `ff` is `InvalidData`. Reading takes memory for
 /// the attributes alone.
-#[derive(Clone, Debug, PartialEq, Eq, Drop)]
+#[derive(Clone, Debug, PartialEq, Eq)]
 pub struct HandshakeResponse<'a> {
     head: SslRequest,
     user: RawBytes<'a, NullBytes>,
@@ -55,6 +55,20 @@ pub struct HandshakeResponse<'a> {
     db_name: Option<RawBytes<'a, NullBytes>>,
     auth_plugin: Option<AuthPlugin<'a>>,
     connect_attributes: Option<Attributes<'a>>,
+}
+
+impl Drop for HandshakeResponse<'_> {
+    #[inline(always)]
+    fn drop(self) {
+        let HandshakeResponse {
+            head: _,
+            user: _,
+            scramble_buf: _,
+            db_name: _,
+            auth_plugin: _,
+            connect_attributes: _,
+        } = self;
+    }
 }
 
 /// A scramble in the form that it is written in.
@@ -147,7 +161,7 @@ impl<'a> HandshakeResponse<'a> {
     pub fn with_mariadb_ext_capabilities(mut self, flags: MariadbCapabilities) -> Self
         ensures value { result ≡ spec.with_mariadb flags self.entry }
     {
-        self.head = self.head.with_mariadb_capabilities(flags);
+        self.head.set_mariadb_capabilities(flags);
         self
     }
 
@@ -155,7 +169,7 @@ impl<'a> HandshakeResponse<'a> {
     pub fn with_collation(mut self, collation: u8) -> Self
         ensures value { result ≡ spec.with_collation collation self.entry }
     {
-        self.head = self.head.with_character_set(collation);
+        self.head.set_character_set(collation);
         self
     }
 

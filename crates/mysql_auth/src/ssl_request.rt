@@ -49,23 +49,25 @@ impl SslRequest {
     }
 
     /// The same request with these capabilities of MariaDB's own, which servers from 10.2 on look at.
-    pub fn with_mariadb_capabilities(self, mariadb_capabilities: MariadbCapabilities) -> Self
-        ensures value { result ≡ spec.with_mariadb mariadb_capabilities self }
+    pub fn with_mariadb_capabilities(mut self, flags: MariadbCapabilities) -> Self
+        ensures value { result ≡ spec.with_mariadb flags self }
     {
-        SslRequest {
-            mariadb_capabilities: Const::new(mariadb_capabilities),
-            ..self
-        }
+        self.set_mariadb_capabilities(flags);
+        self
     }
 
-    /// The same request with this character set.
-    pub(crate) fn with_character_set(self, character_set: u8) -> Self
-        ensures value { result ≡ spec.with_character_set character_set self }
+    /// Gives the request these capabilities of MariaDB's own.
+    pub(crate) fn set_mariadb_capabilities(&mut self, flags: MariadbCapabilities)
+        ensures value { self.new ≡ spec.with_mariadb flags self.old }
     {
-        SslRequest {
-            character_set: RawInt::new(character_set),
-            ..self
-        }
+        self.mariadb_capabilities = Const::new(flags);
+    }
+
+    /// Gives the request this character set.
+    pub(crate) fn set_character_set(&mut self, character_set: u8)
+        ensures value { self.new ≡ spec.with_character_set character_set self.old }
+    {
+        self.character_set = RawInt::new(character_set);
     }
 
     /// What the client can do.

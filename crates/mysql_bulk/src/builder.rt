@@ -44,7 +44,7 @@ mod owned;
 ///   sends no types, is refused where the column has a value, and the rows of the first one are stored.
 ///
 /// With declared types neither happens.
-#[derive(Debug, Drop)]
+#[derive(Debug)]
 pub struct ComStmtBulkExecuteRequestBuilder<'a> {
     names: Option<&'a [Vec<u8>]>,
     alloc: Global,
@@ -62,6 +62,27 @@ pub struct ComStmtBulkExecuteRequestBuilder<'a> {
     values: Vec<Value>,
     /// The types of the columns so far, while types are to be sent.
     types: Vec<ParamType>,
+}
+
+impl Drop for ComStmtBulkExecuteRequestBuilder<'_> {
+    #[inline(always)]
+    fn drop(self) {
+        let ComStmtBulkExecuteRequestBuilder {
+            names: _,
+            alloc: _,
+            stmt_id: _,
+            limit: _,
+            results: _,
+            rule: _,
+            columns: _,
+            arity: _,
+            types_due: _,
+            count: _,
+            size: _,
+            values: _,
+            types: _,
+        } = self;
+    }
 }
 
 impl<'a> Model for ComStmtBulkExecuteRequestBuilder<'a> {

@@ -24,10 +24,20 @@ pub(crate) fn indicator_of(value: &Value) -> MariadbBulkIndicator
 }
 
 /// A value in a bulk request: the indicator in a byte, and after `BULK_INDICATOR_NONE` the value's binary form.
-#[derive(Debug, Drop)]
+#[derive(Debug)]
 pub struct StmtBulkExecuteParamValue {
     indicator: MariadbBulkIndicator,
     value: Value,
+}
+
+impl Drop for StmtBulkExecuteParamValue {
+    #[inline(always)]
+    fn drop(self) {
+        let StmtBulkExecuteParamValue {
+            indicator: _,
+            value: _,
+        } = self;
+    }
 }
 
 impl Model for StmtBulkExecuteParamValue {
@@ -70,7 +80,11 @@ impl StmtBulkExecuteParamValue {
     pub(crate) fn into_value(self) -> Value
         ensures { content_of result ≡ self.content }
     {
-        self.value
+        let StmtBulkExecuteParamValue {
+            indicator: _,
+            value,
+        } = self;
+        value
     }
 }
 

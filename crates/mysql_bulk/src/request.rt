@@ -86,7 +86,7 @@ fn gather(
 }
 
 /// `COM_STMT_BULK_EXECUTE`: the values of some rows, with which a prepared statement is executed for each row.
-#[derive(Debug, Drop)]
+#[derive(Debug)]
 pub struct ComStmtBulkExecuteRequest {
     pub(crate) stmt_id: u32,
     pub(crate) bulk_flags: StmtBulkExecuteFlags,
@@ -96,6 +96,20 @@ pub struct ComStmtBulkExecuteRequest {
     pub(crate) indicators: Vec<MariadbBulkIndicator>,
     /// How many bytes the request is written as, or `usize::MAX` where that is less.
     pub(crate) size: usize,
+}
+
+impl Drop for ComStmtBulkExecuteRequest {
+    #[inline(always)]
+    fn drop(self) {
+        let ComStmtBulkExecuteRequest {
+            stmt_id: _,
+            bulk_flags: _,
+            types: _,
+            values: _,
+            indicators: _,
+            size: _,
+        } = self;
+    }
 }
 
 impl Model for ComStmtBulkExecuteRequest {

@@ -59,7 +59,7 @@ pub type ComBinlogDumpGtidHeader = ConstU8<InvalidComBinlogDumpGtidHeader, 0x1e>
 ///
 /// The block is written with tags where some sid has one, and whole; its length is written as
 /// 2^32 - 1 where it is more. The first 2^32 - 1 bytes of the name are written.
-#[derive(Debug, PartialEq, Eq, Hash, Drop)]
+#[derive(Debug, PartialEq, Eq, Hash)]
 pub struct ComBinlogDumpGtid<'a> {
     header: ComBinlogDumpGtidHeader,
     flags: Const<BinlogDumpFlags, LeU16>,
@@ -67,6 +67,20 @@ pub struct ComBinlogDumpGtid<'a> {
     filename: RawBytes<'a, U32Bytes>,
     pos: RawInt<LeU64>,
     sid_block: Seq<'a, Sid<'a>, LeU64>,
+}
+
+impl Drop for ComBinlogDumpGtid<'_> {
+    #[inline(always)]
+    fn drop(self) {
+        let ComBinlogDumpGtid {
+            header: _,
+            flags: _,
+            server_id: _,
+            filename: _,
+            pos: _,
+            sid_block: _,
+        } = self;
+    }
 }
 
 impl<'a> ComBinlogDumpGtid<'a> {

@@ -13,7 +13,7 @@ use std::borrow::CowSlice;
 
 /// A request for a binary log, which [`as_cmd`](Self::as_cmd) makes a command of: a dump by position
 /// or a dump by GTID set.
-#[derive(Debug, PartialEq, Eq, Hash, Drop)]
+#[derive(Debug, PartialEq, Eq, Hash)]
 pub struct BinlogRequest<'a> {
     server_id: u32,
     use_gtid: bool,
@@ -21,6 +21,20 @@ pub struct BinlogRequest<'a> {
     filename: RawBytes<'a, EofBytes>,
     pos: u64,
     sids: Seq<'a, Sid<'a>, LeU64>,
+}
+
+impl Drop for BinlogRequest<'_> {
+    #[inline(always)]
+    fn drop(self) {
+        let BinlogRequest {
+            server_id: _,
+            use_gtid: _,
+            flags: _,
+            filename: _,
+            pos: _,
+            sids: _,
+        } = self;
+    }
 }
 
 impl<'a> BinlogRequest<'a> {

@@ -43,7 +43,7 @@ pub type ComRegisterSlaveHeader = ConstU8<InvalidComRegisterSlaveHeader, 0x15>;
 ///
 /// Numbers have little-endian. The first 255 bytes of a string are written. Missing bytes are
 /// `UnexpectedEof`, another first byte is `InvalidData`. Reading takes no memory.
-#[derive(Debug, PartialEq, Eq, Hash, Drop)]
+#[derive(Debug, PartialEq, Eq, Hash)]
 pub struct ComRegisterSlave<'a> {
     header: ComRegisterSlaveHeader,
     server_id: RawInt<LeU32>,
@@ -53,6 +53,22 @@ pub struct ComRegisterSlave<'a> {
     port: RawInt<LeU16>,
     replication_rank: RawInt<LeU32>,
     master_id: RawInt<LeU32>,
+}
+
+impl Drop for ComRegisterSlave<'_> {
+    #[inline(always)]
+    fn drop(self) {
+        let ComRegisterSlave {
+            header: _,
+            server_id: _,
+            hostname: _,
+            user: _,
+            password: _,
+            port: _,
+            replication_rank: _,
+            master_id: _,
+        } = self;
+    }
 }
 
 impl<'a> ComRegisterSlave<'a> {

@@ -28,11 +28,22 @@ pub const UUID_LEN: usize = 16;
 /// bytes, a count of eight bytes, and so many intervals of 16 bytes each. Missing bytes are
 /// `UnexpectedEof`. Reading takes memory for the intervals alone. The packet
 /// [`ComBinlogDumpGtid`](crate::ComBinlogDumpGtid) has the form with tags.
-#[derive(Debug, PartialEq, Eq, Hash, Drop)]
+#[derive(Debug, PartialEq, Eq, Hash)]
 pub struct Sid<'a> {
     uuid: [u8; UUID_LEN],
     tag: Option<Tag<'a>>,
     intervals: Seq<'a, GnoInterval, LeU64>,
+}
+
+impl Drop for Sid<'_> {
+    #[inline(always)]
+    fn drop(self) {
+        let Sid {
+            uuid: _,
+            tag: _,
+            intervals: _,
+        } = self;
+    }
 }
 
 impl<'a> Sid<'a> {

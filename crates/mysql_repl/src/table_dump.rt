@@ -31,11 +31,22 @@ pub type ComTableDumpHeader = ConstU8<InvalidComTableDumpHeader, 0x13>;
 ///
 /// The first 255 bytes of a name are written. Missing bytes are `UnexpectedEof`, another first byte
 /// is `InvalidData`. Reading takes no memory.
-#[derive(Clone, Debug, PartialEq, Eq, Hash, Drop)]
+#[derive(Clone, Debug, PartialEq, Eq, Hash)]
 pub struct ComTableDump<'a> {
     header: ComTableDumpHeader,
     database: RawBytes<'a, U8Bytes>,
     table: RawBytes<'a, U8Bytes>,
+}
+
+impl Drop for ComTableDump<'_> {
+    #[inline(always)]
+    fn drop(self) {
+        let ComTableDump {
+            header: _,
+            database: _,
+            table: _,
+        } = self;
+    }
 }
 
 impl<'a> ComTableDump<'a> {

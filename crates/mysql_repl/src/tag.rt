@@ -85,8 +85,14 @@ fn fault_in(text: &str) -> Option<InvalidTag>
 ///
 /// Tags with the same text are equal, hash equally and have one place in the order, whoever owns the
 /// text. They are ordered by their bytes.
-#[derive(Drop)]
 pub struct Tag<'a>(CowStr<'a>);
+
+impl Drop for Tag<'_> {
+    #[inline(always)]
+    fn drop(self) {
+        let Tag(_) = self;
+    }
+}
 
 impl<'a> Model for Tag<'a> {
     ghost use Rattle.std.specs.Prelude.{ℕ, List};
@@ -130,7 +136,8 @@ impl<'a> Tag<'a> {
     pub fn into_owned(self, alloc: Global) -> Result<Tag<'static>, AllocError>
         ensures value { IfOk result (λ owned. owned ≡ self.entry) }
     {
-        Ok(Tag(CowStr::Owned(self.0.into_owned(alloc)?)))
+        let Tag(text) = self;
+        Ok(Tag(CowStr::Owned(text.into_owned(alloc)?)))
     }
 }
 

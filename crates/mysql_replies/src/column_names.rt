@@ -18,13 +18,26 @@ use std::fmt::Debug;
 use std::marker::Model;
 
 /// The names of a column, each a length-encoded string.
-#[derive(Debug, PartialEq, Eq, Drop)]
+#[derive(Debug, PartialEq, Eq)]
 pub(crate) struct ColumnMeta<'a> {
     pub(crate) schema: RawBytes<'a, LenEnc>,
     pub(crate) table: RawBytes<'a, LenEnc>,
     pub(crate) org_table: RawBytes<'a, LenEnc>,
     pub(crate) name: RawBytes<'a, LenEnc>,
     pub(crate) org_name: RawBytes<'a, LenEnc>,
+}
+
+impl Drop for ColumnMeta<'_> {
+    #[inline(always)]
+    fn drop(self) {
+        let ColumnMeta {
+            schema: _,
+            table: _,
+            org_table: _,
+            name: _,
+            org_name: _,
+        } = self;
+    }
 }
 
 impl Parts for ColumnMeta<'_> {

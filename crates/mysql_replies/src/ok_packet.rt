@@ -22,7 +22,7 @@ use std::marker::PhantomData;
 use thiserror::Error;
 
 /// An OK packet of any kind. An insert id of 0, an empty info and an empty state are absent.
-#[derive(Clone, Debug, PartialEq, Eq, Drop)]
+#[derive(Clone, Debug, PartialEq, Eq)]
 pub struct OkPacket<'a> {
     affected_rows: u64,
     last_insert_id: Option<u64>,
@@ -30,6 +30,20 @@ pub struct OkPacket<'a> {
     warnings: u16,
     pub(crate) info: Option<RawBytes<'a, LenEnc>>,
     session_state_info: Option<RawBytes<'a, LenEnc>>,
+}
+
+impl Drop for OkPacket<'_> {
+    #[inline(always)]
+    fn drop(self) {
+        let OkPacket {
+            affected_rows: _,
+            last_insert_id: _,
+            status_flags: _,
+            warnings: _,
+            info: _,
+            session_state_info: _,
+        } = self;
+    }
 }
 
 /// The content, where it is not empty.
@@ -221,13 +235,21 @@ impl<'a> OkPacket<'a> {
     pub fn into_owned(self, alloc: Global) -> Result<OkPacket<'static>, AllocError>
         ensures value { IfOk result (λ owned. owned ≡ self.entry) }
     {
+        let OkPacket {
+            affected_rows,
+            last_insert_id,
+            status_flags,
+            warnings,
+            info,
+            session_state_info,
+        } = self;
         Ok(OkPacket {
-            affected_rows: self.affected_rows,
-            last_insert_id: self.last_insert_id,
-            status_flags: self.status_flags,
-            warnings: self.warnings,
-            info: owned(self.info, alloc)?,
-            session_state_info: owned(self.session_state_info, alloc)?,
+            affected_rows,
+            last_insert_id,
+            status_flags,
+            warnings,
+            info: owned(info, alloc)?,
+            session_state_info: owned(session_state_info, alloc)?,
         })
     }
 }

@@ -41,21 +41,23 @@ impl<'a> SessionStateChange<'a> {
     pub fn into_owned(self, alloc: Global) -> Result<SessionStateChange<'static>, AllocError>
         ensures value { IfOk result (λ owned. owned ≡ self.entry) }
     {
-        Ok(match self {
-            Self::IsTracked(is_tracked) => SessionStateChange::IsTracked(is_tracked),
-            Self::Schema(schema) => SessionStateChange::Schema(schema.into_owned(alloc)?),
-            Self::SystemVariables(variables) => {
-                SessionStateChange::SystemVariables(variables.into_owned(alloc)?)
-            }
-            Self::Gtids(gtids) => SessionStateChange::Gtids(gtids.into_owned(alloc)?),
-            Self::TransactionCharacteristics(characteristics) => {
-                SessionStateChange::TransactionCharacteristics(characteristics.into_owned(alloc)?)
-            }
-            Self::TransactionState(state) => {
-                SessionStateChange::TransactionState(state.into_owned(alloc)?)
-            }
-            Self::Unsupported(change) => SessionStateChange::Unsupported(change.into_owned(alloc)?),
-        })
+        match self {
+            Self::IsTracked(is_tracked) => Ok(SessionStateChange::IsTracked(is_tracked)),
+            Self::Schema(schema) => schema.into_owned(alloc).map(SessionStateChange::Schema),
+            Self::SystemVariables(variables) => variables
+                .into_owned(alloc)
+                .map(SessionStateChange::SystemVariables),
+            Self::Gtids(gtids) => gtids.into_owned(alloc).map(SessionStateChange::Gtids),
+            Self::TransactionCharacteristics(characteristics) => characteristics
+                .into_owned(alloc)
+                .map(SessionStateChange::TransactionCharacteristics),
+            Self::TransactionState(state) => state
+                .into_owned(alloc)
+                .map(SessionStateChange::TransactionState),
+            Self::Unsupported(change) => change
+                .into_owned(alloc)
+                .map(SessionStateChange::Unsupported),
+        }
     }
 }
 

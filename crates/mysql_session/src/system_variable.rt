@@ -14,10 +14,17 @@ use std::borrow::{CowSlice, CowStr};
 
 /// A system variable that was assigned a value: its name and the value, each a length-encoded
 /// string.
-#[derive(Clone, Debug, PartialEq, Eq, Hash, Drop)]
+#[derive(Clone, Debug, PartialEq, Eq, Hash)]
 pub struct SystemVariable<'a> {
     name: RawBytes<'a, LenEnc>,
     value: RawBytes<'a, LenEnc>,
+}
+
+impl Drop for SystemVariable<'_> {
+    #[inline(always)]
+    fn drop(self) {
+        let SystemVariable { name: _, value: _ } = self;
+    }
 }
 
 impl<'a> SystemVariable<'a> {
@@ -66,9 +73,10 @@ impl<'a> SystemVariable<'a> {
     pub fn into_owned(self, alloc: Global) -> Result<SystemVariable<'static>, AllocError>
         ensures value { IfOk result (λ owned. owned ≡ self.entry) }
     {
+        let SystemVariable { name, value } = self;
         Ok(SystemVariable {
-            name: self.name.into_owned(alloc)?,
-            value: self.value.into_owned(alloc)?,
+            name: name.into_owned(alloc)?,
+            value: value.into_owned(alloc)?,
         })
     }
 }

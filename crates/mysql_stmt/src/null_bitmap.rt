@@ -23,10 +23,16 @@ use std::marker::{Model, PhantomData};
 ///
 /// In a clause a bitmap is its bytes, and whether it owns them. Bitmaps with the same bytes are
 /// equal.
-#[derive(Drop)]
 pub struct NullBitmap<'a, T> {
     bytes: CowSlice<'a, u8>,
     side: PhantomData<T>,
+}
+
+impl<T> Drop for NullBitmap<'_, T> {
+    #[inline(always)]
+    fn drop(self) {
+        let NullBitmap { bytes: _, side: _ } = self;
+    }
 }
 
 impl<'a, T> Model for NullBitmap<'a, T> {

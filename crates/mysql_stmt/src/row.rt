@@ -18,10 +18,20 @@ use std::rc::RcSlice;
 /// A row of a result: a value for each of its columns, if it was not taken.
 ///
 /// In a clause a row is its values beside its columns, as many as these.
-#[derive(Debug, Drop)]
+#[derive(Debug)]
 pub struct Row {
     values: Vec<Option<Value>>,
     columns: RcSlice<Column>,
+}
+
+impl Drop for Row {
+    #[inline(always)]
+    fn drop(self) {
+        let Row {
+            values: _,
+            columns: _,
+        } = self;
+    }
 }
 
 impl Model for Row {
@@ -175,7 +185,7 @@ impl Row {
         requires { AllThere self.cells }
         ensures value { IfOk result (λ values. map Some values.items ≡ self.cells) }
     {
-        let cells = self.values;
+        let cells = self.unwrap_raw();
         let mut values = Vec::with_capacity(alloc, cells.len())?;
         for cell in cells {
             values.push_reserved(cell.unwrap());
@@ -187,7 +197,8 @@ impl Row {
     pub fn unwrap_raw(self) -> Vec<Option<Value>>
         ensures value { result.items ≡ self.cells }
     {
-        self.values
+        let Row { values, columns: _ } = self;
+        values
     }
 
     /// Puts a value at this place, which lies in the row.

@@ -75,8 +75,14 @@ pub(crate) fn append_to_capacity(bytes: &[u8], out: &mut Vec<u8>)
 /// Its value is its content alone: a borrowed and an owned string with the same bytes are equal and
 /// hash equally. Reading borrows the content from the packet and takes no memory. Writing cuts the
 /// content to what the form can hold, `len()` bytes.
-#[derive(Drop)]
 pub struct RawBytes<'a, R>(CowSlice<'a, u8>, PhantomData<R>);
+
+impl<R> Drop for RawBytes<'_, R> {
+    #[inline(always)]
+    fn drop(self) {
+        let RawBytes(_, _) = self;
+    }
+}
 
 impl<'a, R> Model for RawBytes<'a, R> {
     ghost use Rattle.std.specs.Prelude.{ℕ, List};
@@ -117,7 +123,8 @@ impl<'a, R> RawBytes<'a, R> {
     pub fn into_inner(self) -> CowSlice<'a, u8>
         ensures value { cow_slice_items result ≡ self.entry }
     {
-        self.0
+        let RawBytes(content, _) = self;
+        content
     }
 
     /// The same content, on memory of its own.
@@ -126,7 +133,7 @@ impl<'a, R> RawBytes<'a, R> {
     pub fn into_owned(self, alloc: Global) -> Result<RawBytes<'static, R>, AllocError>
         ensures { IfOk result (λ owned. owned ≡ self.entry) }
     {
-        let content = self.0.into_owned(alloc)?;
+        let content = self.into_inner().into_owned(alloc)?;
         Ok(RawBytes(CowSlice::Owned(content), PhantomData))
     }
 }

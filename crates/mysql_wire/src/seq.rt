@@ -127,8 +127,14 @@ impl SeqRepr for Unknown {
 /// A list of values in a wire form, borrowed or owned: the count in the form `L`, then the values.
 ///
 /// Lists with the same values are equal, whoever owns them.
-#[derive(Drop)]
 pub struct Seq<'a, T, L>(CowSlice<'a, T>, PhantomData<L>);
+
+impl<T: Drop, L> Drop for Seq<'_, T, L> {
+    #[inline(always)]
+    fn drop(self) {
+        let Seq(_, _) = self;
+    }
+}
 
 impl<'a, T, L> Model for Seq<'a, T, L> {
     ghost use Rattle.std.specs.Prelude.{List};
@@ -182,7 +188,8 @@ impl<'a, T, L> Seq<'a, T, L> {
     pub fn into_inner(self) -> CowSlice<'a, T>
         ensures value { cow_slice_items result ≡ self.entry }
     {
-        self.0
+        let Seq(values, _) = self;
+        values
     }
 
     /// A list of the same values, each cloned where this list owns them.

@@ -15,13 +15,13 @@ pub fn answer(alloc: Global, text: &str) -> Result<Answer, AllocError>
     ensures value { IfOk result (λ answer. answer ≡ spec.sid_answer text.now) }
 {
     match Sid::from_str(alloc, text) {
-        Ok(sid) => show(alloc, &sid),
+        Ok(sid) => show(alloc, sid),
         Err(refusal) => refused(alloc, &refusal),
     }
 }
 
-fn show(alloc: Global, sid: &Sid<'_>) -> Result<Answer, AllocError>
-    ensures value { IfOk result (λ answer. answer ≡ done (sid_line sid.now)) }
+fn show(alloc: Global, sid: Sid<'_>) -> Result<Answer, AllocError>
+    ensures value { IfOk result (λ answer. answer ≡ done (sid_line sid.entry)) }
 {
     let shown = format!(in alloc; "{sid}")?;
     Ok(Answer::done(text_of(alloc, &[Line::text("sid", shown.as_str())])?))
