@@ -2,7 +2,7 @@
 """Holds pages to the code that they quote and name.
 
 The quoted blocks of a file in docs/ADD_A_PACKET.md are the whole file, in order. Each line of the tour in README.md is a
-line of the tests that run it. Each name of docs/PROVED.md stands in the libraries, and each file and type of docs/PROTOCOL.md.
+line of the file whose calls a row makes. Each name of docs/PROVED.md stands in the libraries, and each file and type of docs/PROTOCOL.md.
 
 quoted_lines.py: the status is 0 where all of this is so.
 """
@@ -15,7 +15,7 @@ PAGE = "docs/ADD_A_PACKET.md"
 CRATE = "crates/example_packet"
 BLOCK = re.compile(r"^```\w+ (crates/\S+)\n(.*?)^```$", re.MULTILINE | re.DOTALL)
 TOUR = re.compile(r"^```rust\n(.*?)^```$", re.MULTILINE | re.DOTALL)
-TOUR_TESTS = "crates/test_calls/src/tour.rt"
+TOUR_CALLS = "crates/test_calls/src/tour.rt"
 
 
 def lines(text):
@@ -44,8 +44,8 @@ def read(path):
 
 
 def strange_in_the_tour():
-    """The lines of the tour that the tests don't have."""
-    tested = {line.strip() for line in lines(read(TOUR_TESTS))}
+    """The lines of the tour that no test calls."""
+    tested = {line.strip() for line in lines(read(TOUR_CALLS))}
     shown = [line.strip() for text in TOUR.findall(read("README.md")) for line in lines(text)]
     return [line for line in shown if line not in tested] if shown else ["(there is no tour)"]
 
@@ -80,7 +80,7 @@ def main():
         print(f"{PAGE} does not quote {path} as it is")
     strange = strange_in_the_tour()
     for line in strange:
-        print(f"README.md has a line in its tour that {TOUR_TESTS} has not: {line}")
+        print(f"README.md has a line in its tour that {TOUR_CALLS} has not: {line}")
     unknown = [(page, it) for page in ("docs/PROVED.md", "docs/PROTOCOL.md") for it in strange_names(page)]
     for page, name in unknown:
         print(f"{page} names {name}, which no library has")

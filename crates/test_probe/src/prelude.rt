@@ -8,7 +8,7 @@ pub use crate::record::{
 };
 pub use crate::request::Request;
 pub use crate::shown::{Shown, Variant};
-pub use crate::{anew, answers, counted, error_texts, fields};
+pub use crate::{anew, answers, counted, error_texts, fields, sizes};
 pub use mysql_wire::{Fault, Flags, MyDeserialize, MySerialize, ParseBuf};
 pub use std::alloc::{AllocError, Global};
 pub use std::borrow::CowSlice;

@@ -125,3 +125,13 @@ macro_rules! fields {
         )*)?
     }};
 }
+
+/// Adds the size that each of these types has, or `none` where it varies.
+#[macro_export]
+macro_rules! sizes {
+    ($out:expr; $($type:ty),*) => {
+        for (name, size) in [$((stringify!($type), <$type as MyDeserialize>::SIZE)),*] {
+            $out.show(name, size);
+        }
+    };
+}

@@ -1,6 +1,6 @@
 //! Wire forms, with a count in front of the bytes where one is handed in, codes, and lists that a number is pushed to.
 //!
-//! `form NAME BYTES`, `code NAME NUMBER`, `push_seq BYTES`.
+//! `form NAME BYTES`, `code NAME NUMBER`, `push_seq BYTES`, `sizes WIDTH`.
 
 use crate::prelude::*;
 use std::fmt::Display;
@@ -202,5 +202,25 @@ fn show_push(out: &mut Out, name: &str, push: Result, list: &Numbers<'_>, before
         }
         Err(AllocError) if list.len() == before => out.field(name, "Memory"),
         Err(AllocError) => out.field(name, "CHANGED"),
+    }
+}
+
+/// The sizes of forms, as wide as a word says.
+pub fn sizes(out: &mut Out, request: &Request<'_>) {
+    match request.word(1) {
+        "narrow" =>
+            sizes!(out; Skip<0>, [u8; 0], RawInt<u8>, ConstU8<Marker, 0xff>, Const<ColumnType, u8>,
+            Const<SessionStateType, u8>, Const<MariadbBulkIndicator, u8>, RawInt<LeU16>, Const<StatusFlags, LeU16>,
+            RawInt<LeU24>),
+        "wide" =>
+            sizes!(out; RawInt<LeU32>, ConstU32<Marker, 1>, ConstBytes<Marker, 4>, Const<CapabilityFlags, LeU32>,
+            RawInt<LeU64>, [u8; 8], [u8; 20], Skip<23>),
+        _ => {
+            sizes!(out; RawInt<LenEnc>, RawInt<VarLen>, ParseBuf, Seq<RawInt<u8>, LeU64>, Seq<RawInt<u8>, Unknown>,
+                RawBytes<LenEnc>, RawBytes<NullBytes>, RawBytes<EofBytes>, RawBytes<U8Bytes>, RawBytes<U32Bytes>,
+                RawBytes<BareBytes<247>>);
+            out.show("LenEnc", <LenEnc as IntRepr>::SIZE);
+            out.show("VarLen", <VarLen as IntRepr>::SIZE)
+        }
     }
 }

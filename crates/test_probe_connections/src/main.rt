@@ -52,7 +52,7 @@ fn of_wire_forms(out: &mut Out, request: &Request<'_>) -> bool {
         "text" => texts::text(out, request.word(1)),
         word => answers!(Connections, out, request, word;
             call "buf": buffers::calls, "content": buffers::content, "varlen": buffers::varlen, "code": forms::code,
-                "push_seq": forms::push,),
+                "push_seq": forms::push, "sizes": forms::sizes,),
     }
 }
 

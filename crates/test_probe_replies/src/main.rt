@@ -3,6 +3,7 @@
 
 mod column;
 mod errors;
+mod kinds;
 mod ok;
 mod prelude;
 mod sent;
@@ -10,6 +11,7 @@ mod session;
 mod state;
 mod texts;
 
+use crate::kinds::{Empty, Refusing, Seventh, Versioned};
 use crate::prelude::*;
 use std::io;
 use test_probe::{Answers, run};
@@ -29,7 +31,8 @@ fn of_replies(out: &mut Out, request: &Request<'_>) -> bool {
             "ok_eof": ok::ok::<OldEofPacket>, "ok_stream": ok::ok::<NetworkStreamTerminator>,
             "ok_sent": sent::sent::<CommonOkPacket>, "ok_end_sent": sent::sent::<ResultSetTerminator>,
             "ok_eof_sent": sent::sent::<OldEofPacket>, "ok_stream_sent": sent::sent::<NetworkStreamTerminator>,
-            "ok_body": ok::body,)
+            "ok_body": ok::body, "own_versioned": ok::own::<Versioned>, "own_refusing": ok::own::<Refusing>,
+            "own_empty": ok::own::<Empty>, "own_seventh": ok::own::<Seventh>,)
 }
 
 fn of_session(out: &mut Out, request: &Request<'_>) -> bool {
@@ -38,7 +41,7 @@ fn of_session(out: &mut Out, request: &Request<'_>) -> bool {
             "state": TransactionState<'_>, "unsupported": Unsupported<'_>,
         both () => "variable": SystemVariable<'_>, SystemVariableRef<'_>,
             "variables": SystemVariables<'_>, SystemVariablesRef<'_>,
-        call "change": session::change,)
+        call "change": session::change, "sizes": session::sizes,)
 }
 
 impl Answers for Server {

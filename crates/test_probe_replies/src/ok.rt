@@ -1,17 +1,23 @@
 //! OK packets, of any kind.
 //!
 //! `ok CAPABILITIES BYTES`, `ok_end ..`, `ok_eof ..`, `ok_stream ..`; `ok_body CAPABILITIES BYTES` (what follows the first
-//! byte of `ok`).
+//! byte of `ok`); and of kinds of a user's own `own_KIND CAPABILITIES BYTES`.
 
 use crate::prelude::*;
 use crate::state::{Decoded, is_same_change, show_decoded, show_info};
 use test_probe::places::compare;
 
+/// An OK packet of a kind.
+pub fn own<'a, K: OkPacketKind>(out: &mut Out, request: &'a Request<'_>) {
+    let (bytes, capabilities) = (request.bytes.as_slice(), request.capabilities());
+    let _ = read::<Server, OkPacketDeserializer<'a, K>>(out, bytes, capabilities);
+}
+
 /// An OK packet of a kind, and the one that stays in its packet.
 pub fn ok<'a, K: OkPacketRefKind>(out: &mut Out, request: &'a Request<'_>) {
+    own::<K>(out, request);
     let (alloc, bytes) = (request.alloc, request.bytes.as_slice());
     let capabilities = request.capabilities();
-    let _ = read::<Server, OkPacketDeserializer<'a, K>>(out, bytes, capabilities);
     let (owned, left) = parsed::<OkPacketDeserializer<'a, K>>(alloc, bytes, capabilities);
     let (place, left_in_place) = counted!(alloc;
         value parsed::<OkPacketRefDeserializer<'a, K>>(alloc, bytes, capabilities));

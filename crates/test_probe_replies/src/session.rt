@@ -2,7 +2,7 @@
 //!
 //! `change KIND BYTES`, `change other BYTES` (a change of a kind without a type of its own, which is made of its text);
 //! and the parts of changes, each alone: `schema BYTES`, `gtids BYTES`, `characteristics BYTES`, `state BYTES`,
-//! `unsupported BYTES`, `variable BYTES`, `variables BYTES`.
+//! `unsupported BYTES`, `variable BYTES`, `variables BYTES`; and `sizes`.
 
 use crate::prelude::*;
 use mysql_session::{ChangeRef as Place, SessionStateChange as Change};
@@ -131,4 +131,10 @@ impl<'a> InPlace<SystemVariables<'a>, SystemVariablesRef<'a>> for Server {
         });
         are_same && left.next().is_none()
     }
+}
+
+/// The sizes of records that vary, of a type with parameters.
+pub fn sizes(out: &mut Out, _request: &Request<'_>) {
+    sizes!(out; OkPacketDeserializer<'_, CommonOkPacket>, Schema<'_>, Gtids<'_>, TransactionCharacteristics<'_>,
+        TransactionState<'_>, Unsupported<'_>)
 }

@@ -5,6 +5,8 @@
 //!
 //! `from_value TYPE VALUE` converts a value. The types are `value`, `i64`, `u64`, `bytes`, `text`, and each after `option_`.
 //! A refusal hands the value back.
+//!
+//! `sizes` are those of records of a type with parameters.
 
 use crate::borrowed::{converts, is_alike};
 use crate::prelude::*;
@@ -122,4 +124,9 @@ where
             converts::<R>(out, value, Err(&refusal));
         }
     }
+}
+
+pub fn sizes(out: &mut Out, _request: &Request<'_>) {
+    sizes!(out; ValueDeserializer<TextValue>, ValueDeserializer<BinValue>, NullBitmap<'_, ClientSide>,
+        RowDeserializer<ServerSide, Text>, RowDeserializer<ServerSide, Binary>)
 }

@@ -6,13 +6,14 @@
 //! | `idx:INDEX` | the place that an index finds |
 //! | `ref:PLACE`, `at:INDEX` | `as_ref`, and `row[..]` where the value is there |
 //! | `get:INDEX`, `take:INDEX` | the same of a copy, and of a value that is taken out |
-//! | `get_opt:INDEX:TYPE`, `take_opt:INDEX:TYPE` | converted: `value`, `i64`, `u64`, `text`, `bytes`, `maybe` (an `i64` or NULL) |
+//! | `get_opt:INDEX:TYPE`, `take_opt:INDEX:TYPE` | converted: `value`, `i64`, `u64`, `text`, `bytes`, `maybe` (an `i64` or NULL), `switch` (a user's own type) |
 //! | `place:PLACE:VALUE` | puts a value |
 //! | `clone`, `equal:VALUES` | whether a copy, and the row of these values in these columns, are equal |
 //! | `cells` | the values of a copy, by `unwrap_raw` |
 //!
-//! An index is a place where it is digits, and else a name.
+//! An index is a place where it is digits, an index of a user's own that answers a place where it is as `odd2`, and else a name.
 
+use crate::own::{Odd, Switch};
 use crate::prelude::*;
 use crate::rows::{push_cell, raw_row};
 
@@ -38,11 +39,14 @@ pub fn call(out: &mut Out, row: &mut Row, word: &str) {
         "equal" => equal(out, row, argument).end(out),
         "cells" => cells(out, row).end(out),
         "place" => put(out, row, place.unwrap_or(usize::MAX), kind),
-        _ => match place {
-            Ok(place) if name == "at" => at_place(out, row, place),
-            Ok(place) => by_index(out, row, name, place, kind),
-            Err(_) if name == "at" => at_name(out, row, index),
-            Err(_) => by_index(out, row, name, index, kind),
+        "at" => match place {
+            Ok(place) => at_place(out, row, place),
+            Err(_) => at_name(out, row, index),
+        },
+        _ => match (place, Odd::of(index)) {
+            (Ok(place), _) => by_index(out, row, name, place, kind),
+            (Err(_), Some(odd)) => by_index(out, row, name, odd, kind),
+            (Err(_), None) => by_index(out, row, name, index, kind),
         },
     }
 }
@@ -106,6 +110,7 @@ fn by_index<I: ColumnIndex + Drop>(out: &mut Out, row: &mut Row, name: &str, ind
         (_, "bytes") => converted::<Vec<u8>, I>(out, row, name, index),
         (_, "maybe") => converted::<Option<i64>, I>(out, row, name, index),
         (_, "value") => converted::<Value, I>(out, row, name, index),
+        (_, "switch") => converted::<Switch, I>(out, row, name, index),
         _ => out.word("?"),
     }
 }

@@ -1,9 +1,10 @@
-//! Kinds that a user makes.
+//! Kinds of OK packets that a user makes, odd ones among them.
 
-ghost use Rattle.mysql_packets.specs.OkBody.{common_ok_body};
-ghost use Rattle.test_calls.specs.Bodies.{after_a_byte, never, nothing};
+ghost use Rattle.mysql_replies.specs.OkKind.{common_ok_body};
+ghost use Rattle.test_probe_replies.specs.Bodies.{after_a_byte, never, nothing};
 
 use crate::prelude::*;
+use mysql_wire::{CapabilityFlags, FaultOf, RawInt};
 
 /// The body of a kind, or the fault.
 type Body<'s, 'a> = Result<OkPacketBody<'a>, FaultOf<'s>>;

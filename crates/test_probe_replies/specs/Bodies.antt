@@ -1,11 +1,11 @@
 -- The bodies of a user's kinds of OK packets.
 use Rattle.std.specs.Prelude.{[], ◌∷◌, Ok, Err}
-use Rattle.mysql_packets.specs.Reading.{Reading}
-use Rattle.mysql_packets.specs.Flags.{CapabilityFlags}
-use Rattle.mysql_packets.specs.Form.{Form, ◌>>=◌, give, refuse}
-use Rattle.mysql_packets.specs.Int.{byte}
+use Rattle.mysql_wire.specs.Reading.{Reading}
+use Rattle.mysql_wire.specs.Flags.{CapabilityFlags}
+use Rattle.mysql_wire.specs.Form.{Form, ◌>>=◌, give, refuse}
+use Rattle.mysql_wire.specs.Int.{byte}
 use Rattle.mysql_replies.specs.declared.ok_kind.OkPacketBody.{OkPacketBody}
-use Rattle.mysql_packets.specs.OkBody.{old_eof_body}
+use Rattle.mysql_replies.specs.OkKind.{old_eof_body}
 
 -- a byte of any value, and the body of an old end
 abbrev pub after_a_byte : CapabilityFlags → Form OkPacketBody

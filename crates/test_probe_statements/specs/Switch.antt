@@ -1,10 +1,10 @@
 -- A number that is 0 or 1, as a truth value.
 use Rattle.std.specs.Prelude.{◌≡◌, ℤ, pos, Bool, true, false}
 use Rattle.std.proofs.Common.{sym}
-use Rattle.mysql_packets.specs.ByContent.{GoesByContent, int_in}
+use Rattle.mysql_values.specs.ByContent.{GoesByContent, int_in}
 use Rattle.mysql_values.specs.declared.value.Value.{Value}
 use Rattle.mysql_values.specs.declared.value.Value.TheVariants.{Int}
-use Rattle.test_calls.specs.declared.switch.Switch.{Switch}
+use Rattle.test_probe_statements.specs.declared.own.Switch.{Switch}
 
 -- 0 or 1
 abbrev pub number_of : Bool → ℤ
