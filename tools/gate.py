@@ -9,13 +9,16 @@ Without FOLDER no mutant is tried.
 rt ci gives a check the processors that are idle when it begins, and begins none for which it reckons that memory could run short: where
 most crates wait for one library, most processors wait too, and the longest chain of crates ends alone. Here as many checks run at a
 time as there are processors, where memory allows, those with the longest chain after them first. A check is put to two processors
-where its chain is a tenth more than a processor's share of all that has not begun, also where one alone is idle, and to more where
-they would be idle. Elsewhere that would not pay: a small crate's check on two processors takes a third more of them in all, a large
-one's on four a tenth more.
+where its chain is a fifth more than a processor's share of all that has not begun, also where one alone is idle, and to more where
+they would be idle. Elsewhere that would not pay: a check on two processors takes a quarter to a third more of them in all.
 
-Each check, its flags and what counts as proved are rt's own: its function that orders the checks is replaced, and a static library is
+Each check, its flags but one, and what counts as proved are rt's own: its function that orders the checks is replaced, and a static library is
 built by its check, which leaves the archive that the tests of the library for C take, and is kept with its proof where rt keeps proofs. Where
-this rt has no such function, or another form of it, rt ci runs as it is, and the mutants and the parts follow."""
+this rt has no such function, or another form of it, rt ci runs as it is, and the mutants and the parts follow.
+
+The flag is --empty-contracts. It looks for contracts that no call can meet, at the end of each check, on one processor, for a sixth of what
+the check took; rt ci prints what it finds and passes, and rt verdict fails on it. Here each public function is called by a program of
+the tests, which is proved, and run: so its contract can be met."""
 import importlib.machinery
 import importlib.util
 import os
@@ -31,8 +34,12 @@ from libraries import TOP, below, crates
 
 # what a check may take of memory, in bytes: most take 2 GB, and the largest 3.5 GB
 CHECK = 4 << 30
-# tasks that are no checks of rt ci
-BESIDE = "mutants", "part"
+# tasks that are no checks of rt ci, and how much work each is, as work() reckons that of a check
+BESIDE = {"mutants": 500, "part": 300}
+# what a check takes to read what is below its crate, and to write what it made
+FRAME = 300
+# a check whose chain is so much more than a processor's share of what has not begun would end last
+LATE = 1.2
 
 
 def loaded():
@@ -48,9 +55,10 @@ def work(key, lines):
     """How much work a task is: a check, by the lines of its crate's source, three times as much for a program, which owns what it calls
     for, and is built by two compilers besides."""
     if not lines or key[1] not in ("proof", "tests"):
-        return lines
+        return BESIDE.get(key[1], lines)
     source = TOP / "crates" / key[0] / "src"
-    return sum(it.read_bytes().count(b"\n") for it in source.rglob("*.rt")) * (3 if (source / "main.rt").exists() else 1)
+    own = sum(it.read_bytes().count(b"\n") for it in source.rglob("*.rt"))
+    return own * 3 + 2 * FRAME if (source / "main.rt").exists() else own + FRAME
 
 
 def chains(tasks, own):
@@ -70,7 +78,7 @@ def in_lanes(tasks, processors, memory):
     own = {key: work(key, it[1]) for key, it in tasks.items()}
     chain = chains(tasks, own)
     lanes = max(1, min(processors, memory // CHECK))
-    left, running, given = sorted(tasks, key=lambda it: -chain[it]), {}, {}
+    left, running, given = sorted(tasks, key=lambda it: (it[1] in BESIDE, -chain[it])), {}, {}
     with ThreadPoolExecutor(len(tasks)) as pool:
         while left or running:
             ready = [it for it in left if all(lower in given for lower in tasks[it][0])]
@@ -86,7 +94,7 @@ def in_lanes(tasks, processors, memory):
                         waiting -= 1
                         # (of what runs half is done)
                         rest = sum(own[it] for it in left) + sum(own[it] for it, _ in running.values()) / 2
-                        is_late = chain[key] * lanes > 1.1 * rest
+                        is_late = chain[key] * lanes > LATE * rest
                         jobs = max(1, min(4, int(idle) - waiting), min(2, lanes) * is_late)
                     left.remove(key)
                     running[pool.submit(tasks[key][3], given, jobs)] = key, jobs * (own[key] > 0)
@@ -138,6 +146,13 @@ def with_parts(tasks, parts):
     return tasks
 
 
+def without_empty_contracts(rt):
+    """Leaves out what rt ci would only print."""
+    if hasattr(getattr(rt, "rtlib", None), "help_of"):
+        helps = rt.rtlib.help_of
+        rt.rtlib.help_of = lambda verb: helps(verb).replace("--empty-contracts", "")
+
+
 def archive(crate):
     """The archive of a static library, beside its folder's other builds. (rt keeps what begins with the crate's name.)"""
     return f"{crate.name}.a"
@@ -145,6 +160,7 @@ def archive(crate):
 
 def main(folder=None, *lines):
     rt, found = loaded(), None
+    without_empty_contracts(rt)
     parts = [Part(it, folder) for it in lines]
 
     def ordered(tasks):
