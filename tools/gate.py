@@ -9,15 +9,15 @@ Without FOLDER no mutant is tried.
 rt ci gives a check the processors that are idle when it begins, and begins none for which it reckons that memory could run short: where
 most crates wait for one library, most processors wait too, and the longest chain of crates ends alone. Here as many checks run at a
 time as there are processors, where memory allows, those with the longest chain after them first. A check is put to two processors
-where its chain is a fifth more than a processor's share of all that has not begun, also where one alone is idle, and to more where
+where its chain is a twentieth more than a processor's share of all that is left, also where one alone is idle, and to more where
 they would be idle. Elsewhere that would not pay: a check on two processors takes a quarter to a third more of them in all.
 
 Each check, its flags but one, and what counts as proved are rt's own: its function that orders the checks is replaced, and a static library is
 built by its check, which leaves the archive that the tests of the library for C take, and is kept with its proof where rt keeps proofs. Where
 this rt has no such function, or another form of it, rt ci runs as it is, and the mutants and the parts follow.
 
-The flag is --empty-contracts. It looks for contracts that no call can meet, at the end of each check, on one processor, for a sixth of what
-the check took; rt ci prints what it finds and passes, and rt verdict fails on it. Here each public function is called by a program of
+The flag is --empty-contracts. It looks for contracts that no call can meet, at the end of each check, on one processor, for a twentieth
+to a sixth of what the check took; rt ci prints what it finds and passes, and rt verdict fails on it. Here each public function is called by a program of
 the tests, which is proved, and run: so its contract can be met."""
 import importlib.machinery
 import importlib.util
@@ -36,10 +36,10 @@ from libraries import TOP, below, crates
 CHECK = 4 << 30
 # tasks that are no checks of rt ci, and how much work each is, as work() reckons that of a check
 BESIDE = {"mutants": 500, "part": 300}
-# what a check takes to read what is below its crate, and to write what it made
-FRAME = 300
-# a check whose chain is so much more than a processor's share of what has not begun would end last
-LATE = 1.2
+# what a check takes to read a library below its crate, in lines of source
+READ = 100
+# a check whose chain is so much more than a processor's share of what is left would end last
+LATE = 1.05
 
 
 def loaded():
@@ -53,12 +53,12 @@ def loaded():
 
 def work(key, lines):
     """How much work a task is: a check, by the lines of its crate's source, three times as much for a program, which owns what it calls
-    for, and is built by two compilers besides."""
+    for, and is built by two compilers besides; and by the libraries that it reads."""
     if not lines or key[1] not in ("proof", "tests"):
         return BESIDE.get(key[1], lines)
     source = TOP / "crates" / key[0] / "src"
     own = sum(it.read_bytes().count(b"\n") for it in source.rglob("*.rt"))
-    return own * 3 + 2 * FRAME if (source / "main.rt").exists() else own + FRAME
+    return own * (3 if (source / "main.rt").exists() else 1) + READ * (1 + len(below(key[0], crates())))
 
 
 def chains(tasks, own):
