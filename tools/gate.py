@@ -12,13 +12,9 @@ time as there are processors, where memory allows, those with the longest chain 
 where its chain is a twentieth more than a processor's share of all that is left, also where one alone is idle, and to more where
 they would be idle. Elsewhere that would not pay: a check on two processors takes a quarter to a third more of them in all.
 
-Each check, its flags but one, and what counts as proved are rt's own: its function that orders the checks is replaced, and a static library is
+Each check, its flags and what counts as proved are rt's own: its function that orders the checks is replaced, and a static library is
 built by its check, which leaves the archive that the tests of the library for C take, and is kept with its proof where rt keeps proofs. Where
-this rt has no such function, or another form of it, rt ci runs as it is, and the mutants and the parts follow.
-
-The flag is --empty-contracts. It looks for contracts that no call can meet, at the end of each check, on one processor, for a twentieth
-to a sixth of what the check took; rt ci prints what it finds and passes, and rt verdict fails on it. Here each public function is called by a program of
-the tests, which is proved, and run: so its contract can be met."""
+this rt has no such function, or another form of it, rt ci runs as it is, and the mutants and the parts follow."""
 import importlib.machinery
 import importlib.util
 import os
@@ -146,13 +142,6 @@ def with_parts(tasks, parts):
     return tasks
 
 
-def without_empty_contracts(rt):
-    """Leaves out what rt ci would only print."""
-    if hasattr(getattr(rt, "rtlib", None), "help_of"):
-        helps = rt.rtlib.help_of
-        rt.rtlib.help_of = lambda verb: helps(verb).replace("--empty-contracts", "")
-
-
 def archive(crate):
     """The archive of a static library, beside its folder's other builds. (rt keeps what begins with the crate's name.)"""
     return f"{crate.name}.a"
@@ -160,7 +149,6 @@ def archive(crate):
 
 def main(folder=None, *lines):
     rt, found = loaded(), None
-    without_empty_contracts(rt)
     parts = [Part(it, folder) for it in lines]
 
     def ordered(tasks):
