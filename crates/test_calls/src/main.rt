@@ -5,11 +5,12 @@
 //! no words. The answer is `status N` and the lines that are written, with `; ` in front of each.
 //!
 //! After `fails` it is what becomes of such a call on readers and writers that fail, and after `endless` on an input without
-//! end. `tour` makes the calls of the README's tour.
+//! end. `tour` makes the calls of the README's tour, and `kind` reads an OK packet of a kind that stands here.
 #![tactic(auto)]
 
 mod call;
 mod fails;
+mod kind;
 mod tour;
 
 use std::io;
@@ -24,6 +25,7 @@ impl Answers for Program {
         match request.line.split_once(' ') {
             Some(("fails", call)) => fails::fails(out, request, call).end(out),
             Some(("endless", call)) => fails::endless(out, request, call).end(out),
+            Some(("kind", _)) => kind::kind(out, request),
             None if request.line == "tour" => tour::tour(out, request.alloc),
             _ => call::ran(out, request).end(out),
         }
