@@ -12,15 +12,17 @@ time as there are processors, where memory allows, those with the longest chain 
 where its chain is a twentieth more than a processor's share of all that is left, also where one alone is idle, and to more where
 they would be idle. Elsewhere that would not pay: a check on two processors takes a quarter to a third more of them in all.
 
-Each check, its flags and what counts as proved are rt's own: its function that orders the checks is replaced, and a static library is
-built by its check, which leaves the archive that the tests of the library for C take, and is kept with its proof where rt keeps proofs. Where
-this rt has no such function, or another form of it, rt ci runs as it is, and the mutants and the parts follow."""
+Each check, what it reads, and what counts as proved or kept are rt's own: what is replaced is the function that orders the checks. A
+static library's check also records its verdict, of which the compiler then makes the archive that a part takes: it compares what it builds
+with what was proved. This is written for one rt, by its checksum: with any other, rt ci runs as it is, and the mutants and the parts follow."""
+import hashlib
 import importlib.machinery
 import importlib.util
 import os
 import shutil
 import subprocess
 import sys
+import tempfile
 import time
 from concurrent.futures import FIRST_COMPLETED, ThreadPoolExecutor, wait
 from pathlib import Path
@@ -28,6 +30,11 @@ from pathlib import Path
 import mutants
 from libraries import TOP, below, crates
 
+# the rt that this is written for
+RT = {
+    "rt": "80bcb2d5aef7205688dd85a279ba826502bb88dcc037e860a256d3963c92d37f",
+    "rtlib.py": "4a12f3c5badcbef95b02ce10e5a270c6bfa7318c8bbf46eea97d0f86c02889dd",
+}
 # what a check may take of memory, in bytes: most take 2 GB, and the largest 3.5 GB
 CHECK = 4 << 30
 # tasks that are no checks of rt ci, and how much work each is, as work() reckons that of a check
@@ -36,6 +43,13 @@ BESIDE = {"mutants": 500, "part": 300}
 READ = 100
 # a check whose chain is so much more than a processor's share of what is left would end last
 LATE = 1.05
+
+
+def is_known():
+    """Whether rt is the one that this is written for."""
+    folder = Path(os.path.realpath(shutil.which("rt"))).parent
+    files = {name: folder / name for name in RT}
+    return all(it.exists() and hashlib.sha256(it.read_bytes()).hexdigest() == RT[name] for name, it in files.items())
 
 
 def loaded():
@@ -142,43 +156,44 @@ def with_parts(tasks, parts):
     return tasks
 
 
-def archive(crate):
-    """The archive of a static library, beside its folder's other builds. (rt keeps what begins with the crate's name.)"""
-    return f"{crate.name}.a"
+def with_archive(rt, crate, words, prove):
+    """Proves a static library by rt's check of it, which records its verdict too, and has the compiler make out/NAME.a of what was proved.
+    The answer is the check's, whatever comes of the archive."""
+    archive = Path(crate.folder) / "out" / f"{crate.name}.a"
+    archive.unlink(missing_ok=True)
+    with tempfile.TemporaryDirectory(prefix="gate-proved-") as folder:
+        status = prove(crate, [*words, "-o", f"{folder}/checked"])
+        if status == 0:
+            words = words[1:]
+            for flag in ("--logic-built", "--jobs"):
+                at = words.index(flag)
+                words = [*words[:at], *words[at + 2 :]]
+            build = [rt.rtlib.RATTLE, "build", *words, "--crate-checked", f"{folder}/checked", "--toolchain", f"{rt.KIT}/toolchain", "--backend", "llvm"]
+            subprocess.run([*build, "-o", archive], cwd=crate.folder, stdin=subprocess.DEVNULL, stdout=subprocess.DEVNULL, stderr=subprocess.DEVNULL)
+    return status
 
 
 def main(folder=None, *lines):
-    rt, found = loaded(), None
-    parts = [Part(it, folder) for it in lines]
+    parts, found = [Part(it, folder) for it in lines], None
+    if is_known():
+        rt, taken = loaded(), {crate for part in parts for crate in part.crates}
+        proved = rt.Crate.prove
 
-    def ordered(tasks):
-        nonlocal found
-        if any(len(it) != 4 for it in tasks.values()):
-            return lanes(tasks)
-        found = []
-        return in_lanes(with_mutants(with_parts(tasks, parts), found) if folder else tasks, rt.processors(), rt.free())
+        def prove(crate, words, *more):
+            if not crate.is_static or crate.name not in taken or words[0] != "check" or more:
+                return proved(crate, words, *more)
+            return with_archive(rt, crate, words, proved)
 
-    def ci(crate, flags, tests, *more):
-        if tests or not crate.is_static:
-            return checked(crate, flags, tests, *more)
-        built = ["build", *crate.words(flags, keeps=False), "--toolchain", f"{rt.KIT}/toolchain", "--backend", "llvm"]
-        return crate.prove([*built, "-o", f"out/{archive(crate)}"])
+        def ordered(tasks):
+            nonlocal found
+            found = []
+            return in_lanes(with_mutants(with_parts(tasks, parts), found) if folder else tasks, rt.processors(), rt.free())
 
-    def made(kept, crate, tests):
-        if tests or not crate.is_static:
-            return kept_files(kept, crate, tests)
-        return [it for it in [archive(crate)] if os.path.isfile(f"{crate.folder}/out/{it}")]
-
-    def is_whole(kept, crate, tests, files):
-        return files == [archive(crate)] if crate.is_static and not tests else is_kept_whole(kept, crate, tests, files)
-
-    if all(hasattr(rt, it) for it in ("in_lanes", "processors", "free", "KIT")) and hasattr(rt.Crate, "ci"):
-        lanes, checked = rt.in_lanes, rt.Crate.ci
-        rt.in_lanes, rt.Crate.ci = ordered, ci
-        if all(hasattr(getattr(rt, "Kept", None), it) for it in ("made", "is_whole")):
-            kept_files, is_kept_whole = rt.Kept.made, rt.Kept.is_whole
-            rt.Kept.made, rt.Kept.is_whole = made, is_whole
-    status = rt.main(["ci"])
+        rt.in_lanes, rt.Crate.prove = ordered, prove
+        status = rt.main(["ci"])
+    else:
+        print("gate: this rt is not the one that the order is written for, so rt ci runs as it is", flush=True)
+        status = subprocess.run(["rt", "ci"], cwd=TOP, stdin=subprocess.DEVNULL).returncode
     if folder:
         with ThreadPoolExecutor() as pool:
             for part in parts:

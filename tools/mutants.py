@@ -8,8 +8,9 @@ file that it changes, a line 'file: src/FILE.rt' and pairs of lines 'old: TEXT' 
 that file exactly once.
 
 A function is proved from the contracts of what it calls. So all mutants of a library stand in one copy of it, and one check
-asks for their functions alone: each must be said to be not proved, by a goal or a proof of its own. That it calls a function
-which is not proved is no refusal. At most one mutant changes a function, and none a constant or a type.
+asks for their functions alone: each must be said to be not proved, by a goal. That it calls a function which is not proved is no
+refusal, and neither is a proof by hand that no longer fits: it shows that this proof fails, and not that there is none. At most one
+mutant changes a function, and none a constant or a type.
 
 The libraries below are those that rt ci leaves, or are built. The last line counts what passed and failed."""
 import os
@@ -71,7 +72,7 @@ def words(name, listed, functions):
 
 
 def verdict(mutant, said, text):
-    """Whether a mutant is refused, and what is said of its function: a goal that the search did not prove, or its own proof that fails."""
+    """Whether a mutant is refused, and what is said of its function: a goal that the search did not prove."""
     line = said.get(mutant.function)
     if line is None:
         first = re.search(r"^.*error.*$", text, re.M)
@@ -81,8 +82,7 @@ def verdict(mutant, said, text):
         if goals:
             return True, f"{mutant.function} does not meet {goals[1].rstrip(', ')}"
         for error in re.findall(rf"^(?:\./)?proofs/{mutant.function.replace('::', '/')}/\w+\.antt:.*?error: (.*)$", text, re.M):
-            if not re.search(r"is not in scope|has no field|has no `|is no name|was not admitted", error):
-                return True, f"the proof of {mutant.function} fails: {error}"
+            return False, f"no goal refuses it; the proof by hand of {mutant.function} fails: {error}"
     return False, f"{mutant.function}: {line}"
 
 

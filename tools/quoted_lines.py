@@ -2,12 +2,14 @@
 """Holds pages to the code that they quote and name.
 
 The quoted blocks of a file in docs/ADD_A_PACKET.md are the whole file, in order. Each line of the tour in README.md is a
-line of the file whose calls a row makes. Each name of docs/PROVED.md stands in the libraries, and each file and type of docs/PROTOCOL.md.
+line of the file whose calls a row makes, and each line of docs/CALLING.md a line of the proved callers. Each name of docs/PROVED.md stands in the libraries, and each file and type of docs/PROTOCOL.md.
+Each name in the code of any page stands somewhere in the sources.
 
 quoted_lines.py: the status is 0 where all of this is so.
 """
 import os
 import re
+import subprocess
 import sys
 
 TOP = os.path.dirname(os.path.dirname(os.path.realpath(__file__)))
@@ -16,6 +18,7 @@ CRATE = "crates/example_packet"
 BLOCK = re.compile(r"^```\w+ (crates/\S+)\n(.*?)^```$", re.MULTILINE | re.DOTALL)
 TOUR = re.compile(r"^```rust\n(.*?)^```$", re.MULTILINE | re.DOTALL)
 TOUR_CALLS = "crates/test_calls/src/tour.rt"
+CALLERS = "crates/examples_proved/src"
 
 
 def lines(text):
@@ -39,7 +42,7 @@ def sources():
 
 
 def read(path):
-    with open(f"{TOP}/{path}", encoding="utf-8") as file:
+    with open(f"{TOP}/{path}", encoding="utf-8", errors="replace") as file:
         return file.read()
 
 
@@ -48,6 +51,14 @@ def strange_in_the_tour():
     tested = {line.strip() for line in lines(read(TOUR_CALLS))}
     shown = [line.strip() for text in TOUR.findall(read("README.md")) for line in lines(text)]
     return [line for line in shown if line not in tested] if shown else ["(there is no tour)"]
+
+
+def strange_in_the_caller():
+    """The lines of docs/CALLING.md that no caller has."""
+    names = sorted(os.listdir(f"{TOP}/{CALLERS}"))
+    there = {line.strip() for name in names for line in lines(read(f"{CALLERS}/{name}"))}
+    shown = [line.strip() for text in TOUR.findall(read("docs/CALLING.md")) for line in lines(text)]
+    return [line for line in shown if line not in there] if shown else ["(there is no caller)"]
 
 
 def strange_names(page):
@@ -70,6 +81,28 @@ def strange_names(page):
 
 # the protocol's own names of the forms of fields
 FORMS = {"string", "lenenc", "NUL", "EOF", "fix"}
+# names of Rust, of the toolchain, of the original and of a server; parts of names, and what stands for any name
+ELSEWHERE = {
+    "AsRef", "Deref", "Arc", "HashMap", "IntoIterator", "f32", "f64", "start_lib", "plant", "untested", "incremental", "Lts",
+    "gen_data", "utf8mb4_0900_ai_ci", "dialog", "GETTER", "CODEC", "FLAG", "MAJOR", "MINOR", "PATCH", "my_proxy", "Ref", "Deserializer",
+}
+
+
+def names_that_stand_nowhere():
+    """Each page, and each name in its code that no source has. Numbers in hexadecimal and parts of names, as `with_`, are none."""
+    listed = subprocess.run(["git", "ls-files"], cwd=TOP, capture_output=True, text=True, check=True).stdout.split()
+    pages = [it for it in listed if it.endswith(".md")]
+    sources = [it for it in listed if not it.endswith(".md") and not it.startswith(("tests/vectors/", "tests/captured/"))]
+    known = set(re.findall(r"\w+", " ".join(listed)))
+    for path in sources:
+        known |= set(re.findall(r"\w+", read(path)))
+    # (captured packets are named in the page that tells of them, by the keys of their table)
+    for page in (it for it in pages if not it.startswith("tests/captured/")):
+        text = re.sub(r"^```.*?^```", "", read(page), flags=re.MULTILINE | re.DOTALL)
+        words = {word for span in re.findall(r"`([^`\n]+)`", text) for word in re.findall(r"(?<![\w.])[A-Za-z_]\w\w+", span)}
+        for word in sorted(words - known - ELSEWHERE):
+            if not (word.startswith("_") or word.endswith("_") or re.fullmatch(r"x?[0-9a-f]+|i[0-9]+", word)):
+                yield page, word
 
 
 def main():
@@ -81,10 +114,16 @@ def main():
     strange = strange_in_the_tour()
     for line in strange:
         print(f"README.md has a line in its tour that {TOUR_CALLS} has not: {line}")
+    others = strange_in_the_caller()
+    for line in others:
+        print(f"docs/CALLING.md has a line that no file of {CALLERS} has: {line}")
     unknown = [(page, it) for page in ("docs/PROVED.md", "docs/PROTOCOL.md") for it in strange_names(page)]
     for page, name in unknown:
         print(f"{page} names {name}, which no library has")
-    return 1 if wrong or strange or unknown else 0
+    nowhere = [*names_that_stand_nowhere()]
+    for page, name in nowhere:
+        print(f"{page} names {name}, which stands nowhere")
+    return 1 if wrong or strange or others or unknown or nowhere else 0
 
 
 if __name__ == "__main__":

@@ -20,6 +20,12 @@ HEADER = TOP / "include/mysql_packets.h"
 STRUCT = re.compile(r"((?:^///[^\n]*\n)+)#\[repr\(C\)\]\n(?:#\[[^\n]*\n)*pub struct (\w+)(?:<'a>)? \{(.*?)^\}", re.M | re.S)
 FIELD = re.compile(r"^    pub (\w+): ([^\n]+),$", re.M)
 EXPORT = re.compile(r'pub extern "C" fn (myp_\w+)(?:<[^>]*>)?\((.*?)\) -> u32', re.S)
+# names of the header that the library's table has otherwise
+RENAMED = {"MYP_CLIENT_PROGRESS": "CLIENT_PROGRESS_OBSOLETE", "MYP_CLIENT_MULTI_FACTOR_AUTHENTICATION": "MULTI_FACTOR_AUTHENTICATION",
+           "MYP_DUMP_NON_BLOCK": "BINLOG_DUMP_NON_BLOCK", "MYP_DUMP_THROUGH_POSITION": "BINLOG_THROUGH_POSITION",
+           "MYP_DUMP_THROUGH_GTID": "BINLOG_THROUGH_GTID"}
+# the flags, commands and kinds, each of which the library has
+IS_IN_THE_TABLE = re.compile(r"MYP_(CLIENT|MARIADB_CLIENT|SERVER|COM|DUMP|SESSION_TRACK)_|MYP_\w+_FLAG$|MYP_NUM_FLAG$")
 SIZES = {"u8": 1, "u16": 2, "u32": 4, "u64": 8, "usize": 8}
 
 
@@ -85,6 +91,9 @@ def numbers_of_the_library():
     found = {}
     masks = re.findall(r"^([A-Z]\w+) = (\w+)$", (WIRE / "FlagMasks.antt").read_text(), re.M)
     found.update({f"MYP_{name}": int(value.replace("_", ""), 0) for name, value in masks})
+    found.update({ours: found[f"MYP_{theirs}"] for ours, theirs in RENAMED.items()})
+    commands = re.findall(r"^server_command_code variant\.(COM_\w+) = (\d+)$", (WIRE / "ServerCommand.antt").read_text(), re.M)
+    found.update({f"MYP_{name}": int(value) for name, value in commands})
     types = re.findall(r"^column_type_code variant\.MYSQL_(TYPE_\w+) = (\d+)$", (WIRE / "ColumnType.antt").read_text(), re.M)
     found.update({f"MYP_{name}": int(value) for name, value in types})
     states = re.findall(r"^session_state_type_code variant\.(\w+) = (\d+)$", (WIRE / "SessionStateType.antt").read_text(), re.M)
@@ -112,7 +121,9 @@ def main():
     declared_names = set(re.findall(r"\b(MYP_\w+) =|\b(MYP_\w+),", " ".join(re.findall(r"enum \w+ \{(.*?)\};", header, re.S))))
     names = {a or b for a, b in declared_names}
     ours = {name: value for name, value in numbers_of_the_library().items() if name in names}
-    tests = [f'_Static_assert({name} == {value}u, "{name} is not the library\'s");' for name, value in ours.items()]
+    unknown = sorted(it for it in names if IS_IN_THE_TABLE.match(it) and it not in ours)
+    wrong += [f"{it} is no number of the library" for it in unknown]
+    tests = [f'_Static_assert((uint32_t){name} == {value}u, "{name} is not the library\'s");' for name, value in ours.items()]
     failed = refused(["#include <mysql_packets.h>", *tests])
     passed, wrong = passed + len(tests) - len(failed), wrong + failed
     if shutil.which("mariadb_config"):

@@ -32,7 +32,7 @@ NUMBERS = {"u8": "U8", "le_u16": "LeU16", "le_u24": "LeU24", "le_u32": "LeU32", 
 STRINGS = {"lenenc_bytes": "LenEncBytes", "null_bytes": "NullBytes", "eof_bytes": "EofBytes", "u8_bytes": "U8Bytes",
            "u32_bytes": "U32Bytes", "eof_name": "EofName"}
 CONSTANTS = {"const_u8": "ConstU8", "const_u32": "ConstU32", "const_bytes": "ConstBytes", "skip": "Skip"}
-CODES = {"column_type": "ColumnType", "bulk_indicator": "BulkIndicator", "session_state_type": "SessionStateType",
+CODES = {"column_type": "ColumnType", "bulk_indicator": "BulkIndicator", "session_state_type": "SessionStateType", "server_command": "ServerCommand",
          "status_flags": "StatusFlags"}
 # (a word of flags keeps every bit, so it is read as its number)
 WORDS = {"capability_flags": "LeU32", "mariadb_capabilities": "LeU32", "cursor_type": "U8", "column_flags": "LeU16",

@@ -16,6 +16,11 @@ def describe_column(record):
             + [f"{k}_str={lossy(v)}" for k, v in zip(keys, names)])
 
 
+def describe_column_count(record):
+    count, byte = record
+    return [f"count={count}", "metadata_follows=" + ("no" if byte == 0 else "yes")] + numbers(("metadata_byte",), (byte,))
+
+
 def shown_progress(stage, most, progress, info):
     whole = f"{progress // 1000}.{progress % 1000 // 10:02d}"
     return f"Stage: {stage} of {most} '{info.decode('utf-8', 'replace')}'  {whole}% of stage done"
@@ -115,6 +120,7 @@ MARKERS = {"ColumnDefinitionCatalog": b"\x03def", "FixedLengthFieldsLen": b"\x0c
 
 DESCRIBERS = {
     "column": lambda: by("Column", describe_column),
+    "column_count": lambda mariadb: by("ColumnCount", describe_column_count, int(mariadb)),
     "err": lambda caps: by("ErrPacket", describe_err, int(caps)),
     "ok": lambda caps: by("CommonOkPacket", describe_ok, int(caps)),
     "ok_end": lambda caps: by("ResultSetTerminator", describe_ok, int(caps)),

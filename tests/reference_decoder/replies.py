@@ -1,6 +1,6 @@
 """What a server answers: changes of a session's state, columns, OK packets, errors."""
 from .buf import Buf, Eof, Invalid, to_the_end
-from .codes import COLUMN_TYPES, PROGRESS_OBSOLETE, PROTOCOL_41, SESSION_STATE_CHANGED, SESSION_TRACK
+from .codes import CACHE_METADATA, COLUMN_TYPES, PROGRESS_OBSOLETE, PROTOCOL_41, SESSION_STATE_CHANGED, SESSION_TRACK
 
 
 def system_variable(buf):
@@ -95,6 +95,10 @@ def progress_report(buf):
     block = buf.block(6)
     block.take(1)
     return block.number(1), block.number(1), block.number(3), buf.string()
+
+
+def column_count(buf, mariadb):
+    return buf.lenenc(), buf.number(1) if mariadb & CACHE_METADATA else None
 
 
 def sql_state(buf):

@@ -46,7 +46,7 @@ fn response_to<'a>(
     )?;
     // Bulk executions, and reports of progress.
     let wanted = MariadbCapabilities::MARIADB_CLIENT_STMT_BULK_OPERATIONS
-        | MariadbCapabilities::from_bits_retain(1);
+        | MariadbCapabilities::MARIADB_CLIENT_PROGRESS;
     Ok(response.with_mariadb_ext_capabilities(wanted & greeting.mariadb_ext_capabilities()))
 }
 

@@ -33,7 +33,7 @@ pub fn columns<R: Read, W: Write>(
         let payload = answer(connection)?;
         columns.push(column(connection.alloc, &payload)?)?;
     }
-    let deprecates_eof = CapabilityFlags::from_bits_retain(1 << 24);
+    let deprecates_eof = CapabilityFlags::CLIENT_DEPRECATE_EOF;
     if count > 0 && !connection.capabilities.contains(deprecates_eof) {
         answer(connection)?;
     }

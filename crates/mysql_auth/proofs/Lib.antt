@@ -1,3 +1,4 @@
+mod Known
 mod Rounds
 pub mod Ended
 mod HandshakeFits
@@ -7,9 +8,12 @@ mod Scanner
 mod Once
 mod Merging
 mod Options
-mod NameRead
+pub mod NameRead
+mod LastPart
 mod ResponseRead
-mod PairsRead
+mod ChangeRead
+pub mod PairsRead
+pub mod PairsPassed
 mod PairsWritten
 mod WholePackets
 mod ValuesFit

@@ -14,7 +14,7 @@ use Rattle.mysql_wire.specs.Form.{Form, bytes, number}
 use Rattle.mysql_wire.specs.Int.{raw, byte}
 use Rattle.mysql_wire.specs.LenEnc.{lenenc, lenenc_from, lenenc_string}
 use Rattle.mysql_wire.specs.Many.{many, value_and_more}
-use Rattle.mysql_wire.specs.ManyLaws.{many-next}
+use Rattle.mysql_wire.specs.Many.Laws.{many-next}
 use Rattle.mysql_wire.specs.Seq.{is_any}
 use Rattle.mysql_auth.specs.Attributes.{Attribute, attribute}
 use Rattle.mysql_auth.proofs.Merging.{new-last}
@@ -50,10 +50,10 @@ pair-shorter p bytes rest e =
     let s = (attribute.form tt).found p bytes rest e in
     omega (arith, string-shorter s.0 bytes s.1 s.2, string-shorter s.3.0 s.1 s.3.1 s.3.2, ap length s.3.3.1)
 
-abbrev f : Form Attribute
+abbrev pub f : Form Attribute
 f = attribute.form tt
 
-opened : (bytes : List ℕ) → bytes ≢ [] → (many f).reads bytes ≡ then_read (f.reads bytes) (value_and_more (length bytes) (many f).reads)
+pub opened : (bytes : List ℕ) → bytes ≢ [] → (many f).reads bytes ≡ then_read (f.reads bytes) (value_and_more (length bytes) (many f).reads)
 unfolding many
 opened [] some = absurd (some refl)
 opened (b ∷ bs) some = many-next f b bs

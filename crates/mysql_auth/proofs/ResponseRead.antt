@@ -1,28 +1,48 @@
--- The last part of a response that is refused.
-use Rattle.std.proofs.Common.{◌≡◌, ℕ, List, Ok, Option, Bool, refl}
+-- A packet whose last part is read by itself: a response, whose last part is its attributes.
+use Rattle.std.proofs.Common.{◌≡◌, ℕ, List, Ok, Option, Bool, refl, ◌∙◌}
+use Rattle.std.specs.Prelude.{false}
 use Rattle.mysql_wire.specs.declared.fault.FaultOf.{FaultOf}
-use Rattle.mysql_wire.specs.declared.fault.FaultOf.TheVariants as fault
-use Rattle.mysql_wire.specs.Null.{null_string}
 use Rattle.mysql_wire.specs.Reading.{Reading, Faults, then_read}
+use Rattle.mysql_wire.specs.Null.{null_string}
 use Rattle.mysql_wire.specs.Seq.{counts_any}
+use Rattle.mysql_auth.specs.Attributes.{Attribute}
 use Rattle.mysql_auth.specs.SslRequest.{ssl_request}
-use Rattle.mysql_auth.specs.declared.auth_plugin.AuthPlugin.{AuthPlugin}
-use Rattle.mysql_auth.specs.declared.ssl_request.SslRequest.{SslRequest}
+use Rattle.mysql_auth.specs.declared.handshake_response.HandshakeResponse.{HandshakeResponse}
 use Rattle.mysql_auth.specs.HandshakeResponse.{handshake_response, scramble, database, plugin, sent_attributes, sends_attributes}
+use Rattle.mysql_auth.specs.HandshakeResponseRef.{before_attributes, with_attributes}
 use Rattle.mysql_auth.specs.AttributeBytes.{in_response, sent_len}
+use Rattle.mysql_auth.proofs.LastPart.{step, front-fault, last-fault}
 
--- what is refused is refused with what stands after it
-refused-after : {A B : Type 0} (takes_memory : Bool) (e : FaultOf) (read : Reading A) (next : A → List ℕ → Reading B) → Faults takes_memory e read → Faults takes_memory e (then_read read next)
-refused-after takes_memory fault.Memory read next h = h
-refused-after takes_memory fault.UnexpectedEof read next h = rw h refl
-refused-after takes_memory (fault.InvalidData text) read next h = rw h refl
-refused-after takes_memory (fault.InvalidInput text) read next h = rw h refl
+-- the attributes, after what stands in front of them
+abbrev attributes_after : HandshakeResponse → List ℕ → Reading HandshakeResponse
+attributes_after p mid = then_read (((sent_attributes p.head).form tt).reads mid) (λ given rest. Ok (with_attributes given p, rest))
 
-pub attributes-fault : (e : FaultOf) (head : SslRequest) (user answer : List ℕ) (db : Option (List ℕ)) (named : Option AuthPlugin) (bytes b1 b2 b3 b4 b5 : List ℕ)
-    → (ssl_request.form tt).reads bytes ≡ Ok (head, b1) → null_string.reads b1 ≡ Ok (user, b2) → ((scramble head).form tt).reads b2 ≡ Ok (answer, b3)
-    → ((database head).form tt).reads b3 ≡ Ok (db, b4) → ((plugin head).form tt).reads b4 ≡ Ok (named, b5)
-    → Faults (counts_any ((sent_len (sends_attributes head)).reads b5)) e (((sent_attributes head).form tt).reads b5)
-    → Faults (counts_any (in_response.reads bytes)) e ((handshake_response.form tt).reads bytes)
+parts : (bytes : List ℕ) → (handshake_response.form tt).reads bytes ≡ then_read (before_attributes.reads bytes) attributes_after
 unfolding handshake_response
-attributes-fault e head user answer db named bytes b1 b2 b3 b4 b5 e1 e2 e3 e4 e5 h =
-    rw (e1, e2, e3, e4, e5) (refused-after (counts_any ((sent_len (sends_attributes head)).reads b5)) e (((sent_attributes head).form tt).reads b5) _ h)
+parts bytes =
+    step ((ssl_request.form tt).reads bytes) _ attributes_after _ (λ head b1.
+    step (null_string.reads b1) _ attributes_after _ (λ user b2.
+    step (((scramble head).form tt).reads b2) _ attributes_after _ (λ answer b3.
+    step (((database head).form tt).reads b3) _ attributes_after _ (λ db b4.
+    step (((plugin head).form tt).reads b4) _ attributes_after _ (λ named b5. refl)))))
+
+pub response-read : (p : HandshakeResponse) (given : Option (List Attribute)) (bytes mid rest : List ℕ) → before_attributes.reads bytes ≡ Ok (p, mid)
+    → ((sent_attributes p.head).form tt).reads mid ≡ Ok (given, rest) → (handshake_response.form tt).reads bytes ≡ Ok (with_attributes given p, rest)
+response-read p given bytes mid rest e h = parts bytes ∙ rw (e, h) refl
+
+pub response-front_fault : (takes_memory : Bool) (e : FaultOf) (bytes : List ℕ) → Faults false e (before_attributes.reads bytes)
+    → Faults takes_memory e ((handshake_response.form tt).reads bytes)
+response-front_fault takes_memory e bytes h = rw (parts bytes) (front-fault takes_memory e (before_attributes.reads bytes) attributes_after h)
+
+pub response-last_fault : (e : FaultOf) (p : HandshakeResponse) (bytes mid : List ℕ) → before_attributes.reads bytes ≡ Ok (p, mid)
+    → Faults false e (((sent_attributes p.head).form tt).reads mid) → Faults false e ((handshake_response.form tt).reads bytes)
+response-last_fault e p bytes mid same h = rw (parts bytes, same) (last-fault false e (((sent_attributes p.head).form tt).reads mid) _ h)
+
+pub attributes-fault : (e : FaultOf) (p : HandshakeResponse) (bytes mid : List ℕ) → before_attributes.reads bytes ≡ Ok (p, mid)
+    → Faults (counts_any ((sent_len (sends_attributes p.head)).reads mid)) e (((sent_attributes p.head).form tt).reads mid)
+    → Faults (counts_any (in_response.reads bytes)) e ((handshake_response.form tt).reads bytes)
+attributes-fault e p bytes mid same h = rw (parts bytes, same) (last-fault (counts_any ((sent_len (sends_attributes p.head)).reads mid)) e (((sent_attributes p.head).form tt).reads mid) _ h)
+
+pub ruleset response_parts = (response-read, response-front_fault, response-last_fault)
+
+pub ruleset responses_read = (response-read, response-front_fault, attributes-fault)

@@ -52,6 +52,10 @@ attribute_fields = do
 unfoldable pub attribute : Codec (Unit {0}) Attribute
 attribute = packet attribute_fields (λ p. refl)
 
+pub size-attribute : (attribute.form tt).size ≡ None
+unfolding attribute
+size-attribute = refl
+
 some-attribute : (p : Attribute) → 0 < attribute.len p
 unfolding attribute
 some-attribute p = some-then _ (some-lenenc p.0)

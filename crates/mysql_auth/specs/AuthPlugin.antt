@@ -1,5 +1,5 @@
 -- Authentication plugins.
-use Rattle.std.specs.Prelude.{◌≡◌, ℕ, List, [], ◌∷◌, ◌++◌, length, replicate, codes, Bool, true, false, Option, None, option_map, nat_eq, if◌then◌else◌, refl}
+use Rattle.std.specs.Prelude.{◌≡◌, ℕ, List, [], ◌∷◌, ◌++◌, length, replicate, codes, Bool, true, false, Option, Some, None, option_map, nat_eq, if◌then◌else◌, refl}
 use Rattle.std.proofs.Common.{ap, ◌∙◌}
 use Rattle.std.proofs.lemmas.List.{append-nil}
 use Rattle.std.specs.Cmp.Lexicographic.{pointwise}
@@ -60,6 +60,11 @@ named-again name =
 -- the plugin of a name, one zero at its end aside
 abbrev pub plugin_of : List ℕ → AuthPlugin
 plugin_of bytes = plugin_named (without_last_zero bytes)
+
+-- the plugin, where it has a variant of its own
+abbrev pub known : AuthPlugin → Option AuthPlugin
+known (plugin.Other name) = None
+known p = Some p
 
 -- a plugin that has a variant of its own, and so no bytes of a name
 abbrev pub IsKnown : AuthPlugin → Type 0

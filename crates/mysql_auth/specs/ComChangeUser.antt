@@ -177,22 +177,23 @@ abbrev pub MoreFits : CapabilityFlags → Option ComChangeUserMoreData → List 
 MoreFits capabilities None rest = rest ≡ []
 MoreFits capabilities (Some p) rest = MoreDataFits capabilities p
 
-pub record ChangeUserFits (capabilities : CapabilityFlags) (p : ComChangeUser) (rest : List ℕ) : Type 0 where
+-- texts that their forms can tell, and more data that fits
+pub record ChangeFits (More : Option ComChangeUserMoreData → List ℕ → Type 0) (p : ComChangeUser) (rest : List ℕ) : Type 0 where
   pub user : HasNoZero (user p)
   pub auth_plugin_data : length (auth_plugin_data p) < 2 ^ 8
   pub database : HasNoZero (database p)
-  pub more_data : MoreFits capabilities (more_data_in p) rest
+  pub more_data : More (more_data_in p) rest
+
+abbrev pub ChangeUserFits : CapabilityFlags → ComChangeUser → List ℕ → Type 0
+ChangeUserFits capabilities p rest = ChangeFits (MoreFits capabilities) p rest
 
 -- what is left to show of a change of user at hand
 abbrev pub MorePartsFit : CapabilityFlags → Option ComChangeUserMoreData → List ℕ → Type 0
 MorePartsFit capabilities None rest = rest ≡ []
 MorePartsFit capabilities (Some p) rest = MoreDataPartsFit capabilities p
 
-pub record ChangeUserPartsFit (capabilities : CapabilityFlags) (p : ComChangeUser) (rest : List ℕ) : Type 0 where
-  pub user : HasNoZero (user p)
-  pub auth_plugin_data : length (auth_plugin_data p) < 2 ^ 8
-  pub database : HasNoZero (database p)
-  pub more_data : MorePartsFit capabilities (more_data_in p) rest
+abbrev pub ChangeUserPartsFit : CapabilityFlags → ComChangeUser → List ℕ → Type 0
+ChangeUserPartsFit capabilities p rest = ChangeFits (MorePartsFit capabilities) p rest
 
 -- what is left to show of a change of user that was read
 abbrev pub MoreIsShort : CapabilityFlags → Option ComChangeUserMoreData → List ℕ → Type 0

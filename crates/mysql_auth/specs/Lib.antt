@@ -14,6 +14,9 @@ pub mod Version
 pub mod Scan
 pub mod PluginName
 pub mod Attributes
+pub mod ConnectAttributesRef
 pub mod HandshakeResponse
+pub mod HandshakeResponseRef
 pub mod ComChangeUser
+pub mod ComChangeUserRef
 pub mod AttributeBytes

@@ -12,6 +12,17 @@ pub record PluginFits (p : AuthPlugin) : Type 0 where
   pub no_zero : HasNoZero (plugin_name p)
   pub named : plugin_of (plugin_name p) ≡ p
 
+-- the plugin of a name that is read so; it is written with a zero after the name
+abbrev named : (names : Form (List ℕ)) → ((p : AuthPlugin) (rest : List ℕ) → PluginFits p → (map plugin_of names).Spells p (auth_plugin.bytes p ++ rest) rest) → Codec (Unit {0}) AuthPlugin
+named names again = record {
+  form = λ c. map plugin_of names;
+  bytes = auth_plugin.bytes;
+  len = λ p. length (auth_plugin.bytes p);
+  fits = λ c p rest. PluginFits p;
+  exact = λ c p rest h. refl;
+  again = λ c p rest h. again p rest h;
+}
+
 -- ---- up to a zero
 
 pub plugin_null-again : (p : AuthPlugin) (rest : List ℕ) → PluginFits p → (map plugin_of null_string).Spells p (auth_plugin.bytes p ++ rest) rest
@@ -20,14 +31,7 @@ plugin_null-again p rest h = (plugin_name p, h.named, (h.no_zero, append_assoc (
 
 -- the plugin of a name that ends in a zero
 unfoldable pub plugin_null : Codec (Unit {0}) AuthPlugin
-plugin_null = record {
-  form = λ c. map plugin_of null_string;
-  bytes = auth_plugin.bytes;
-  len = λ p. length (auth_plugin.bytes p);
-  fits = λ c p rest. PluginFits p;
-  exact = λ c p rest h. refl;
-  again = λ c p rest h. plugin_null-again p rest h;
-}
+plugin_null = named null_string plugin_null-again
 
 -- ---- up to a zero, or to the end where there is none
 
@@ -50,13 +54,6 @@ unfolding auth_plugin null_string
 plugin_null_or_eof-again p rest h =
     rw (zero-there (plugin_name p) rest) (plugin_name p, h.named, (h.no_zero, append_assoc (plugin_name p) (0 ∷ []) rest))
 
--- the plugin of a name that ends in a zero, or at the end of the bytes; it is written with the zero
+-- the plugin of a name that ends in a zero, or at the end of the bytes
 unfoldable pub plugin_null_or_eof : Codec (Unit {0}) AuthPlugin
-plugin_null_or_eof = record {
-  form = λ c. map plugin_of name_to_zero_or_end;
-  bytes = auth_plugin.bytes;
-  len = λ p. length (auth_plugin.bytes p);
-  fits = λ c p rest. PluginFits p;
-  exact = λ c p rest h. refl;
-  again = λ c p rest h. plugin_null_or_eof-again p rest h;
-}
+plugin_null_or_eof = named name_to_zero_or_end plugin_null_or_eof-again

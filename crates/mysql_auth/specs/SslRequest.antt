@@ -7,7 +7,7 @@ use Rattle.mysql_wire.specs.Codecs.{◌>>=◌, give, field, block, packet, u8, u
 use Rattle.mysql_wire.specs.Flags.{CapabilityFlags, MariadbCapabilities}
 use Rattle.mysql_wire.specs.Int.{raw_int}
 use Rattle.mysql_auth.specs.declared.ssl_request.SslRequest.{SslRequest}
-use Rattle.mysql_auth.specs.Supported.{CLIENT_SSL}
+use Rattle.mysql_wire.specs.FlagMasks.{CLIENT_SSL}
 
 abbrev pub capabilities : SslRequest → CapabilityFlags
 capabilities p = p.capabilities.0
@@ -37,13 +37,16 @@ with_mariadb mariadb p = request_of (capabilities p) (max_packet_size p) (charac
 abbrev pub with_character_set : ℕ → SslRequest → SslRequest
 with_character_set number p = request_of (capabilities p) (max_packet_size p) number (mariadb_capabilities p)
 
+abbrev pub with_capabilities : CapabilityFlags → SslRequest → SslRequest
+with_capabilities capabilities p = request_of capabilities (max_packet_size p) (character_set p) (mariadb_capabilities p)
+
 -- CLIENT_SSL, by which a server knows a request for TLS
 abbrev pub with_client_ssl : ℕ → ℕ
 with_client_ssl bits = bit_or bits CLIENT_SSL
 
 -- the same request with that flag
 abbrev pub for_tls : SslRequest → SslRequest
-for_tls p = request_of (record { 0 = with_client_ssl (capabilities p).0; 1 = record {} }) (max_packet_size p) (character_set p) (mariadb_capabilities p)
+for_tls p = with_capabilities (record { 0 = with_client_ssl (capabilities p).0; 1 = record {} }) p
 
 abbrev pub ssl_request_fields : Fields (Unit {0}) SslRequest SslRequest
 ssl_request_fields = do

@@ -1,23 +1,6 @@
 -- The capabilities that a driver over these packets can agree to.
 use Rattle.std.specs.Prelude.{ℕ, ◌+◌, ◌-◌, ◌^◌}
-
-abbrev pub CLIENT_COMPRESS : ℕ
-CLIENT_COMPRESS = 2 ^ 5
-
-abbrev pub CLIENT_SSL : ℕ
-CLIENT_SSL = 2 ^ 11
-
-abbrev pub CLIENT_OPTIONAL_RESULTSET_METADATA : ℕ
-CLIENT_OPTIONAL_RESULTSET_METADATA = 2 ^ 25
-
-abbrev pub CLIENT_ZSTD_COMPRESSION_ALGORITHM : ℕ
-CLIENT_ZSTD_COMPRESSION_ALGORITHM = 2 ^ 26
-
-abbrev pub CLIENT_QUERY_ATTRIBUTES : ℕ
-CLIENT_QUERY_ATTRIBUTES = 2 ^ 27
-
-abbrev pub MULTI_FACTOR_AUTHENTICATION : ℕ
-MULTI_FACTOR_AUTHENTICATION = 2 ^ 28
+use Rattle.mysql_wire.specs.FlagMasks.{CLIENT_COMPRESS, CLIENT_SSL, CLIENT_OPTIONAL_RESULTSET_METADATA, CLIENT_ZSTD_COMPRESSION_ALGORITHM, CLIENT_QUERY_ATTRIBUTES, MULTI_FACTOR_AUTHENTICATION}
 
 -- all of 32 bits but these six
 abbrev pub supported : ℕ

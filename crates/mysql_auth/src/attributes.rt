@@ -1,7 +1,7 @@
 //! Attributes of a connection.
 #![tactic(auto, using(mysql_wire::proofs::Packets::packets), unfolding(crate::specs::Attributes::attributes, crate::specs::Attributes::attribute))]
 
-ghost use Rattle.std.specs.Prelude.{true, vec_len, vec_capacity, ◌≡◌, ◌≢◌, ◌+◌, ◌++◌, ◌≤◌, [], List, ℕ, length, map, option_map, IfOk, is_ok, None, refl};
+ghost use Rattle.std.specs.Prelude.{true, drop, ◌≡◌, ◌≢◌, ◌+◌, ◌++◌, ◌≤◌, [], List, ℕ, length, map, option_map, IfOk, is_ok, None, refl};
 ghost use Rattle.mysql_wire.specs.Reading.{Answers};
 ghost use Rattle.mysql_wire.specs.Seq.{counts_any, is_any};
 ghost use Rattle.mysql_wire.specs.Writing.{saturated};
@@ -12,8 +12,8 @@ use crate::attribute::{Attribute, has_key};
 use crate::merged::read_merged;
 use indexmap::IndexMap;
 use mysql_wire::{
-    AnyWidth, BytesRepr, FaultOf, IntRepr, LenEnc, MyDeserialize, MySerialize, ParseBuf, RawBytes,
-    RawInt, append_items, items_len,
+    AnyWidth, Buffer, BytesRepr, FaultOf, IntRepr, LenEnc, MyDeserialize, MySerialize, ParseBuf,
+    RawBytes, RawInt, append_items, items_len,
 };
 use std::alloc::{AllocError, Global};
 use std::borrow::CowSlice;
@@ -79,7 +79,7 @@ fn read_many<'s, 'a>(inside: ParseBuf<'a>) -> Result<Attributes<'a>, FaultOf<'s>
 
 /// The attributes that these bytes are the pairs of.
 #[tactic(auto, using(crate::proofs::PairsRead::pair_loops))]
-fn read_pairs<'s, 'a>(inside: ParseBuf<'a>) -> Result<Attributes<'a>, FaultOf<'s>>
+pub(crate) fn read_pairs<'s, 'a>(inside: ParseBuf<'a>) -> Result<Attributes<'a>, FaultOf<'s>>
     ensures value { Answers (is_any (length inside.entry)) result [] (spec.pairs.reads inside.entry) }
 {
     if inside.is_empty() {
@@ -142,10 +142,12 @@ impl<'a> Attributes<'a> {
     }
 
     /// Writes the pairs to the end of a buffer that has capacity for them.
-    fn append_pairs(&self, out: &mut Vec<u8>)
-        requires { vec_len out.old + length (spec.pairs_bytes self.now) ≤ vec_capacity out.old }
-        ensures items { out.new.items ≡ out.old.items ++ spec.pairs_bytes self.now }
-        ensures capacity { vec_capacity out.old ≤ vec_capacity out.new }
+    fn append_pairs<O: Buffer>(&self, out: &mut O)
+        requires { length (O.held out.old) + length (spec.pairs_bytes self.now) ≤ O.capacity out.old }
+        ensures items { O.held out.new ≡ O.held out.old ++ spec.pairs_bytes self.now }
+        ensures after { O.after out.new ≡ drop (length (spec.pairs_bytes self.now)) (O.after out.old) }
+        ensures capacity { O.capacity out.old ≤ O.capacity out.new }
+        ensures kept { O.kept out.new ≡ O.kept out.old }
     {
         append_items(self.list.as_slice(), out);
     }
@@ -243,7 +245,8 @@ impl MySerialize for Attributes<'_> {
         <LenEnc as IntRepr>::written_len(inside as u64).saturating_add(inside)
     }
 
-    fn append(&self, out: &mut Vec<u8>) {
+    fn append<O: Buffer>(&self, out: &mut O) {
+        out.is_in_memory();
         <LenEnc as IntRepr>::append(self.pairs_len() as u64, out);
         self.append_pairs(out);
     }

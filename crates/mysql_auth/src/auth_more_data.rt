@@ -5,6 +5,7 @@ ghost use Rattle.std.specs.Prelude.{◌≡◌, IfOk};
 ghost use Rattle.std.specs.Cow.{cow_slice_items};
 ghost use Rattle.mysql_auth.specs.AuthMoreData as spec;
 
+use crate::auth_more_data_ref::AuthMoreDataRef;
 use mysql_wire::{
     AnyWidth, ConstFault, ConstU8, EofBytes, FaultOf, MyDeserialize, ParseBuf, Parts, RawBytes,
     Sink, parts,
@@ -76,10 +77,7 @@ impl<'de> MyDeserialize<'de> for AuthMoreData<'de> {
     ghost form = { spec.auth_more_data.form };
 
     fn deserialize<'s>(_ctx: (), buf: &mut ParseBuf<'de>) -> Result<Self, FaultOf<'s>> {
-        Ok(AuthMoreData {
-            header: buf.parse(())?,
-            data: RawBytes::new(CowSlice::Borrowed(buf.eat_all())),
-        })
+        Ok(AuthMoreDataRef::deserialize((), buf)?.to_packet())
     }
 
     ghost size_is = { λ _. spec.size-auth_more_data };

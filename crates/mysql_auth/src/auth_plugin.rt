@@ -93,35 +93,11 @@ impl<'a> AuthPlugin<'a> {
         }
     }
 
-    /// The same plugin, on memory of its own. Another name alone takes any.
-    ///
-    /// Where the copy is refused, the plugin is given up, and the bytes that it borrowed stay.
-    pub fn into_owned(self, alloc: Global) -> Result<AuthPlugin<'static>, AllocError>
-        ensures value { IfOk result (λ owned. owned ≡ self.entry) }
-        ensures known { spec.IsKnown self.entry → is_ok result ≡ true }
+    /// The same plugin, where it has a variant of its own. It borrows nothing.
+    fn known(&self) -> Option<AuthPlugin<'static>>
+        ensures value { result ≡ spec.known self.now }
     {
-        Ok(match self {
-            AuthPlugin::MysqlOldPassword => AuthPlugin::MysqlOldPassword,
-            AuthPlugin::MysqlClearPassword => AuthPlugin::MysqlClearPassword,
-            AuthPlugin::MysqlNativePassword => AuthPlugin::MysqlNativePassword,
-            AuthPlugin::CachingSha2Password => AuthPlugin::CachingSha2Password,
-            AuthPlugin::Ed25519 => AuthPlugin::Ed25519,
-            AuthPlugin::MariadbParsec {
-                iterations,
-                ext_salt,
-            } => AuthPlugin::MariadbParsec {
-                iterations,
-                ext_salt,
-            },
-            AuthPlugin::Other(name) => AuthPlugin::Other(name.into_owned(alloc)?),
-        })
-    }
-
-    /// The same plugin, whose name is borrowed from this one. It takes no memory.
-    pub fn borrow(&self) -> AuthPlugin<'_>
-        ensures value { result ≡ self.now }
-    {
-        match self {
+        Some(match self {
             AuthPlugin::MysqlOldPassword => AuthPlugin::MysqlOldPassword,
             AuthPlugin::MysqlClearPassword => AuthPlugin::MysqlClearPassword,
             AuthPlugin::MysqlNativePassword => AuthPlugin::MysqlNativePassword,
@@ -134,10 +110,36 @@ impl<'a> AuthPlugin<'a> {
                 iterations: *iterations,
                 ext_salt: *ext_salt,
             },
-            AuthPlugin::Other(name) => {
-                AuthPlugin::Other(RawBytes::new(CowSlice::Borrowed(name.as_bytes())))
-            }
+            AuthPlugin::Other(_) => return None,
+        })
+    }
+
+    /// The same plugin, on memory of its own. Another name alone takes any.
+    ///
+    /// Where the copy is refused, the plugin is given up, and the bytes that it borrowed stay.
+    #[tactic(auto, using(crate::proofs::Known::known_plugins))]
+    pub fn into_owned(self, alloc: Global) -> Result<AuthPlugin<'static>, AllocError>
+        ensures value { IfOk result (λ owned. owned ≡ self.entry) }
+        ensures known { spec.IsKnown self.entry → is_ok result ≡ true }
+    {
+        if let Some(known) = self.known() {
+            return Ok(known);
         }
+        match self {
+            AuthPlugin::Other(name) => Ok(AuthPlugin::Other(name.into_owned(alloc)?)),
+            _ => Err(AllocError),
+        }
+    }
+
+    /// The same plugin, whose name is borrowed from this one. It takes no memory.
+    #[tactic(auto, using(crate::proofs::Known::known_plugins))]
+    pub fn borrow(&self) -> AuthPlugin<'_>
+        ensures value { result ≡ self.now }
+    {
+        if let Some(known) = self.known() {
+            return known;
+        }
+        AuthPlugin::Other(RawBytes::new(CowSlice::Borrowed(self.as_bytes())))
     }
 
     /// Takes in what a server tells beside the scramble: for `parsec` the number of rounds and the salt, as

@@ -8,6 +8,7 @@ ghost use Rattle.mysql_auth.specs.AuthSwitchRequest as spec;
 ghost use Rattle.mysql_auth.specs.EofName.{without_last_zero};
 
 use crate::auth_plugin::AuthPlugin;
+use crate::auth_switch_request_ref::AuthSwitchRequestRef;
 use crate::eof_name::without_last_zero;
 use mysql_wire::{
     AnyWidth, ConstFault, ConstU8, EofBytes, FaultOf, MyDeserialize, NullBytes, ParseBuf, Parts,
@@ -124,11 +125,7 @@ impl<'de> MyDeserialize<'de> for AuthSwitchRequest<'de> {
     ghost form = { spec.auth_switch_request.form };
 
     fn deserialize<'s>(_ctx: (), buf: &mut ParseBuf<'de>) -> Result<Self, FaultOf<'s>> {
-        Ok(AuthSwitchRequest {
-            header: buf.parse(())?,
-            auth_plugin: buf.parse(())?,
-            plugin_data: RawBytes::new(CowSlice::Borrowed(buf.eat_all())),
-        })
+        Ok(AuthSwitchRequestRef::deserialize((), buf)?.to_packet())
     }
 
     ghost size_is = { λ _. spec.size-auth_switch_request };

@@ -12,9 +12,10 @@ ghost use Rattle.mysql_auth.specs.ComChangeUser as spec;
 ghost use Rattle.mysql_auth.specs.declared.com_change_user_more_data.ComChangeUserMoreData.{ComChangeUserMoreData};
 
 use crate::com_change_user_more_data::ComChangeUserMoreData;
+use crate::com_change_user_ref::ComChangeUserRef;
 use mysql_wire::{
-    AnyWidth, BytesRepr, CapabilityFlags, ConstFault, ConstU8, FaultOf, MyDeserialize, NullBytes,
-    ParseBuf, Parts, RawBytes, Sink, U8Bytes, parts,
+    AnyWidth, CapabilityFlags, ConstFault, ConstU8, FaultOf, MyDeserialize, NullBytes, ParseBuf,
+    Parts, RawBytes, Sink, U8Bytes, parts,
 };
 use std::alloc::{AllocError, Global};
 use std::borrow::CowSlice;
@@ -42,11 +43,11 @@ pub type ComChangeUserHeader = ConstU8<InvalidComChangeUserHeader, 0x11>;
 /// bytes are written, of a name those up to its first zero.
 #[derive(Clone, Debug, PartialEq, Eq)]
 pub struct ComChangeUser<'a> {
-    header: ComChangeUserHeader,
-    user: RawBytes<'a, NullBytes>,
-    auth_plugin_data: RawBytes<'a, U8Bytes>,
-    database: RawBytes<'a, NullBytes>,
-    more_data: Option<ComChangeUserMoreData<'a>>,
+    pub(crate) header: ComChangeUserHeader,
+    pub(crate) user: RawBytes<'a, NullBytes>,
+    pub(crate) auth_plugin_data: RawBytes<'a, U8Bytes>,
+    pub(crate) database: RawBytes<'a, NullBytes>,
+    pub(crate) more_data: Option<ComChangeUserMoreData<'a>>,
 }
 
 impl Drop for ComChangeUser<'_> {
@@ -198,24 +199,16 @@ impl<'de> MyDeserialize<'de> for ComChangeUser<'de> {
 
     ghost form = { spec.change_user.form };
 
+    #[tactic(auto, using(crate::proofs::ChangeRead::changes_read))]
     fn deserialize<'s>(
         capabilities: CapabilityFlags,
         buf: &mut ParseBuf<'de>,
     ) -> Result<Self, FaultOf<'s>> {
         let mut rest = buf.rest();
-        let header = rest.parse(())?;
-        let user = <NullBytes as BytesRepr>::deserialize((), &mut rest)?.eat_all();
-        let auth_plugin_data = <U8Bytes as BytesRepr>::deserialize((), &mut rest)?.eat_all();
-        let database = <NullBytes as BytesRepr>::deserialize((), &mut rest)?.eat_all();
+        let change = ComChangeUserRef::read_before_more_data(&mut rest)?;
         let more_data = read_more_data(capabilities, &mut rest)?;
         *buf = rest;
-        Ok(ComChangeUser {
-            header,
-            user: RawBytes::new(CowSlice::Borrowed(user)),
-            auth_plugin_data: RawBytes::new(CowSlice::Borrowed(auth_plugin_data)),
-            database: RawBytes::new(CowSlice::Borrowed(database)),
-            more_data,
-        })
+        Ok(change.with_more_data(more_data))
     }
 
     ghost size_is = { spec.size-change_user };

@@ -1,7 +1,7 @@
 //! What a change of a session's user tells besides.
 #![tactic(auto, using(mysql_wire::proofs::Packets::packets), unfolding(crate::specs::ComChangeUser::more_data))]
 
-ghost use Rattle.std.specs.Prelude.{true, false, ◌≡◌, ◌<◌, ◌^◌, List, IfOk, is_ok, None, Some, map, option_map};
+ghost use Rattle.std.specs.Prelude.{true, ◌≡◌, ◌<◌, ◌^◌, List, IfOk, is_ok, None, Some, map, option_map};
 ghost use Rattle.mysql_wire.specs.Reading.{Answers};
 ghost use Rattle.mysql_wire.specs.Seq.{counts_any};
 ghost use Rattle.mysql_auth.specs.AttributeBytes.{in_more_data, sent_len};
@@ -10,7 +10,7 @@ ghost use Rattle.mysql_auth.specs.ComChangeUser as spec;
 
 use crate::attributes::{Attributes, attributes_of};
 use crate::auth_plugin::AuthPlugin;
-use crate::plugin_name::plugin_to_zero;
+use crate::com_change_user_more_data_ref::ComChangeUserMoreDataRef;
 use bitflags::Flags;
 use indexmap::IndexMap;
 use mysql_wire::{
@@ -27,9 +27,9 @@ use std::alloc::{AllocError, Global};
 /// given. Reading takes memory for the attributes alone.
 #[derive(Clone, Debug, PartialEq, Eq)]
 pub struct ComChangeUserMoreData<'a> {
-    character_set: RawInt<LeU16>,
-    auth_plugin: Option<AuthPlugin<'a>>,
-    connect_attributes: Option<Attributes<'a>>,
+    pub(crate) character_set: RawInt<LeU16>,
+    pub(crate) auth_plugin: Option<AuthPlugin<'a>>,
+    pub(crate) connect_attributes: Option<Attributes<'a>>,
 }
 
 impl Drop for ComChangeUserMoreData<'_> {
@@ -122,20 +122,6 @@ impl ComChangeUserMoreData<'_> {
     }
 }
 
-/// The plugin, where the flags say that it is named.
-#[tactic(auto, unfolding(crate::specs::ComChangeUser::named_plugin))]
-fn read_plugin<'s, 'a>(
-    capabilities: CapabilityFlags,
-    buf: &mut ParseBuf<'a>,
-) -> Result<Option<AuthPlugin<'a>>, FaultOf<'s>>
-    ensures value { Answers false result buf.new ((spec.named_plugin.form capabilities).reads buf.old) }
-{
-    if !capabilities.contains(CapabilityFlags::CLIENT_PLUGIN_AUTH) {
-        return Ok(None);
-    }
-    Ok(Some(plugin_to_zero(buf)?))
-}
-
 /// The attributes, where the flags say that they are there.
 #[tactic(auto, unfolding(crate::specs::ComChangeUser::written_attributes))]
 fn read_attributes<'s, 'a>(
@@ -162,20 +148,16 @@ impl<'de> MyDeserialize<'de> for ComChangeUserMoreData<'de> {
 
     ghost form = { spec.more_data.form };
 
+    #[tactic(auto, using(crate::proofs::ChangeRead::more_data_read))]
     fn deserialize<'s>(
         capabilities: CapabilityFlags,
         buf: &mut ParseBuf<'de>,
     ) -> Result<Self, FaultOf<'s>> {
         let mut rest = buf.rest();
-        let character_set = rest.parse(())?;
-        let auth_plugin = read_plugin(capabilities, &mut rest)?;
+        let more = ComChangeUserMoreDataRef::read_before_attributes(capabilities, &mut rest)?;
         let connect_attributes = read_attributes(capabilities, &mut rest)?;
         *buf = rest;
-        Ok(ComChangeUserMoreData {
-            character_set,
-            auth_plugin,
-            connect_attributes,
-        })
+        Ok(more.with_attributes(connect_attributes))
     }
 
     ghost size_is = { spec.size-more_data };

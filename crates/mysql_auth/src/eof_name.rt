@@ -6,7 +6,7 @@ ghost use Rattle.mysql_wire.specs.Form.{Form};
 ghost use Rattle.mysql_wire.specs.Reading.{Answers, IsTail};
 ghost use Rattle.mysql_auth.specs.EofName.{without_last_zero};
 
-use mysql_wire::{BytesRepr, FaultOf, NullBytes, ParseBuf};
+use mysql_wire::{Buffer, BytesRepr, FaultOf, NullBytes, ParseBuf};
 
 /// The bytes, without one zero at their end.
 #[inline]
@@ -54,7 +54,7 @@ impl BytesRepr for EofName {
         <NullBytes as BytesRepr>::written_len(content)
     }
 
-    fn append(content: &[u8], out: &mut Vec<u8>) {
+    fn append<O: Buffer>(content: &[u8], out: &mut O) {
         <NullBytes as BytesRepr>::append(content, out)
     }
 

@@ -9,8 +9,8 @@ ghost use Rattle.mysql_auth.specs.Handshake as spec;
 use crate::handshake_head::HandshakeHead;
 use bitflags::Flags;
 use mysql_wire::{
-    BytesRepr, CapabilityFlags, Const, FaultOf, LeU16, LeU32, MariadbCapabilities, NullBytes,
-    ParseBuf, RawBytes, RawInt, Skip, StatusFlags, eat_skip, eat_u8, eat_u16, eat_u32,
+    BytesRepr, CapabilityFlags, Const, FaultOf, FixedInt, LeU16, LeU32, MariadbCapabilities,
+    NullBytes, ParseBuf, RawBytes, RawInt, Skip, StatusFlags,
 };
 use std::borrow::CowSlice;
 use std::marker::Model;
@@ -131,14 +131,14 @@ impl<'a> HandshakeHeadRef<'a> {
         ensures value { ((spec.handshake_block protocol_version server_version.now).form tt).reads fixed.old ≡ Ok (result, fixed.new) }
         ensures exact { length fixed.old ≡ 31 + length fixed.new }
     {
-        let connection_id = RawInt::new(eat_u32(fixed));
+        let connection_id = RawInt::take(fixed);
         let scramble_1 = FirstScramble::eat(fixed);
-        let filler = eat_skip(fixed);
-        let capabilities_low = RawInt::new(eat_u16(fixed));
-        let default_collation = RawInt::new(eat_u8(fixed));
-        let status_flags = Const::new(StatusFlags::from_bits_retain(eat_u16(fixed)));
-        let capabilities_high = RawInt::new(eat_u16(fixed));
-        let data_length = eat_u8(fixed);
+        let filler = Skip::take(fixed);
+        let capabilities_low = RawInt::take(fixed);
+        let default_collation = RawInt::take(fixed);
+        let status_flags = Const::new(StatusFlags::from_bits_retain(LeU16::take(fixed)));
+        let capabilities_high = RawInt::take(fixed);
+        let data_length = u8::take(fixed);
         let head = HandshakeHeadRef {
             protocol_version,
             server_version: ParseBuf::new(fixed.alloc(), server_version),
@@ -149,8 +149,10 @@ impl<'a> HandshakeHeadRef<'a> {
             default_collation,
             status_flags,
             capabilities_high,
-            reserved: eat_skip(fixed),
-            mariadb_capabilities: Const::new(MariadbCapabilities::from_bits_retain(eat_u32(fixed))),
+            reserved: Skip::take(fixed),
+            mariadb_capabilities: Const::new(MariadbCapabilities::from_bits_retain(LeU32::take(
+                fixed,
+            ))),
         };
         (head, data_length)
     }

@@ -1,7 +1,7 @@
 //! The answer to a handshake.
 #![tactic(auto, using(mysql_wire::proofs::Packets::packets), unfolding(crate::specs::HandshakeResponse::handshake_response))]
 
-ghost use Rattle.std.specs.Prelude.{true, false, [], ◌≡◌, ◌≢◌, ◌<◌, ℕ, List, Ok, Option, Some, None, Bool, IfOk, is_ok, map, option_map, is_some};
+ghost use Rattle.std.specs.Prelude.{true, [], ◌≡◌, ◌≢◌, ◌<◌, ℕ, List, Ok, Option, Some, None, Bool, IfOk, is_ok, map, option_map, is_some};
 ghost use Rattle.std.specs.Cow.{cow_slice_items};
 ghost use Rattle.std.specs.Int.{bit_at};
 ghost use Rattle.std.specs.Option.{option_map_or};
@@ -22,12 +22,12 @@ ghost use Rattle.mysql_auth.specs.SslRequest.{SslRequestFits};
 use crate::attributes::{Attributes, attributes_of};
 use crate::auth_plugin::AuthPlugin;
 use crate::com_change_user::{bytes_if_given, bytes_or_empty};
-use crate::plugin_name::plugin_to_zero_or_end;
+use crate::handshake_response_ref::HandshakeResponseRef;
 use crate::ssl_request::SslRequest;
 use bitflags::Flags;
 use indexmap::IndexMap;
 use mysql_wire::{
-    AnyWidth, BytesRepr, CapabilityFlags, Either, EofBytes, FaultOf, LenEnc, MariadbCapabilities,
+    AnyWidth, CapabilityFlags, Either, EofBytes, FaultOf, LenEnc, MariadbCapabilities,
     MyDeserialize, NullBytes, ParseBuf, Parts, RawBytes, Sink, U8Bytes, parts,
 };
 use std::alloc::{AllocError, Global};
@@ -49,12 +49,12 @@ use std::borrow::CowSlice;
 /// the attributes alone.
 #[derive(Clone, Debug, PartialEq, Eq)]
 pub struct HandshakeResponse<'a> {
-    head: SslRequest,
-    user: RawBytes<'a, NullBytes>,
-    scramble_buf: RawBytes<'a, EofBytes>,
-    db_name: Option<RawBytes<'a, NullBytes>>,
-    auth_plugin: Option<AuthPlugin<'a>>,
-    connect_attributes: Option<Attributes<'a>>,
+    pub(crate) head: SslRequest,
+    pub(crate) user: RawBytes<'a, NullBytes>,
+    pub(crate) scramble_buf: RawBytes<'a, EofBytes>,
+    pub(crate) db_name: Option<RawBytes<'a, NullBytes>>,
+    pub(crate) auth_plugin: Option<AuthPlugin<'a>>,
+    pub(crate) connect_attributes: Option<Attributes<'a>>,
 }
 
 impl Drop for HandshakeResponse<'_> {
@@ -114,6 +114,20 @@ impl<'a> HandshakeResponse<'a> {
     /// The flags that say whether a database, a plugin and attributes are there are set exactly if these are given; the
     /// other flags are as handed in. No scramble is an empty one, and no user too. The collation is the one that a
     /// server of that version knows: 45 from 5.5.3 on, else 33.
+    ///
+    /// ```
+    /// let response = HandshakeResponse::new(
+    ///     alloc,
+    ///     Some(CowSlice::Borrowed(sent)),
+    ///     greeting.server_version_parsed().unwrap_or((0, 0, 0)),
+    ///     Some(CowSlice::Borrowed(user.as_bytes())),
+    ///     database,
+    ///     Some(plugin_of(greeting)),
+    ///     supported_capabilities() & greeting.capabilities(),
+    ///     None,
+    ///     1 << 24,
+    /// )?;
+    /// ```
     pub fn new(
         alloc: Global,
         scramble_buf: Option<CowSlice<'a, u8>>,
@@ -297,55 +311,6 @@ impl<'a> HandshakeResponse<'a> {
     }
 }
 
-/// A scramble in the form that the flags ask for.
-#[tactic(auto, unfolding(crate::specs::HandshakeResponse::scramble))]
-fn read_scramble<'s, 'a>(
-    head: &SslRequest,
-    buf: &mut ParseBuf<'a>,
-) -> Result<ParseBuf<'a>, FaultOf<'s>>
-    ensures value { Answers false result buf.new (((spec.scramble head.now).form tt).reads buf.old) }
-{
-    let capabilities = head.capabilities();
-    if capabilities.contains(CapabilityFlags::CLIENT_PLUGIN_AUTH_LENENC_CLIENT_DATA) {
-        <LenEnc as BytesRepr>::deserialize((), buf)
-    } else if capabilities.contains(CapabilityFlags::CLIENT_SECURE_CONNECTION) {
-        <U8Bytes as BytesRepr>::deserialize((), buf)
-    } else {
-        <NullBytes as BytesRepr>::deserialize((), buf)
-    }
-}
-
-/// The database's name, where it was sent.
-#[tactic(auto, unfolding(crate::specs::HandshakeResponse::database))]
-fn read_database<'s, 'a>(
-    head: &SslRequest,
-    buf: &mut ParseBuf<'a>,
-) -> Result<Option<RawBytes<'a, NullBytes>>, FaultOf<'s>>
-    ensures value { Answers false result buf.new (((spec.database head.now).form tt).reads buf.old) }
-{
-    if !head
-        .capabilities()
-        .contains(CapabilityFlags::CLIENT_CONNECT_WITH_DB)
-    {
-        return Ok(None);
-    }
-    Ok(Some(buf.parse(())?))
-}
-
-/// The plugin, where it was named.
-#[tactic(auto, unfolding(crate::specs::HandshakeResponse::plugin))]
-fn read_plugin<'a>(head: &SslRequest, buf: &mut ParseBuf<'a>) -> Option<AuthPlugin<'a>>
-    ensures value { ((spec.plugin head.now).form tt).reads buf.old ≡ Ok (result, buf.new) }
-{
-    if !head
-        .capabilities()
-        .contains(CapabilityFlags::CLIENT_PLUGIN_AUTH)
-    {
-        return None;
-    }
-    Some(plugin_to_zero_or_end(buf))
-}
-
 /// The attributes, where they were sent.
 #[tactic(auto, unfolding(crate::specs::HandshakeResponse::sent_attributes))]
 fn read_attributes<'s, 'a>(
@@ -374,23 +339,13 @@ impl<'de> MyDeserialize<'de> for HandshakeResponse<'de> {
 
     ghost form = { spec.handshake_response.form };
 
+    #[tactic(auto, using(crate::proofs::ResponseRead::responses_read))]
     fn deserialize<'s>(_ctx: (), buf: &mut ParseBuf<'de>) -> Result<Self, FaultOf<'s>> {
         let mut rest = buf.rest();
-        let head: SslRequest = rest.parse(())?;
-        let user = <NullBytes as BytesRepr>::deserialize((), &mut rest)?.eat_all();
-        let scramble_buf = read_scramble(&head, &mut rest)?.eat_all();
-        let db_name = read_database(&head, &mut rest)?;
-        let auth_plugin = read_plugin(&head, &mut rest);
-        let connect_attributes = read_attributes(&head, &mut rest)?;
+        let response = HandshakeResponseRef::read_before_attributes(&mut rest)?;
+        let connect_attributes = read_attributes(&response.head, &mut rest)?;
         *buf = rest;
-        Ok(HandshakeResponse {
-            head,
-            user: RawBytes::new(CowSlice::Borrowed(user)),
-            scramble_buf: RawBytes::new(CowSlice::Borrowed(scramble_buf)),
-            db_name,
-            auth_plugin,
-            connect_attributes,
-        })
+        Ok(response.with_attributes(connect_attributes))
     }
 
     ghost size_is = { λ _. spec.size-handshake_response };

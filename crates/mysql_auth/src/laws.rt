@@ -33,8 +33,16 @@ ghost use Rattle.mysql_wire.specs.Null.{HasNoZero};
 
 use mysql_wire::MyDeserialize;
 
+mod borrowed;
 mod values;
 
+pub use borrowed::{
+    borrowed_auth_more_data_reads_auth_more_data,
+    borrowed_auth_switch_requests_read_auth_switch_requests,
+    borrowed_changes_of_user_read_changes_of_user, borrowed_connect_attributes_read_attributes,
+    borrowed_handshake_responses_read_handshake_responses, borrowed_handshakes_read_handshakes,
+    borrowed_more_data_reads_more_data, borrowed_public_keys_read_public_keys,
+};
 pub use values::{
     more_data_keys_stand_once, this_change_user_round_trips, this_handshake_response_round_trips,
     this_handshake_round_trips, this_more_data_round_trips, this_ssl_request_round_trips,
@@ -80,11 +88,6 @@ pub fn ssl_request_round_trips()
 /// What is written of a handshake is read again.
 pub fn handshake_round_trips()
     ensures spelled { (p : HandshakePacket) (rest : List ℕ) → HandshakeFits p rest → (handshake.form tt).Spells p (handshake.bytes p ++ rest) rest }
-{}
-
-/// A handshake that stays in its packet is read of the same bytes as a handshake, and is that handshake.
-pub fn borrowed_handshakes_read_handshakes()
-    ensures read { (bytes : List ℕ) → (⟦<crate::handshake_ref::HandshakePacketRef<'static> as MyDeserialize<'static>>⟧.form tt).reads bytes ≡ (handshake.form tt).reads bytes }
 {}
 
 /// What is written of a response to a handshake is read again.

@@ -5,17 +5,24 @@
 mod attribute;
 mod attributes;
 mod auth_more_data;
+mod auth_more_data_ref;
 mod auth_plugin;
 mod auth_plugin_data;
 mod auth_switch_request;
+mod auth_switch_request_ref;
 mod com_change_user;
 mod com_change_user_more_data;
+mod com_change_user_more_data_ref;
+mod com_change_user_ref;
+mod connect_attribute_ref;
+mod connect_attributes_ref;
 mod eof_name;
 mod handshake;
 mod handshake_head;
 mod handshake_head_ref;
 mod handshake_ref;
 mod handshake_response;
+mod handshake_response_ref;
 pub mod laws;
 mod merged;
 mod old_auth_switch_request;
@@ -23,27 +30,36 @@ mod parsec;
 mod plugin_name;
 mod public_key_request;
 mod public_key_response;
+mod public_key_response_ref;
 mod ssl_request;
 mod supported;
 mod version;
 
 pub use auth_more_data::{AuthMoreData, AuthMoreDataHeader, InvalidAuthMoreDataHeader};
+pub use auth_more_data_ref::AuthMoreDataRef;
 pub use auth_plugin::AuthPlugin;
 pub use auth_plugin_data::AuthPluginData;
 pub use auth_switch_request::{
     AuthSwitchRequest, AuthSwitchRequestHeader, InvalidAuthSwitchRequestHeader,
 };
+pub use auth_switch_request_ref::AuthSwitchRequestRef;
 pub use com_change_user::{ComChangeUser, ComChangeUserHeader, InvalidComChangeUserHeader};
 pub use com_change_user_more_data::ComChangeUserMoreData;
+pub use com_change_user_more_data_ref::ComChangeUserMoreDataRef;
+pub use com_change_user_ref::ComChangeUserRef;
+pub use connect_attribute_ref::ConnectAttributeRef;
+pub use connect_attributes_ref::ConnectAttributesRef;
 pub use eof_name::EofName;
 pub use handshake::HandshakePacket;
 pub use handshake_ref::HandshakePacketRef;
 pub use handshake_response::HandshakeResponse;
+pub use handshake_response_ref::HandshakeResponseRef;
 pub use old_auth_switch_request::OldAuthSwitchRequest;
 pub use parsec::parse_parsec_salt;
 pub use public_key_request::{InvalidPublicKeyRequest, PublicKeyRequest, PublicKeyRequestHeader};
 pub use public_key_response::{
     InvalidPublicKeyResponse, PublicKeyResponse, PublicKeyResponseHeader,
 };
+pub use public_key_response_ref::PublicKeyResponseRef;
 pub use ssl_request::SslRequest;
 pub use supported::supported_capabilities;

@@ -6,6 +6,7 @@ ghost use Rattle.std.specs.Cow.{cow_slice_items, cow_str_bytes};
 ghost use Rattle.mysql_wire.specs.Text.{lossy_text, BorrowsUtf8};
 ghost use Rattle.mysql_auth.specs.PublicKeyResponse as spec;
 
+use crate::public_key_response_ref::PublicKeyResponseRef;
 use mysql_wire::{
     AnyWidth, ConstFault, ConstU8, EofBytes, FaultOf, MyDeserialize, ParseBuf, Parts, RawBytes,
     Sink, parts,
@@ -67,10 +68,7 @@ impl<'de> MyDeserialize<'de> for PublicKeyResponse<'de> {
     ghost form = { spec.public_key_response.form };
 
     fn deserialize<'s>(_ctx: (), buf: &mut ParseBuf<'de>) -> Result<Self, FaultOf<'s>> {
-        Ok(PublicKeyResponse {
-            header: buf.parse(())?,
-            rsa_key: RawBytes::new(CowSlice::Borrowed(buf.eat_all())),
-        })
+        Ok(PublicKeyResponseRef::deserialize((), buf)?.to_packet())
     }
 
     ghost size_is = { λ _. spec.size-public_key_response };

@@ -6,15 +6,12 @@ ghost use Rattle.mysql_auth.specs.SslRequest as spec;
 
 use bitflags::Flags;
 use mysql_wire::{
-    CapabilityFlags, Const, FaultOf, Fixed, LeU32, MariadbCapabilities, MyDeserialize, ParseBuf,
-    Parts, RawInt, Sink, Skip, eat_skip, eat_u8, eat_u32, parts,
+    CapabilityFlags, Const, FaultOf, Fixed, FixedInt, LeU32, MariadbCapabilities, MyDeserialize,
+    ParseBuf, Parts, RawInt, Sink, Skip, parts,
 };
 
-/// The flag `CLIENT_SSL`, by which a server knows a request for TLS.
-const CLIENT_SSL: u32 = 1 << 11;
-
 /// A client's request to go on in TLS (`Protocol::SSLRequest`): the first 32 bytes of a
-/// handshake response, numbers with their little-endian.
+/// handshake response, its numbers little-endian.
 ///
 /// | Bytes | Field |
 /// |---|---|
@@ -94,17 +91,41 @@ impl SslRequest {
         self.character_set.0
     }
 
+    /// What a MariaDB client can do besides.
+    #[inline]
+    pub fn mariadb_capabilities(&self) -> MariadbCapabilities
+        ensures value { result ≡ spec.mariadb_capabilities self.now }
+    {
+        self.mariadb_capabilities.0
+    }
+
+    /// The same request with these capabilities.
+    #[inline]
+    fn with_capabilities(&self, capabilities: CapabilityFlags) -> Self
+        ensures value { result ≡ spec.with_capabilities capabilities self.now }
+    {
+        SslRequest::new(
+            capabilities,
+            self.max_packet_size(),
+            self.character_set(),
+        ).with_mariadb_capabilities(self.mariadb_capabilities())
+    }
+
+    /// The same request once more.
+    #[inline]
+    pub(crate) fn again(&self) -> Self
+        ensures value { result ≡ self.now }
+    {
+        self.with_capabilities(self.capabilities())
+    }
+
     /// The same request with the flag `CLIENT_SSL`.
     pub(crate) fn for_tls(&self) -> Self
         ensures value { result ≡ spec.for_tls self.now }
     {
-        let bits = self.capabilities().bits() | CLIENT_SSL;
-        SslRequest::new(
-            CapabilityFlags::from_bits_retain(bits),
-            self.max_packet_size(),
-            self.character_set(),
-        )
-        .with_mariadb_capabilities(self.mariadb_capabilities())
+        // (by this flag a server knows a request for TLS)
+        let bits = self.capabilities().bits() | CapabilityFlags::CLIENT_SSL.bits();
+        self.with_capabilities(CapabilityFlags::from_bits_retain(bits))
     }
 
     /// Each number has its width.
@@ -115,14 +136,6 @@ impl SslRequest {
         let _max_packet_size = self.max_packet_size();
         let _character_set = self.character_set();
         let _mariadb_capabilities = self.mariadb_capabilities();
-    }
-
-    /// What a MariaDB client can do besides.
-    #[inline]
-    pub(crate) fn mariadb_capabilities(&self) -> MariadbCapabilities
-        ensures value { result ≡ spec.mariadb_capabilities self.now }
-    {
-        self.mariadb_capabilities.0
     }
 }
 
@@ -138,11 +151,11 @@ impl<'de> MyDeserialize<'de> for SslRequest {
     fn deserialize<'s>(_ctx: (), buf: &mut ParseBuf<'de>) -> Result<Self, FaultOf<'s>> {
         let mut fields: ParseBuf<'de> = buf.parse(32)?;
         Ok(SslRequest {
-            capabilities: Const::new(CapabilityFlags::from_bits_retain(eat_u32(&mut fields))),
-            max_packet_size: RawInt::new(eat_u32(&mut fields)),
-            character_set: RawInt::new(eat_u8(&mut fields)),
-            skipped: eat_skip(&mut fields),
-            mariadb_capabilities: Const::new(MariadbCapabilities::from_bits_retain(eat_u32(
+            capabilities: Const::new(CapabilityFlags::from_bits_retain(LeU32::take(&mut fields))),
+            max_packet_size: RawInt::take(&mut fields),
+            character_set: RawInt::take(&mut fields),
+            skipped: Skip::take(&mut fields),
+            mariadb_capabilities: Const::new(MariadbCapabilities::from_bits_retain(LeU32::take(
                 &mut fields,
             ))),
         })

@@ -11,9 +11,9 @@ use Rattle.mysql_bulk.specs.declared.error.BulkExecuteRequestBuilderError.TheVar
 use Rattle.mysql_bulk.specs.Request.{BulkRequest}
 use Rattle.mysql_bulk.specs.Builder.{BuilderState, after_row, Adds, AddsRow, AddsParams, BuildsRequest}
 use Rattle.mysql_bulk.specs.Row.{contents_of_row, contents_of_rows}
-use Rattle.mysql_bulk.specs.Run.{Accepts, AcceptsUntilFull, RunState, NextRequest}
+use Rattle.mysql_bulk.specs.Run.{Accepts, AcceptsUntilFull, RunState, NextRequest, answers}
 use Rattle.mysql_bulk.specs.ParamsRun.{Names, GivesRowOfParams, StopsAtParams, AcceptsParamsUntilFull, NextRequestOfParams}
-use Rattle.mysql_bulk.proofs.RunSteps.{state, Taken, taken_more, taken_full, taken_refused, carried_more, carried_full, carried_refused, next_refuses, answers, next_builds}
+use Rattle.mysql_bulk.proofs.RunSteps.{state, Taken, taken_more, taken_full, taken_refused, carried_more, carried_full, carried_refused, next_refuses, next_builds}
 
 -- the names stay
 names_stay : (s t : BuilderState) (rows : List (List Content)) → Accepts s rows t → t.names ≡ s.names

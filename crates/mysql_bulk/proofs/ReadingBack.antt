@@ -21,7 +21,8 @@ use Rattle.mysql_values.specs.ReadingBack.{Agrees}
 use Rattle.mysql_values.specs.SentType.{is_uint}
 use Rattle.mysql_values.specs.Value.{Content, NULL, Bytes, Int, UInt, Float, Double, Date, Time, bin}
 use Rattle.mysql_bulk.specs.Builder.{BuilderState, IsRequest}
-use Rattle.mysql_bulk.specs.ColumnTypes.{is_declarable, is_integer, may_be_declared, TakesTypes, types_of_rows}
+use Rattle.mysql_values.specs.ValueKind.{kind_of, is_longlong}
+use Rattle.mysql_bulk.specs.ColumnTypes.{is_declarable, may_be_declared, TakesTypes, types_of_rows}
 use Rattle.mysql_bulk.proofs.ColumnTypes.{length-types_of_rows}
 use Rattle.mysql_bulk.specs.DeclaredTypes.{first_not_null, type_from, declared_type, declared_types, column_values}
 use Rattle.mysql_bulk.specs.Head.{BulkHead, head, sends_types, value_columns, column_of_type}
@@ -176,10 +177,10 @@ type_small (Time x) values = omega arith
 -- a type that may be declared has one flag at most
 pub declarable_small : (kind : ParamType) → may_be_declared kind ≡ true → kind.flags.0 < 2 ^ 8
 declarable_small kind e =
-    let flags = (and_parts (is_declarable kind.column_type) (kind.flags.0 == 0 || (kind.flags.0 == UNSIGNED && is_integer kind.column_type)) e).1 in
+    let flags = (and_parts (is_declarable kind.column_type) (kind.flags.0 == 0 || (kind.flags.0 == UNSIGNED && is_longlong (kind_of kind.column_type))) e).1 in
     elim (eqb_tells kind.flags.0 0) [
       | inl none ↦ omega (arith, none.1)
-      | inr some ↦ let unsigned = eqb-true kind.flags.0 UNSIGNED (and_parts (kind.flags.0 == UNSIGNED) (is_integer kind.column_type) (rw some.0 at flags)).0 in omega (arith, unsigned)
+      | inr some ↦ let unsigned = eqb-true kind.flags.0 UNSIGNED (and_parts (kind.flags.0 == UNSIGNED) (is_longlong (kind_of kind.column_type)) (rw some.0 at flags)).0 in omega (arith, unsigned)
     ]
 
 types_small : (rows : List (List Content)) → All (λ t. t.flags.0 < 2 ^ 8) (declared_types rows)

@@ -8,16 +8,14 @@ use Rattle.std.proofs.lemmas.List.Elements.{All-head, All-tail, All-nil, All-con
 use Rattle.std.proofs.lemmas.List.{length-map}
 use Rattle.mysql_wire.specs.FlagMasks.{UNSIGNED_FLAG}
 use Rattle.mysql_wire.specs.Flags.{has}
-use Rattle.mysql_wire.specs.declared.codes.column_type.ColumnType.{ColumnType}
-use Rattle.mysql_wire.specs.declared.codes.column_type.ColumnType.TheVariants as column
 use Rattle.mysql_cuts.specs.Cut.{rows_in}
 use Rattle.mysql_values.specs.declared.param_type.ParamType.{ParamType}
-use Rattle.mysql_values.specs.declared.temporal.DateTime.{DateTime}
-use Rattle.mysql_values.specs.ReadingBack.{Agrees, IsInRange, is_date}
+use Rattle.mysql_values.specs.ReadingBack.{Agrees, IsInRange}
 use Rattle.mysql_values.specs.Value.{Content, NULL, Bytes, Int, UInt, Float, Double, Date, Time}
-use Rattle.mysql_values.proofs.ValueAgain.{agrees-by_type}
+use Rattle.mysql_values.specs.ValueKind.{kind_of, is_longlong}
+use Rattle.mysql_values.proofs.ValueAgain.{agrees-by_kind, agrees-by_type, longlong-kind}
 use Rattle.mysql_bulk.specs.Builder.{BuilderState, IsRequest}
-use Rattle.mysql_bulk.specs.ColumnTypes.{is_integer, is_float, is_double, is_time, is_unsigned, spells_date, spells, spell_row, TakesTypes, types_of_rows}
+use Rattle.mysql_bulk.specs.ColumnTypes.{is_unsigned, spells, spell_row, TakesTypes, types_of_rows}
 use Rattle.mysql_bulk.specs.Head.{sends_types, value_columns, column_of_type}
 use Rattle.mysql_bulk.specs.HeadTypes.{TypesFor}
 use Rattle.mysql_bulk.specs.ParamValue.{with_indicator, param_value_bytes, values_bytes}
@@ -32,28 +30,6 @@ use Rattle.mysql_bulk.proofs.ReadingBack.{row_bytes, bytes_of_rows, has_types, f
 
 -- ---- a value
 
-integer-type : (type : ColumnType) → is_integer type ≡ true → type ≡ column.MYSQL_TYPE_LONGLONG
-integer-type column.MYSQL_TYPE_LONGLONG e = refl
-integer-type _ e = absurd cc
-
-float-type : (type : ColumnType) → is_float type ≡ true → type ≡ column.MYSQL_TYPE_FLOAT
-float-type column.MYSQL_TYPE_FLOAT e = refl
-float-type _ e = absurd cc
-
-double-type : (type : ColumnType) → is_double type ≡ true → type ≡ column.MYSQL_TYPE_DOUBLE
-double-type column.MYSQL_TYPE_DOUBLE e = refl
-double-type _ e = absurd cc
-
-time-type : (type : ColumnType) → is_time type ≡ true → type ≡ column.MYSQL_TYPE_TIME
-time-type column.MYSQL_TYPE_TIME e = refl
-time-type _ e = absurd cc
-
-date-type : (type : ColumnType) (date : DateTime) → spells_date type date ≡ true → is_date type ≡ true
-date-type column.MYSQL_TYPE_DATE date e = refl
-date-type column.MYSQL_TYPE_DATETIME date e = refl
-date-type column.MYSQL_TYPE_TIMESTAMP date e = refl
-date-type _ date e = absurd cc
-
 -- a number that fits where it is signed
 small-UInt : (u : Bool) (n : ℕ) → u ≡ false → (u || nat_lt n (2 ^ 63)) ≡ true → n < 2 ^ 63
 small-UInt true n e h = let f : true ≡ false = e in cc
@@ -64,50 +40,41 @@ not-negative true n e h = let f : false ≡ true = h in cc
 not-negative false n e h = let f : false ≡ true = e in cc
 
 agrees_as : (t : ParamType) (u : Bool) (v : Content) → is_unsigned t ≡ u → spells t v ≡ true → IsInRange v → Agrees t.column_type u (as_signed u v)
-agrees_as t true NULL e s r = tt
-agrees_as t false NULL e s r = tt
-agrees_as t true (Bytes b) e s r = agrees-by_type t.column_type true (Bytes b) (s, r)
-agrees_as t false (Bytes b) e s r = agrees-by_type t.column_type false (Bytes b) (s, r)
+agrees_as t u NULL e s r = tt
+agrees_as t u (Bytes b) e s r = agrees-by_kind t.column_type u (Bytes b) s r
 agrees_as t true (Int (pos n)) e s r =
-    let type = integer-type t.column_type (and_parts (is_integer t.column_type) (not (is_unsigned t && is_negative (pos n))) s).0 in
+    let integers = longlong-kind (kind_of t.column_type) (and_parts (is_longlong (kind_of t.column_type)) (not (is_unsigned t && is_negative (pos n))) s).0 in
     let small : n < 2 ^ 63 = r.sfits in
-    agrees-by_type t.column_type true (UInt n) (type, refl, omega (arith, small))
-agrees_as t true (Int (negsuc n)) e s r = absurd (not-negative (is_unsigned t) n e (and_parts (is_integer t.column_type) (not (is_unsigned t && is_negative (negsuc n))) s).1)
-agrees_as t false (Int n) e s r =
-    agrees-by_type t.column_type false (Int n) (integer-type t.column_type (and_parts (is_integer t.column_type) (not (is_unsigned t && is_negative n)) s).0, refl, r)
+    agrees-by_type t.column_type true (UInt n) (integers, refl, omega (arith, small))
+agrees_as t false (Int (pos n)) e s r =
+    agrees-by_type t.column_type false (Int (pos n)) (longlong-kind (kind_of t.column_type) (and_parts (is_longlong (kind_of t.column_type)) (not (is_unsigned t && is_negative (pos n))) s).0, refl, r)
+agrees_as t true (Int (negsuc n)) e s r =
+    absurd (not-negative (is_unsigned t) n e (and_parts (is_longlong (kind_of t.column_type)) (not (is_unsigned t && is_negative (negsuc n))) s).1)
+agrees_as t false (Int (negsuc n)) e s r =
+    agrees-by_type t.column_type false (Int (negsuc n)) (longlong-kind (kind_of t.column_type) (and_parts (is_longlong (kind_of t.column_type)) (not (is_unsigned t && is_negative (negsuc n))) s).0, refl, r)
 agrees_as t true (UInt n) e s r =
-    agrees-by_type t.column_type true (UInt n) (integer-type t.column_type (and_parts (is_integer t.column_type) (is_unsigned t || nat_lt n (2 ^ 63)) s).0, refl, r)
+    agrees-by_type t.column_type true (UInt n) (longlong-kind (kind_of t.column_type) (and_parts (is_longlong (kind_of t.column_type)) (is_unsigned t || nat_lt n (2 ^ 63)) s).0, refl, r)
 agrees_as t false (UInt n) e s r =
-    let parts = and_parts (is_integer t.column_type) (is_unsigned t || nat_lt n (2 ^ 63)) s in
-    agrees-by_type t.column_type false (Int (pos n)) (integer-type t.column_type parts.0, refl, record { sfits = small-UInt (is_unsigned t) n e parts.1 })
-agrees_as t true (Float x) e s r = agrees-by_type t.column_type true (Float x) (float-type t.column_type s, r)
-agrees_as t false (Float x) e s r = agrees-by_type t.column_type false (Float x) (float-type t.column_type s, r)
-agrees_as t true (Double x) e s r = agrees-by_type t.column_type true (Double x) (double-type t.column_type s, r)
-agrees_as t false (Double x) e s r = agrees-by_type t.column_type false (Double x) (double-type t.column_type s, r)
-agrees_as t true (Date x) e s r = agrees-by_type t.column_type true (Date x) (date-type t.column_type x s, r)
-agrees_as t false (Date x) e s r = agrees-by_type t.column_type false (Date x) (date-type t.column_type x s, r)
-agrees_as t true (Time x) e s r = agrees-by_type t.column_type true (Time x) (time-type t.column_type s, r)
-agrees_as t false (Time x) e s r = agrees-by_type t.column_type false (Time x) (time-type t.column_type s, r)
+    let parts = and_parts (is_longlong (kind_of t.column_type)) (is_unsigned t || nat_lt n (2 ^ 63)) s in
+    agrees-by_type t.column_type false (Int (pos n)) (longlong-kind (kind_of t.column_type) parts.0, refl, record { sfits = small-UInt (is_unsigned t) n e parts.1 })
+agrees_as t u (Float x) e s r = agrees-by_kind t.column_type u (Float x) s r
+agrees_as t u (Double x) e s r = agrees-by_kind t.column_type u (Double x) s r
+agrees_as t u (Date x) e s r = agrees-by_kind t.column_type u (Date x) s r
+agrees_as t u (Time x) e s r = agrees-by_kind t.column_type u (Time x) s r
 
 -- its bytes are those that it has under its own type
 same_bytes : (u : Bool) (v : Content) → param_value_bytes (with_indicator v) ≡ param_value_bytes (with_indicator (as_signed u v))
-same_bytes true NULL = refl
-same_bytes false NULL = refl
-same_bytes true (Bytes b) = refl
-same_bytes false (Bytes b) = refl
+same_bytes u NULL = refl
+same_bytes u (Bytes b) = refl
 same_bytes true (Int (pos n)) = refl
-same_bytes true (Int (negsuc n)) = refl
-same_bytes false (Int n) = refl
+same_bytes false (Int (pos n)) = refl
+same_bytes u (Int (negsuc n)) = refl
 same_bytes true (UInt n) = refl
 same_bytes false (UInt n) = refl
-same_bytes true (Float x) = refl
-same_bytes false (Float x) = refl
-same_bytes true (Double x) = refl
-same_bytes false (Double x) = refl
-same_bytes true (Date x) = refl
-same_bytes false (Date x) = refl
-same_bytes true (Time x) = refl
-same_bytes false (Time x) = refl
+same_bytes u (Float x) = refl
+same_bytes u (Double x) = refl
+same_bytes u (Date x) = refl
+same_bytes u (Time x) = refl
 
 -- ---- a row
 

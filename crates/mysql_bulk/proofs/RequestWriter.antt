@@ -14,9 +14,9 @@ use Rattle.mysql_bulk.specs.declared.error.BulkRowRefusal.TheVariants as refused
 use Rattle.mysql_bulk.specs.declared.error.BulkExecuteRequestError.TheVariants as request_refused
 use Rattle.mysql_bulk.specs.Builder.{BuilderState, packing, TakesRow, RowFits, after_row, IsRequest, BuildsRequest, after_request}
 use Rattle.mysql_bulk.specs.ColumnTypes.{TakesTypes, spell_row}
-use Rattle.mysql_bulk.specs.ParamValue.{with_indicator, param_value_bytes, values_bytes}
+use Rattle.mysql_bulk.specs.ParamValue.{cell, with_indicator, param_value_bytes, values_bytes}
 use Rattle.mysql_bulk.specs.Request.{request_flags, request_bytes}
-use Rattle.mysql_bulk.specs.RequestWriter.{WriterState, as_builder, request_of, bytes_so_far, Holds, IsBuilt, AddsAsBuilder, FinishesAsBuilder, cell_bytes, cells_bytes, head_bytes, with_row}
+use Rattle.mysql_bulk.specs.RequestWriter.{WriterState, as_builder, request_of, bytes_so_far, Holds, IsBuilt, AddsAsBuilder, FinishesAsBuilder, cells_bytes, head_bytes, with_row}
 use Rattle.mysql_bulk.specs.Row.{row_size, rows_packing, first_length}
 use Rattle.mysql_bulk.proofs.ColumnTypes.{spelled_long}
 use Rattle.mysql_bulk.proofs.RequestBytes.{length-values, length-head, contents_indicators, size_of_rows}
@@ -26,7 +26,7 @@ use Rattle.mysql_bulk.proofs.RequestBytes.{length-values, length-head, contents_
 -- those of its values, each after its indicator
 pub cells_of : (row : List ValueRef) → cells_bytes row ≡ values_bytes (map with_indicator (map ref_content row))
 cells_of [] = refl
-cells_of (v ∷ row) = ap (λ (l : List ℕ). cell_bytes v ++ l) (cells_of row)
+cells_of (v ∷ row) = ap (λ (l : List ℕ). cell (ref_content v) ++ l) (cells_of row)
 
 pub length-cells : (row : List ValueRef) → length (cells_bytes row) ≡ row_size (map ref_content row)
 length-cells row =

@@ -11,10 +11,9 @@ use Rattle.mysql_bulk.specs.declared.error.BulkExecuteRequestError.TheVariants.{
 use Rattle.mysql_bulk.specs.Row.{contents_of_row, contents_of_rows}
 use Rattle.mysql_bulk.specs.Builder.{BuilderState}
 use Rattle.mysql_bulk.specs.Builder.{TakesRow, RowFits, after_row, Adds, Builds, BuildsRequest}
-use Rattle.mysql_bulk.specs.declared.error.BulkExecuteRequestBuilderError.{BulkExecuteRequestBuilderError}
 use Rattle.mysql_bulk.specs.declared.error.BulkExecuteRequestBuilderError.TheVariants.{Request}
 use Rattle.mysql_bulk.specs.Request.{BulkRequest}
-use Rattle.mysql_bulk.specs.Run.{Accepts, NextRow, AcceptsUntilFull, RunState, AcceptedUntilFull, NextRequest}
+use Rattle.mysql_bulk.specs.Run.{Accepts, NextRow, AcceptsUntilFull, RunState, AcceptedUntilFull, NextRequest, answers}
 use Rattle.std.specs.Prelude.{IfSome, MatchOption, is_none, is_some, not}
 
 -- one more row is accepted
@@ -55,12 +54,6 @@ is_none_from None false h = let e : false ≡ true = h in cc
 is_none_from (Some x) true h = let e : true ≡ false = h in cc
 is_none_from (Some x) false h = refl
 
--- what is answered where a request was built or not
-abbrev pub answers : Option BulkRequest → Option (Result BulkRequest BulkExecuteRequestBuilderError)
-answers None = None
-answers (Some request) = Some (Ok request)
-
--- where no request is built, no row waited
 pub none_built : (s t : BuilderState) (e : BulkExecuteRequestError) → Builds s (Err e) t → (s.waiting ≡ []) × (t ≡ s)
 none_built s t MixedArity b = absurd b
 none_built s t (MixedTypes row) b = absurd b

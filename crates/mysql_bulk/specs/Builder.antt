@@ -39,6 +39,20 @@ pub record BuilderState : Type 0 where
   pub types_due : Bool
   pub waiting : List (List Content)
 
+-- a builder with these settings, which holds so many rows, whose values stand in one list
+abbrev pub builder_state : (stmt_id limit : ℕ) (results : Bool) → BulkRule → (names : Option (List (Vec ℕ))) → (columns : Option (List ParamType)) → (arity : Option ℕ) → (types_due : Bool) → (count : ℕ) → List Content → BuilderState
+builder_state stmt_id limit results rule names columns arity types_due count values = record {
+  stmt_id = stmt_id;
+  limit = limit;
+  results = results;
+  rule = rule;
+  names = names;
+  columns = columns;
+  arity = arity;
+  types_due = types_due;
+  waiting = waiting_rows arity count values;
+}
+
 -- how the requests of rows of a length are measured
 abbrev pub packing : BuilderState → ℕ → Packing (List Content)
 packing s arity = rows_packing s.rule s.limit arity

@@ -6,68 +6,41 @@ use Rattle.mysql_wire.specs.Flags.{has}
 use Rattle.mysql_wire.specs.declared.codes.column_type.ColumnType.{ColumnType}
 use Rattle.mysql_wire.specs.declared.codes.column_type.ColumnType.TheVariants as column
 use Rattle.mysql_values.specs.declared.param_type.ParamType.{ParamType}
-use Rattle.mysql_values.specs.declared.temporal.DateTime.{DateTime}
-use Rattle.mysql_values.specs.ReadingBack.{is_string}
-use Rattle.mysql_values.specs.Temporal.{is_midnight}
-use Rattle.mysql_values.specs.Value.{Content, NULL, Bytes, Int, UInt, Float, Double, Date, Time}
+use Rattle.mysql_values.specs.declared.value_kind.ValueKind.{ValueKind}
+use Rattle.mysql_values.specs.declared.value_kind.ValueKind.TheVariants as kind
+use Rattle.mysql_values.specs.Value.{Content, Int, UInt}
+use Rattle.mysql_values.specs.ValueKind.{kind_of, is_longlong, suits}
 use Rattle.mysql_bulk.specs.DeclaredTypes.{declared_types, types_with_row}
 
 -- ---- types
-
-abbrev pub is_integer : ColumnType → Bool
-is_integer column.MYSQL_TYPE_LONGLONG = true
-is_integer _ = false
-
-abbrev pub is_float : ColumnType → Bool
-is_float column.MYSQL_TYPE_FLOAT = true
-is_float _ = false
-
-abbrev pub is_double : ColumnType → Bool
-is_double column.MYSQL_TYPE_DOUBLE = true
-is_double _ = false
-
-abbrev pub is_time : ColumnType → Bool
-is_time column.MYSQL_TYPE_TIME = true
-is_time _ = false
 
 abbrev pub is_unsigned : ParamType → Bool
 is_unsigned t = has t.flags.0 UNSIGNED
 
 -- values of the type are spelled as they are where no type is declared for them; BIT is a type of results alone
+abbrev pub is_declarable_kind : ValueKind → Bool
+is_declarable_kind kind.Tiny = false
+is_declarable_kind kind.Short = false
+is_declarable_kind kind.Long = false
+is_declarable_kind kind.Null = false
+is_declarable_kind kind.Unsupported = false
+is_declarable_kind k = true
+
 abbrev pub is_declarable : ColumnType → Bool
-is_declarable column.MYSQL_TYPE_LONGLONG = true
-is_declarable column.MYSQL_TYPE_FLOAT = true
-is_declarable column.MYSQL_TYPE_DOUBLE = true
-is_declarable column.MYSQL_TYPE_DATE = true
-is_declarable column.MYSQL_TYPE_DATETIME = true
-is_declarable column.MYSQL_TYPE_TIMESTAMP = true
-is_declarable column.MYSQL_TYPE_TIME = true
 is_declarable column.MYSQL_TYPE_BIT = false
-is_declarable t = is_string t
+is_declarable t = is_declarable_kind (kind_of t)
 
 -- the type may be declared; integers alone may be unsigned
 abbrev pub may_be_declared : ParamType → Bool
-may_be_declared t = is_declarable t.column_type && (t.flags.0 == 0 || (t.flags.0 == UNSIGNED && is_integer t.column_type))
+may_be_declared t = is_declarable t.column_type && (t.flags.0 == 0 || (t.flags.0 == UNSIGNED && is_longlong (kind_of t.column_type)))
 
 -- ---- the values that they spell
 
--- a date alone has no time of day
-abbrev pub spells_date : ColumnType → DateTime → Bool
-spells_date column.MYSQL_TYPE_DATE date = date.micros == 0 && is_midnight date.clock
-spells_date column.MYSQL_TYPE_DATETIME date = true
-spells_date column.MYSQL_TYPE_TIMESTAMP date = true
-spells_date _ date = false
-
 -- the value is spelled under the type as it is under its own
 abbrev pub spells : ParamType → Content → Bool
-spells t NULL = true
-spells t (Bytes bytes) = is_string t.column_type
-spells t (Int n) = is_integer t.column_type && not (is_unsigned t && is_negative n)
-spells t (UInt n) = is_integer t.column_type && (is_unsigned t || nat_lt n (2 ^ 63))
-spells t (Float bits) = is_float t.column_type
-spells t (Double bits) = is_double t.column_type
-spells t (Date date) = spells_date t.column_type date
-spells t (Time time) = is_time t.column_type
+spells t (Int n) = is_longlong (kind_of t.column_type) && not (is_unsigned t && is_negative n)
+spells t (UInt n) = is_longlong (kind_of t.column_type) && (is_unsigned t || nat_lt n (2 ^ 63))
+spells t value = suits (kind_of t.column_type) value
 
 -- the row has one value for each type, which spells it
 abbrev pub spell_row : List ParamType → List Content → Bool

@@ -1,5 +1,5 @@
 -- Which rows are read again from the bytes of a request.
-use Rattle.std.specs.Prelude.{◌≡◌, ◌≢◌, ◌<◌, ◌^◌, Bool, true, false, if◌then◌else◌, pos, IsTrue, IfSome, List, [], ◌∷◌, length, map, Some}
+use Rattle.std.specs.Prelude.{◌≡◌, ◌≢◌, ◌<◌, ◌^◌, Bool, if◌then◌else◌, pos, IsTrue, IfSome, List, [], ◌∷◌, length, map, Some}
 use Rattle.std.specs.List.{All, AllZip}
 use Rattle.mysql_wire.specs.FlagMasks.{UNSIGNED_FLAG}
 use Rattle.mysql_wire.specs.Flags.{has}
@@ -60,9 +60,9 @@ pub record PartAgrees (s : BuilderState) (columns : List BulkColumn) (rows : Lis
 
 -- a number is read as a signed or unsigned one, as its type is
 abbrev pub as_signed : Bool → Content → Content
-as_signed true (Int (pos n)) = UInt n
-as_signed false (UInt n) = Int (pos n)
-as_signed unsigned value = value
+as_signed is_unsigned (Int (pos n)) = if is_unsigned then UInt n else Int (pos n)
+as_signed is_unsigned (UInt n) = if is_unsigned then UInt n else Int (pos n)
+as_signed is_unsigned value = value
 
 -- the values of a row, as they are read under these types
 abbrev pub row_under : List ParamType → List Content → List Content

@@ -110,11 +110,8 @@ FinishesAsBuilder w u =
 
 -- ---- what is written of a row
 
-abbrev pub cell_bytes : ValueRef → List ℕ
-cell_bytes value = cell (ref_content value)
-
 abbrev pub cells_bytes : List ValueRef → List ℕ
-cells_bytes row = flat_map cell_bytes row
+cells_bytes row = flat_map (λ v. cell (ref_content v)) row
 
 -- what stands before the values
 abbrev pub head_bytes : WriterState → List ℕ

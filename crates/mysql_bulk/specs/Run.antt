@@ -1,5 +1,5 @@
 -- A run over rows that an iterator gives: which rows were taken, and what became of them.
-use Rattle.std.specs.Prelude.{◌≡◌, Bool, true, false, List, [], ◌∷◌, length, Option, Some, None, Result, Ok, Err, is_none, IfSome, option_to_list, ◌⊎◌, ◌+◌}
+use Rattle.std.specs.Prelude.{◌≡◌, Bool, true, false, List, [], ◌∷◌, length, Option, Some, None, Result, Ok, Err, is_none, IfSome, MatchOption, option_to_list, ◌⊎◌, ◌+◌}
 use Rattle.std.specs.Global.{Vec}
 use Rattle.std.specs.Iterator.{YieldsThen, Count, count_unless, count_map}
 use Rattle.mysql_values.specs.declared.value.Value.{Value}
@@ -99,6 +99,15 @@ module _ {S : Type 0} (steps : S → Option (Vec Value) → S → Type 0) where
   NextRequest s (Some (Ok request)) t = SendsRequest s request t
   NextRequest s (Some (Err (Request e))) t = RefusesRow s e t
   NextRequest s (Some (Err (Params e))) t = ⊥
+
+-- what a run answers of the request that was built, if one was
+abbrev pub answers : Option BulkRequest → Option (Result BulkRequest BulkExecuteRequestBuilderError)
+answers None = None
+answers (Some request) = Some (Ok request)
+
+-- the answer is the request of the rows that wait, or none where none wait
+abbrev pub AnswersWaiting : BuilderState → Option (Result BulkRequest BulkExecuteRequestBuilderError) → BuilderState → Type 0
+AnswersWaiting s answer t = (built : Option BulkRequest) × (answer ≡ answers built) × MatchOption built ((s.waiting ≡ []) × (t ≡ s)) (λ request. BuildsRequest s request t)
 
 -- how many results are left at most, of an input that has `left` rows at most
 abbrev pub results_left : {S : Type 0} → (S → Count) → RunState S → Count

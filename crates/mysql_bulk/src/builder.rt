@@ -87,35 +87,14 @@ impl Drop for ComStmtBulkExecuteRequestBuilder<'_> {
 
 impl<'a> Model for ComStmtBulkExecuteRequestBuilder<'a> {
     ghost use Rattle.std.specs.Option.{option_copied};
-    ghost use Rattle.mysql_bulk.specs.Builder.{BuilderState, IsStoredAs};
-    ghost use Rattle.mysql_bulk.specs.BuilderRows.{waiting_rows};
+    ghost use Rattle.mysql_bulk.specs.Builder.{BuilderState, IsStoredAs, builder_state};
     ghost use Rattle.mysql_values.specs.Value.{contents_of};
 
     ghost Value = { BuilderState };
 
-    ghost view = { λ a. record {
-      stmt_id = a.stmt_id;
-      limit = a.limit;
-      results = a.results;
-      rule = a.rule;
-      names = option_copied a.names;
-      columns = option_copied a.columns;
-      arity = a.arity;
-      types_due = a.types_due;
-      waiting = waiting_rows a.arity a.count (contents_of a.values.items);
-    } };
+    ghost view = { λ a. builder_state a.stmt_id a.limit a.results a.rule (option_copied a.names) (option_copied a.columns) a.arity a.types_due a.count (contents_of a.values.items) };
 
-    ghost invariant = { λ a. IsStoredAs (record {
-      stmt_id = a.stmt_id;
-      limit = a.limit;
-      results = a.results;
-      rule = a.rule;
-      names = option_copied a.names;
-      columns = option_copied a.columns;
-      arity = a.arity;
-      types_due = a.types_due;
-      waiting = waiting_rows a.arity a.count (contents_of a.values.items);
-    }) a.count a.size (contents_of a.values.items) a.types.items };
+    ghost invariant = { λ a. IsStoredAs (builder_state a.stmt_id a.limit a.results a.rule (option_copied a.names) (option_copied a.columns) a.arity a.types_due a.count (contents_of a.values.items)) a.count a.size (contents_of a.values.items) a.types.items };
 }
 
 impl<'a> Clone for ComStmtBulkExecuteRequestBuilder<'a> {

@@ -2,60 +2,36 @@
 
 ghost use Rattle.std.specs.Prelude.{◌≡◌, ◌≤◌, ◌⊎◌, [], length, map, position, not, true, vec_capacity, if◌then◌else◌};
 ghost use Rattle.std.specs.Option.{option_copied};
-ghost use Rattle.mysql_values.specs.ReadingBack.{is_string};
+ghost use Rattle.mysql_values.specs.ValueKind.{kind_of, is_longlong};
 ghost use Rattle.mysql_values.specs.ValueRef.{ref_content};
 ghost use Rattle.mysql_bulk.specs.ColumnTypes as spec;
 
 use crate::declared_types::join_row;
 use crate::row_value::RowValue;
-use mysql_values::{ParamType, ValueRef};
+use mysql_values::{ParamType, ValueKind, ValueRef};
 use mysql_wire::{ColumnType, Flags, StmtExecuteParamFlags};
-
-/// Whether values of the type are byte strings.
-fn is_string(column_type: ColumnType) -> bool
-    ensures { result ≡ is_string column_type }
-{
-    matches!(
-        column_type,
-        ColumnType::MYSQL_TYPE_DECIMAL
-            | ColumnType::MYSQL_TYPE_VARCHAR
-            | ColumnType::MYSQL_TYPE_BIT
-            | ColumnType::MYSQL_TYPE_VECTOR
-            | ColumnType::MYSQL_TYPE_JSON
-            | ColumnType::MYSQL_TYPE_NEWDECIMAL
-            | ColumnType::MYSQL_TYPE_ENUM
-            | ColumnType::MYSQL_TYPE_SET
-            | ColumnType::MYSQL_TYPE_TINY_BLOB
-            | ColumnType::MYSQL_TYPE_MEDIUM_BLOB
-            | ColumnType::MYSQL_TYPE_LONG_BLOB
-            | ColumnType::MYSQL_TYPE_BLOB
-            | ColumnType::MYSQL_TYPE_VAR_STRING
-            | ColumnType::MYSQL_TYPE_STRING
-            | ColumnType::MYSQL_TYPE_GEOMETRY
-    )
-}
 
 /// Whether values of the type are spelled as they are where no type is declared for them.
 fn is_declarable(column_type: ColumnType) -> bool
     ensures { result ≡ spec.is_declarable column_type }
 {
-    match column_type {
-        ColumnType::MYSQL_TYPE_LONGLONG
-        | ColumnType::MYSQL_TYPE_FLOAT
-        | ColumnType::MYSQL_TYPE_DOUBLE
-        | ColumnType::MYSQL_TYPE_DATE
-        | ColumnType::MYSQL_TYPE_DATETIME
-        | ColumnType::MYSQL_TYPE_TIMESTAMP
-        | ColumnType::MYSQL_TYPE_TIME => true,
-        ColumnType::MYSQL_TYPE_BIT => false,
-        other => is_string(other),
+    if let ColumnType::MYSQL_TYPE_BIT = column_type {
+        return false;
     }
+    !matches!(
+        ValueKind::of(column_type),
+        ValueKind::Tiny
+            | ValueKind::Short
+            | ValueKind::Long
+            | ValueKind::Null
+            | ValueKind::Unsupported
+    )
 }
 
-fn is_integer(column_type: ColumnType) -> bool
-    ensures { result ≡ spec.is_integer column_type }
+fn is_longlong(column_type: ColumnType) -> bool
+    ensures { result ≡ is_longlong (kind_of column_type) }
 {
-    matches!(column_type, ColumnType::MYSQL_TYPE_LONGLONG)
+    matches!(ValueKind::of(column_type), ValueKind::LongLong)
 }
 
 fn is_unsigned(kind: ParamType) -> bool
@@ -70,7 +46,7 @@ fn may_be_declared(kind: ParamType) -> bool
 {
     let column_type = kind.column_type();
     let bits = kind.flags().bits();
-    is_declarable(column_type) && (bits == 0 || (bits == 128 && is_integer(column_type)))
+    is_declarable(column_type) && (bits == 0 || (bits == 128 && is_longlong(column_type)))
 }
 
 /// The first place of a type that may not be declared.
@@ -86,20 +62,9 @@ fn spells(kind: ParamType, value: &ValueRef<'_>) -> bool
 {
     let column_type = kind.column_type();
     match value {
-        ValueRef::NULL => true,
-        ValueRef::Bytes(_) => is_string(column_type),
-        ValueRef::Int(n) => is_integer(column_type) && !(is_unsigned(kind) && *n < 0),
-        ValueRef::UInt(n) => is_integer(column_type) && (is_unsigned(kind) || *n < 1 << 63),
-        ValueRef::Float(_) => matches!(column_type, ColumnType::MYSQL_TYPE_FLOAT),
-        ValueRef::Double(_) => matches!(column_type, ColumnType::MYSQL_TYPE_DOUBLE),
-        ValueRef::Date(_, _, _, hour, minute, second, micros) => match column_type {
-            ColumnType::MYSQL_TYPE_DATE => {
-                *micros == 0 && *hour == 0 && *minute == 0 && *second == 0
-            }
-            ColumnType::MYSQL_TYPE_DATETIME | ColumnType::MYSQL_TYPE_TIMESTAMP => true,
-            _ => false,
-        },
-        ValueRef::Time(..) => matches!(column_type, ColumnType::MYSQL_TYPE_TIME),
+        ValueRef::Int(n) => is_longlong(column_type) && !(is_unsigned(kind) && *n < 0),
+        ValueRef::UInt(n) => is_longlong(column_type) && (is_unsigned(kind) || *n < 1 << 63),
+        value => ValueKind::of(column_type).suits(value),
     }
 }
 

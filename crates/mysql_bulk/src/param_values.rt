@@ -10,8 +10,8 @@ ghost use Rattle.mysql_bulk.specs.ParamValues.{reads_first, values_of_columns};
 use crate::param_value::StmtBulkExecuteParamValue;
 use mysql_values::Value;
 use mysql_wire::{
-    AnyWidth, ColumnFlags, ColumnType, FaultOf, MyDeserialize, MySerialize, ParseBuf, append_items,
-    items_len,
+    AnyWidth, Buffer, ColumnFlags, ColumnType, FaultOf, MyDeserialize, MySerialize, ParseBuf,
+    append_items, items_len,
 };
 use std::alloc::{AllocError, Global};
 use std::convert::AsSlice;
@@ -138,7 +138,7 @@ impl MySerialize for StmtBulkExecuteParamValues {
         items_len(self.values.as_slice())
     }
 
-    fn append(&self, out: &mut Vec<u8>) {
+    fn append<O: Buffer>(&self, out: &mut O) {
         append_items(self.values.as_slice(), out);
     }
 }

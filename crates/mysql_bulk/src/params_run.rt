@@ -9,7 +9,7 @@ ghost use Rattle.mysql_bulk.specs.ParamsRun.{AcceptsParamsUntilFull, NextRequest
 use crate::builder::ComStmtBulkExecuteRequestBuilder;
 use crate::error::BulkExecuteRequestBuilderError;
 use crate::request::ComStmtBulkExecuteRequest;
-use crate::run::build_waiting;
+use crate::run::answer_waiting;
 use mysql_values::{Params, Value};
 
 /// Adds the rows of parameters until one does not fit with those that wait, which is given back, or the input ends.
@@ -62,6 +62,27 @@ pub struct BulkParamsRequests<'b, 'a, I, R = Vec<Value>> {
     ended: bool,
 }
 
+impl<'a> ComStmtBulkExecuteRequestBuilder<'a> {
+    /// The requests of the rows that wait and of those that the parameters of the input give, by the builder's names.
+    /// The input must end.
+    pub fn build_params_iter<'b, I: Iterator<Item = Params>>(
+        &'b mut self,
+        params: I,
+    ) -> BulkParamsRequests<'b, 'a, I>
+        requires can { I.can_next params }
+        requires ends { IsFinite (I.remaining params) }
+        ensures builder { result.builder.ghost_name ≡ self.entry.ghost_name }
+        ensures begins { state_of result ≡ record { builder = self.old; carried = None; rows = params; ended = false } }
+    {
+        BulkParamsRequests {
+            builder: self,
+            params,
+            carried: None,
+            ended: false,
+        }
+    }
+}
+
 impl<'b, 'a, I: Iterator<Item = Params>> Iterator for BulkParamsRequests<'b, 'a, I> {
     type Item = Result<ComStmtBulkExecuteRequest, BulkExecuteRequestBuilderError>;
 
@@ -81,10 +102,7 @@ impl<'b, 'a, I: Iterator<Item = Params>> Iterator for BulkParamsRequests<'b, 'a,
             Ok(last) => {
                 self.ended = last.is_none();
                 self.carried = last;
-                match build_waiting(self.builder) {
-                    Some(request) => Some(Ok(request)),
-                    None => None,
-                }
+                answer_waiting(self.builder)
             }
             Err(e) => {
                 self.ended = true;
@@ -94,36 +112,12 @@ impl<'b, 'a, I: Iterator<Item = Params>> Iterator for BulkParamsRequests<'b, 'a,
     }
 }
 
-impl<'b, 'a, I, R> BulkParamsRequests<'b, 'a, I, R> {
+impl<'b, 'a, I: Drop, R: Drop> BulkParamsRequests<'b, 'a, I, R> {
     /// The row that did not fit into the last request, which the next one would have begun with. It takes no memory.
     pub fn into_carried(self) -> Option<R>
-    where
-        I: Drop,
-        R: Drop,
         ensures row { result ≡ carried_of self.entry }
         ensures builder { self.exit.0.now ≡ builder_of self.entry }
     {
         self.carried
-    }
-}
-
-impl<'a> ComStmtBulkExecuteRequestBuilder<'a> {
-    /// The requests of the rows that wait and of those that the parameters of the input give, by the builder's names.
-    /// The input must end.
-    pub fn build_params_iter<'b, I: Iterator<Item = Params>>(
-        &'b mut self,
-        params: I,
-    ) -> BulkParamsRequests<'b, 'a, I>
-        requires can { I.can_next params }
-        requires ends { IsFinite (I.remaining params) }
-        ensures builder { result.builder.ghost_name ≡ self.entry.ghost_name }
-        ensures begins { state_of result ≡ record { builder = self.old; carried = None; rows = params; ended = false } }
-    {
-        BulkParamsRequests {
-            builder: self,
-            params,
-            carried: None,
-            ended: false,
-        }
     }
 }

@@ -20,7 +20,7 @@ use crate::row::{append_row, equally_long, find_capacity};
 use crate::sent_values::{SentValues, part_from_indicators, same_values, sent_len};
 use mysql_values::{ParamType, Value};
 use mysql_wire::{
-    AnyWidth, ColumnFlags, ColumnType, Const, FaultOf, LeU16, LeU32, MariadbBulkIndicator,
+    AnyWidth, Buffer, ColumnFlags, ColumnType, Const, FaultOf, LeU16, LeU32, MariadbBulkIndicator,
     MyDeserialize, MySerialize, ParseBuf, RawInt, Seq, StmtBulkExecuteFlags, Unknown, items_len,
     parts,
 };
@@ -311,7 +311,7 @@ impl MySerialize for ComStmtBulkExecuteRequest {
     }
 
     #[tactic(auto, unfolding(crate::specs::Head::head))]
-    fn append(&self, out: &mut Vec<u8>) {
+    fn append<O: Buffer>(&self, out: &mut O) {
         let header = ComStmtBulkExecuteHeader::new();
         let stmt_id = RawInt::<LeU32>::new(self.stmt_id);
         let bulk_flags = Const::<StmtBulkExecuteFlags, LeU16>::new(self.bulk_flags);

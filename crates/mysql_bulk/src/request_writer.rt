@@ -1,6 +1,6 @@
 //! A writer of bulk requests, which keeps the bytes of the rows that it is offered and not their values.
 
-ghost use Rattle.std.specs.Prelude.{◌≡◌, ◌≢◌, ◌+◌, ◌++◌, ◌≤◌, ◌-◌, ◌↔◌, IsTrue, IfOk, MatchOption, [], length, map, None, Some, true, if◌then◌else◌, vec_len, vec_capacity, List};
+ghost use Rattle.std.specs.Prelude.{◌≡◌, ◌≢◌, ◌+◌, ◌++◌, ◌≤◌, ◌-◌, ◌↔◌, IsTrue, IfOk, OnErr, MatchOption, [], length, map, None, Some, true, false, if◌then◌else◌, vec_len, vec_capacity, List};
 ghost use Rattle.std.specs.Bool.{OnTrue, OnFalse};
 ghost use Rattle.mysql_values.specs.Value.{Content};
 ghost use Rattle.mysql_values.specs.ValueRef.{ref_content};
@@ -177,10 +177,20 @@ impl<'a> BulkRequestWriter<'a> {
     /// [`add_row_refs`](crate::ComStmtBulkExecuteRequestBuilder::add_row_refs): `Memory` where the buffer did not grow. Where no
     /// row is written, the writer stays as it was. The bytes of the row are counted first, and the buffer grows once at the
     /// most.
+    ///
+    /// ```
+    /// let taken = writer.add_row_refs(row)?;
+    /// if taken {
+    ///     return Ok(());
+    /// }
+    /// let Some(bytes) = writer.request() else {
+    /// ```
     // (inlined: a loop that offers rows of a known length is faster then)
     #[inline(always)]
     pub fn add_row_refs(&mut self, row: &[ValueRef<'_>]) -> Result<bool, BulkRowRefusal>
-        ensures { AddsAsBuilder self.old (map ref_content row.now) result self.new }
+        ensures adds { AddsAsBuilder self.old (map ref_content row.now) result self.new }
+        ensures waits { IfOk result (λ taken. taken ≡ false → self.new ≡ self.old) }
+        ensures err { OnErr result (self.new ≡ self.old) }
     {
         if row.len() != self.types.len() {
             return Err(BulkRowRefusal::MixedArity);
@@ -271,7 +281,8 @@ impl<'a> BulkRequestWriter<'a> {
     /// The request of the rows that were written: its bytes, as the request of the builder is written. `None` where no row
     /// was written.
     pub fn request(&self) -> Option<&[u8]>
-        ensures { (rows : List (List Content)) → Holds self.now rows → MatchOption result (rows ≡ []) (λ bytes. IsBuilt (as_builder self.now rows) bytes.now) }
+        ensures built { (rows : List (List Content)) → Holds self.now rows → MatchOption result (rows ≡ []) (λ bytes. IsBuilt (as_builder self.now rows) bytes.now) }
+        ensures bytes { MatchOption result (self.now.count ≡ 0) (λ bytes. bytes.now ≡ self.now.bytes) }
     {
         if self.count == 0 {
             None

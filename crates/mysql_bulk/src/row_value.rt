@@ -1,6 +1,6 @@
 //! The values of a row that is offered, whoever keeps their bytes.
 
-ghost use Rattle.std.specs.Prelude.{◌≡◌, ◌+◌, ◌≤◌, ◌++◌, ◌∷◌, [], length, take, IfSome, IfNone, OnSome, vec_len, vec_capacity};
+ghost use Rattle.std.specs.Prelude.{◌≡◌, ◌+◌, ◌≤◌, ◌++◌, ◌∷◌, [], length, take, drop, IfSome, IfNone, OnSome, vec_len, vec_capacity};
 ghost use Rattle.mysql_wire.specs.declared.codes.mariadb_bulk_indicator.MariadbBulkIndicator.TheVariants.{BULK_INDICATOR_NONE, BULK_INDICATOR_NULL};
 ghost use Rattle.mysql_values.specs.ParamType.{type_of};
 ghost use Rattle.mysql_values.specs.SentType.{is_uint};
@@ -9,7 +9,7 @@ ghost use Rattle.mysql_values.specs.ValueRef.{ref_content};
 ghost use Rattle.mysql_bulk.specs.ParamValue.{cell};
 
 use mysql_values::{ParamType, Value, ValueRef};
-use mysql_wire::{Const, MariadbBulkIndicator, MySerialize, parts};
+use mysql_wire::{Buffer, Const, MariadbBulkIndicator, MySerialize, parts};
 use std::alloc::Global;
 
 /// The indicator of `NULL`, after which no value stands.
@@ -52,10 +52,12 @@ pub(crate) trait RowValue {
         ensures value { result ≡ is_uint (content self.now) };
 
     /// Writes it after its indicator, where there is capacity.
-    fn append_cell(&self, out: &mut Vec<u8>)
-        requires { vec_len out.old + length (cell (content self.now)) ≤ vec_capacity out.old }
-        ensures items { out.new.items ≡ out.old.items ++ cell (content self.now) }
-        ensures capacity { vec_capacity out.old ≤ vec_capacity out.new };
+    fn append_cell<O: Buffer>(&self, out: &mut O)
+        requires { length (O.held out.old) + length (cell (content self.now)) ≤ O.capacity out.old }
+        ensures items { O.held out.new ≡ O.held out.old ++ cell (content self.now) }
+        ensures after { O.after out.new ≡ drop (length (cell (content self.now))) (O.after out.old) }
+        ensures capacity { O.capacity out.old ≤ O.capacity out.new }
+        ensures kept { O.kept out.new ≡ O.kept out.old };
 
     /// Puts a copy at the end of values that have capacity for it, and answers its bytes in a request: no more than `most`.
     ///
@@ -97,7 +99,7 @@ impl RowValue for Value {
     }
 
     #[inline(always)]
-    fn append_cell(&self, out: &mut Vec<u8>) {
+    fn append_cell<O: Buffer>(&self, out: &mut O) {
         if let Value::NULL = self {
             sent_null().append(out);
             return;
@@ -172,7 +174,7 @@ impl RowValue for ValueRef<'_> {
     }
 
     #[inline(always)]
-    fn append_cell(&self, out: &mut Vec<u8>) {
+    fn append_cell<O: Buffer>(&self, out: &mut O) {
         if let ValueRef::NULL = self {
             sent_null().append(out);
             return;

@@ -4,7 +4,7 @@ ghost use Rattle.std.specs.Prelude.{◌≡◌, ◌+◌, ◌≤◌, [], length, I
 ghost use Rattle.std.specs.Iterator.{IsFinite, size};
 ghost use Rattle.std.specs.Bool.{OnFalse};
 ghost use Rattle.mysql_bulk.specs.Builder.{BuildsRequest};
-ghost use Rattle.mysql_bulk.specs.Run.{AcceptsUntilFull, NextRequest, results_left, carried_of, builder_of, state_of, SameBuilder};
+ghost use Rattle.mysql_bulk.specs.Run.{AcceptsUntilFull, AnswersWaiting, NextRequest, results_left, carried_of, builder_of, state_of, SameBuilder};
 
 use crate::builder::ComStmtBulkExecuteRequestBuilder;
 use crate::error::{BulkExecuteRequestBuilderError, BulkExecuteRequestError};
@@ -50,14 +50,14 @@ pub(crate) fn fill<I: Iterator<Item = Vec<Value>>>(
     take_rows(builder, rows)
 }
 
-/// The request of the rows that wait, if any wait.
-pub(crate) fn build_waiting(
+/// What a run answers once rows were taken: the request of those that wait, or none where none wait.
+pub(crate) fn answer_waiting(
     builder: &mut ComStmtBulkExecuteRequestBuilder<'_>,
-) -> Option<ComStmtBulkExecuteRequest>
-    ensures { MatchOption result ((builder.old.waiting ≡ []) × (builder.new ≡ builder.old)) (λ request. BuildsRequest builder.old request builder.new) }
+) -> Option<Result<ComStmtBulkExecuteRequest, BulkExecuteRequestBuilderError>>
+    ensures { AnswersWaiting builder.old result builder.new }
 {
     match builder.build() {
-        Ok(request) => Some(request),
+        Ok(request) => Some(Ok(request)),
         Err(_) => None,
     }
 }
@@ -72,6 +72,26 @@ pub struct BulkRequests<'b, 'a, I, R = Vec<Value>> {
     rows: I,
     carried: Option<R>,
     ended: bool,
+}
+
+impl<'a> ComStmtBulkExecuteRequestBuilder<'a> {
+    /// The requests of the rows that wait and of those that the input gives. The input must end.
+    pub fn build_iter<'b, I: Iterator<Item = Vec<Value>>>(
+        &'b mut self,
+        rows: I,
+    ) -> BulkRequests<'b, 'a, I>
+        requires can { I.can_next rows }
+        requires ends { IsFinite (I.remaining rows) }
+        ensures builder { result.builder.ghost_name ≡ self.entry.ghost_name }
+        ensures begins { state_of result ≡ record { builder = self.old; carried = None; rows = rows; ended = false } }
+    {
+        BulkRequests {
+            builder: self,
+            rows,
+            carried: None,
+            ended: false,
+        }
+    }
 }
 
 impl<'b, 'a, I: Iterator<Item = Vec<Value>>> Iterator for BulkRequests<'b, 'a, I> {
@@ -93,10 +113,7 @@ impl<'b, 'a, I: Iterator<Item = Vec<Value>>> Iterator for BulkRequests<'b, 'a, I
             Ok(last) => {
                 self.ended = last.is_none();
                 self.carried = last;
-                match build_waiting(self.builder) {
-                    Some(request) => Some(Ok(request)),
-                    None => None,
-                }
+                answer_waiting(self.builder)
             }
             Err(e) => {
                 self.ended = true;
@@ -106,35 +123,12 @@ impl<'b, 'a, I: Iterator<Item = Vec<Value>>> Iterator for BulkRequests<'b, 'a, I
     }
 }
 
-impl<'b, 'a, I, R> BulkRequests<'b, 'a, I, R> {
+impl<'b, 'a, I: Drop, R: Drop> BulkRequests<'b, 'a, I, R> {
     /// The row that did not fit into the last request, which the next one would have begun with. It takes no memory.
     pub fn into_carried(self) -> Option<R>
-    where
-        I: Drop,
-        R: Drop,
         ensures row { result ≡ carried_of self.entry }
         ensures builder { self.exit.0.now ≡ builder_of self.entry }
     {
         self.carried
-    }
-}
-
-impl<'a> ComStmtBulkExecuteRequestBuilder<'a> {
-    /// The requests of the rows that wait and of those that the input gives. The input must end.
-    pub fn build_iter<'b, I: Iterator<Item = Vec<Value>>>(
-        &'b mut self,
-        rows: I,
-    ) -> BulkRequests<'b, 'a, I>
-        requires can { I.can_next rows }
-        requires ends { IsFinite (I.remaining rows) }
-        ensures builder { result.builder.ghost_name ≡ self.entry.ghost_name }
-        ensures begins { state_of result ≡ record { builder = self.old; carried = None; rows = rows; ended = false } }
-    {
-        BulkRequests {
-            builder: self,
-            rows,
-            carried: None,
-            ended: false,
-        }
     }
 }

@@ -10,10 +10,9 @@ ghost use Rattle.mysql_bulk.specs.SentValues.{sent_values};
 use crate::cells::append_cells;
 use crate::param_value::{StmtBulkExecuteParamValue, indicator_of};
 use mysql_values::Value;
-use mysql_wire::{Const, MariadbBulkIndicator, MySerialize, Parts, Sink, items_len, parts};
+use mysql_wire::{Buffer, Const, MariadbBulkIndicator, MySerialize, Parts, Sink, items_len, parts};
 use std::alloc::{AllocError, Global};
 use std::marker::Model;
-use std::mem;
 
 /// How many bytes values take after their indicators, or `usize::MAX` where that is less.
 #[tactic(auto, using(crate::proofs::RequestBytes::request_lengths), unfolding(mysql_wire::specs::Writing::saturated))]
@@ -131,13 +130,12 @@ impl<'a> MySerialize for SentValues<'a> {
 
     // (the buffer is moved to a local one, whose place in memory no write to its bytes can change: so those of a number
     // are one store)
-    fn append(&self, out: &mut Vec<u8>) {
+    fn append<O: Buffer>(&self, out: &mut O) {
         if self.indicators.is_empty() {
             append_cells(out, self.values);
             return;
         }
-        let none = Vec::new(*out.allocator());
-        let mut bytes = mem::replace(out, none);
+        let mut bytes = out.taken();
         for place in 0..self.values.len() {
             self.at(place).append(&mut bytes);
         }

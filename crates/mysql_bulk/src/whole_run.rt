@@ -97,6 +97,11 @@ impl<'a> ComStmtBulkExecuteRequestBuilder<'a> {
     /// On a new builder it refuses exactly where two rows differ in length (`MixedArity`) or no cut of the rows into
     /// requests fits the limit (`RowTooLarge`, with the first row that no fitting cut takes), and else no cut that fits
     /// has fewer requests.
+    ///
+    /// ```
+    /// let mut builder = ComStmtBulkExecuteRequestBuilder::new(alloc, 1, 31);
+    /// let run = builder.build_all(rows); // the fewest requests that fit, or which row has no place
+    /// ```
     pub fn build_all(&mut self, rows: Vec<Vec<Value>>) -> BulkRun
         ensures gives { RunGives self.old (self.old.waiting ++ contents_of_rows rows.items) result.requests.items result.ends.items result.refusal self.new }
         ensures of_rows { OfRows result.refusal }

@@ -2,8 +2,8 @@
 use Rattle.std.specs.Prelude.{ℕ, List, ◌∷◌, [], codes, decimal}
 use Rattle.std.specs.List.{concat}
 use Rattle.hex.specs.Hex.{encode_lower}
-use Rattle.mysql_stmt.specs.declared.stmt.StmtPacket.{StmtPacket}
-use Rattle.mysql_stmt.specs.Stmt.{stmt, statement_id, num_columns, num_params, warning_count}
+use Rattle.mysql_prepared.specs.declared.stmt.StmtPacket.{StmtPacket}
+use Rattle.mysql_prepared.specs.Stmt.{stmt, statement_id, num_columns, num_params, warning_count}
 use Rattle.mysql_packets.specs.Lines.{line}
 use Rattle.mysql_packets.specs.Answer.{Answer, of_reading}
 

@@ -3,7 +3,7 @@
 pub use mysql_auth::supported_capabilities;
 pub use mysql_wire::{
     BinlogDumpFlags, CapabilityFlags, ColumnFlags, ColumnType, CursorType, FlagNames, FlagWord,
-    Flags, MariadbBulkIndicator, MariadbCapabilities, SessionStateType, StatusFlags,
+    Flags, MariadbBulkIndicator, MariadbCapabilities, ServerCommand, SessionStateType, StatusFlags,
     StmtBulkExecuteFlags, StmtExecuteParamFlags, StmtExecuteParamsFlags, UnknownColumnType,
-    UnknownMariadbBulkIndicator, UnknownSessionStateType,
+    UnknownMariadbBulkIndicator, UnknownServerCommand, UnknownSessionStateType,
 };

@@ -4,8 +4,9 @@
 pub mod raw {
     pub use mysql_wire::{
         BareBytes, BytesRepr, Const, ConstBytes, ConstBytesValue, ConstFault, ConstU8, ConstU32,
-        ConstValue, Either, EofBytes, IntRepr, IntWidth, LeU16, LeU24, LeU32, LeU64, LenEnc,
-        NullBytes, RawBytes, RawInt, Seq, SeqRepr, Skip, U8Bytes, U32Bytes, Unknown, VarLen,
+        ConstValue, Either, EofBytes, FixedInt, IntRepr, IntWidth, LeU16, LeU24, LeU32, LeU64,
+        LenEnc, NullBytes, RawBytes, RawInt, Seq, SeqRepr, Skip, U8Bytes, U32Bytes, Unknown,
+        VarLen,
     };
 }
 

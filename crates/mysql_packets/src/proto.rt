@@ -2,5 +2,5 @@
 
 pub use mysql_values::{Binary, Text};
 pub use mysql_wire::{
-    AnyWidth, Fixed, MyDeserialize, MySerialize, Width, append_items, items_len, read_all,
+    AnyWidth, Buffer, Fixed, MyDeserialize, MySerialize, Width, append_items, items_len, read_all,
 };

@@ -1,5 +1,5 @@
 -- What an answer is that is no error.
-use Rattle.std.proofs.Common.{rules, ◌≡◌, Bool, true, false, refl}
+use Rattle.std.proofs.Common.{rules, ◌≡◌, false}
 use Rattle.std.specs.Prelude.{IsTrue}
 use Rattle.mysql_replies.specs.ErrPacket.{is_error, is_progress_report}
 use Rattle.mysql_replies.specs.declared.err_packet.ErrPacket.{ErrPacket}

@@ -9,8 +9,8 @@ use Rattle.std.specs.Prelude.{nat_eq, string_bytes, string_eq}
 use Rattle.std.specs.declared.string.String.{String}
 use Rattle.indexmap.specs.IndexMap.{insert_entry}
 use Rattle.mysql_auth.specs.Attributes.{Attribute, merged, text_pair}
-use Rattle.mysql_packets_c.specs.Attribute.{merged_pairs, pair_of}
-use Rattle.mysql_packets_c.specs.declared.attribute.CAttribute.{CAttribute}
+use Rattle.mysql_packets_c.specs.Attributes.{merged_pairs, pair_of}
+use Rattle.mysql_packets_c.specs.declared.attributes.CAttribute.{CAttribute}
 
 -- a text that is inserted, as its bytes
 texts-insert : (es : List (String Global × String Global)) (k v : String Global)

@@ -20,7 +20,7 @@ use Rattle.mysql_values.specs.ValueRef.{ref_content}
 use Rattle.mysql_values.specs.declared.param_type.ParamType.{ParamType}
 use Rattle.mysql_values.specs.declared.value_ref.ValueRef.{ValueRef}
 use Rattle.mysql_packets_c.specs.Bulk.{AreRows, Bulk, RefusesAny, Taken, WhyRefused, WritesBuilt, first_rows, first_undeclared, may_ask, refusal_code, row_at, waits}
-use Rattle.mysql_packets_c.specs.CValue.{is_value, value_content, values_contents}
+use Rattle.mysql_packets_c.specs.Value.{is_value, value_content, values_contents}
 use Rattle.mysql_packets_c.specs.declared.value.CValue.{CValue}
 
 -- ---- places

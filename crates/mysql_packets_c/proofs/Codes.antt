@@ -1,11 +1,11 @@
 -- What is answered of a reading.
-use Rattle.std.proofs.Common.{◌≡◌, ℕ, List, Option, Result, Ok, Err, false, refl, sym, subst}
+use Rattle.std.proofs.Common.{◌≡◌, ℕ, List, Option, Ok, false, refl, sym, subst}
 use Rattle.mysql_wire.specs.declared.fault.FaultOf.{FaultOf}
 use Rattle.mysql_wire.specs.declared.fault.FaultOf.TheVariants as fault
 use Rattle.mysql_wire.specs.Reading.{Reading, Faults}
 use Rattle.mysql_packets_c.specs.Code.{ReadsInto, fault_code}
 use Rattle.mysql_packets_c.specs.Input.{used_of}
-use Rattle.mysql_packets_c.specs.CRow.{values_held, RowInto}
+use Rattle.mysql_packets_c.specs.Rows.{values_held, RowInto}
 use Rattle.mysql_packets_c.specs.declared.value.CValue.{CValue}
 use Rattle.mysql_values.specs.Value.{Content}
 

@@ -6,11 +6,11 @@ use Rattle.mysql_wire.specs.declared.fault.FaultKind.TheVariants as kind
 use Rattle.mysql_wire.specs.declared.fault.FaultOf.{FaultOf}
 use Rattle.mysql_wire.specs.declared.fault.FaultOf.TheVariants as fault
 use Rattle.mysql_wire.specs.Reading.{Reading, Faults}
-use Rattle.mysql_stmt.specs.ExecuteRead.{HasNoParam, IsExecution, ParamsLeft, RefusesParam, TypedParam, execute_params, front, params_of, params_to}
-use Rattle.mysql_stmt.specs.declared.execute_head.ComStmtExecuteHead.{ComStmtExecuteHead}
-use Rattle.mysql_stmt.specs.declared.execute_view.BoundParam.{BoundParam}
+use Rattle.mysql_prepared.specs.ExecuteRead.{HasNoParam, IsExecution, ParamsLeft, RefusesParam, TypedParam, execute_params, front, params_of, params_to}
+use Rattle.mysql_prepared.specs.declared.execute_head.ComStmtExecuteHead.{ComStmtExecuteHead}
+use Rattle.mysql_prepared.specs.declared.execute_view.BoundParam.{BoundParam}
 use Rattle.mysql_packets_c.specs.Code.{fault_code, kind_code}
-use Rattle.mysql_packets_c.specs.CValue.{value_content}
+use Rattle.mysql_packets_c.specs.Value.{value_content}
 use Rattle.mysql_packets_c.specs.Execution.{ExecutionInto, FillsParams, HoldsExecution, HoldsParams, ParamsInto, TakesParams, bound_list, bound_of, content_of, contents_of, sends_types, type_held, types_of}
 use Rattle.mysql_packets_c.specs.declared.execution.CExecution.{CExecution}
 use Rattle.mysql_packets_c.specs.declared.execution.CParam.{CParam}

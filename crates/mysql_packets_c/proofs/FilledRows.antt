@@ -1,16 +1,25 @@
 -- What filling places gives of a row.
-use Rattle.std.proofs.Common.{◌≡◌, ◌≤◌, ◌-◌, ◌++◌, ◌∷◌, ◌+◌, ◌<◌, ℕ, List, [], slice_set, Option, Some, Result, Ok, Err, length, map, take, false, refl, sym, subst, ap, ◌∙◌, arith}
+use Rattle.std.proofs.Common.{◌≡◌, ◌-◌, ◌++◌, ◌∷◌, ◌+◌, ◌<◌, ℕ, List, [], slice_set, Option, Result, Ok, Err, length, map, take, drop, false, sym, subst, ap, ◌∙◌, arith}
 use Rattle.std.proofs.lemmas.List.{append-nil, append_assoc, map-append, take_more_set}
 use Rattle.mysql_wire.specs.declared.fault.FaultKind.{FaultKind}
 use Rattle.mysql_wire.specs.declared.fault.FaultOf.{FaultOf}
 use Rattle.mysql_wire.specs.declared.fault.FaultOf.TheVariants as fault
 use Rattle.mysql_wire.specs.Reading.{Reading, Faults}
 use Rattle.mysql_values.specs.Value.{Content}
-use Rattle.mysql_stmt.specs.RowView.{RowLeft, IsDone, RefusesNext, read_to, read_of}
-use Rattle.mysql_packets_c.specs.CRow.{Fills, TakesRow, values_held}
-use Rattle.mysql_packets_c.specs.CValue.{value_content}
-use Rattle.mysql_packets_c.specs.Input.{used_of}
+use Rattle.mysql_prepared.specs.RowView.{RowLeft, IsDone, RefusesNext, read_to, read_of}
+use Rattle.mysql_packets_c.specs.Rows.{Fills, values_held}
+use Rattle.mysql_packets_c.specs.Value.{value_content}
 use Rattle.mysql_packets_c.specs.declared.value.CValue.{CValue}
+
+-- what stands in the places so far
+abbrev pub SoFar : (first row : RowLeft) (before values : List CValue) → ℕ → Type 0
+SoFar first row before values place = record {
+  count : place + row.left ≡ first.left;
+  good : first.values ≡ map value_content (take place values) ++ row.values;
+  end : row.end ≡ first.end;
+  others : drop place values ≡ drop place before;
+  len : length values ≡ length before;
+}
 
 -- one value more stands in its place
 pub one-more : (values : List CValue) (place : ℕ) (x : CValue) (read left more : List Content) (c : Content) → read ≡ map value_content (take place values) ++ left → left ≡ c ∷ more

@@ -4,7 +4,8 @@ use Rattle.std.proofs.lemmas.Bool.{leb-true}
 use Rattle.mysql_auth.specs.Handshake as handshake
 use Rattle.mysql_auth.specs.declared.handshake.HandshakePacket.{HandshakePacket}
 use Rattle.mysql_wire.specs.Null.{HasNoZero}
-use Rattle.mysql_packets_c.specs.WriteConnection.{has_zero, sends_scramble, sends_name, scramble_fits, name_fits, handshake_fits, if_sent, IsSent}
+use Rattle.mysql_auth.specs.PluginName.{has_zero}
+use Rattle.mysql_packets_c.specs.Handshake.{sends_scramble, sends_name, scramble_fits, name_fits, handshake_fits, if_sent, IsSent}
 use Rattle.mysql_packets_c.specs.declared.handshake.CHandshake.{CHandshake}
 
 both : (a b : Bool) → IsTrue (a && b) → IsTrue a × IsTrue b

@@ -6,13 +6,7 @@ pub mod AttributeTexts
 pub mod Mixed
 pub mod BulkRows
 pub mod Executions
-pub mod Names
-pub mod Pairs
-pub mod Tags
 pub mod SidHeld
-pub mod Passing
 pub mod SomeZero
-pub mod CountAgain
 pub mod HandshakeFit
 pub mod RefusedRow
-pub mod PassingSids

@@ -1,7 +1,7 @@
 -- Why a row is refused: there is not a value for each column, or a column does not take its value.
 use Rattle.std.proofs.Common.{◌≡◌, ◌≢◌, ℕ, zero, suc, List, [], ◌∷◌, length, Some, Bool, true, false, ◌&&◌, refl, ap}
 use Rattle.std.specs.Prelude.{slice_get}
-use Rattle.mysql_stmt.specs.BinaryRow.{takes, takes_row, IsRefusedAt}
+use Rattle.mysql_prepared.specs.BinaryRow.{takes, takes_row, IsRefusedAt}
 use Rattle.mysql_values.specs.Value.{Content}
 use Rattle.mysql_packets_c.specs.ColumnType.{type_of, unsigned_of}
 use Rattle.mysql_packets_c.specs.declared.rows.CColumnType.{CColumnType}

@@ -3,14 +3,14 @@ use Rattle.std.proofs.Common.{◌≡◌, ℕ, ◌<◌, ◌≤◌, ◌+◌, List,
 use Rattle.std.proofs.lemmas.List.{append-nil, append_assoc, drop_all, drop_more, map-append, take_more, take_more_set}
 use Rattle.std.proofs.lemmas.Bool.{le-leb}
 use Rattle.std.specs.Str.{IsUtf8}
-use Rattle.mysql_packets_c.proofs.Tags.{bytes-not_utf8, bytes-fault, bytes-tag}
+use Rattle.mysql_repl.proofs.Tags.{bytes-not_utf8, bytes-fault, bytes-tag, nothing}
 use Rattle.mysql_repl.specs.Tag.{IsTag, tag_fault}
 use Rattle.mysql_repl.specs.TagString.{tag_of, tag_of-tag, tag-short}
 use Rattle.mysql_repl.specs.declared.sid.Sid.{Sid}
 use Rattle.mysql_repl.specs.declared.tag.InvalidTag.{InvalidTag}
 use Rattle.mysql_repl.specs.declared.gno_interval.GnoInterval.{GnoInterval}
 use Rattle.mysql_packets_c.specs.declared.sid.CInterval.{CInterval}
-use Rattle.mysql_packets_c.specs.Sid.{interval_of, intervals_of, tag_held, sid_held, sids_held, with_first}
+use Rattle.mysql_packets_c.specs.Sid.{interval_of, intervals_of, tag_held, tag_in, sid_held, sids_held, with_first}
 use Rattle.mysql_packets_c.specs.declared.sid.CSid.{CSid}
 
 -- ---- a tag among bytes
@@ -31,6 +31,13 @@ held-fault (b ∷ bytes) text fault some same h = bytes-fault b bytes fault (rw 
 pub held-tag : (bytes text tag : List ℕ) → (length bytes ≡ 0 → ⊥) → IsUtf8 bytes → text ≡ bytes → tag ≡ text → tag_fault text ≡ None → tag_of bytes ≡ Some (Some tag)
 held-tag [] text tag some utf8 same is h = absurd (some refl)
 held-tag (b ∷ bytes) text tag some utf8 same is h = bytes-tag b bytes utf8 (rw same at h) ∙ ap (λ (t : List ℕ). Some (Some t)) (sym (is ∙ same))
+
+-- a tag is not empty
+pub tag-place : (text : List ℕ) → IsTag text → tag_in text ≡ Some text
+tag-place [] h = absurd (nothing h)
+tag-place (b ∷ bytes) h = refl
+
+pub ruleset tag_places = (tag-place)
 
 -- ---- intervals one by one
 

@@ -3,7 +3,7 @@ use Rattle.std.proofs.Common.{◌≡◌, ℕ, zero, suc, List, [], ◌∷◌, le
 use Rattle.std.specs.Prelude.{nat_lt}
 use Rattle.std.proofs.lemmas.Bool.{cases_lt, lt-ltb, le-ltb}
 use Rattle.mysql_wire.specs.Null.{before_zero}
-use Rattle.mysql_packets_c.specs.WriteConnection.{has_zero}
+use Rattle.mysql_auth.specs.PluginName.{has_zero}
 
 one-more : (a b : ℕ) → nat_lt (suc a) (suc b) ≡ nat_lt a b
 one-more a b =

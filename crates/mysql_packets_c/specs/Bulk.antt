@@ -12,7 +12,7 @@ use Rattle.mysql_values.specs.ParamType.{typed}
 use Rattle.mysql_values.specs.Value.{Content}
 use Rattle.mysql_values.specs.declared.param_type.ParamType.{ParamType}
 use Rattle.mysql_packets_c.specs.ColumnType.{type_of, unsigned_of}
-use Rattle.mysql_packets_c.specs.CValue.{is_value, values_contents}
+use Rattle.mysql_packets_c.specs.Value.{is_value, values_contents}
 use Rattle.mysql_packets_c.specs.Output.{Puts}
 use Rattle.mysql_packets_c.specs.declared.rows.CColumnType.{CColumnType}
 use Rattle.mysql_packets_c.specs.declared.value.CValue.{CValue}

@@ -1,12 +1,14 @@
 -- The change of a session's user, as C has it.
-use Rattle.std.specs.Prelude.{Some}
+use Rattle.std.specs.Prelude.{Some, ◌≡◌, ℕ, ◌==◌, List, Option, None, if◌then◌else◌, option_map}
 use Rattle.mysql_auth.specs.AuthPlugin.{plugin_of}
 use Rattle.mysql_auth.specs.ComChangeUser as change
 use Rattle.mysql_auth.specs.declared.com_change_user.ComChangeUser.{ComChangeUser}
 use Rattle.mysql_auth.specs.declared.com_change_user_more_data.ComChangeUserMoreData.{ComChangeUserMoreData}
-use Rattle.mysql_packets_c.specs.Attribute.{merged_pairs}
+use Rattle.mysql_packets_c.specs.Attributes.{attributes_in, merged_pairs}
 use Rattle.mysql_packets_c.specs.Given.{if_set}
+use Rattle.mysql_packets_c.specs.Input.{used_of}
 use Rattle.mysql_packets_c.specs.declared.change_user.CChangeUser.{CChangeUser}
+use Rattle.mysql_packets_c.specs.declared.change_user.CUserChange.{CUserChange}
 
 -- what stands after the database
 abbrev pub more_of : CChangeUser → ComChangeUserMoreData
@@ -15,3 +17,23 @@ more_of c = change.more_data_of c.character_set (if_set c.has_auth_plugin (plugi
 -- the packet of these
 abbrev pub change_of : CChangeUser → ComChangeUser
 change_of c = change.change_of c.user.now c.auth_plugin_data.now c.database.now (Some (more_of c))
+
+-- the character set, the plugin and the attributes, where they were sent
+abbrev pub more_held : CUserChange → Option ComChangeUserMoreData
+more_held out =
+    if out.has_character_set == 0 then None
+    else Some (change.more_data_of out.character_set (option_map plugin_of (if_set out.has_auth_plugin_name out.auth_plugin_name.now)) (option_map attributes_in (if_set out.has_attributes out.attributes.now)))
+
+-- but for these the struct is as it was
+pub record KeepsOthers (old new : CUserChange) : Type 0 where
+  pub user : new.user.now ≡ old.user.now
+  pub auth_response : new.auth_response.now ≡ old.auth_response.now
+  pub database : new.database.now ≡ old.database.now
+  pub used : new.used ≡ old.used
+
+pub record IsUserChange (packet : List ℕ) (p : ComChangeUser) (rest : List ℕ) (out : CUserChange) : Type 0 where
+  pub user : out.user.now ≡ change.user p
+  pub auth_response : out.auth_response.now ≡ change.auth_plugin_data p
+  pub database : out.database.now ≡ change.database p
+  pub more_data : more_held out ≡ change.more_data_in p
+  pub used : out.used ≡ used_of packet rest

@@ -1,5 +1,5 @@
 -- What calls answer.
-use Rattle.std.specs.Prelude.{◌≡◌, ℕ, List, Result, Ok, Err}
+use Rattle.std.specs.Prelude.{◌≡◌, ℕ, List, Ok, Err}
 use Rattle.mysql_wire.specs.declared.fault.FaultKind.{FaultKind}
 use Rattle.mysql_wire.specs.declared.fault.FaultKind.TheVariants as kind
 use Rattle.mysql_wire.specs.declared.fault.FaultOf.{FaultOf}

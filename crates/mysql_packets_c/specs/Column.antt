@@ -1,10 +1,12 @@
 -- The definition of a column, as C has it.
 use Rattle.std.specs.Prelude.{◌≡◌, ℕ, List}
-use Rattle.mysql_wire.specs.ColumnType.{column_type_code}
-use Rattle.mysql_replies.specs.declared.column.Column.{Column}
 use Rattle.mysql_replies.specs.Column as column
-use Rattle.mysql_packets_c.specs.declared.column.CColumn.{CColumn}
+use Rattle.mysql_replies.specs.Column.{column_of}
+use Rattle.mysql_replies.specs.declared.column.Column.{Column}
+use Rattle.mysql_wire.specs.ColumnType.{column_type_code}
+use Rattle.mysql_wire.specs.declared.codes.column_type.ColumnType.{ColumnType}
 use Rattle.mysql_packets_c.specs.Input.{used_of}
+use Rattle.mysql_packets_c.specs.declared.column.CColumn.{CColumn}
 
 pub record IsColumn (packet : List ℕ) (c : Column) (rest : List ℕ) (out : CColumn) : Type 0 where
   pub schema : out.schema.now ≡ column.schema c
@@ -18,3 +20,8 @@ pub record IsColumn (packet : List ℕ) (c : Column) (rest : List ℕ) (out : CC
   pub column_type : out.column_type ≡ column_type_code (column.column_type c)
   pub decimals : out.decimals ≡ column.decimals c
   pub used : out.used ≡ used_of packet rest
+
+-- the column of this type, and of the other fields
+abbrev pub column_given : ColumnType → CColumn → Column
+column_given column_type c =
+    column_of c.schema.now c.table.now c.org_table.now c.name.now c.org_name.now c.character_set c.column_length column_type (record { 0 = c.flags; 1 = record {} }) c.decimals

@@ -1,5 +1,5 @@
 -- The type of a column, as C has it.
-use Rattle.std.specs.Prelude.{ℕ, Bool, true, false, ◌==◌, if◌then◌else◌}
+use Rattle.std.specs.Prelude.{Bool, true, false, ◌==◌, if◌then◌else◌}
 use Rattle.std.specs.Option.{unwrap_or}
 use Rattle.mysql_wire.specs.ColumnType.{column_type_of}
 use Rattle.mysql_wire.specs.declared.codes.column_type.ColumnType.{ColumnType}

@@ -1,15 +1,18 @@
 -- Errors and progress reports, as C has them.
-use Rattle.std.specs.Prelude.{◌≡◌, ℕ, List, [], option_map}
 use Rattle.std.specs.Option.{unwrap_or}
-use Rattle.mysql_replies.specs.ServerError as error
+use Rattle.std.specs.Prelude.{◌≡◌, ℕ, List, [], option_map, Option}
 use Rattle.mysql_replies.specs.ProgressReport as report
+use Rattle.mysql_replies.specs.ProgressReport.{report_of}
+use Rattle.mysql_replies.specs.ServerError as error
+use Rattle.mysql_replies.specs.ServerError.{error_of}
 use Rattle.mysql_replies.specs.SqlState.{state_bytes}
 use Rattle.mysql_replies.specs.declared.err_packet.ErrPacket.{ErrPacket}
 use Rattle.mysql_replies.specs.declared.err_packet.ErrPacket.TheVariants as err
 use Rattle.mysql_replies.specs.declared.progress_report.ProgressReport.{ProgressReport}
 use Rattle.mysql_replies.specs.declared.server_error.ServerError.{ServerError}
-use Rattle.mysql_packets_c.specs.declared.err_packet.CError.{CError}
+use Rattle.mysql_replies.specs.declared.sql_state.SqlState.{SqlState}
 use Rattle.mysql_packets_c.specs.Input.{used_of}
+use Rattle.mysql_packets_c.specs.declared.err_packet.CError.{CError}
 
 -- no SQL state is an empty one
 pub record HoldsError (e : ServerError) (taken : ℕ) (out : CError) : Type 0 where
@@ -38,3 +41,11 @@ HoldsAnswer (err.Progress r) used out = HoldsReport r used out
 
 abbrev pub IsAnswer : List ℕ → ErrPacket → List ℕ → CError → Type 0
 IsAnswer packet p rest out = HoldsAnswer p (used_of packet rest) out
+
+-- the error with this SQL state, and with the fields' code and message
+abbrev pub error_given : Option SqlState → CError → ErrPacket
+error_given state c = err.Error (error_of c.code state c.message.now)
+
+-- the report of these fields
+abbrev pub report_given : CError → ErrPacket
+report_given c = err.Progress (report_of c.stage c.max_stage c.progress c.message.now)

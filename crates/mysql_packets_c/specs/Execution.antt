@@ -1,28 +1,31 @@
--- An execution, as a server written in C reads it.
-use Rattle.std.specs.Prelude.{◌≡◌, ℕ, ◌-◌, ◌==◌, ◌++◌, Bool, false, not, if◌then◌else◌, List, map, take, Result, Ok, Err}
+-- An execution, as C has it.
 use Rattle.std.specs.Option.{unwrap_or}
+use Rattle.std.specs.Prelude.{◌≡◌, ℕ, ◌-◌, ◌==◌, ◌++◌, Bool, false, not, if◌then◌else◌, List, map, take, Result, Ok, Err, ◌<◌, ◌↔◌, IsTrue}
+use Rattle.mysql_prepared.specs.ExecuteHead as head
+use Rattle.mysql_prepared.specs.ExecuteParam.{Param, Sent, SentAhead}
+use Rattle.mysql_prepared.specs.Payload.{max_payload}
+use Rattle.mysql_prepared.specs.ExecuteRead.{Front, ParamsLeft, TypedParam, execute_params, front}
+use Rattle.mysql_prepared.specs.WrittenExecution.{IsExecutionBytes, execution_size}
+use Rattle.mysql_prepared.specs.declared.execute_head.ComStmtExecuteHead.{ComStmtExecuteHead}
+use Rattle.mysql_prepared.specs.declared.execute_view.BoundParam.{BoundParam}
+use Rattle.mysql_values.specs.ParamType.{typed}
+use Rattle.mysql_values.specs.Value.{Content, NULL}
+use Rattle.mysql_values.specs.declared.param_type.ParamType.{ParamType}
 use Rattle.mysql_wire.specs.ColumnType.{column_type_code, column_type_of}
 use Rattle.mysql_wire.specs.FlagMasks.{UNSIGNED}
 use Rattle.mysql_wire.specs.Flags.{has}
 use Rattle.mysql_wire.specs.Reading.{Reading, Faults}
-use Rattle.mysql_wire.specs.declared.fault.FaultOf.{FaultOf}
 use Rattle.mysql_wire.specs.declared.codes.column_type.ColumnType.TheVariants as column_type
-use Rattle.mysql_values.specs.ParamType.{typed}
-use Rattle.mysql_values.specs.Value.{Content, NULL}
-use Rattle.mysql_values.specs.declared.param_type.ParamType.{ParamType}
-use Rattle.mysql_stmt.specs.ExecuteHead as head
-use Rattle.mysql_stmt.specs.ExecuteParam.{Param, Sent, SentAhead}
-use Rattle.mysql_stmt.specs.ExecuteRead.{Front, ParamsLeft, TypedParam, execute_params, front}
-use Rattle.mysql_stmt.specs.declared.execute_head.ComStmtExecuteHead.{ComStmtExecuteHead}
-use Rattle.mysql_stmt.specs.declared.execute_view.BoundParam.{BoundParam}
+use Rattle.mysql_wire.specs.declared.fault.FaultOf.{FaultOf}
+use Rattle.mysql_packets_c.specs.Code.{kind_code}
+use Rattle.mysql_packets_c.specs.Input.{used_of}
+use Rattle.mysql_packets_c.specs.Output.{Puts}
+use Rattle.mysql_packets_c.specs.Value.{value_content, is_value}
 use Rattle.mysql_packets_c.specs.declared.execution.CExecution.{CExecution}
 use Rattle.mysql_packets_c.specs.declared.execution.CExecutionHead.{CExecutionHead}
 use Rattle.mysql_packets_c.specs.declared.execution.CParam.{CParam}
 use Rattle.mysql_packets_c.specs.declared.rows.CColumnType.{CColumnType}
 use Rattle.mysql_packets_c.specs.declared.value.CValue.{CValue}
-use Rattle.mysql_packets_c.specs.Code.{kind_code}
-use Rattle.mysql_packets_c.specs.CValue.{value_content}
-use Rattle.mysql_packets_c.specs.Input.{used_of}
 
 -- ---- the head
 
@@ -100,3 +103,17 @@ TakesParams params (Ok x) values types bytes =
     (list : List TypedParam) × ((execute_params params).reads bytes ≡ Ok (list, x.1)) × HoldsParams list values types
     × (sends_types ((front params).reads bytes) ≡ (if x.0 then 1 else 0))
 TakesParams params (Err e) values types bytes = Faults false e ((execute_params params).reads bytes)
+
+-- the parameter that a value is. What is no value would be sent as NULL, and is refused before
+abbrev pub param : CValue → Param
+param v = Sent (if is_value v then value_content v else NULL)
+
+-- an execution of the statement with these values is written, and whether it leaves byte strings out is answered
+pub record Executes (statement_id : ℕ) (values : List CValue) (code : ℕ) (old new : List ℕ) (written as_long_data : ℕ) : Type 0 where
+  pub bytes : List ℕ
+  pub is_long : Bool
+  pub is_theirs : IsExecutionBytes param statement_id values is_long bytes
+  -- byte strings are left out where the request with them is past one packet
+  pub where_long : IsTrue is_long ↔ (max_payload < execution_size param values false)
+  pub puts : Puts bytes code old new written
+  pub leaves_out : as_long_data ≡ (if is_long then 1 else 0)

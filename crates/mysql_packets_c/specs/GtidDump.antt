@@ -1,11 +1,16 @@
 -- The request for a binary log without the transactions of a GTID set, as C has it.
-use Rattle.std.specs.Prelude.{◌≡◌, ℕ, List, [], Option, Some, None, Result, Ok, Err, ◌⊎◌}
 use Rattle.std.specs.Global.{Vec}
+use Rattle.std.specs.Prelude.{◌≡◌, ℕ, List, [], Option, Some, None, Result, Ok, Err, ◌⊎◌}
 use Rattle.mysql_repl.specs.BinlogDumpGtid as dump
 use Rattle.mysql_repl.specs.BinlogDumpGtid.{gtid_dump}
+use Rattle.mysql_repl.specs.InPlace.{StandIn}
+use Rattle.mysql_repl.specs.Sid as lib
 use Rattle.mysql_repl.specs.declared.binlog_dump_gtid.ComBinlogDumpGtid.{ComBinlogDumpGtid}
 use Rattle.mysql_repl.specs.declared.sid.Sid.{Sid}
+use Rattle.mysql_packets_c.specs.Given.{is_set}
+use Rattle.mysql_packets_c.specs.Input.{used_of}
 use Rattle.mysql_packets_c.specs.Output.{Puts}
+use Rattle.mysql_packets_c.specs.declared.gtid_dump.CGtidDump.{CGtidDump}
 
 -- the request of these; BINLOG_THROUGH_GTID is set exactly if there is a sid
 abbrev pub dump_with : (server_id flags : ℕ) (file_name : List ℕ) (position : ℕ) → List Sid → ComBinlogDumpGtid
@@ -25,3 +30,23 @@ items_made (Err code) = Err code
 abbrev pub PutsDump : Option (List Sid) → (List Sid → ComBinlogDumpGtid) → (code : ℕ) (old new : List ℕ) (written : ℕ) → Type 0
 PutsDump (Some sids) dump_of code old new written = Puts (gtid_dump.bytes (dump_of sids)) code old new written
 PutsDump None dump_of code old new written = (code ≡ 3) × (new ≡ old) × (written ≡ 0)
+
+-- the sids stand in their place: with what follows it they are read, and what follows is left
+abbrev pub SidsStand : List Sid → CGtidDump → Type 0
+SidsStand list out = StandIn ((lib.sid_as (is_set out.is_tagged)).form tt) out.n_sids out.sids.now list
+
+-- but for the sids the struct is as it was
+pub record KeepsOthers (old new : CGtidDump) : Type 0 where
+  pub file_name : new.file_name.now ≡ old.file_name.now
+  pub position : new.position ≡ old.position
+  pub used : new.used ≡ old.used
+  pub server_id : new.server_id ≡ old.server_id
+  pub flags : new.flags ≡ old.flags
+
+pub record IsGtidDump (packet : List ℕ) (p : ComBinlogDumpGtid) (rest : List ℕ) (out : CGtidDump) : Type 0 where
+  pub file_name : out.file_name.now ≡ dump.filename p
+  pub position : out.position ≡ dump.pos p
+  pub server_id : out.server_id ≡ dump.server_id p
+  pub flags : out.flags ≡ dump.flag_bits p
+  pub sids : SidsStand (dump.sids p) out
+  pub used : out.used ≡ used_of packet rest

@@ -1,14 +1,16 @@
 -- The login of a client, as C has it.
-use Rattle.std.specs.Prelude.{◌≡◌, ◌≢◌, ◌<◌, ℕ, Bool, ◌==◌, ◌||◌}
 use Rattle.std.specs.Int.{bit_at}
-use Rattle.mysql_wire.specs.FlagMasks.{CLIENT_CONNECT_WITH_DB, CLIENT_PLUGIN_AUTH, CLIENT_CONNECT_ATTRS}
-use Rattle.mysql_wire.specs.Flags.{has}
+use Rattle.std.specs.Prelude.{◌≡◌, ◌≢◌, ◌<◌, ℕ, Bool, ◌==◌, ◌||◌, List, option_map}
 use Rattle.mysql_auth.specs.AuthPlugin.{plugin_of}
 use Rattle.mysql_auth.specs.HandshakeResponse as response
 use Rattle.mysql_auth.specs.declared.handshake_response.HandshakeResponse.{HandshakeResponse}
-use Rattle.mysql_packets_c.specs.Attribute.{are_texts, merged_pairs}
+use Rattle.mysql_wire.specs.FlagMasks.{CLIENT_CONNECT_WITH_DB, CLIENT_PLUGIN_AUTH, CLIENT_CONNECT_ATTRS}
+use Rattle.mysql_wire.specs.Flags.{has}
+use Rattle.mysql_packets_c.specs.Attributes.{attributes_in, are_texts, merged_pairs}
 use Rattle.mysql_packets_c.specs.Given.{if_set, is_set}
+use Rattle.mysql_packets_c.specs.Input.{used_of}
 use Rattle.mysql_packets_c.specs.declared.login.CLogin.{CLogin}
+use Rattle.mysql_packets_c.specs.declared.login.CLoginRequest.{CLoginRequest}
 
 -- the attributes that are sent are UTF-8
 abbrev pub login_texts : CLogin → Bool
@@ -28,3 +30,16 @@ pub record IsLogin (c : CLogin) (p : HandshakeResponse) : Type 0 where
   pub plugin_flag : has (response.capabilities p).0 CLIENT_PLUGIN_AUTH ≡ is_set c.has_auth_plugin
   pub attributes_flag : has (response.capabilities p).0 CLIENT_CONNECT_ATTRS ≡ is_set c.has_attributes
   pub other_flags : (i : ℕ) → i < 32 → i ≢ 3 → i ≢ 19 → i ≢ 20 → bit_at (response.capabilities p).0 i ≡ bit_at c.capabilities i
+
+-- what was not sent is empty
+pub record IsLoginRequest (packet : List ℕ) (p : HandshakeResponse) (rest : List ℕ) (out : CLoginRequest) : Type 0 where
+  pub user : out.user.now ≡ response.user p
+  pub auth_response : out.auth_response.now ≡ response.scramble_buf p
+  pub database : if_set out.has_database out.database.now ≡ response.db_name p
+  pub auth_plugin_name : option_map plugin_of (if_set out.has_auth_plugin_name out.auth_plugin_name.now) ≡ response.auth_plugin p
+  pub attributes : option_map attributes_in (if_set out.has_attributes out.attributes.now) ≡ response.connect_attributes p
+  pub capabilities : out.capabilities ≡ (response.capabilities p).0
+  pub mariadb_capabilities : out.mariadb_capabilities ≡ (response.mariadb_ext_capabilities p).0
+  pub max_packet_size : out.max_packet_size ≡ response.max_packet_size p
+  pub collation : out.collation ≡ response.collation p
+  pub used : out.used ≡ used_of packet rest

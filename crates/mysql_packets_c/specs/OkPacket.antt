@@ -1,18 +1,19 @@
 -- An OK packet, as C has it.
-use Rattle.std.specs.Prelude.{◌≡◌, ℕ, List}
 use Rattle.std.specs.Option.{unwrap_or}
-use Rattle.mysql_wire.specs.Flags.{CapabilityFlags}
-use Rattle.mysql_wire.specs.Form.{Form}
-use Rattle.mysql_replies.specs.OkKind.{common_ok_body, terminator_body, old_eof_body}
+use Rattle.std.specs.Prelude.{◌≡◌, ℕ, List}
+use Rattle.mysql_replies.specs.OkKind.{common_ok_body, terminator_body, old_eof_body, body_of}
 use Rattle.mysql_replies.specs.OkPacket as ok
+use Rattle.mysql_replies.specs.OkPacket.{packet_of}
 use Rattle.mysql_replies.specs.declared.ok_kind.CommonOkPacket.{CommonOkPacket}
 use Rattle.mysql_replies.specs.declared.ok_kind.NetworkStreamTerminator.{NetworkStreamTerminator}
 use Rattle.mysql_replies.specs.declared.ok_kind.OldEofPacket.{OldEofPacket}
 use Rattle.mysql_replies.specs.declared.ok_kind.ResultSetTerminator.{ResultSetTerminator}
 use Rattle.mysql_replies.specs.declared.ok_packet.OkPacket.{OkPacket}
 use Rattle.mysql_replies.specs.declared.ok_packet.OkPacketDeserializer.{OkPacketDeserializer}
-use Rattle.mysql_packets_c.specs.declared.ok_packet.COk.{COk}
+use Rattle.mysql_wire.specs.Flags.{CapabilityFlags}
+use Rattle.mysql_wire.specs.Form.{Form}
 use Rattle.mysql_packets_c.specs.Input.{used_of}
+use Rattle.mysql_packets_c.specs.declared.ok_packet.COk.{COk}
 
 -- the packet of each kind
 abbrev pub common_ok : CapabilityFlags → Form (OkPacketDeserializer CommonOkPacket)
@@ -39,3 +40,7 @@ pub record HoldsOk (p : OkPacket) (taken : ℕ) (out : COk) : Type 0 where
 
 abbrev pub IsOk : {T : Type 0} → List ℕ → OkPacketDeserializer T → List ℕ → COk → Type 0
 IsOk packet d rest out = HoldsOk (ok.packet d) (used_of packet rest) out
+
+-- the packet of these fields: an insert id of 0, an empty info and an empty state are absent
+abbrev pub ok_of : COk → OkPacket
+ok_of c = packet_of (body_of c.affected_rows c.last_insert_id (record { 0 = c.status_flags; 1 = record {} }) c.warnings c.info.now c.session_state.now)

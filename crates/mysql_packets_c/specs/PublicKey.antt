@@ -1,5 +1,5 @@
--- The server's public key and what the plugin parsec is sent, as C has them.
-use Rattle.std.specs.Prelude.{◌≡◌, ℕ, List, Option, Some, None}
+-- The server's public key, as C has it.
+use Rattle.std.specs.Prelude.{◌≡◌, ℕ, List}
 use Rattle.mysql_auth.specs.PublicKeyResponse.{rsa_key}
 use Rattle.mysql_auth.specs.declared.public_key_response.PublicKeyResponse.{PublicKeyResponse}
 use Rattle.mysql_packets_c.specs.declared.text.CBytes.{CBytes}
@@ -7,8 +7,3 @@ use Rattle.mysql_packets_c.specs.declared.text.CBytes.{CBytes}
 -- the key
 abbrev pub IsKey : PublicKeyResponse → List ℕ → CBytes → Type 0
 IsKey p rest out = out.bytes.now ≡ rsa_key p
-
--- 0 where the rounds and the salt were found; else 2, and both are as they were
-abbrev pub SaltInto : Option (ℕ × List ℕ) → ℕ → ℕ → ℕ → CBytes → CBytes → Type 0
-SaltInto (Some found) code rounds_old rounds old new = (code ≡ 0) × (rounds ≡ found.0) × (new.bytes.now ≡ found.1)
-SaltInto None code rounds_old rounds old new = (code ≡ 2) × (rounds ≡ rounds_old) × (new ≡ old)

@@ -1,15 +1,6 @@
--- What a reply is, by its first byte, and the count of columns that a result begins with.
-use Rattle.std.specs.Prelude.{◌≡◌, ℕ, List, [], ◌∷◌, length, Option, Some, None, Bool, if◌then◌else◌, ◌==◌, ◌&&◌, nat_lt}
-use Rattle.mysql_wire.specs.FlagMasks.{MARIADB_CLIENT_CACHE_METADATA}
-use Rattle.mysql_wire.specs.Flags.{CapabilityFlags, MariadbCapabilities, has}
-use Rattle.mysql_wire.specs.Form.{Form, ◌>>=◌, give, when}
-use Rattle.mysql_wire.specs.Int.{byte, raw}
-use Rattle.mysql_wire.specs.LenEnc.{lenenc}
-use Rattle.mysql_wire.specs.declared.int.RawInt.{RawInt}
-use Rattle.mysql_wire.specs.declared.lenenc.LenEnc.{LenEnc}
-use Rattle.mysql_packets_c.specs.declared.reply.CColumnCount.{CColumnCount}
-use Rattle.mysql_packets_c.specs.declared.reply.ColumnCount.{ColumnCount}
-use Rattle.mysql_packets_c.specs.Input.{used_of}
+-- What a reply is, by its first byte.
+use Rattle.std.specs.Prelude.{◌≡◌, ℕ, List, [], ◌∷◌, length, Option, Some, None, if◌then◌else◌, ◌==◌, ◌&&◌, nat_lt}
+use Rattle.mysql_wire.specs.Flags.{CapabilityFlags, has}
 
 -- the kind of the first packet after a command, by its first byte: OK, error, end, local file, or a count of columns
 abbrev pub reply_kind : List ℕ → Option ℕ
@@ -33,23 +24,3 @@ row_kind capabilities (b ∷ bytes) =
 abbrev pub TellsKind : Option ℕ → ℕ → ℕ → ℕ → Type 0
 TellsKind None code old new = (code ≡ 1) × (new ≡ old)
 TellsKind (Some kind) code old new = (code ≡ 0) × (new ≡ kind)
-
-abbrev pub count_of : RawInt LenEnc ℕ → Option (RawInt ℕ ℕ) → ColumnCount
-count_of count follows = record { count = count; metadata_follows = follows }
-
--- a length-encoded count, and under MARIADB_CLIENT_CACHE_METADATA a byte that says whether definitions follow
-unfoldable pub column_count : MariadbCapabilities → Form ColumnCount
-column_count capabilities = do
-  count ← raw {R = LenEnc} lenenc
-  follows ← when (has capabilities.0 MARIADB_CLIENT_CACHE_METADATA) byte
-  give (count_of count follows)
-
--- whether definitions follow: they do where no byte says so
-abbrev pub follows : Option (RawInt ℕ ℕ) → ℕ
-follows None = 1
-follows (Some b) = if b.0 == 0 then 0 else 1
-
-pub record IsCount (packet : List ℕ) (c : ColumnCount) (rest : List ℕ) (out : CColumnCount) : Type 0 where
-  pub count : out.count ≡ c.count.0
-  pub metadata_follows : out.metadata_follows ≡ follows c.metadata_follows
-  pub used : out.used ≡ used_of packet rest

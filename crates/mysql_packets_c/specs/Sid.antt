@@ -1,13 +1,19 @@
 -- A server's transactions, as C has them.
 use Rattle.std.specs.Prelude.{◌≡◌, ℕ, ◌<◌, ◌≤◌, List, [], ◌∷◌, length, map, take, Option, Some, None, Result, Ok, Err, ◌⊎◌, if◌then◌else◌, nat_le}
 use Rattle.mysql_repl.specs.GnoInterval as gno
+use Rattle.mysql_repl.specs.GnoInterval.{interval}
+use Rattle.mysql_repl.specs.InPlace.{StandIn}
 use Rattle.mysql_repl.specs.Sid as lib
 use Rattle.mysql_repl.specs.TagString.{tag_of}
 use Rattle.mysql_repl.specs.declared.gno_interval.GnoInterval.{GnoInterval}
 use Rattle.mysql_repl.specs.declared.sid.Sid.{Sid}
 use Rattle.mysql_repl.specs.declared.sid_text.InvalidSid.{InvalidSid}
+use Rattle.mysql_wire.specs.Reading.{Reading}
+use Rattle.mysql_packets_c.specs.Code.{kind_code}
 use Rattle.mysql_packets_c.specs.declared.sid.CInterval.{CInterval}
 use Rattle.mysql_packets_c.specs.declared.sid.CSid.{CSid}
+use Rattle.mysql_packets_c.specs.declared.sid.CSidPlaces.{CSidPlaces}
+use Rattle.mysql_packets_c.specs.declared.text.CBytes.{CBytes}
 
 abbrev pub interval_of : CInterval → GnoInterval
 interval_of i = gno.interval_of i.start i.end
@@ -65,3 +71,23 @@ abbrev pub TextRead : Result Sid ℕ → Result Sid InvalidSid → Type 0
 TextRead (Ok s) read = read ≡ Ok s
 TextRead (Err code) (Err e) = (code ≡ 2) ⊎ (code ≡ 4)
 TextRead (Err code) (Ok s) = code ≡ 4
+
+-- no bytes are no tag
+abbrev pub tag_in : List ℕ → Option (List ℕ)
+tag_in [] = None
+tag_in (b ∷ bytes) = Some (b ∷ bytes)
+
+pub record HoldsPlaces (s : Sid) (out : CSidPlaces) : Type 0 where
+  pub uuid : out.uuid ≡ lib.uuid s
+  pub tag : tag_in out.tag.now ≡ lib.tag s
+  pub intervals : StandIn (interval.form tt) out.n_intervals out.intervals.now (lib.intervals s)
+
+-- the first sid, and the bytes after it; or the code of its first fault, and all is as it was
+abbrev pub NextSid : Reading Sid → (code : ℕ) (rest_old rest_new : CBytes) (old new : CSidPlaces) → Type 0
+NextSid (Ok x) code rest_old rest_new old new = (code ≡ 0) × HoldsPlaces x.0 new × (rest_new.bytes.now ≡ x.1)
+NextSid (Err k) code rest_old rest_new old new = (code ≡ kind_code k) × (rest_new ≡ rest_old) × (new ≡ old)
+
+-- the same of an interval
+abbrev pub NextInterval : Reading GnoInterval → (code : ℕ) (rest_old rest_new : CBytes) (old new : CInterval) → Type 0
+NextInterval (Ok x) code rest_old rest_new old new = (code ≡ 0) × (new.start ≡ gno.start x.0) × (new.end ≡ gno.end x.0) × (rest_new.bytes.now ≡ x.1)
+NextInterval (Err k) code rest_old rest_new old new = (code ≡ kind_code k) × (rest_new ≡ rest_old) × (new ≡ old)

@@ -1,7 +1,7 @@
 -- The answer to a preparation, as C has it.
 use Rattle.std.specs.Prelude.{◌≡◌, ℕ, List}
-use Rattle.mysql_stmt.specs.Stmt as stmt
-use Rattle.mysql_stmt.specs.declared.stmt.StmtPacket.{StmtPacket}
+use Rattle.mysql_prepared.specs.Stmt as stmt
+use Rattle.mysql_prepared.specs.declared.stmt.StmtPacket.{StmtPacket}
 use Rattle.mysql_packets_c.specs.declared.statement.CStatement.{CStatement}
 use Rattle.mysql_packets_c.specs.Input.{used_of}
 

@@ -1,54 +1,20 @@
 //! The switch to another plugin.
-#![tactic(auto, using(mysql_wire::proofs::Packets::packets, crate::proofs::Codes::codes), unfolding(mysql_auth::specs::AuthSwitchRequest::auth_switch_request))]
+#![tactic(auto, using(crate::proofs::Codes::codes))]
 
-ghost use Rattle.std.specs.Prelude.{◌≡◌};
-ghost use Rattle.mysql_auth.specs.AuthSwitchRequest as spec;
+ghost use Rattle.std.specs.Prelude.{◌≡◌, ◌≢◌, IsFalse, IsTrue};
+ghost use Rattle.mysql_auth.specs.AuthSwitchRequest.{auth_switch_request, switch_to};
+ghost use Rattle.mysql_auth.specs.PluginName.{has_zero};
+ghost use Rattle.mysql_packets_c.specs.AuthSwitch.{IsSwitch};
 ghost use Rattle.mysql_packets_c.specs.Code.{ReadsInto};
-ghost use Rattle.mysql_packets_c.specs.Texts.{IsSwitch};
+ghost use Rattle.mysql_packets_c.specs.Output.{Puts};
 
-use crate::code::{OK, code_of};
+use crate::code::{INVALID_INPUT, OK, code_of};
+use crate::handshake::has_zero;
 use crate::input::read;
-use mysql_auth::AuthSwitchRequestHeader;
-use mysql_wire::{AnyWidth, BytesRepr, FaultOf, MyDeserialize, NullBytes, ParseBuf};
+use crate::output::put_packet;
+use mysql_auth::{AuthSwitchRequest, AuthSwitchRequestRef};
 use std::alloc::Global;
-use std::marker::Model;
-
-/// The request, whose texts stay in the packet. In a clause it is the request.
-#[derive(Drop)]
-pub struct AuthSwitchRef<'a> {
-    plugin_name: &'a [u8],
-    plugin_data: &'a [u8],
-}
-
-impl<'a> Model for AuthSwitchRef<'a> {
-    ghost use Rattle.mysql_auth.specs.declared.auth_switch_request.AuthSwitchRequest.{AuthSwitchRequest};
-    ghost use Rattle.mysql_auth.specs.AuthSwitchRequest.{switch_to};
-
-    ghost Value = { AuthSwitchRequest };
-
-    ghost view = { λ p. switch_to p.plugin_name.now p.plugin_data.now };
-}
-
-impl<'de> MyDeserialize<'de> for AuthSwitchRef<'de> {
-    const SIZE: Option<usize> = None;
-
-    type Size = AnyWidth;
-
-    type Ctx = ();
-
-    ghost form = { spec.auth_switch_request.form };
-
-    fn deserialize<'s>(_ctx: (), buf: &mut ParseBuf<'de>) -> Result<Self, FaultOf<'s>> {
-        let _header: AuthSwitchRequestHeader = buf.parse(())?;
-        let mut plugin_name: ParseBuf<'de> = <NullBytes as BytesRepr>::deserialize((), buf)?;
-        Ok(AuthSwitchRef {
-            plugin_name: plugin_name.eat_all(),
-            plugin_data: buf.eat_all(),
-        })
-    }
-
-    ghost size_is = { λ _. spec.size-auth_switch_request };
-}
+use std::borrow::CowSlice;
 
 /// `myp_auth_switch`.
 #[repr(C)]
@@ -65,14 +31,37 @@ pub extern "C" fn myp_read_auth_switch<'a>(
     packet: &'a [u8],
     out: &mut CAuthSwitch<'a>,
 ) -> u32
-    ensures value { ReadsInto IsSwitch ((spec.auth_switch_request.form tt).reads packet.now) result out.old out.new }
+    ensures value { ReadsInto IsSwitch ((auth_switch_request.form tt).reads packet.now) result out.old out.new }
 {
-    match read::<AuthSwitchRef<'a>>(alloc, packet, ()) {
+    match read::<AuthSwitchRequestRef<'a>>(alloc, packet, ()) {
         Ok((found, _used)) => {
-            out.plugin_name = found.plugin_name;
-            out.plugin_data = found.plugin_data;
+            out.plugin_name = found.auth_plugin_name();
+            out.plugin_data = found.plugin_data_raw();
             OK
         }
         Err(fault) => code_of(&fault),
     }
+}
+
+/// Writes `Protocol::AuthSwitchRequest`: 0; 5, and how many bytes it takes; 4; or 3 of a name with a zero.
+#[unsafe(no_mangle)]
+pub extern "C" fn myp_write_auth_switch(
+    alloc: Global,
+    request: &CAuthSwitch<'_>,
+    out: &mut [u8],
+    written: &mut usize,
+) -> u32
+    ensures refused { IsTrue (has_zero request.now.plugin_name.now) → (result ≡ 3) × (out.new ≡ out.old) × (written.new ≡ 0) }
+    ensures memory { result ≡ 4 → (out.new ≡ out.old) × (written.new ≡ 0) }
+    ensures value { IsFalse (has_zero request.now.plugin_name.now) → result ≢ 4 → Puts (auth_switch_request.bytes (switch_to request.now.plugin_name.now request.now.plugin_data.now)) result out.old out.new written.new }
+{
+    if has_zero(request.plugin_name) {
+        *written = 0;
+        return INVALID_INPUT;
+    }
+    let packet = AuthSwitchRequest::new(
+        CowSlice::Borrowed(request.plugin_name),
+        CowSlice::Borrowed(request.plugin_data),
+    );
+    put_packet(alloc, &packet, out, written)
 }

@@ -1,14 +1,14 @@
 //! Bulk requests, as many rows as fit.
 #![tactic(auto, using(crate::proofs::BulkRows::bulk_rows, crate::proofs::BulkRows::bulk_calls))]
 
-ghost use Rattle.std.specs.Prelude.{◌≡◌, ◌≢◌, ◌*◌, ◌<◌, ◌≤◌, true, false, List, [], length, map, Some, None, IfOk, IfErr, OnOk, OnErr, is_some, vec_capacity};
 ghost use Rattle.std.specs.Bool.{OnTrue};
 ghost use Rattle.std.specs.List.{list_all};
+ghost use Rattle.std.specs.Prelude.{◌≡◌, ◌≢◌, ◌*◌, ◌<◌, ◌≤◌, true, false, List, [], length, map, Some, None, IfOk, IfErr, OnOk, OnErr, is_some, vec_capacity};
 ghost use Rattle.mysql_bulk.specs.RequestWriter.{Holds, as_builder};
 ghost use Rattle.mysql_values.specs.Value.{Content};
 ghost use Rattle.mysql_values.specs.ValueRef.{ref_content};
 ghost use Rattle.mysql_packets_c.specs.Bulk as spec;
-ghost use Rattle.mysql_packets_c.specs.CValue.{is_value, values_contents};
+ghost use Rattle.mysql_packets_c.specs.Value.{is_value, values_contents};
 
 use crate::code::{INVALID_INPUT, NO_MEMORY, OK, ROW_TOO_LARGE};
 use crate::output::put;

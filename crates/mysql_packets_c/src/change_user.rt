@@ -1,19 +1,91 @@
 //! The change of a session's user.
-#![tactic(auto)]
+#![tactic(auto, using(crate::proofs::Codes::codes))]
 
-ghost use Rattle.std.specs.Prelude.{◌≡◌, ◌≢◌, true, false, IfOk};
+ghost use Rattle.std.specs.Prelude.{false, ◌≡◌, ◌≢◌, true, IfOk, option_map};
+ghost use Rattle.mysql_auth.specs.ComChangeUser as change;
 ghost use Rattle.mysql_auth.specs.ComChangeUser.{change_user};
-ghost use Rattle.mysql_packets_c.specs.Attribute.{are_texts};
+ghost use Rattle.mysql_packets_c.specs.Attributes.{are_texts};
+ghost use Rattle.mysql_packets_c.specs.ChangeUser as spec;
 ghost use Rattle.mysql_packets_c.specs.ChangeUser.{change_of, more_of};
+ghost use Rattle.mysql_packets_c.specs.Code.{ReadsInto};
 ghost use Rattle.mysql_packets_c.specs.Output.{Puts};
 
-use crate::attribute::{CAttribute, are_texts, texts_of};
-use crate::code::{INVALID_INPUT, NO_MEMORY};
-use crate::login::plugin_named;
+use crate::attributes::{CAttribute, are_texts, texts_of};
+use crate::code::{INVALID_INPUT, NO_MEMORY, OK, code_of};
+use crate::input::read;
+use crate::login::{plugin_named, sent, sent_attributes};
 use crate::output::put_packet;
-use mysql_auth::{ComChangeUser, ComChangeUserMoreData};
+use bitflags::Flags;
+use mysql_auth::{
+    ComChangeUser, ComChangeUserMoreData, ComChangeUserMoreDataRef, ComChangeUserRef,
+};
+use mysql_wire::CapabilityFlags;
 use std::alloc::{AllocError, Global};
 use std::borrow::CowSlice;
+
+/// `myp_user_change`.
+#[repr(C)]
+#[derive(Drop)]
+pub struct CUserChange<'a> {
+    pub user: &'a [u8],
+    pub auth_response: &'a [u8],
+    pub database: &'a [u8],
+    pub auth_plugin_name: &'a [u8],
+    pub attributes: &'a [u8],
+    pub used: usize,
+    pub character_set: u16,
+    pub has_character_set: u8,
+    pub has_auth_plugin_name: u8,
+    pub has_attributes: u8,
+}
+
+/// Puts more data, or that there is none.
+fn put_more_data<'a>(more: Option<&ComChangeUserMoreDataRef<'a>>, out: &mut CUserChange<'a>)
+    ensures value { spec.more_held out.new ≡ option_map (λ more. more.now) more.entry }
+    ensures others { spec.KeepsOthers out.old out.new }
+{
+    let Some(more) = more else {
+        out.has_character_set = 0;
+        out.character_set = 0;
+        out.has_auth_plugin_name = 0;
+        out.auth_plugin_name = &[];
+        out.has_attributes = 0;
+        out.attributes = &[];
+        return;
+    };
+    out.has_character_set = 1;
+    out.character_set = more.character_set();
+    let (has, name) = sent(more.auth_plugin_name());
+    out.has_auth_plugin_name = has;
+    out.auth_plugin_name = name;
+    let (has, attributes) = sent_attributes(more.connect_attributes());
+    out.has_attributes = has;
+    out.attributes = attributes;
+}
+
+/// Reads `COM_CHANGE_USER`: 0; or 1 or 2, and the struct is as it was.
+#[unsafe(no_mangle)]
+pub extern "C" fn myp_read_change_user<'a>(
+    alloc: Global,
+    packet: &'a [u8],
+    capabilities: u32,
+    out: &mut CUserChange<'a>,
+) -> u32
+    ensures value { ReadsInto (spec.IsUserChange packet.now) ((change_user.form (record { 0 = capabilities; 1 = record {} })).reads packet.now) result out.old out.new }
+{
+    let capabilities = CapabilityFlags::from_bits_retain(capabilities);
+    match read::<ComChangeUserRef<'a>>(alloc, packet, capabilities) {
+        Ok((found, used)) => {
+            out.user = found.user();
+            out.auth_response = found.auth_plugin_data();
+            out.database = found.database();
+            out.used = used;
+            put_more_data(found.more_data(), out);
+            OK
+        }
+        Err(fault) => code_of(&fault),
+    }
+}
 
 /// `myp_change_user`.
 #[repr(C)]

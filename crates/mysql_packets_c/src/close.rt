@@ -1,18 +1,17 @@
-//! What a client says of a prepared statement, as a server reads it.
+//! The end of a prepared statement.
 #![tactic(auto, using(crate::proofs::Codes::codes))]
 
-ghost use Rattle.std.specs.Prelude.{◌≡◌};
-ghost use Rattle.mysql_stmt.specs.Close.{close};
-ghost use Rattle.mysql_stmt.specs.LongData as spec;
-ghost use Rattle.mysql_packets_c.specs.Close.{IsClosed, IsLongData};
+ghost use Rattle.std.specs.Prelude.{◌≡◌, ◌≢◌};
+ghost use Rattle.mysql_prepared.specs.Close.{close};
+ghost use Rattle.mysql_packets_c.specs.Close.{IsClosed};
 ghost use Rattle.mysql_packets_c.specs.Code.{ReadsInto};
+ghost use Rattle.mysql_packets_c.specs.Output.{Puts};
 
 use crate::code::{OK, code_of};
 use crate::input::read;
-use mysql_stmt::{ComStmtClose, ComStmtSendLongDataHeader};
-use mysql_wire::{AnyWidth, FaultOf, LeU16, LeU32, MyDeserialize, ParseBuf, RawInt};
+use crate::output::put_packet;
+use mysql_stmt::ComStmtClose;
 use std::alloc::Global;
-use std::marker::Model;
 
 /// Reads `COM_STMT_CLOSE`: 0, and the statement's number; or 1 or 2, and the number is as it was.
 #[unsafe(no_mangle)]
@@ -28,72 +27,16 @@ pub extern "C" fn myp_read_close(alloc: Global, packet: &[u8], statement_id: &mu
     }
 }
 
-/// The packet, whose data stays in it. In a clause it is the packet.
-#[derive(Drop)]
-pub struct LongDataRef<'a> {
-    stmt_id: RawInt<LeU32>,
-    param_index: RawInt<LeU16>,
-    content: &'a [u8],
-}
-
-impl<'a> Model for LongDataRef<'a> {
-    ghost use Rattle.mysql_stmt.specs.declared.long_data.ComStmtSendLongData.{ComStmtSendLongData};
-    ghost use Rattle.mysql_stmt.specs.LongData.{long_data_of};
-
-    ghost Value = { ComStmtSendLongData };
-
-    ghost view = { λ p. long_data_of p.stmt_id.0 p.param_index.0 p.content.now };
-}
-
-impl<'de> MyDeserialize<'de> for LongDataRef<'de> {
-    const SIZE: Option<usize> = None;
-
-    type Size = AnyWidth;
-
-    type Ctx = ();
-
-    ghost use Rattle.std.specs.Prelude.{refl};
-
-    ghost form = { spec.long_data.form };
-
-    #[tactic(auto, using(mysql_wire::proofs::Packets::packets), unfolding(mysql_stmt::specs::LongData::long_data))]
-    fn deserialize<'s>(_ctx: (), buf: &mut ParseBuf<'de>) -> Result<Self, FaultOf<'s>> {
-        let _header: ComStmtSendLongDataHeader = buf.parse(())?;
-        Ok(LongDataRef {
-            stmt_id: buf.parse(())?,
-            param_index: buf.parse(())?,
-            content: buf.eat_all(),
-        })
-    }
-
-    ghost size_is = { λ _. unfold spec.long_data in refl };
-}
-
-/// `myp_long_data`.
-#[repr(C)]
-#[derive(Drop)]
-pub struct CLongData<'a> {
-    pub content: &'a [u8],
-    pub statement_id: u32,
-    pub param_index: u16,
-}
-
-/// Reads `COM_STMT_SEND_LONG_DATA`: 0; or 1 or 2, and the struct is as it was.
+/// Writes `COM_STMT_CLOSE`: 0; 5, and how many bytes it takes; or 4.
 #[unsafe(no_mangle)]
-pub extern "C" fn myp_read_long_data<'a>(
+pub extern "C" fn myp_write_close(
     alloc: Global,
-    packet: &'a [u8],
-    out: &mut CLongData<'a>,
+    statement_id: u32,
+    out: &mut [u8],
+    written: &mut usize,
 ) -> u32
-    ensures value { ReadsInto IsLongData ((spec.long_data.form tt).reads packet.now) result out.old out.new }
+    ensures memory { result ≡ 4 → (out.new ≡ out.old) × (written.new ≡ 0) }
+    ensures value { result ≢ 4 → Puts (close.bytes (record { stmt_id = statement_id })) result out.old out.new written.new }
 {
-    match read::<LongDataRef<'a>>(alloc, packet, ()) {
-        Ok((found, _used)) => {
-            out.content = found.content;
-            out.statement_id = found.stmt_id.0;
-            out.param_index = found.param_index.0;
-            OK
-        }
-        Err(fault) => code_of(&fault),
-    }
+    put_packet(alloc, &ComStmtClose::new(statement_id), out, written)
 }

@@ -1,18 +1,80 @@
 //! The request for a binary log without the transactions of a GTID set.
+#![tactic(auto, using(crate::proofs::Codes::codes))]
 
-ghost use Rattle.std.specs.Prelude.{◌≡◌, ◌≢◌, IfOk, map};
+ghost use Rattle.std.specs.Prelude.{false, ◌≡◌, ◌≢◌, IfOk};
+ghost use Rattle.mysql_repl.specs.BinlogDumpGtid as dump;
 ghost use Rattle.mysql_repl.specs.TagString.{tag_of};
-ghost use Rattle.mysql_packets_c.specs.GtidDump.{Made, PutsDump, dump_with, items_made};
+ghost use Rattle.mysql_packets_c.specs.Code.{ReadsInto};
+ghost use Rattle.mysql_packets_c.specs.Given.{is_set};
+ghost use Rattle.mysql_packets_c.specs.GtidDump.{Made, PutsDump, dump_with, items_made, KeepsOthers, IsGtidDump, SidsStand};
 ghost use Rattle.mysql_packets_c.specs.Sid as spec;
 
-use crate::code::{INVALID_INPUT, NO_MEMORY};
+use crate::code::{INVALID_INPUT, NO_MEMORY, OK, code_of};
+use crate::input::read;
 use crate::output::put_packet;
 use crate::sid::{CInterval, CSid};
-use mysql_repl::{BinlogDumpFlags, ComBinlogDumpGtid, GnoInterval, Sid, Tag};
+use mysql_repl::{
+    BinlogDumpFlags, ComBinlogDumpGtid, ComBinlogDumpGtidRef, GnoInterval, Sid, SidsRef, Tag,
+};
 use mysql_wire::Flags;
 use std::alloc::{AllocError, Global};
 use std::borrow::{CowSlice, CowStr};
 use std::str;
+
+/// `myp_gtid_dump`.
+#[repr(C)]
+#[derive(Drop)]
+pub struct CGtidDump<'a> {
+    pub file_name: &'a [u8],
+    pub sids: &'a [u8],
+    pub n_sids: u64,
+    pub position: u64,
+    pub used: usize,
+    pub server_id: u32,
+    pub flags: u16,
+    pub is_tagged: u8,
+}
+
+/// 1 where the sids are in the form with tags, else 0.
+fn as_number(tagged: bool) -> u8
+    ensures value { is_set result ≡ tagged }
+{
+    if tagged { 1 } else { 0 }
+}
+
+/// Puts the sids of a request into places of the caller's.
+fn put_sids<'a>(found: SidsRef<'a>, out: &mut CGtidDump<'a>)
+    ensures value { SidsStand found.entry out.new }
+    ensures others { KeepsOthers out.old out.new }
+{
+    let (sids, is_tagged) = found.as_bytes();
+    out.sids = sids;
+    out.n_sids = found.left();
+    out.is_tagged = as_number(is_tagged);
+}
+
+/// Reads `COM_BINLOG_DUMP_GTID`: 0; or 1 or 2, and the struct is as it was.
+#[unsafe(no_mangle)]
+pub extern "C" fn myp_read_gtid_dump<'a>(
+    alloc: Global,
+    packet: &'a [u8],
+    out: &mut CGtidDump<'a>,
+) -> u32
+    ensures value { ReadsInto (IsGtidDump packet.now) ((dump.gtid_dump.form false).reads packet.now) result out.old out.new }
+{
+    match read::<ComBinlogDumpGtidRef<'a>>(alloc, packet, ()) {
+        Ok((found, used)) => {
+            out.file_name = found.filename();
+            out.position = found.pos();
+            out.used = used;
+            out.server_id = found.server_id();
+            out.flags = found.flags().0;
+            put_sids(found.sids(), out);
+            OK
+        }
+        Err(fault) => code_of(&fault),
+    }
+}
 
 /// The tag of some bytes; no tag, if there are no bytes; or nothing.
 pub(crate) fn tag_in(bytes: &[u8]) -> Option<Option<Tag<'_>>>

@@ -1,52 +1,19 @@
 //! The request for a file of the client's.
-#![tactic(auto, using(mysql_wire::proofs::Packets::packets, crate::proofs::Codes::codes), unfolding(mysql_replies::specs::LocalInfile::local_infile))]
+#![tactic(auto, using(crate::proofs::Codes::codes))]
 
-ghost use Rattle.std.specs.Prelude.{◌≡◌, None, refl};
-ghost use Rattle.mysql_replies.specs.LocalInfile as infile;
+ghost use Rattle.std.specs.Prelude.{◌≡◌, ◌≢◌};
+ghost use Rattle.mysql_replies.specs.LocalInfile.{local_infile, request_for};
 ghost use Rattle.mysql_packets_c.specs.Code.{ReadsInto};
-ghost use Rattle.mysql_packets_c.specs.Texts.{IsInfile};
+ghost use Rattle.mysql_packets_c.specs.LocalInfile.{IsInfile};
+ghost use Rattle.mysql_packets_c.specs.Output.{Puts};
 
 use crate::code::{OK, code_of};
 use crate::input::read;
+use crate::output::put_packet;
 use crate::text::CBytes;
-use mysql_replies::LocalInfileHeader;
-use mysql_wire::{AnyWidth, FaultOf, MyDeserialize, ParseBuf};
+use mysql_replies::{LocalInfilePacket, LocalInfilePacketRef};
 use std::alloc::Global;
-use std::marker::Model;
-
-/// The request, whose name stays in the packet. In a clause it is the request.
-#[derive(Drop)]
-pub struct LocalInfileRef<'a> {
-    file_name: &'a [u8],
-}
-
-impl<'a> Model for LocalInfileRef<'a> {
-    ghost use Rattle.mysql_replies.specs.declared.local_infile.LocalInfilePacket.{LocalInfilePacket};
-    ghost use Rattle.mysql_replies.specs.LocalInfile.{request_for};
-
-    ghost Value = { LocalInfilePacket };
-
-    ghost view = { λ p. request_for p.file_name.now };
-}
-
-impl<'de> MyDeserialize<'de> for LocalInfileRef<'de> {
-    const SIZE: Option<usize> = None;
-
-    type Size = AnyWidth;
-
-    type Ctx = ();
-
-    ghost form = { infile.local_infile.form };
-
-    fn deserialize<'s>(_ctx: (), buf: &mut ParseBuf<'de>) -> Result<Self, FaultOf<'s>> {
-        let _header: LocalInfileHeader = buf.parse(())?;
-        Ok(LocalInfileRef {
-            file_name: buf.eat_all(),
-        })
-    }
-
-    ghost size_is = { λ _. unfold infile.local_infile in refl };
-}
+use std::borrow::CowSlice;
 
 /// Reads `LOCAL INFILE Request`: 0, and the file's name; or 1 or 2, and the place is as it was.
 #[unsafe(no_mangle)]
@@ -55,13 +22,28 @@ pub extern "C" fn myp_read_local_infile<'a>(
     packet: &'a [u8],
     file_name: &mut CBytes<'a>,
 ) -> u32
-    ensures value { ReadsInto IsInfile ((infile.local_infile.form tt).reads packet.now) result file_name.old file_name.new }
+    ensures value { ReadsInto IsInfile ((local_infile.form tt).reads packet.now) result file_name.old file_name.new }
 {
-    match read::<LocalInfileRef<'a>>(alloc, packet, ()) {
+    match read::<LocalInfilePacketRef<'a>>(alloc, packet, ()) {
         Ok((request, _used)) => {
-            file_name.bytes = request.file_name;
+            file_name.bytes = request.file_name();
             OK
         }
         Err(fault) => code_of(&fault),
     }
+}
+
+/// Writes a `LOCAL INFILE` request: 0; 5, and how many bytes it takes; or 4.
+#[unsafe(no_mangle)]
+pub extern "C" fn myp_write_local_infile(
+    alloc: Global,
+    file_name: &[u8],
+    out: &mut [u8],
+    written: &mut usize,
+) -> u32
+    ensures memory { result ≡ 4 → (out.new ≡ out.old) × (written.new ≡ 0) }
+    ensures value { result ≢ 4 → Puts (local_infile.bytes (request_for file_name.now)) result out.old out.new written.new }
+{
+    let packet = LocalInfilePacket::new(CowSlice::Borrowed(file_name));
+    put_packet(alloc, &packet, out, written)
 }

@@ -1,26 +1,100 @@
-//! The login of a client.
-#![tactic(auto)]
+//! The answer to a handshake: the login of a client.
+#![tactic(auto, using(crate::proofs::Codes::codes))]
 
-ghost use Rattle.std.specs.Prelude.{◌≡◌, ◌≢◌, true, false, IfOk, map, option_map};
 ghost use Rattle.std.specs.Cow.{cow_slice_items};
-ghost use Rattle.mysql_auth.specs.Attributes.{text_pair};
+ghost use Rattle.std.specs.Prelude.{false, ◌≡◌, Ok, option_map, ◌≢◌, true, IfOk, map};
+ghost use Rattle.mysql_auth.specs.Attributes.{text_pair, merged};
 ghost use Rattle.mysql_auth.specs.AuthPlugin.{plugin_of};
 ghost use Rattle.mysql_auth.specs.HandshakeResponse.{handshake_response};
 ghost use Rattle.mysql_auth.specs.declared.handshake_response.HandshakeResponse.{HandshakeResponse};
-ghost use Rattle.mysql_packets_c.specs.Attribute.{merged_pairs};
+ghost use Rattle.mysql_packets_c.specs.Attributes.{merged_pairs, attributes_in};
+ghost use Rattle.mysql_packets_c.specs.Code.{ReadsInto};
 ghost use Rattle.mysql_packets_c.specs.Given.{if_set};
-ghost use Rattle.mysql_packets_c.specs.Login.{IsLogin, login_texts};
+ghost use Rattle.mysql_packets_c.specs.Login.{IsLogin, login_texts, IsLoginRequest};
 ghost use Rattle.mysql_packets_c.specs.Output.{Puts};
 
-use crate::attribute::{CAttribute, are_texts, texts_of};
-use crate::code::{INVALID_INPUT, NO_MEMORY};
+use crate::attributes::{CAttribute, are_texts, texts_of};
+use crate::code::{INVALID_INPUT, NO_MEMORY, OK, code_of};
+use crate::input::read;
 use crate::output::put_packet;
 use bitflags::Flags;
 use indexmap::IndexMap;
-use mysql_auth::{AuthPlugin, HandshakeResponse};
+use mysql_auth::{AuthPlugin, ConnectAttributesRef, HandshakeResponse, HandshakeResponseRef};
 use mysql_wire::{CapabilityFlags, MariadbCapabilities};
 use std::alloc::{AllocError, Global};
 use std::borrow::CowSlice;
+
+/// `myp_login_request`.
+#[repr(C)]
+#[derive(Drop)]
+pub struct CLoginRequest<'a> {
+    pub user: &'a [u8],
+    pub auth_response: &'a [u8],
+    pub database: &'a [u8],
+    pub auth_plugin_name: &'a [u8],
+    pub attributes: &'a [u8],
+    pub used: usize,
+    pub capabilities: u32,
+    pub mariadb_capabilities: u32,
+    pub max_packet_size: u32,
+    pub collation: u8,
+    pub has_database: u8,
+    pub has_auth_plugin_name: u8,
+    pub has_attributes: u8,
+}
+
+/// Whether it was sent, and its bytes.
+pub(crate) fn sent<'a>(bytes: Option<&'a [u8]>) -> (u8, &'a [u8])
+    ensures value { if_set result.0 result.1.now ≡ option_map (λ s. s.now) bytes.entry }
+{
+    match bytes {
+        Some(bytes) => (1, bytes),
+        None => (0, &[]),
+    }
+}
+
+/// Whether attributes were sent, and their bytes.
+pub(crate) fn sent_attributes<'a>(attributes: Option<ConnectAttributesRef<'a>>) -> (u8, &'a [u8])
+    ensures value { option_map attributes_in (if_set result.0 result.1.now) ≡ option_map merged attributes.entry }
+{
+    match attributes {
+        Some(attributes) => (1, attributes.as_bytes()),
+        None => (0, &[]),
+    }
+}
+
+/// Reads `Protocol::HandshakeResponse41`: 0; or 1 or 2, and the struct is as it was.
+#[unsafe(no_mangle)]
+pub extern "C" fn myp_read_login_request<'a>(
+    alloc: Global,
+    packet: &'a [u8],
+    out: &mut CLoginRequest<'a>,
+) -> u32
+    ensures value { ReadsInto (IsLoginRequest packet.now) ((handshake_response.form tt).reads packet.now) result out.old out.new }
+{
+    match read::<HandshakeResponseRef<'a>>(alloc, packet, ()) {
+        Ok((found, used)) => {
+            out.user = found.user();
+            out.auth_response = found.scramble_buf();
+            out.used = used;
+            out.capabilities = found.capabilities().0;
+            out.mariadb_capabilities = found.mariadb_ext_capabilities().0;
+            out.max_packet_size = found.max_packet_size();
+            out.collation = found.collation();
+            let (has, database) = sent(found.db_name());
+            out.has_database = has;
+            out.database = database;
+            let (has, name) = sent(found.auth_plugin_name());
+            out.has_auth_plugin_name = has;
+            out.auth_plugin_name = name;
+            let (has, attributes) = sent_attributes(found.connect_attributes());
+            out.has_attributes = has;
+            out.attributes = attributes;
+            OK
+        }
+        Err(fault) => code_of(&fault),
+    }
+}
 
 /// `myp_login`.
 #[repr(C)]

@@ -2,7 +2,7 @@
 
 ghost use Rattle.std.specs.Prelude.{◌≡◌, option_map};
 ghost use Rattle.mysql_auth.specs.Parsec.{parsec_salt};
-ghost use Rattle.mysql_packets_c.specs.PublicKey.{SaltInto};
+ghost use Rattle.mysql_packets_c.specs.Parsec.{SaltInto};
 
 use crate::code::{INVALID_DATA, OK};
 use crate::text::CBytes;

@@ -1,18 +1,11 @@
-//! What a reply is, by its first byte, and the count of columns that a result begins with.
-#![tactic(auto, using(mysql_wire::proofs::Packets::packets, crate::proofs::Codes::codes), unfolding(crate::specs::Reply::column_count))]
+//! What a reply is, by its first byte.
+#![tactic(auto, using(crate::proofs::Codes::codes))]
 
-ghost use Rattle.std.specs.Prelude.{◌≡◌, None, refl};
-ghost use Rattle.mysql_packets_c.specs.Code.{ReadsInto};
 ghost use Rattle.mysql_packets_c.specs.Reply as spec;
 
-use crate::code::{OK, UNEXPECTED_EOF, code_of};
-use crate::input::read;
+use crate::code::{OK, UNEXPECTED_EOF};
 use bitflags::Flags;
-use mysql_wire::{
-    AnyWidth, CapabilityFlags, FaultOf, LenEnc, MariadbCapabilities, MyDeserialize, ParseBuf,
-    RawInt,
-};
-use std::alloc::Global;
+use mysql_wire::CapabilityFlags;
 
 /// The flag of an OK packet in place of the old end.
 const CLIENT_DEPRECATE_EOF: u32 = 1 << 24;
@@ -70,71 +63,4 @@ pub extern "C" fn myp_row_kind(packet: &[u8], capabilities: u32, kind: &mut u32)
         _ => REPLY_ROW,
     };
     OK
-}
-
-/// How many columns a result has, and whether their definitions follow.
-#[derive(Drop)]
-pub struct ColumnCount {
-    pub(crate) count: RawInt<LenEnc>,
-    pub(crate) metadata_follows: Option<RawInt<u8>>,
-}
-
-impl<'de> MyDeserialize<'de> for ColumnCount {
-    const SIZE: Option<usize> = None;
-
-    type Size = AnyWidth;
-
-    /// What both sides can do beyond MySQL's flags.
-    type Ctx = MariadbCapabilities;
-
-    ghost form = { spec.column_count };
-
-    fn deserialize<'s>(
-        capabilities: MariadbCapabilities,
-        buf: &mut ParseBuf<'de>,
-    ) -> Result<Self, FaultOf<'s>> {
-        let count = buf.parse(())?;
-        let says = capabilities.contains(MariadbCapabilities::MARIADB_CLIENT_CACHE_METADATA);
-        let metadata_follows = if says { Some(buf.parse(())?) } else { None };
-        Ok(ColumnCount {
-            count,
-            metadata_follows,
-        })
-    }
-
-    ghost size_is = { λ _. unfold spec.column_count in refl };
-}
-
-/// `myp_column_count`.
-#[repr(C)]
-#[derive(Drop)]
-pub struct CColumnCount {
-    pub count: u64,
-    pub metadata_follows: u8,
-    pub used: usize,
-}
-
-/// Reads how many columns a result has: 0; or 1 or 2, and the struct is as it was.
-#[unsafe(no_mangle)]
-pub extern "C" fn myp_read_column_count(
-    alloc: Global,
-    packet: &[u8],
-    mariadb_capabilities: u32,
-    out: &mut CColumnCount,
-) -> u32
-    ensures value { ReadsInto (spec.IsCount packet.now) ((spec.column_count (record { 0 = mariadb_capabilities; 1 = record {} })).reads packet.now) result out.old out.new }
-{
-    let capabilities = MariadbCapabilities::from_bits_retain(mariadb_capabilities);
-    match read::<ColumnCount>(alloc, packet, capabilities) {
-        Ok((columns, used)) => {
-            out.count = columns.count.0;
-            out.metadata_follows = match columns.metadata_follows {
-                Some(byte) => u8::from(byte.0 != 0),
-                None => 1,
-            };
-            out.used = used;
-            OK
-        }
-        Err(fault) => code_of(&fault),
-    }
 }

@@ -1,17 +1,27 @@
-//! Rows, whose bytes stay in the packet.
+//! Rows of a result.
 #![tactic(auto, using(crate::proofs::Codes::codes, crate::proofs::FilledRows::rows))]
 
-ghost use Rattle.std.specs.Prelude.{◌≡◌, ◌≢◌, ◌<◌, ◌≤◌, ◌+◌, Ok, Err, List, ℕ, Result, OnOk, IfErr, take, length, false};
-ghost use Rattle.mysql_stmt.specs.RowView.{IsDone, RefusesNext, bin_row_of, text_row_of};
+ghost use Rattle.std.specs.List.{list_all};
+ghost use Rattle.std.specs.Option.{option_copied};
+ghost use Rattle.std.specs.Prelude.{◌≡◌, ◌≢◌, ◌<◌, ◌≤◌, ◌+◌, Ok, Err, Result, OnOk, IfErr, take, length, false, IfOk, IsFalse, IsTrue, map, true};
+ghost use Rattle.mysql_prepared.specs.BinaryRow.{IsRowBytes, takes_row};
+ghost use Rattle.mysql_prepared.specs.RowView.{IsDone, RefusesNext, bin_row_of, text_row_of, refs_held};
+ghost use Rattle.mysql_prepared.specs.TextRow.{text_row_bytes};
 ghost use Rattle.mysql_packets_c.specs.ColumnType.{type_of, unsigned_of};
-ghost use Rattle.mysql_packets_c.specs.CRow.{Fills, RowInto, TakesRow};
+ghost use Rattle.mysql_packets_c.specs.Output.{Puts};
+ghost use Rattle.mysql_packets_c.specs.Rows as spec;
+ghost use Rattle.mysql_packets_c.specs.Rows.{Fills, RowInto, TakesRow};
+ghost use Rattle.mysql_packets_c.specs.Value.{is_value, values_contents};
 
-use crate::code::{BUFFER_TOO_SMALL, OK, code_of};
-use crate::value::{CValue, put_ref};
-use mysql_stmt::{BinaryRowView, TextRowView, TypedColumn};
-use mysql_values::ServerSide;
+use crate::code::{BUFFER_TOO_SMALL, INVALID_INPUT, NO_MEMORY, OK, code_of};
+use crate::output::put;
+use crate::value::{CValue, are_values, put_ref, to_ref};
+use mysql_stmt::{
+    BinaryRowError, BinaryRowView, TextRowView, TypedColumn, write_binary_row, write_text_row,
+};
+use mysql_values::{ServerSide, ValueRef};
 use mysql_wire::{ColumnType, ConstValue, Fault, ParseBuf};
-use std::alloc::Global;
+use std::alloc::{AllocError, Global};
 
 /// What a reader of a binary row asks of a column: `myp_column_type`.
 #[repr(C)]
@@ -41,6 +51,18 @@ impl TypedColumn for CColumnType {
     }
 }
 
+/// Reads the values that are left of a row into the first places.
+macro_rules! fill {
+    ($row:expr, $values:expr) => {{
+        let mut place = 0;
+        while let Some(value) = $row.next_value()? {
+            put_ref(&mut $values[place], value);
+            place += 1;
+        }
+        Ok(())
+    }};
+}
+
 /// Reads the values that are left of a binary row into the first places.
 #[inline(always)]
 fn fill_binary<'a>(
@@ -52,17 +74,12 @@ fn fill_binary<'a>(
     ensures all { OnOk result (IsDone row.new) }
     ensures refused { IfErr result (λ e. RefusesNext e row.new) }
 {
-    let mut place = 0;
-    while let Some(value) = row.next_value()? {
-        put_ref(&mut values[place], value);
-        place += 1;
-    }
-    Ok(())
+    fill!(row, values)
 }
 
 /// Reads a binary row into values, one of each column, and answers how many bytes it takes.
 #[inline(always)]
-fn binary_row<'a>(
+fn read_binary<'a>(
     alloc: Global,
     packet: &'a [u8],
     columns: &[CColumnType],
@@ -97,7 +114,7 @@ pub extern "C" fn myp_read_binary_row<'a>(
     if values.len() < columns.len() {
         return BUFFER_TOO_SMALL;
     }
-    match binary_row(alloc, packet, columns, values) {
+    match read_binary(alloc, packet, columns, values) {
         Ok(taken) => {
             *used = taken;
             OK
@@ -114,17 +131,12 @@ fn fill_text<'a>(row: &mut TextRowView<'a>, values: &mut [CValue<'a>]) -> Result
     ensures all { OnOk result (IsDone row.new) }
     ensures refused { IfErr result (λ e. RefusesNext e row.new) }
 {
-    let mut place = 0;
-    while let Some(value) = row.next_value()? {
-        put_ref(&mut values[place], value);
-        place += 1;
-    }
-    Ok(())
+    fill!(row, values)
 }
 
 /// Reads a text row into values, and answers how many bytes it takes.
 #[inline(always)]
-fn text_row<'a>(alloc: Global, packet: &'a [u8], values: &mut [CValue<'a>]) -> Result<usize, Fault>
+fn read_text<'a>(alloc: Global, packet: &'a [u8], values: &mut [CValue<'a>]) -> Result<usize, Fault>
     ensures value { TakesRow packet.now result values.new ((text_row_of (length values.old)).reads packet.now) }
 {
     let mut row = TextRowView::new(values.len(), ParseBuf::new(alloc, packet));
@@ -143,11 +155,126 @@ pub extern "C" fn myp_read_text_row<'a>(
 ) -> u32
     ensures value { RowInto packet.now values.new ((text_row_of (length values.old)).reads packet.now) result used.old used.new }
 {
-    match text_row(alloc, packet, values) {
+    match read_text(alloc, packet, values) {
         Ok(taken) => {
             *used = taken;
             OK
         }
         Err(fault) => code_of(&fault),
+    }
+}
+
+/// The bytes of a value; none of NULL.
+fn cell_of<'a>(value: &CValue<'a>) -> Option<&'a [u8]>
+    ensures value { option_copied result ≡ spec.cell_of value.now }
+{
+    if value.kind == 0 {
+        None
+    } else {
+        Some(value.bytes)
+    }
+}
+
+/// The cells of a text row.
+fn cells_of<'a>(alloc: Global, values: &[CValue<'a>]) -> Result<Vec<Option<&'a [u8]>>, AllocError>
+    ensures value { IfOk result (λ cells. map option_copied cells.items ≡ spec.cells_of values.now) }
+{
+    let mut cells = Vec::with_capacity(alloc, values.len())?;
+    for value in values {
+        cells.push_reserved(cell_of(value));
+    }
+    Ok(cells)
+}
+
+/// The bytes of a text row.
+fn text_row(alloc: Global, values: &[CValue<'_>]) -> Result<Vec<u8>, AllocError>
+    ensures value { IfOk result (λ bytes. bytes.items ≡ text_row_bytes (spec.cells_of values.now)) }
+{
+    let cells = cells_of(alloc, values)?;
+    let mut bytes = Vec::new(alloc);
+    write_text_row(cells.as_slice(), &mut bytes)?;
+    Ok(bytes)
+}
+
+/// Whether each value is NULL or bytes.
+fn are_cells(values: &[CValue<'_>]) -> bool
+    ensures value { result ≡ list_all spec.is_cell values.now }
+{
+    values.iter().all(|value| value.kind < 2)
+}
+
+/// Writes `ProtocolText::ResultsetRow`: 0; 5, and how many bytes it takes; 4; or 3 of a value that is neither bytes nor NULL.
+#[unsafe(no_mangle)]
+pub extern "C" fn myp_write_text_row(
+    alloc: Global,
+    values: &[CValue<'_>],
+    out: &mut [u8],
+    written: &mut usize,
+) -> u32
+    ensures refused { IsFalse (list_all spec.is_cell values.now) → (result ≡ 3) × (out.new ≡ out.old) × (written.new ≡ 0) }
+    ensures memory { result ≡ 4 → (out.new ≡ out.old) × (written.new ≡ 0) }
+    ensures value { IsTrue (list_all spec.is_cell values.now) → result ≢ 4 → Puts (text_row_bytes (spec.cells_of values.now)) result out.old out.new written.new }
+{
+    *written = 0;
+    if !are_cells(values) {
+        return INVALID_INPUT;
+    }
+    match text_row(alloc, values) {
+        Ok(bytes) => put(bytes.as_slice(), out, written),
+        Err(_) => NO_MEMORY,
+    }
+}
+
+/// The values of a binary row.
+fn refs_of<'a>(alloc: Global, values: &[CValue<'a>]) -> Result<Vec<ValueRef<'a>>, AllocError>
+    requires { IsTrue (list_all is_value values.now) }
+    ensures value { IfOk result (λ refs. refs_held refs.items ≡ values_contents values.now) }
+{
+    let mut refs = Vec::with_capacity(alloc, values.len())?;
+    for value in values {
+        refs.push_reserved(to_ref(value).unwrap());
+    }
+    Ok(refs)
+}
+
+/// The bytes of a binary row, or the code.
+fn binary_row(alloc: Global, columns: &[CColumnType], refs: &[ValueRef<'_>]) -> Result<Vec<u8>, u32>
+    ensures taken { OnOk result (takes_row type_of unsigned_of columns.now (refs_held refs.now) ≡ true) }
+    ensures ok { IfOk result (λ bytes. IsRowBytes type_of unsigned_of columns.now (refs_held refs.now) bytes.items) }
+    ensures refused { IfErr result (λ code. code ≢ 4 → (code ≡ 3) × (takes_row type_of unsigned_of columns.now (refs_held refs.now) ≡ false)) }
+{
+    let mut bytes = Vec::new(alloc);
+    match write_binary_row(columns, refs, &mut bytes) {
+        Ok(()) => Ok(bytes),
+        Err(BinaryRowError::Memory) => Err(NO_MEMORY),
+        Err(BinaryRowError::Count) => Err(INVALID_INPUT),
+        Err(BinaryRowError::Value(_)) => Err(INVALID_INPUT),
+    }
+}
+
+/// Writes `ProtocolBinary::ResultsetRow`: 0; 5, and how many bytes it takes; 4; or 3 of a value that is none or that its
+/// column's type can't spell, or where there is not a value for each column.
+#[unsafe(no_mangle)]
+pub extern "C" fn myp_write_binary_row(
+    alloc: Global,
+    columns: &[CColumnType],
+    values: &[CValue<'_>],
+    out: &mut [u8],
+    written: &mut usize,
+) -> u32
+    ensures refused { IsFalse (spec.row_fits columns.now values.now) → result ≢ 4 → (result ≡ 3) × (out.new ≡ out.old) × (written.new ≡ 0) }
+    ensures memory { result ≡ 4 → (out.new ≡ out.old) × (written.new ≡ 0) }
+    ensures value { IsTrue (spec.row_fits columns.now values.now) → result ≢ 4 → spec.PutsRow columns.now values.now result out.old out.new written.new }
+{
+    *written = 0;
+    if !are_values(values) {
+        return INVALID_INPUT;
+    }
+    let Ok(refs) = refs_of(alloc, values) else {
+        return NO_MEMORY;
+    };
+    match binary_row(alloc, columns, refs.as_slice()) {
+        Ok(bytes) => put(bytes.as_slice(), out, written),
+        Err(code) => code,
     }
 }

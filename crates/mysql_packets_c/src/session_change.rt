@@ -1,18 +1,24 @@
 //! The changes of a session, one after another.
 #![tactic(auto, using(crate::proofs::Codes::codes, crate::proofs::Changes::changes))]
 
-ghost use Rattle.std.specs.Prelude.{◌≡◌, ◌≢◌, [], OnOk, IfErr, IfOk, Ok, false};
-ghost use Rattle.mysql_replies.specs.SessionStateInfo.{data_type, data_bytes};
+ghost use Rattle.std.specs.Prelude.{◌≡◌, ◌≢◌, [], IfErr, IfOk, Ok, false, None, Some};
+ghost use Rattle.mysql_replies.specs.SentChange.{info_of};
+ghost use Rattle.mysql_replies.specs.SessionStateInfo.{data_type, data_bytes, session_state_info};
 ghost use Rattle.mysql_session.specs.SystemVariable.{system_variable};
 ghost use Rattle.mysql_wire.specs.Reading.{Faults};
+ghost use Rattle.mysql_wire.specs.SessionStateType.{session_state_type_of};
+ghost use Rattle.mysql_wire.specs.declared.codes.session_state_type.SessionStateType.{SessionStateType};
+ghost use Rattle.mysql_packets_c.specs.Output.{Puts};
 ghost use Rattle.mysql_packets_c.specs.SessionChange.{Entry, IsChange, IsVariable, NextInto, change_text, entry_in, tracked, variables_of};
 
-use crate::code::{END, OK, code_of};
+use crate::code::{END, INVALID_INPUT, OK, code_of};
+use crate::output::put_packet;
 use crate::text::CBytes;
-use mysql_replies::SessionStateInfoRef;
+use mysql_replies::{SessionStateInfo, SessionStateInfoRef};
 use mysql_session::{ChangeRef, SessionStateChangeRef, SystemVariableRef};
 use mysql_wire::{ConstValue, Fault, ParseBuf, SessionStateType};
 use std::alloc::Global;
+use std::borrow::CowSlice;
 
 /// `myp_change`.
 #[repr(C)]
@@ -132,4 +138,26 @@ pub extern "C" fn myp_next_variable<'a>(
         }
         Err(fault) => code_of(&fault),
     }
+}
+
+/// Writes one change of the session, a byte with its type and the data, length-encoded: 0; 5, and how many bytes it takes; 4;
+/// or 3 of a type that is none.
+#[unsafe(no_mangle)]
+pub extern "C" fn myp_write_change(
+    alloc: Global,
+    change_type: u8,
+    content: &[u8],
+    out: &mut [u8],
+    written: &mut usize,
+) -> u32
+    ensures unknown { session_state_type_of change_type ≡ None → (result ≡ 3) × (out.new ≡ out.old) × (written.new ≡ 0) }
+    ensures memory { result ≡ 4 → (out.new ≡ out.old) × (written.new ≡ 0) }
+    ensures value { (t : SessionStateType) → session_state_type_of change_type ≡ Some t → result ≢ 4 → Puts (session_state_info.bytes (info_of t content.now)) result out.old out.new written.new }
+{
+    let Some(data_type) = SessionStateType::from_code(change_type) else {
+        *written = 0;
+        return INVALID_INPUT;
+    };
+    let change = SessionStateInfo::new(data_type, CowSlice::Borrowed(content));
+    put_packet(alloc, &change, out, written)
 }

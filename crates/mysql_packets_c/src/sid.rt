@@ -1,14 +1,102 @@
 //! A server's transactions.
+#![tactic(auto, using(crate::proofs::Codes::codes))]
 
-ghost use Rattle.std.specs.Prelude.{◌≡◌, ◌≢◌, ◌≤◌, length, option_map, take, Err, Some};
+ghost use Rattle.std.specs.Prelude.{[], ◌≡◌, ◌≢◌, ◌≤◌, length, option_map, take, Err, Some};
 ghost use Rattle.std.specs.Str.{IsUtf8};
+ghost use Rattle.mysql_repl.specs.GnoInterval.{interval};
+ghost use Rattle.mysql_repl.specs.Sid as lib;
 ghost use Rattle.mysql_repl.specs.SidText.{read_sid};
+ghost use Rattle.mysql_packets_c.specs.Given.{is_set};
+ghost use Rattle.mysql_packets_c.specs.Sid as spec;
 ghost use Rattle.mysql_packets_c.specs.Sid.{PutsSid, RefusesText, SidInto, TextRead, intervals_of, tag_held};
 
-use crate::code::{BUFFER_TOO_SMALL, INVALID_DATA, NO_MEMORY, OK};
-use mysql_repl::{GnoInterval, InvalidSid, Sid, Tag};
+use crate::code::{BUFFER_TOO_SMALL, END, INVALID_DATA, NO_MEMORY, OK, code_of};
+use crate::text::CBytes;
+use mysql_repl::{GnoInterval, InvalidSid, Sid, SidRef, Tag, TagRef};
+use mysql_wire::ParseBuf;
 use std::alloc::Global;
 use std::str;
+
+/// `myp_sid_places`.
+#[repr(C)]
+#[derive(Drop)]
+pub struct CSidPlaces<'a> {
+    pub tag: &'a [u8],
+    pub intervals: &'a [u8],
+    pub n_intervals: u64,
+    pub uuid: [u8; 16],
+}
+
+/// Takes the next interval off the front: 0; 7 where no byte is left; or 1. After another code than 0 all is as it was.
+#[unsafe(no_mangle)]
+pub extern "C" fn myp_next_interval<'a>(
+    alloc: Global,
+    rest: &mut CBytes<'a>,
+    out: &mut CInterval,
+) -> u32
+    ensures end { rest.old.bytes.now ≡ [] → (result ≡ 7) × (rest.new ≡ rest.old) × (out.new ≡ out.old) }
+    ensures value { rest.old.bytes.now ≢ [] → spec.NextInterval ((interval.form tt).reads rest.old.bytes.now) result rest.old rest.new out.old out.new }
+{
+    if rest.bytes.is_empty() {
+        return END;
+    }
+    let mut buf = ParseBuf::new(alloc, rest.bytes);
+    let next: GnoInterval = match buf.parse(()) {
+        Ok(next) => next,
+        Err(fault) => return code_of(&fault),
+    };
+    out.start = next.start();
+    out.end = next.end();
+    rest.bytes = buf.eat_all();
+    OK
+}
+
+/// The bytes of a tag, or none.
+#[tactic(auto, using(crate::proofs::SidHeld::tag_places))]
+fn tag_place<'a>(tag: Option<&TagRef<'a>>) -> &'a [u8]
+    ensures value { spec.tag_in result.now ≡ option_map (λ t. t.now) tag.entry }
+{
+    match tag {
+        Some(tag) => tag.as_str().as_bytes(),
+        None => &[],
+    }
+}
+
+/// Puts a sid into places of the caller's.
+fn put_places<'a>(found: SidRef<'a>, out: &mut CSidPlaces<'a>)
+    ensures value { spec.HoldsPlaces found.entry out.new }
+{
+    out.uuid = found.uuid();
+    out.tag = tag_place(found.tag());
+    let intervals = found.intervals();
+    out.n_intervals = intervals.left();
+    out.intervals = intervals.as_bytes();
+}
+
+/// Takes the next sid off the front: 0; 7 where no byte is left; or 1 or 2. After another code than 0 all is as it was.
+#[unsafe(no_mangle)]
+pub extern "C" fn myp_next_sid<'a>(
+    alloc: Global,
+    rest: &mut CBytes<'a>,
+    is_tagged: u8,
+    out: &mut CSidPlaces<'a>,
+) -> u32
+    ensures end { rest.old.bytes.now ≡ [] → (result ≡ 7) × (rest.new ≡ rest.old) × (out.new ≡ out.old) }
+    ensures value { rest.old.bytes.now ≢ [] → spec.NextSid (((lib.sid_as (is_set is_tagged)).form tt).reads rest.old.bytes.now) result rest.old rest.new out.old out.new }
+{
+    if rest.bytes.is_empty() {
+        return END;
+    }
+    let mut buf = ParseBuf::new(alloc, rest.bytes);
+    match SidRef::parse_as(is_tagged != 0, &mut buf) {
+        Ok(found) => {
+            put_places(found, out);
+            rest.bytes = buf.eat_all();
+            OK
+        }
+        Err(fault) => code_of(&fault),
+    }
+}
 
 /// `myp_interval`.
 #[repr(C)]

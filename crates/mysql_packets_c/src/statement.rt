@@ -1,13 +1,15 @@
 //! The answer to a preparation.
 #![tactic(auto, using(crate::proofs::Codes::codes))]
 
-ghost use Rattle.std.specs.Prelude.{◌≡◌};
+ghost use Rattle.std.specs.Prelude.{◌≡◌, ◌≢◌};
+ghost use Rattle.mysql_prepared.specs.Stmt.{stmt, stmt_packet_of};
 ghost use Rattle.mysql_packets_c.specs.Code.{ReadsInto};
+ghost use Rattle.mysql_packets_c.specs.Output.{Puts};
 ghost use Rattle.mysql_packets_c.specs.Statement.{IsStatement};
-ghost use Rattle.mysql_stmt.specs.Stmt.{stmt};
 
 use crate::code::{OK, code_of};
 use crate::input::read;
+use crate::output::put_packet;
 use mysql_stmt::StmtPacket;
 use std::alloc::Global;
 
@@ -38,4 +40,24 @@ pub extern "C" fn myp_read_statement(alloc: Global, packet: &[u8], out: &mut CSt
         }
         Err(fault) => code_of(&fault),
     }
+}
+
+/// Writes `COM_STMT_PREPARE_OK`: 0; 5, and how many bytes it takes; or 4.
+#[unsafe(no_mangle)]
+pub extern "C" fn myp_write_statement(
+    alloc: Global,
+    statement: &CStatement,
+    out: &mut [u8],
+    written: &mut usize,
+) -> u32
+    ensures memory { result ≡ 4 → (out.new ≡ out.old) × (written.new ≡ 0) }
+    ensures value { result ≢ 4 → Puts (stmt.bytes (stmt_packet_of statement.now.statement_id statement.now.num_columns statement.now.num_params statement.now.warning_count)) result out.old out.new written.new }
+{
+    let packet = StmtPacket::new(
+        statement.statement_id,
+        statement.num_columns,
+        statement.num_params,
+        statement.warning_count,
+    );
+    put_packet(alloc, &packet, out, written)
 }

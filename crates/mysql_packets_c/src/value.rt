@@ -1,10 +1,10 @@
 //! Values as C has them.
-#![tactic(auto, unfolding(crate::specs::CValue::value_content))]
+#![tactic(auto, unfolding(crate::specs::Value::value_content))]
 
-ghost use Rattle.std.specs.Prelude.{◌≡◌, [], IfSome, is_some};
 ghost use Rattle.std.specs.List.{list_all};
+ghost use Rattle.std.specs.Prelude.{◌≡◌, [], IfSome, is_some};
 ghost use Rattle.mysql_values.specs.ValueRef.{ref_content};
-ghost use Rattle.mysql_packets_c.specs.CValue.{is_value, value_content};
+ghost use Rattle.mysql_packets_c.specs.Value.{is_value, value_content};
 
 use mysql_values::ValueRef;
 

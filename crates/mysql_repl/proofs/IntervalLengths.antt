@@ -1,5 +1,5 @@
 -- How many bytes intervals are written as.
-use Rattle.std.proofs.Common.{◌≡◌, ℕ, ◌+◌, ◌*◌, List, [], ◌∷◌, ◌++◌, length, refl, arith}
+use Rattle.std.proofs.Common.{◌≡◌, ◌+◌, ◌*◌, List, [], ◌∷◌, ◌++◌, length, refl, arith}
 use Rattle.std.proofs.lemmas.List.{length-append}
 use Rattle.std.specs.List.{flat_map}
 use Rattle.mysql_wire.specs.LittleEndian.{length-le_bytes}

@@ -1,5 +1,5 @@
 -- Words of lowercase letters, digits, underscores and hyphens: nothing separates or trims them.
-use Rattle.std.proofs.Common.{◌≡◌, ℕ, zero, suc, ◌+◌, ◌-◌, ◌<◌, ◌≤◌, ◌==◌, List, [], ◌∷◌, ◌++◌, length, get_or, map, Bool, true, false, ◌&&◌, ◌||◌, nat_le, refl, ap, ◌∙◌, if◌then◌else◌, arith}
+use Rattle.std.proofs.Common.{◌≡◌, ℕ, zero, suc, ◌-◌, ◌<◌, ◌≤◌, ◌==◌, List, [], ◌∷◌, ◌++◌, length, get_or, map, Bool, true, false, ◌&&◌, ◌||◌, nat_le, refl, ap, ◌∙◌, if◌then◌else◌, arith}
 use Rattle.std.specs.Char.{is_ascii_whitespace, to_ascii_lowercase}
 use Rattle.std.specs.List.{flat_map, list_all, slice_split, prefix_len, suffix_len}
 use Rattle.std.specs.Str.Parse.{AllDigits}
@@ -11,7 +11,7 @@ use Rattle.std.proofs.lemmas.List.Sums.{suffix_len_is}
 use Rattle.std.proofs.lemmas.Str.Parse.{digit_from_value}
 use Rattle.uuid.proofs.TextLemmas.{by_index_length, by_index_at, nibble_small}
 use Rattle.uuid.specs.Text.{hyphenated_text, lower, hex_digit, nibble, digit_place, is_hyphen_place}
-use Rattle.mysql_repl.specs.SidText.{is, before, after}
+use Rattle.mysql_repl.specs.SidText.{is, after}
 use Rattle.mysql_repl.specs.GtidSetText.{trimmed, trimmed_start, trimmed_end}
 use Rattle.mysql_repl.specs.Tag.{is_later, IsTag}
 use Rattle.mysql_repl.proofs.SidCuts.{Lacks, no-cut, has-cut, before-cut, after-cut}

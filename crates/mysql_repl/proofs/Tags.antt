@@ -18,7 +18,7 @@ both true true h = (refl, refl)
 both true false h = absurd cc
 both false b h = absurd cc
 
-which : (b : Bool) → (b ≡ true) ⊎ (b ≡ false)
+pub which : (b : Bool) → (b ≡ true) ⊎ (b ≡ false)
 which true = inl refl
 which false = inr refl
 

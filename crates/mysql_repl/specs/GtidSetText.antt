@@ -11,7 +11,7 @@ use Rattle.mysql_repl.specs.declared.sid_text.InvalidSid.TheVariants as fault
 use Rattle.mysql_repl.specs.declared.tag.InvalidTag.{InvalidTag}
 use Rattle.mysql_repl.specs.BinlogDumpGtid.{with_sids}
 use Rattle.mysql_repl.specs.Sid.{intervals, tag}
-use Rattle.mysql_repl.specs.SidText.{colon, hyphen, comma, is, has, before, after, number_of, checked}
+use Rattle.mysql_repl.specs.SidText.{colon, hyphen, comma, is, has, before, after, number_of, checked, numbers_by}
 use Rattle.mysql_repl.specs.Tag.{tag_fault}
 
 -- ---- words
@@ -42,9 +42,7 @@ abbrev pub server_checked : (first last : ℕ) → Result GnoInterval InvalidSid
 server_checked first last = if nat_lt 9223372036854775806 last then Err fault.TooLarge else checked first last
 
 abbrev pub server_numbers : Option ℕ → Option ℕ → Result GnoInterval InvalidSid
-server_numbers None last = Err fault.Number
-server_numbers (Some first) None = Err fault.Number
-server_numbers (Some first) (Some last) = server_checked first last
+server_numbers first last = numbers_by server_checked first last
 
 -- a number, or two with a hyphen between them
 unfoldable pub server_interval : List ℕ → Result GnoInterval InvalidSid

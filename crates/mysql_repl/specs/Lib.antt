@@ -5,6 +5,7 @@ pub mod SemiSyncAck
 pub mod GnoInterval
 pub mod Tag
 pub mod TagString
+pub mod InPlace
 pub mod Sid
 pub mod SidBlock
 pub mod SidBlockAgain

@@ -59,10 +59,14 @@ checked first last =
     else if first == 0 then Err (fault.Gno Zero)
     else Ok (interval_of first (last + 1))
 
+-- from the first number to the last, where both are there
+abbrev pub numbers_by : (ℕ → ℕ → Result GnoInterval InvalidSid) → Option ℕ → Option ℕ → Result GnoInterval InvalidSid
+numbers_by check None last = Err fault.Number
+numbers_by check (Some first) None = Err fault.Number
+numbers_by check (Some first) (Some last) = check first last
+
 abbrev pub from_numbers : Option ℕ → Option ℕ → Result GnoInterval InvalidSid
-from_numbers None last = Err fault.Number
-from_numbers (Some first) None = Err fault.Number
-from_numbers (Some first) (Some last) = checked first last
+from_numbers first last = numbers_by checked first last
 
 -- a number, or two with a hyphen between them
 unfoldable pub read_interval : List ℕ → Result GnoInterval InvalidSid

@@ -8,7 +8,7 @@ use Rattle.mysql_wire.specs.Spelling.{IsSpelling}
 use Rattle.mysql_wire.specs.Codec.{Codec}
 use Rattle.mysql_wire.specs.Codecs.{leaf}
 use Rattle.mysql_wire.specs.Varlen.{varlen_string, varlen_string_bytes}
-use Rattle.mysql_wire.specs.VarlenAgain.{varlen_string-again}
+use Rattle.mysql_wire.specs.Varlen.Again.{varlen_string-again}
 use Rattle.mysql_repl.specs.Tag.{is_tag, IsTag, is_first, is_later}
 
 -- no bytes are no tag; what else is no tag is invalid

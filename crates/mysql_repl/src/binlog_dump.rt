@@ -1,14 +1,15 @@
 //! The request for a binary log from a position.
 #![tactic(auto, using(mysql_wire::proofs::Packets::packets), unfolding(crate::specs::BinlogDump::binlog_dump))]
 
-ghost use Rattle.std.specs.Prelude.{◌≡◌, [], IfOk};
-ghost use Rattle.std.specs.Cow.{cow_slice_items, cow_str_bytes};
-ghost use Rattle.mysql_wire.specs.Text.{lossy_text, BorrowsUtf8};
+ghost use Rattle.std.specs.Prelude.{◌≡◌, []};
+ghost use Rattle.std.specs.Cow.{cow_slice_items};
+ghost use Rattle.mysql_wire.specs.Text.{GivesText};
 ghost use Rattle.mysql_repl.specs.BinlogDump as spec;
 
+use crate::binlog_dump_ref::ComBinlogDumpRef;
 use mysql_wire::{
     AnyWidth, BinlogDumpFlags, Const, ConstFault, ConstU8, EofBytes, FaultOf, Flags, LeU16, LeU32,
-    MyDeserialize, ParseBuf, Parts, RawBytes, RawInt, Sink, eat_u16, eat_u32, parts,
+    MyDeserialize, ParseBuf, Parts, RawBytes, RawInt, Sink, parts,
 };
 use std::alloc::{AllocError, Global};
 use std::borrow::{CowSlice, CowStr};
@@ -36,7 +37,7 @@ pub type ComBinlogDumpHeader = ConstU8<InvalidComBinlogDumpHeader, 0x12>;
 /// | 4 | `server_id` |
 /// | the others | `filename` |
 ///
-/// Numbers have little-endian. Fewer than 11 bytes are `UnexpectedEof`, another first byte is
+/// Numbers are little-endian. Fewer than 11 bytes are `UnexpectedEof`, another first byte is
 /// `InvalidData`. Reading takes no memory.
 #[derive(Debug, PartialEq, Eq, Hash, Drop)]
 pub struct ComBinlogDump<'a> {
@@ -86,6 +87,14 @@ impl<'a> ComBinlogDump<'a> {
         self
     }
 
+    /// The bytes of the log's name.
+    #[inline]
+    pub fn filename_raw(&self) -> &[u8]
+        ensures value { result.now ≡ spec.filename self.now }
+    {
+        self.filename.as_bytes()
+    }
+
     /// The position from which the log is sent.
     #[inline]
     pub fn pos(&self) -> u32
@@ -110,18 +119,9 @@ impl<'a> ComBinlogDump<'a> {
         self.server_id.0
     }
 
-    /// The bytes of the log's name.
-    #[inline]
-    pub fn filename_raw(&self) -> &[u8]
-        ensures value { result.now ≡ spec.filename self.now }
-    {
-        self.filename.as_bytes()
-    }
-
     /// The log's name as text, with U+FFFD for what is not UTF-8. UTF-8 is borrowed.
     pub fn filename(&self, alloc: Global) -> Result<CowStr<'_>, AllocError>
-        ensures text { IfOk result (λ text. cow_str_bytes text ≡ lossy_text (spec.filename self.now)) }
-        ensures utf8 { BorrowsUtf8 (spec.filename self.now) result }
+        ensures text { GivesText (spec.filename self.now) result }
     {
         self.filename.as_str(alloc)
     }
@@ -150,16 +150,9 @@ impl<'de> MyDeserialize<'de> for ComBinlogDump<'de> {
 
     ghost form = { spec.binlog_dump.form };
 
-    #[tactic(auto, using(mysql_wire::proofs::Packets::packets), unfolding(crate::specs::BinlogDump::binlog_dump, mysql_wire::specs::Int::raw, mysql_wire::specs::ConstantValue::coded))]
     fn deserialize<'s>(_ctx: (), buf: &mut ParseBuf<'de>) -> Result<Self, FaultOf<'s>> {
-        let mut head: ParseBuf<'de> = buf.parse(11)?;
-        Ok(ComBinlogDump {
-            header: head.parse_unchecked(())?,
-            pos: RawInt::new(eat_u32(&mut head)),
-            flags: Const::new(BinlogDumpFlags::from_bits_retain(eat_u16(&mut head))),
-            server_id: RawInt::new(eat_u32(&mut head)),
-            filename: RawBytes::new(CowSlice::Borrowed(buf.eat_all())),
-        })
+        let request: ComBinlogDumpRef<'de> = buf.parse(())?;
+        Ok(request.to_packet())
     }
 
     ghost size_is = { λ _. spec.size-binlog_dump };

@@ -2,10 +2,10 @@
 #![tactic(auto, using(mysql_wire::proofs::Packets::packets), unfolding(crate::specs::BinlogDumpGtid::gtid_dump))]
 
 ghost use Rattle.std.specs.Prelude.{false, true, ◌≡◌, [], IfOk, OnErr, Ok, List, ℕ};
-ghost use Rattle.std.specs.Cow.{cow_slice_items, cow_str_bytes};
+ghost use Rattle.std.specs.Cow.{cow_slice_items};
 ghost use Rattle.mysql_wire.specs.Reading.{Answers, IsTail};
 ghost use Rattle.mysql_wire.specs.Seq.{counts_any};
-ghost use Rattle.mysql_wire.specs.Text.{lossy_text, BorrowsUtf8};
+ghost use Rattle.mysql_wire.specs.Text.{GivesText};
 ghost use Rattle.mysql_repl.specs.declared.binlog_dump_gtid.ComBinlogDumpGtid.{ComBinlogDumpGtid};
 ghost use Rattle.mysql_repl.specs.BinlogDumpGtid as spec;
 ghost use Rattle.mysql_repl.specs.Counts.{sid_count};
@@ -14,9 +14,9 @@ use crate::sid::Sid;
 use crate::sid_block::{SidBlock, read_block};
 use crate::taken::append_taken;
 use mysql_wire::{
-    AnyWidth, BinlogDumpFlags, BytesRepr, Const, ConstFault, ConstU8, Fault, FaultOf, Flags, LeU16,
-    LeU32, LeU64, MyDeserialize, MySerialize, ParseBuf, Parts, RawBytes, RawInt, Seq, Sink,
-    U32Bytes, eat_u16, eat_u32, parts,
+    AnyWidth, BinlogDumpFlags, Buffer, BytesRepr, Const, ConstFault, ConstU8, Fault, FaultOf,
+    FixedInt, Flags, LeU16, LeU32, LeU64, MyDeserialize, MySerialize, ParseBuf, Parts, RawBytes,
+    RawInt, Seq, Sink, U32Bytes, parts,
 };
 use std::alloc::{AllocError, Global};
 use std::borrow::{CowSlice, CowStr};
@@ -46,7 +46,7 @@ pub type ComBinlogDumpGtidHeader = ConstU8<InvalidComBinlogDumpGtidHeader, 0x1e>
 /// | 8 | `pos` |
 /// | 4 + n | the block of `sids`, after its length |
 ///
-/// Numbers have little-endian. The block is a head of eight bytes, and so many sids. The head's
+/// Numbers are little-endian. The block is a head of eight bytes, and so many sids. The head's
 /// top byte is 1 where the sids are in the form with tags: the count then stands in the bits 8 to
 /// 55. With any other top byte the sids are in the form without tags, and the count stands in the
 /// bits 0 to 55. A sid is 16 bytes; with tags, a length of varying width and so many bytes of a tag;
@@ -54,7 +54,7 @@ pub type ComBinlogDumpGtidHeader = ConstU8<InvalidComBinlogDumpGtidHeader, 0x1e>
 /// last sid are ignored, unless the reader is [`parse_strict`](Self::parse_strict).
 ///
 /// Missing bytes are `UnexpectedEof`. Another first byte, or the bytes of a tag that are no tag, are
-/// `InvalidData`. Reading takes capacity for the sids as it comes to them, and answers `Memory` where
+/// `InvalidData`. Reading takes memory for the sids as it comes to them, and answers `Memory` where
 /// that is refused; where the head counts no sid, it takes none.
 ///
 /// The block is written with tags where some sid has one, and whole; its length is written as
@@ -123,14 +123,6 @@ impl<'a> ComBinlogDumpGtid<'a> {
         self.filename.as_bytes()
     }
 
-    /// The log's name as text, with U+FFFD for what is not UTF-8. UTF-8 is borrowed.
-    pub fn filename(&self, alloc: Global) -> Result<CowStr<'_>, AllocError>
-        ensures text { IfOk result (λ text. cow_str_bytes text ≡ lossy_text (spec.filename self.now)) }
-        ensures utf8 { BorrowsUtf8 (spec.filename self.now) result }
-    {
-        self.filename.as_str(alloc)
-    }
-
     /// The position from which the log is sent.
     #[inline]
     pub fn pos(&self) -> u64
@@ -145,6 +137,13 @@ impl<'a> ComBinlogDumpGtid<'a> {
         ensures value { result.now ≡ spec.sids self.now }
     {
         self.sid_block.as_slice()
+    }
+
+    /// The log's name as text, with U+FFFD for what is not UTF-8. UTF-8 is borrowed.
+    pub fn filename(&self, alloc: Global) -> Result<CowStr<'_>, AllocError>
+        ensures text { GivesText (spec.filename self.now) result }
+    {
+        self.filename.as_str(alloc)
     }
 
     /// The request for the binary log of this name.
@@ -221,6 +220,26 @@ impl<'a> ComBinlogDumpGtid<'a> {
     }
 }
 
+/// The request of these parts.
+pub(crate) fn of_parts<'a>(
+    flags: BinlogDumpFlags,
+    server_id: u32,
+    filename: &'a [u8],
+    pos: u64,
+    sids: Vec<Sid<'a>>,
+) -> ComBinlogDumpGtid<'a>
+    ensures value { result ≡ spec.dump_of server_id pos flags.0 filename.now sids.entry.items }
+{
+    ComBinlogDumpGtid {
+        header: ConstU8::new(),
+        flags: Const::new(flags),
+        server_id: RawInt::new(server_id),
+        filename: RawBytes::new(CowSlice::Borrowed(filename)),
+        pos: RawInt::new(pos),
+        sid_block: Seq::owned(sids),
+    }
+}
+
 /// The list of these values.
 fn list_of<'a, T, L>(values: CowSlice<'a, T>) -> Seq<'a, T, L>
     ensures value { result ≡ cow_slice_items values.entry }
@@ -242,7 +261,7 @@ fn through_gtid(mut flags: BinlogDumpFlags, sids: &[Sid<'_>]) -> BinlogDumpFlags
 
 /// The first seven bytes: the header, the flags and the replica's number.
 #[tactic(auto, using(mysql_wire::proofs::Packets::packets), unfolding(crate::specs::BinlogDumpGtid::gtid_dump_head, mysql_wire::specs::Int::raw, mysql_wire::specs::ConstantValue::coded))]
-fn read_head<'s>(
+pub(crate) fn read_head<'s>(
     strict: bool,
     buf: &mut ParseBuf<'_>,
 ) -> Result<
@@ -257,8 +276,8 @@ fn read_head<'s>(
 {
     let mut head: ParseBuf<'_> = buf.parse(7)?;
     let header = head.parse_unchecked(())?;
-    let flags = Const::new(BinlogDumpFlags::from_bits_retain(eat_u16(&mut head)));
-    let server_id = RawInt::new(eat_u32(&mut head));
+    let flags = Const::new(BinlogDumpFlags::from_bits_retain(LeU16::take(&mut head)));
+    let server_id = RawInt::take(&mut head);
     Ok((header, flags, server_id))
 }
 
@@ -344,7 +363,7 @@ impl MySerialize for ComBinlogDumpGtid<'_> {
     }
 
     #[inline(always)]
-    fn append(&self, out: &mut Vec<u8>) {
+    fn append<O: Buffer>(&self, out: &mut O) {
         append_taken(&RequestParts(self), out);
     }
 }

@@ -6,7 +6,7 @@ ghost use Rattle.mysql_repl.specs.GnoInterval as spec;
 ghost use Rattle.mysql_repl.specs.declared.gno_interval.InvalidGno.TheVariants.{Order, Zero};
 
 use mysql_wire::{
-    FaultOf, Fixed, LeU64, MyDeserialize, ParseBuf, Parts, RawInt, Sink, eat_u64, parts,
+    FaultOf, Fixed, FixedInt, LeU64, MyDeserialize, ParseBuf, Parts, RawInt, Sink, parts,
 };
 use thiserror::Error;
 
@@ -90,8 +90,8 @@ impl<'de> MyDeserialize<'de> for GnoInterval {
     #[tactic(auto, using(mysql_wire::proofs::Packets::packets), unfolding(crate::specs::GnoInterval::interval, mysql_wire::specs::Int::raw))]
     fn deserialize<'s>(_ctx: (), buf: &mut ParseBuf<'de>) -> Result<Self, FaultOf<'s>> {
         let mut numbers: ParseBuf<'de> = buf.parse(16)?;
-        let start = eat_u64(&mut numbers);
-        let end = eat_u64(&mut numbers);
+        let start = LeU64::take(&mut numbers);
+        let end = LeU64::take(&mut numbers);
         Ok(GnoInterval::new(start, end))
     }
 

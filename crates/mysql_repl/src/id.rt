@@ -1,8 +1,8 @@
 //! A server's identifier, as it is written.
 
-ghost use Rattle.std.specs.Prelude.{◌≡◌, ◌+◌, ◌++◌, ◌≤◌, vec_len, vec_capacity};
+ghost use Rattle.std.specs.Prelude.{◌≡◌, ◌+◌, ◌++◌, ◌≤◌, length, drop};
 
-use mysql_wire::MySerialize;
+use mysql_wire::{Buffer, MySerialize};
 
 /// The 16 bytes of a server's identifier.
 #[derive(Drop)]
@@ -10,13 +10,16 @@ pub(crate) struct Id(pub(crate) [u8; 16]);
 
 /// Writes the bytes one by one, which the compiler makes one store of.
 #[inline(always)]
-fn append_bytes(bytes: [u8; 16], out: &mut Vec<u8>)
-    requires { vec_len out.old + 16 ≤ vec_capacity out.old }
-    ensures items { out.new.items ≡ out.old.items ++ bytes }
-    ensures capacity { vec_capacity out.old ≤ vec_capacity out.new }
+#[tactic(auto, using(mysql_wire::proofs::After::after))]
+fn append_bytes<O: Buffer>(bytes: [u8; 16], out: &mut O)
+    requires { length (O.held out.old) + 16 ≤ O.capacity out.old }
+    ensures items { O.held out.new ≡ O.held out.old ++ bytes }
+    ensures after { O.after out.new ≡ drop (16) (O.after out.old) }
+    ensures capacity { O.capacity out.old ≤ O.capacity out.new }
+    ensures kept { O.kept out.new ≡ O.kept out.old }
 {
     for byte in &bytes {
-        out.push_reserved(*byte);
+        out.push_byte(*byte);
     }
 }
 
@@ -30,7 +33,7 @@ impl MySerialize for Id {
     }
 
     #[inline(always)]
-    fn append(&self, out: &mut Vec<u8>) {
+    fn append<O: Buffer>(&self, out: &mut O) {
         append_bytes(self.0, out);
     }
 }

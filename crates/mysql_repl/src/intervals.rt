@@ -1,7 +1,7 @@
 //! The intervals of a sid: a count of eight bytes, and so many intervals.
 #![tactic(auto, using(mysql_wire::proofs::Packets::packets))]
 
-ghost use Rattle.std.specs.Prelude.{true, ◌≡◌, ◌+◌, ◌++◌, ◌≤◌, length, vec_len, vec_capacity};
+ghost use Rattle.std.specs.Prelude.{true, ◌≡◌, ◌+◌, ◌++◌, ◌≤◌, length, drop};
 ghost use Rattle.std.specs.List.{flat_map};
 ghost use Rattle.mysql_wire.specs.Int.{le_u64, number_of};
 ghost use Rattle.mysql_wire.specs.Reading.{Answers};
@@ -9,7 +9,7 @@ ghost use Rattle.mysql_wire.specs.Seq.{counted, counts_any, items_of, seq};
 ghost use Rattle.mysql_repl.specs.GnoInterval.{interval};
 
 use crate::gno_interval::GnoInterval;
-use mysql_wire::{FaultOf, IntRepr, LeU64, MySerialize, ParseBuf, RawInt, Seq};
+use mysql_wire::{Buffer, FaultOf, IntRepr, LeU64, MySerialize, ParseBuf, RawInt, Seq};
 use std::cmp::min;
 
 /// How many bytes an interval takes.
@@ -50,10 +50,13 @@ pub(crate) struct Intervals<'b>(pub(crate) &'b [GnoInterval]);
 
 /// Writes the intervals to the end of a buffer that has capacity for them.
 #[inline(always)]
-fn append_each(intervals: &[GnoInterval], out: &mut Vec<u8>)
-    requires { vec_len out.old + length (flat_map interval.bytes intervals.now) ≤ vec_capacity out.old }
-    ensures items { out.new.items ≡ out.old.items ++ flat_map interval.bytes intervals.now }
-    ensures capacity { vec_capacity out.old ≤ vec_capacity out.new }
+#[tactic(auto, using(mysql_wire::proofs::After::after))]
+fn append_each<O: Buffer>(intervals: &[GnoInterval], out: &mut O)
+    requires { length (O.held out.old) + length (flat_map interval.bytes intervals.now) ≤ O.capacity out.old }
+    ensures items { O.held out.new ≡ O.held out.old ++ flat_map interval.bytes intervals.now }
+    ensures after { O.after out.new ≡ drop (length (flat_map interval.bytes intervals.now)) (O.after out.old) }
+    ensures capacity { O.capacity out.old ≤ O.capacity out.new }
+    ensures kept { O.kept out.new ≡ O.kept out.old }
 {
     for numbers in intervals {
         numbers.append(out);
@@ -73,7 +76,8 @@ impl MySerialize for Intervals<'_> {
     }
 
     #[inline(always)]
-    fn append(&self, out: &mut Vec<u8>) {
+    #[tactic(auto, using(mysql_wire::proofs::After::after))]
+    fn append<O: Buffer>(&self, out: &mut O) {
         <LeU64 as IntRepr>::append(self.0.len() as u64, out);
         append_each(self.0, out);
     }

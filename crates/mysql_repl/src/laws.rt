@@ -5,20 +5,24 @@
 #![tactic(auto, using(mysql_wire::proofs::Packets::packets, crate::proofs::Fits::plain_fits, crate::proofs::SidFits::sid_fits))]
 
 ghost use Rattle.std.specs.Prelude.{◌≡◌, ◌++◌, ℕ, List, None, Some, Ok, OnErr, OnOk, IsUtf8, true, false};
+ghost use Rattle.mysql_wire.specs.Int.{le_u64, number_of};
+ghost use Rattle.mysql_wire.specs.Seq.{seq};
 ghost use Rattle.mysql_repl.specs.declared.binlog_dump.ComBinlogDump.{ComBinlogDump};
 ghost use Rattle.mysql_repl.specs.declared.binlog_dump_gtid.ComBinlogDumpGtid.{ComBinlogDumpGtid};
 ghost use Rattle.mysql_repl.specs.declared.binlog_request.BinlogRequest.{BinlogRequest};
 ghost use Rattle.mysql_repl.specs.declared.register_slave.ComRegisterSlave.{ComRegisterSlave};
 ghost use Rattle.mysql_repl.specs.declared.semi_sync_ack.SemiSyncAckPacket.{SemiSyncAckPacket};
+ghost use Rattle.mysql_repl.specs.declared.gno_interval.GnoInterval.{GnoInterval};
 ghost use Rattle.mysql_repl.specs.declared.sid.Sid.{Sid};
 ghost use Rattle.mysql_repl.specs.declared.table_dump.ComTableDump.{ComTableDump};
 ghost use Rattle.mysql_repl.specs.BinlogDump.{binlog_dump, BinlogDumpFits};
 ghost use Rattle.mysql_repl.specs.BinlogDumpGtid.{gtid_dump, GtidDumpFits, TellsSids, KeepsOthers, flag_bits, with_flags, with_sids};
 ghost use Rattle.mysql_repl.specs.BinlogRequest as request_spec;
+ghost use Rattle.mysql_repl.specs.GnoInterval.{interval};
 ghost use Rattle.mysql_repl.specs.RegisterSlave.{register_slave, RegisterSlaveFits};
 ghost use Rattle.mysql_repl.specs.SemiSyncAck.{semi_sync_ack, SemiSyncAckFits};
 ghost use Rattle.mysql_repl.specs.Sid.{sid, tagged_sid, intervals, IsSid};
-ghost use Rattle.mysql_repl.specs.MergedIntervals.{are_apart, NumbersFit};
+ghost use Rattle.mysql_repl.specs.MergedIntervals.{any_has, are_apart, NumbersFit};
 ghost use Rattle.mysql_repl.specs.ProperSid.{ProperSid};
 ghost use Rattle.mysql_repl.specs.ServerSids.{is_as_servers_write};
 ghost use Rattle.mysql_repl.specs.GtidSetText.{read_sids};
@@ -81,6 +85,15 @@ pub fn strict_is_lenient()
     ensures spelled { (p : ComBinlogDumpGtid) (bytes rest : List ℕ) → (gtid_dump.form true).Spells p bytes rest → (gtid_dump.form false).Spells p bytes rest }
 {}
 
+/// What stays in its packet is read of the same bytes as what can leave it, and is that value.
+pub fn borrowed_requests_read_requests()
+    ensures registration { (bytes : List ℕ) → (⟦<crate::register_slave_ref::ComRegisterSlaveRef<'static> as MyDeserialize<'static>>⟧.form tt).reads bytes ≡ (register_slave.form tt).reads bytes }
+    ensures dump { (bytes : List ℕ) → (⟦<crate::binlog_dump_ref::ComBinlogDumpRef<'static> as MyDeserialize<'static>>⟧.form tt).reads bytes ≡ (binlog_dump.form tt).reads bytes }
+    ensures gtid_dump { (bytes : List ℕ) → (⟦<crate::binlog_dump_gtid_ref::ComBinlogDumpGtidRef<'static> as MyDeserialize<'static>>⟧.form tt).reads bytes ≡ (gtid_dump.form false).reads bytes }
+    ensures sid { (bytes : List ℕ) → (⟦<crate::sid_ref::SidRef<'static> as MyDeserialize<'static>>⟧.form tt).reads bytes ≡ (sid.form tt).reads bytes }
+    ensures intervals { (bytes : List ℕ) → (⟦<crate::intervals_ref::IntervalsRef<'static> as MyDeserialize<'static>>⟧.form tt).reads bytes ≡ (seq (number_of le_u64) (interval.form tt)).reads bytes }
+{}
+
 /// A dump that is made or changed has the flag BINLOG_THROUGH_GTID exactly if it has a sid. Each other flag is as it was
 /// handed in, or as it stood.
 #[tactic(auto, using(crate::proofs::ThroughGtid::through_gtids))]
@@ -112,8 +125,10 @@ pub fn read_sid_text_round_trips()
     ensures read { (text : List ℕ) (s : Sid) → IsUtf8 text → read_sid text ≡ Ok s → read_sid (sid_text s) ≡ Ok s }
 {}
 
-/// Intervals that are in order and apart are as servers write them, where their numbers are from 1 to 2^63 - 2.
+/// Intervals that are in order and apart are as servers write them, where their numbers are from 1 to 2^63 - 2; and so are the numbers
+/// of merged intervals, where those of the given ones are.
 pub fn merged_intervals_are_as_servers_write()
+    ensures fit { (merged given : List GnoInterval) → are_apart merged ≡ true → NumbersFit given → ((n : ℕ) → any_has n merged ≡ any_has n given) → NumbersFit merged }
     ensures servers { (s : Sid) → are_apart (intervals s) ≡ true → NumbersFit (intervals s) → is_as_servers_write s ≡ true }
 {}
 

@@ -1,15 +1,15 @@
 //! The registration of a replica.
 #![tactic(auto, using(mysql_wire::proofs::Packets::packets), unfolding(crate::specs::RegisterSlave::register_slave))]
 
-ghost use Rattle.std.specs.Prelude.{false, ◌≡◌, IfOk, OnErr};
-ghost use Rattle.mysql_wire.specs.Reading.{Answers, IsTail};
-ghost use Rattle.std.specs.Cow.{cow_slice_items, cow_str_bytes};
-ghost use Rattle.mysql_wire.specs.Text.{lossy_text, BorrowsUtf8};
+ghost use Rattle.std.specs.Prelude.{◌≡◌};
+ghost use Rattle.std.specs.Cow.{cow_slice_items};
+ghost use Rattle.mysql_wire.specs.Text.{GivesText};
 ghost use Rattle.mysql_repl.specs.RegisterSlave as spec;
 
+use crate::register_slave_ref::ComRegisterSlaveRef;
 use mysql_wire::{
-    AnyWidth, BytesRepr, ConstFault, ConstU8, FaultOf, LeU16, LeU32, MyDeserialize, ParseBuf,
-    Parts, RawBytes, RawInt, Sink, U8Bytes, eat_u16, eat_u32, parts,
+    AnyWidth, ConstFault, ConstU8, FaultOf, LeU16, LeU32, MyDeserialize, ParseBuf, Parts, RawBytes,
+    RawInt, Sink, U8Bytes, parts,
 };
 use std::alloc::{AllocError, Global};
 use std::borrow::{CowSlice, CowStr};
@@ -41,7 +41,7 @@ pub type ComRegisterSlaveHeader = ConstU8<InvalidComRegisterSlaveHeader, 0x15>;
 /// | 4 | `replication_rank` |
 /// | 4 | `master_id` |
 ///
-/// Numbers have little-endian. The first 255 bytes of a string are written. Missing bytes are
+/// Numbers are little-endian. The first 255 bytes of a string are written. Missing bytes are
 /// `UnexpectedEof`, another first byte is `InvalidData`. Reading takes no memory.
 #[derive(Debug, PartialEq, Eq, Hash)]
 pub struct ComRegisterSlave<'a> {
@@ -154,8 +154,7 @@ impl<'a> ComRegisterSlave<'a> {
 
     /// The replica's name or address as text, with U+FFFD for what is not UTF-8. UTF-8 is borrowed.
     pub fn hostname(&self, alloc: Global) -> Result<CowStr<'_>, AllocError>
-        ensures text { IfOk result (λ text. cow_str_bytes text ≡ lossy_text (spec.hostname self.now)) }
-        ensures utf8 { BorrowsUtf8 (spec.hostname self.now) result }
+        ensures text { GivesText (spec.hostname self.now) result }
     {
         self.hostname.as_str(alloc)
     }
@@ -170,8 +169,7 @@ impl<'a> ComRegisterSlave<'a> {
 
     /// The account's name as text, with U+FFFD for what is not UTF-8. UTF-8 is borrowed.
     pub fn user(&self, alloc: Global) -> Result<CowStr<'_>, AllocError>
-        ensures text { IfOk result (λ text. cow_str_bytes text ≡ lossy_text (spec.user self.now)) }
-        ensures utf8 { BorrowsUtf8 (spec.user self.now) result }
+        ensures text { GivesText (spec.user self.now) result }
     {
         self.user.as_str(alloc)
     }
@@ -186,8 +184,7 @@ impl<'a> ComRegisterSlave<'a> {
 
     /// The password as text, with U+FFFD for what is not UTF-8. UTF-8 is borrowed.
     pub fn password(&self, alloc: Global) -> Result<CowStr<'_>, AllocError>
-        ensures text { IfOk result (λ text. cow_str_bytes text ≡ lossy_text (spec.password self.now)) }
-        ensures utf8 { BorrowsUtf8 (spec.password self.now) result }
+        ensures text { GivesText (spec.password self.now) result }
     {
         self.password.as_str(alloc)
     }
@@ -217,34 +214,6 @@ impl<'a> ComRegisterSlave<'a> {
     }
 }
 
-/// The first five bytes: the header and the replica's number.
-#[tactic(auto, using(mysql_wire::proofs::Packets::packets), unfolding(crate::specs::RegisterSlave::register_slave_head, mysql_wire::specs::Int::raw))]
-fn read_head<'s>(
-    buf: &mut ParseBuf<'_>,
-) -> Result<(ComRegisterSlaveHeader, RawInt<LeU32>), FaultOf<'s>>
-    ensures value { Answers false result buf.new ((spec.register_slave_head.form tt).reads buf.old) }
-    ensures tail { OnErr result (IsTail buf.new buf.old) }
-{
-    let mut head: ParseBuf<'_> = buf.parse(5)?;
-    let header = head.parse_unchecked(())?;
-    Ok((header, RawInt::new(eat_u32(&mut head))))
-}
-
-/// The last ten bytes: the port, the rank and the source's number.
-#[tactic(auto, using(mysql_wire::proofs::Packets::packets), unfolding(crate::specs::RegisterSlave::register_slave_end, mysql_wire::specs::Int::raw))]
-fn read_end<'s>(
-    buf: &mut ParseBuf<'_>,
-) -> Result<(RawInt<LeU16>, RawInt<LeU32>, RawInt<LeU32>), FaultOf<'s>>
-    ensures value { Answers false result buf.new ((spec.register_slave_end.form tt).reads buf.old) }
-    ensures tail { OnErr result (IsTail buf.new buf.old) }
-{
-    let mut end: ParseBuf<'_> = buf.parse(10)?;
-    let port = RawInt::new(eat_u16(&mut end));
-    let replication_rank = RawInt::new(eat_u32(&mut end));
-    let master_id = RawInt::new(eat_u32(&mut end));
-    Ok((port, replication_rank, master_id))
-}
-
 impl Clone for ComRegisterSlave<'_> {
     ghost is_clone = { λ p copy. copy ≡ p };
 
@@ -272,23 +241,8 @@ impl<'de> MyDeserialize<'de> for ComRegisterSlave<'de> {
     ghost form = { spec.register_slave.form };
 
     fn deserialize<'s>(_ctx: (), buf: &mut ParseBuf<'de>) -> Result<Self, FaultOf<'s>> {
-        let mut rest = buf.rest();
-        let (header, server_id) = read_head(&mut rest)?;
-        let hostname = <U8Bytes as BytesRepr>::deserialize((), &mut rest)?.eat_all();
-        let user = <U8Bytes as BytesRepr>::deserialize((), &mut rest)?.eat_all();
-        let password = <U8Bytes as BytesRepr>::deserialize((), &mut rest)?.eat_all();
-        let (port, replication_rank, master_id) = read_end(&mut rest)?;
-        *buf = rest;
-        Ok(ComRegisterSlave {
-            header,
-            server_id,
-            hostname: RawBytes::new(CowSlice::Borrowed(hostname)),
-            user: RawBytes::new(CowSlice::Borrowed(user)),
-            password: RawBytes::new(CowSlice::Borrowed(password)),
-            port,
-            replication_rank,
-            master_id,
-        })
+        let registration: ComRegisterSlaveRef<'de> = buf.parse(())?;
+        Ok(registration.to_packet())
     }
 
     ghost size_is = { λ _. spec.size-register_slave };

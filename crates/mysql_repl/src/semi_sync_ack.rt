@@ -1,14 +1,14 @@
 //! The acknowledgement of a position.
 #![tactic(auto, using(mysql_wire::proofs::Packets::packets), unfolding(crate::specs::SemiSyncAck::semi_sync_ack))]
 
-ghost use Rattle.std.specs.Prelude.{◌≡◌, IfOk};
-ghost use Rattle.std.specs.Cow.{cow_slice_items, cow_str_bytes};
-ghost use Rattle.mysql_wire.specs.Text.{lossy_text, BorrowsUtf8};
+ghost use Rattle.std.specs.Prelude.{◌≡◌};
+ghost use Rattle.std.specs.Cow.{cow_slice_items};
+ghost use Rattle.mysql_wire.specs.Text.{GivesText};
 ghost use Rattle.mysql_repl.specs.SemiSyncAck as spec;
 
 use mysql_wire::{
     AnyWidth, ConstFault, ConstU8, EofBytes, FaultOf, LeU64, MyDeserialize, ParseBuf, Parts,
-    RawBytes, RawInt, Sink, eat_u64, parts,
+    RawBytes, RawInt, Sink, parts,
 };
 use std::alloc::{AllocError, Global};
 use std::borrow::{CowSlice, CowStr};
@@ -51,14 +51,6 @@ impl<'a> SemiSyncAckPacket<'a> {
         }
     }
 
-    /// The acknowledgement of this position.
-    pub fn with_position(mut self, position: u64) -> Self
-        ensures value { result ≡ spec.with_position position self.entry }
-    {
-        self.position = RawInt::new(position);
-        self
-    }
-
     /// The acknowledgement for the binary log of this name.
     pub fn with_filename(mut self, filename: CowSlice<'a, u8>) -> Self
         ensures value { result ≡ spec.with_filename (cow_slice_items filename.entry) self.entry }
@@ -67,12 +59,12 @@ impl<'a> SemiSyncAckPacket<'a> {
         self
     }
 
-    /// The position after the event.
-    #[inline]
-    pub fn position(&self) -> u64
-        ensures value { result ≡ spec.position self.now }
+    /// The acknowledgement of this position.
+    pub fn with_position(mut self, position: u64) -> Self
+        ensures value { result ≡ spec.with_position position self.entry }
     {
-        self.position.0
+        self.position = RawInt::new(position);
+        self
     }
 
     /// The bytes of the log's name.
@@ -83,10 +75,17 @@ impl<'a> SemiSyncAckPacket<'a> {
         self.filename.as_bytes()
     }
 
+    /// The position after the event.
+    #[inline]
+    pub fn position(&self) -> u64
+        ensures value { result ≡ spec.position self.now }
+    {
+        self.position.0
+    }
+
     /// The log's name as text, with U+FFFD for what is not UTF-8. UTF-8 is borrowed.
     pub fn filename(&self, alloc: Global) -> Result<CowStr<'_>, AllocError>
-        ensures text { IfOk result (λ text. cow_str_bytes text ≡ lossy_text (spec.filename self.now)) }
-        ensures utf8 { BorrowsUtf8 (spec.filename self.now) result }
+        ensures text { GivesText (spec.filename self.now) result }
     {
         self.filename.as_str(alloc)
     }
@@ -106,7 +105,7 @@ impl<'de> MyDeserialize<'de> for SemiSyncAckPacket<'de> {
         let mut head: ParseBuf<'de> = buf.parse(9)?;
         Ok(SemiSyncAckPacket {
             header: head.parse_unchecked(())?,
-            position: RawInt::new(eat_u64(&mut head)),
+            position: RawInt::take(&mut head),
             filename: RawBytes::new(CowSlice::Borrowed(buf.eat_all())),
         })
     }

@@ -1,7 +1,7 @@
 //! The sids of a dump by GTID set.
 #![tactic(auto, using(mysql_wire::proofs::Packets::packets))]
 
-ghost use Rattle.std.specs.Prelude.{false, true, ◌≡◌, ◌+◌, ◌++◌, ◌<◌, ◌≤◌, length, vec_len, vec_capacity, OnErr, List, ℕ};
+ghost use Rattle.std.specs.Prelude.{false, true, ◌≡◌, ◌+◌, ◌++◌, ◌<◌, ◌≤◌, length, drop, OnErr, List, ℕ};
 ghost use Rattle.std.specs.List.{flat_map};
 ghost use Rattle.mysql_wire.specs.Reading.{Answers, IsTail};
 ghost use Rattle.mysql_wire.specs.Seq.{items_of, counted, counts_any, is_any};
@@ -11,19 +11,20 @@ ghost use Rattle.mysql_repl.specs.Sid.{sid_as};
 ghost use Rattle.mysql_repl.specs.SidBlock as spec;
 
 use crate::sid::{Sid, SidAs, read_sid};
-use mysql_wire::{BytesRepr, FaultOf, LeU32, LeU64, MySerialize, ParseBuf, RawInt, Seq, U32Bytes};
+use mysql_wire::{
+    Buffer, BytesRepr, FaultOf, LeU32, LeU64, MySerialize, ParseBuf, RawInt, Seq, U32Bytes,
+};
 use std::cmp::min;
-use std::mem;
 
 /// The layout that the head tells: its top byte.
-fn layout(head: u64) -> u64
+pub(crate) fn layout(head: u64) -> u64
     ensures value { result ≡ spec.layout head }
 {
     head >> 56
 }
 
 /// How many sids the head tells.
-fn count_of(head: u64) -> u64
+pub(crate) fn count_of(head: u64) -> u64
     ensures value { result ≡ spec.count_of head }
 {
     if layout(head) == 1 {
@@ -99,7 +100,7 @@ fn read_whole_block<'s, 'de>(
     Ok(Seq::owned(sids))
 }
 
-/// Reads a block after its length. Bytes behind the last sid are ignored.
+/// Reads a block after its length. Bytes after the last sid are ignored.
 #[tactic(auto, using(mysql_wire::proofs::Packets::packets), unfolding(crate::specs::SidBlock::block_form))]
 fn read_lenient_block<'s, 'de>(
     buf: &mut ParseBuf<'de>,
@@ -176,14 +177,15 @@ impl<'a> SidBlock<'_, 'a> {
     /// Writes the sids to a buffer that has capacity for them. Sids with tags are written by a call, for which the buffer
     /// is moved: what a call is passed does not stay in registers.
     #[inline(always)]
-    fn append_sids(&self, tagged: bool, out: &mut Vec<u8>)
-        requires { vec_len out.old + length (flat_map (sid_as tagged).bytes self.now.0.now) ≤ vec_capacity out.old }
-        ensures items { out.new.items ≡ out.old.items ++ flat_map (sid_as tagged).bytes self.now.0.now }
-        ensures capacity { vec_capacity out.old ≤ vec_capacity out.new }
+    fn append_sids<O: Buffer>(&self, tagged: bool, out: &mut O)
+        requires { length (O.held out.old) + length (flat_map (sid_as tagged).bytes self.now.0.now) ≤ O.capacity out.old }
+        ensures items { O.held out.new ≡ O.held out.old ++ flat_map (sid_as tagged).bytes self.now.0.now }
+        ensures after { O.after out.new ≡ drop (length (flat_map (sid_as tagged).bytes self.now.0.now)) (O.after out.old) }
+        ensures capacity { O.capacity out.old ≤ O.capacity out.new }
+        ensures kept { O.kept out.new ≡ O.kept out.old }
     {
         if tagged {
-            let empty = Vec::new(*out.allocator());
-            let mut moved = mem::replace(out, empty);
+            let mut moved = out.taken();
             self.append_apart(tagged, &mut moved);
             *out = moved;
         } else {
@@ -192,19 +194,24 @@ impl<'a> SidBlock<'_, 'a> {
     }
 
     #[inline(never)]
-    fn append_apart(&self, tagged: bool, out: &mut Vec<u8>)
-        requires { vec_len out.old + length (flat_map (sid_as tagged).bytes self.now.0.now) ≤ vec_capacity out.old }
-        ensures items { out.new.items ≡ out.old.items ++ flat_map (sid_as tagged).bytes self.now.0.now }
-        ensures capacity { vec_capacity out.old ≤ vec_capacity out.new }
+    fn append_apart<O: Buffer>(&self, tagged: bool, out: &mut O)
+        requires { length (O.held out.old) + length (flat_map (sid_as tagged).bytes self.now.0.now) ≤ O.capacity out.old }
+        ensures items { O.held out.new ≡ O.held out.old ++ flat_map (sid_as tagged).bytes self.now.0.now }
+        ensures after { O.after out.new ≡ drop (length (flat_map (sid_as tagged).bytes self.now.0.now)) (O.after out.old) }
+        ensures capacity { O.capacity out.old ≤ O.capacity out.new }
+        ensures kept { O.kept out.new ≡ O.kept out.old }
     {
         self.append_each(tagged, out);
     }
 
     #[inline(always)]
-    fn append_each(&self, tagged: bool, out: &mut Vec<u8>)
-        requires { vec_len out.old + length (flat_map (sid_as tagged).bytes self.now.0.now) ≤ vec_capacity out.old }
-        ensures items { out.new.items ≡ out.old.items ++ flat_map (sid_as tagged).bytes self.now.0.now }
-        ensures capacity { vec_capacity out.old ≤ vec_capacity out.new }
+    #[tactic(auto, using(mysql_wire::proofs::After::after))]
+    fn append_each<O: Buffer>(&self, tagged: bool, out: &mut O)
+        requires { length (O.held out.old) + length (flat_map (sid_as tagged).bytes self.now.0.now) ≤ O.capacity out.old }
+        ensures items { O.held out.new ≡ O.held out.old ++ flat_map (sid_as tagged).bytes self.now.0.now }
+        ensures after { O.after out.new ≡ drop (length (flat_map (sid_as tagged).bytes self.now.0.now)) (O.after out.old) }
+        ensures capacity { O.capacity out.old ≤ O.capacity out.new }
+        ensures kept { O.kept out.new ≡ O.kept out.old }
     {
         for sid in self.0 {
             SidAs { tagged, sid }.append(out);
@@ -222,8 +229,8 @@ impl MySerialize for SidBlock<'_, '_> {
     }
 
     #[inline(always)]
-    #[tactic(auto, using(mysql_wire::specs::Writing::lengths), unfolding(crate::specs::SidBlock::block_bytes, crate::specs::SidBlock::content, mysql_wire::specs::Writing::saturated))]
-    fn append(&self, out: &mut Vec<u8>) {
+    #[tactic(auto, using(mysql_wire::specs::Writing::lengths, mysql_wire::proofs::After::after), unfolding(crate::specs::SidBlock::block_bytes, crate::specs::SidBlock::content, mysql_wire::specs::Writing::saturated))]
+    fn append<O: Buffer>(&self, out: &mut O) {
         let tagged = self.any_tag();
         let len = min(self.content_len(tagged), u32::MAX as usize) as u32;
         let len: RawInt<LeU32> = RawInt::new(len);

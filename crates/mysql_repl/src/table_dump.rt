@@ -1,9 +1,9 @@
 //! The request for the rows of a table.
 #![tactic(auto, using(mysql_wire::proofs::Packets::packets), unfolding(crate::specs::TableDump::table_dump))]
 
-ghost use Rattle.std.specs.Prelude.{◌≡◌, IfOk};
-ghost use Rattle.std.specs.Cow.{cow_slice_items, cow_str_bytes};
-ghost use Rattle.mysql_wire.specs.Text.{lossy_text, BorrowsUtf8};
+ghost use Rattle.std.specs.Prelude.{◌≡◌};
+ghost use Rattle.std.specs.Cow.{cow_slice_items};
+ghost use Rattle.mysql_wire.specs.Text.{GivesText};
 ghost use Rattle.mysql_repl.specs.TableDump as spec;
 
 use mysql_wire::{
@@ -71,8 +71,7 @@ impl<'a> ComTableDump<'a> {
 
     /// The database's name as text, with U+FFFD for what is not UTF-8. UTF-8 is borrowed.
     pub fn database(&self, alloc: Global) -> Result<CowStr<'_>, AllocError>
-        ensures text { IfOk result (λ text. cow_str_bytes text ≡ lossy_text (spec.database self.now)) }
-        ensures utf8 { BorrowsUtf8 (spec.database self.now) result }
+        ensures text { GivesText (spec.database self.now) result }
     {
         self.database.as_str(alloc)
     }
@@ -87,8 +86,7 @@ impl<'a> ComTableDump<'a> {
 
     /// The table's name as text, with U+FFFD for what is not UTF-8. UTF-8 is borrowed.
     pub fn table(&self, alloc: Global) -> Result<CowStr<'_>, AllocError>
-        ensures text { IfOk result (λ text. cow_str_bytes text ≡ lossy_text (spec.table self.now)) }
-        ensures utf8 { BorrowsUtf8 (spec.table self.now) result }
+        ensures text { GivesText (spec.table self.now) result }
     {
         self.table.as_str(alloc)
     }

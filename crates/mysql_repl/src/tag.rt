@@ -62,7 +62,7 @@ fn first_bad_char(text: &str) -> Option<char>
 
 /// The first fault of a text.
 #[tactic(auto, unfolding(crate::specs::Tag::tag_fault))]
-fn fault_in(text: &str) -> Option<InvalidTag>
+pub(crate) fn fault_in(text: &str) -> Option<InvalidTag>
     ensures { result ≡ tag_fault text.now }
 {
     let Some(first) = first_char(text) else {
@@ -120,6 +120,15 @@ impl<'a> Tag<'a> {
             Some(fault) => Err(fault),
             None => Ok(Tag(text)),
         }
+    }
+
+    /// The tag of this text, which is that of one.
+    #[inline]
+    pub(crate) fn of(text: &'a str) -> Self
+        requires { IsTag text.now }
+        ensures value { result ≡ text.now }
+    {
+        Tag(CowStr::Borrowed(text))
     }
 
     /// The text, which is that of a tag.

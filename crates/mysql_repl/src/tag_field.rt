@@ -6,15 +6,15 @@ ghost use Rattle.mysql_wire.specs.Reading.{Answers};
 ghost use Rattle.mysql_repl.specs.TagString as spec;
 
 use crate::tag::Tag;
+use crate::tag_ref::TagRef;
 use mysql_wire::{BytesRepr, FaultOf, ParseBuf, VarLen};
-use std::borrow::CowStr;
 use std::str;
 
 /// What stands in place of a tag, where it is none.
 const INVALID: &str = "Invalid tag";
 
 /// The tag of some bytes; none, if there are no bytes.
-fn tag_of<'s, 'a>(bytes: &'a [u8]) -> Result<Option<Tag<'a>>, FaultOf<'s>>
+fn tag_of<'s, 'a>(bytes: &'a [u8]) -> Result<Option<TagRef<'a>>, FaultOf<'s>>
     ensures value { (rest : List ℕ) → Answers false result rest (looked_up (spec.tag_of bytes.now) rest) }
 {
     if bytes.is_empty() {
@@ -23,7 +23,7 @@ fn tag_of<'s, 'a>(bytes: &'a [u8]) -> Result<Option<Tag<'a>>, FaultOf<'s>>
     let Ok(text) = str::from_utf8(bytes) else {
         return Err(FaultOf::InvalidData(INVALID));
     };
-    match Tag::new(CowStr::Borrowed(text)) {
+    match TagRef::new(text) {
         Ok(tag) => Ok(Some(tag)),
         Err(_) => Err(FaultOf::InvalidData(INVALID)),
     }
@@ -33,11 +33,23 @@ fn tag_of<'s, 'a>(bytes: &'a [u8]) -> Result<Option<Tag<'a>>, FaultOf<'s>>
 ///
 /// Bytes that are no tag are `InvalidData`.
 #[tactic(auto, unfolding(crate::specs::TagString::tag_form))]
-pub(crate) fn read_tag<'s, 'de>(buf: &mut ParseBuf<'de>) -> Result<Option<Tag<'de>>, FaultOf<'s>>
+pub(crate) fn read_tag_ref<'s, 'de>(
+    buf: &mut ParseBuf<'de>,
+) -> Result<Option<TagRef<'de>>, FaultOf<'s>>
     ensures value { Answers false result buf.new (spec.tag_form.reads buf.old) }
 {
     let mut content = <VarLen as BytesRepr>::deserialize((), buf)?;
     tag_of(content.eat_all())
+}
+
+/// The same of a tag that can leave its packet.
+pub(crate) fn read_tag<'s, 'de>(buf: &mut ParseBuf<'de>) -> Result<Option<Tag<'de>>, FaultOf<'s>>
+    ensures value { Answers false result buf.new (spec.tag_form.reads buf.old) }
+{
+    match read_tag_ref(buf)? {
+        Some(tag) => Ok(Some(tag.to_tag())),
+        None => Ok(None),
+    }
 }
 
 /// The bytes of the tag; none, if there is none.

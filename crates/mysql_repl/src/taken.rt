@@ -1,22 +1,22 @@
 //! Writing with the buffer in a variable of its own.
 
-ghost use Rattle.std.specs.Prelude.{◌≡◌, ◌+◌, ◌++◌, ◌≤◌, length, vec_len, vec_capacity};
+ghost use Rattle.std.specs.Prelude.{◌≡◌, ◌+◌, ◌++◌, ◌≤◌, length, drop};
 
-use mysql_wire::MySerialize;
-use std::mem;
+use mysql_wire::{Buffer, MySerialize};
 
 /// Writes a value to the end of a buffer that has capacity for it.
 ///
 /// While the buffer is a variable of its own, the compiler keeps its length and its address in registers, and makes one
 /// store of a number's bytes.
 #[inline(always)]
-pub(crate) fn append_taken<T: MySerialize>(value: &T, out: &mut Vec<u8>)
-    requires { vec_len out.old + length (T.bytes value.now) ≤ vec_capacity out.old }
-    ensures items { out.new.items ≡ out.old.items ++ T.bytes value.now }
-    ensures capacity { vec_capacity out.old ≤ vec_capacity out.new }
+pub(crate) fn append_taken<T: MySerialize, O: Buffer>(value: &T, out: &mut O)
+    requires { length (O.held out.old) + length (T.bytes value.now) ≤ O.capacity out.old }
+    ensures items { O.held out.new ≡ O.held out.old ++ T.bytes value.now }
+    ensures after { O.after out.new ≡ drop (length (T.bytes value.now)) (O.after out.old) }
+    ensures capacity { O.capacity out.old ≤ O.capacity out.new }
+    ensures kept { O.kept out.new ≡ O.kept out.old }
 {
-    let empty = Vec::new(*out.allocator());
-    let mut taken = mem::replace(out, empty);
+    let mut taken = out.taken();
     value.append(&mut taken);
     *out = taken;
 }

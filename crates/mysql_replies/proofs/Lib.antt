@@ -9,4 +9,4 @@ pub mod SentChangeAgain
 pub mod AsSent
 pub mod StateString
 pub mod BytesExact
-pub mod AsSentRef
+pub mod OkPacketRead

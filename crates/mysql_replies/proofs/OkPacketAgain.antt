@@ -1,5 +1,5 @@
 -- An OK packet that is sent is read again, as its kind.
-use Rattle.std.proofs.Common.{◌≡◌, ◌<◌, ◌^◌, ℕ, zero, suc, List, [], ◌∷◌, ◌++◌, length, Option, Some, None, refl, sym, subst, ap, ◌∙◌, arith}
+use Rattle.std.proofs.Common.{◌≡◌, ◌<◌, ◌^◌, ℕ, zero, suc, List, [], ◌∷◌, Option, Some, None, refl, sym, subst, ap, ◌∙◌, arith}
 use Rattle.std.proofs.lemmas.Bool.{eq-eqb}
 use Rattle.std.proofs.lemmas.List.{append-nil}
 use Rattle.mysql_wire.specs.Flags.{CapabilityFlags}
@@ -14,9 +14,8 @@ use Rattle.mysql_wire.specs.Spelling.{byte-again}
 use Rattle.mysql_wire.specs.Writing.{le_bytes}
 use Rattle.mysql_replies.specs.declared.ok_kind.OkPacketBody.{OkPacketBody}
 use Rattle.mysql_replies.specs.declared.ok_packet.OkPacket.{OkPacket}
-use Rattle.mysql_replies.specs.declared.ok_packet.OkPacketDeserializer.{OkPacketDeserializer}
 use Rattle.mysql_replies.specs.OkKind.{common_ok_body, terminator_body, old_eof_body, ok_end, body_of}
-use Rattle.mysql_replies.specs.OkPacket.{ok_packet, packet_of, deserialized, unless_zero, unless_empty, bytes_or_none}
+use Rattle.mysql_replies.specs.OkPacket.{ok_header, ok_packet, deserialized, unless_zero, unless_empty, bytes_or_none}
 use Rattle.mysql_replies.specs.OkPacketSent.{id_or_zero, deserializer_of, flag_word_of, sent_body, common_bytes, terminator_bytes, eof_bytes, IdFits, OkPacketFits, TerminatorFits, OldEofFits}
 use Rattle.mysql_replies.specs.OkTailSent.{ContentFits}
 
@@ -50,8 +49,8 @@ no_texts p info state =
 packet-again : (T : Type 0) (header : ℕ) → ((rest : List ℕ) → byte.Spells (raw_int header) (header ∷ rest) rest)
     → (body : Form OkPacketBody) (b : OkPacketBody) (bytes : List ℕ) → body.Spells b bytes []
     → (ok_packet {T = T} header body).Spells (deserialized b) (header ∷ bytes) []
-unfolding ok_packet
-packet-again T header first body b bytes h = (raw_int header, bytes, first bytes, rw (eq-eqb header header refl) (b, [], h, (refl, refl)))
+unfolding ok_packet ok_header
+packet-again T header first body b bytes h = (tt, bytes, (raw_int header, bytes, first bytes, rw (eq-eqb header header refl) (refl, refl)), (b, [], h, (refl, refl)))
 
 header-00 : (rest : List ℕ) → byte.Spells (raw_int 0) (0 ∷ rest) rest
 unfolding le_bytes

@@ -2,7 +2,11 @@
 use Rattle.std.proofs.Common.{◌≡◌, ◌<◌, ◌^◌, ℕ, List, [], ◌++◌, length, Option, Some, None, Bool, refl, arith}
 use Rattle.std.proofs.lemmas.List.{append-nil}
 use Rattle.mysql_wire.specs.CodecAgain.{option_fits}
-use Rattle.mysql_wire.specs.Codecs.{without_context}
+use Rattle.mysql_wire.specs.Codecs.{without_context, u8}
+use Rattle.mysql_wire.specs.Flags.{MariadbCapabilities}
+use Rattle.mysql_wire.specs.declared.int.RawInt.{RawInt}
+use Rattle.mysql_replies.specs.declared.column_count.ColumnCount.{ColumnCount}
+use Rattle.mysql_replies.specs.ColumnCount.{column_count, says_follow, IsSaid, SaysByte, ColumnCountFits}
 use Rattle.mysql_replies.specs.declared.column.Column.{Column}
 use Rattle.mysql_replies.specs.declared.local_infile.LocalInfilePacket.{LocalInfilePacket}
 use Rattle.mysql_replies.specs.declared.progress_report.ProgressReport.{ProgressReport}
@@ -48,4 +52,14 @@ pub sql_state-plain : (s : SqlState) (rest : List ℕ) → length (state_bytes s
 unfolding sql_state
 sql_state-plain s rest h = sql_state.again tt s rest (tt, (h, tt))
 
-pub ruleset plain = (column-plain, local_infile-plain, progress_report-plain, server_error-plain, session_state_info-plain, sql_state-plain)
+said-fits : (capabilities : MariadbCapabilities) (says : Bool) (byte : Option (RawInt ℕ ℕ)) (rest : List ℕ) → SaysByte byte → IsSaid says byte → option_fits u8 says capabilities byte rest
+said-fits capabilities says None rest width said = said
+said-fits capabilities says (Some b) rest width said = (said, width)
+
+pub column_count-plain : (capabilities : MariadbCapabilities) (c : ColumnCount) (rest : List ℕ) → ColumnCountFits capabilities c
+    → (column_count.form capabilities).Spells c (column_count.bytes c ++ rest) rest
+unfolding column_count
+column_count-plain capabilities c rest h =
+    column_count.again capabilities c rest (h.count, (said-fits capabilities (says_follow capabilities) c.metadata_follows rest h.byte h.said, tt))
+
+pub ruleset plain = (column_count-plain, column-plain, local_infile-plain, progress_report-plain, server_error-plain, session_state_info-plain, sql_state-plain)

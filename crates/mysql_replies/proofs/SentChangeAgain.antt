@@ -1,6 +1,6 @@
 -- A change that is sent is decoded again.
 use Rattle.std.specs.Prelude.{IfSome}
-use Rattle.std.proofs.Common.{◌≡◌, ◌∷◌, List, [], Ok, true, false, refl, ap}
+use Rattle.std.proofs.Common.{◌≡◌, ◌∷◌, [], Ok, true, false, refl, ap}
 use Rattle.mysql_wire.specs.declared.codes.session_state_type.SessionStateType.{SessionStateType}
 use Rattle.mysql_wire.specs.declared.codes.session_state_type.SessionStateType.TheVariants as kind
 use Rattle.mysql_wire.specs.Form.{number, bytes}

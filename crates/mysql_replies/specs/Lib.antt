@@ -12,6 +12,7 @@ pub mod OkKind
 pub mod OkPacket
 pub mod OkTailSent
 pub mod OkPacketSent
+pub mod ColumnCount
 pub mod ColumnNames
 pub mod ColumnFields
 pub mod Column

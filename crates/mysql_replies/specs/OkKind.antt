@@ -1,5 +1,5 @@
 -- The bodies of OK packets, by their kinds.
-use Rattle.std.specs.Prelude.{◌≡◌, ℕ, List, [], ◌∷◌, None, Bool, true, false, not, ◌&&◌, ◌==◌, refl}
+use Rattle.std.specs.Prelude.{◌≡◌, ℕ, List, [], ◌∷◌, None, Bool, false, not, ◌&&◌, ◌==◌, refl}
 use Rattle.mysql_wire.specs.CodecFits.{is_there}
 use Rattle.mysql_wire.specs.FlagMasks.{CLIENT_SESSION_TRACK, SERVER_SESSION_STATE_CHANGED}
 use Rattle.mysql_wire.specs.Flags.{CapabilityFlags, StatusFlags, has, flag_word}

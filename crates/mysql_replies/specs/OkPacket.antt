@@ -60,15 +60,18 @@ packet d = d.0
 abbrev pub deserialized : {T : Type 0} → OkPacketBody → OkPacketDeserializer T
 deserialized body = record { 0 = packet_of body; 1 = record {} }
 
--- the header's byte, and the body
+-- the header's byte
+unfoldable pub ok_header : ℕ → Form (Unit {0})
+ok_header header = do
+  first ← byte
+  either (first.0 == header) (give tt) refuse
+
+-- the header, and the body
 unfoldable pub ok_packet : {T : Type 0} → ℕ → Form OkPacketBody → Form (OkPacketDeserializer T)
 ok_packet header body = do
-  first ← byte
-  either (first.0 == header)
-      (do
-        b ← body
-        give (deserialized b))
-      refuse
+  first ← ok_header header
+  b ← body
+  give (deserialized b)
 
 pub size-ok_packet : (T : Type 0) (header : ℕ) (body : Form OkPacketBody) → (ok_packet {T = T} header body).size ≡ None
 unfolding ok_packet

@@ -1,5 +1,5 @@
 -- OK packets as a server sends them: a packet, and what both sides can do.
-use Rattle.std.specs.Prelude.{◌≡◌, ℕ, zero, suc, ◌<◌, ◌^◌, List, [], ◌∷◌, ◌++◌, length, Option, Some, None, Bool, true, false, IsTrue, ◌&&◌, refl}
+use Rattle.std.specs.Prelude.{◌≡◌, ℕ, zero, suc, ◌<◌, ◌^◌, List, [], ◌∷◌, ◌++◌, length, Option, Some, None, refl}
 use Rattle.mysql_wire.specs.Flags.{CapabilityFlags, StatusFlags}
 use Rattle.mysql_wire.specs.declared.constant_value.Const.{Const}
 use Rattle.mysql_wire.specs.declared.int.RawInt.{RawInt}
@@ -9,9 +9,9 @@ use Rattle.mysql_wire.specs.Writing.{le_bytes}
 use Rattle.mysql_replies.specs.declared.ok_kind.OkPacketBody.{OkPacketBody}
 use Rattle.mysql_replies.specs.declared.ok_packet.OkPacket.{OkPacket}
 use Rattle.mysql_replies.specs.declared.ok_packet.OkPacketDeserializer.{OkPacketDeserializer}
-use Rattle.mysql_replies.specs.OkKind.{OkTail, body_of, ok_tail, state_changed, tail_of, tracks}
+use Rattle.mysql_replies.specs.OkKind.{OkTail, body_of, ok_tail, tail_of}
 use Rattle.mysql_replies.specs.OkPacket.{affected_rows, last_insert_id, status_flags, warnings, info, session_state, state_bytes, bytes_or_none}
-use Rattle.mysql_replies.specs.OkTailSent.{sends_state, tail_bytes, TailFits, tail-again}
+use Rattle.mysql_replies.specs.OkTailSent.{ContentIsShort, tail_bytes, TailFits, tail-again}
 
 -- a packet, and what both sides can do
 abbrev pub Sent : Type 0
@@ -93,6 +93,19 @@ pub record OkPacketFits (capabilities : CapabilityFlags) (p : OkPacket) : Type 0
   pub status_flags : (status_flags p).0 < 2 ^ 16
   pub warnings : warnings p < 2 ^ 16
   pub tail : TailFits capabilities p
+
+-- the numbers and lengths of a packet have their widths
+abbrev pub IdIsShort : Option ℕ → Type 0
+IdIsShort None = Unit {0}
+IdIsShort (Some n) = n < 2 ^ 64
+
+pub record HasOkWidths (p : OkPacket) : Type 0 where
+  pub affected_rows : affected_rows p < 2 ^ 64
+  pub last_insert_id : IdIsShort (last_insert_id p)
+  pub status_flags : (status_flags p).0 < 2 ^ 16
+  pub warnings : warnings p < 2 ^ 16
+  pub info : ContentIsShort (info p)
+  pub session_state : ContentIsShort (session_state p)
 
 -- one that ends a result set has no numbers, and an old end neither info nor state
 pub record TerminatorFits (capabilities : CapabilityFlags) (p : OkPacket) : Type 0 where

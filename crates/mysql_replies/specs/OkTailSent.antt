@@ -1,5 +1,5 @@
 -- The end of an OK packet as a server sends it: the info and the state.
-use Rattle.std.specs.Prelude.{◌≡◌, ℕ, zero, suc, ◌<◌, ◌^◌, List, [], ◌∷◌, ◌++◌, length, Option, Some, None, Bool, true, false, IsTrue, if◌then◌else◌, ◌&&◌, not, ◌==◌, nat_lt, refl}
+use Rattle.std.specs.Prelude.{◌≡◌, ℕ, suc, ◌<◌, ◌^◌, List, [], ◌∷◌, ◌++◌, length, Option, Some, None, Bool, true, false, if◌then◌else◌, ◌&&◌, not, ◌==◌, refl}
 use Rattle.std.proofs.Common.{arith, append_assoc, sym, ◌∙◌, ap, inl, inr}
 use Rattle.std.proofs.lemmas.Bool.{cases_lt, lt-ltb, le-ltb, ne_eqb}
 use Rattle.std.proofs.lemmas.List.{append-nil}
@@ -28,6 +28,11 @@ abbrev pub ContentFits : Option (List ℕ) → Type 0
 ContentFits None = Unit {0}
 ContentFits (Some []) = ⊥
 ContentFits (Some (b ∷ bytes)) = length (b ∷ bytes) < 2 ^ 64
+
+-- the length of a content has eight bytes
+abbrev pub ContentIsShort : Option (List ℕ) → Type 0
+ContentIsShort None = Unit {0}
+ContentIsShort (Some bytes) = length bytes < 2 ^ 64
 
 -- a state is there only where it is sent
 abbrev pub StateIsSent : Bool → Option (List ℕ) → Type 0

@@ -40,13 +40,23 @@ abbrev pub after_entry : List ℕ → List ℕ
 after_entry [] = []
 after_entry (type ∷ bytes) = rest_of (lenenc_string.reads bytes)
 
--- the answer for an entry that was read, with what follows it; or its fault, and what follows an entry of any type
-abbrev pub ChangeOf : List ℕ → Reading SessionStateInfo → Result SessionStateChange FaultOf → List ℕ → Type 0
-ChangeOf bytes (Ok x) r rest = Answers (lists_variables (data_type x.0) (data_bytes x.0)) r [] (decoded_as_sent x.0) × (rest ≡ x.1)
-ChangeOf bytes (Err kind) (Ok change) rest = ⊥
-ChangeOf bytes (Err kind) (Err fault) rest = Faults {A = SessionStateInfo} false fault (Err kind) × (rest ≡ after_entry bytes)
+-- the next entry of the bytes that are left, or its fault, and what is left then: after a fault what follows an entry of any type
+abbrev pub NextEntry : List ℕ → Option (Result SessionStateInfo FaultOf) → List ℕ → Type 0
+NextEntry bytes None rest = (bytes ≡ []) × (rest ≡ [])
+NextEntry bytes (Some (Ok i)) rest = (bytes ≢ []) × ((session_state_info.form tt).reads bytes ≡ Ok (i, rest))
+NextEntry bytes (Some (Err fault)) rest = (bytes ≢ []) × Faults false fault ((session_state_info.form tt).reads bytes) × (rest ≡ after_entry bytes)
 
--- the next change of the bytes that are left, and what is left then
+-- the answer for an entry that was read, with what follows it; or its fault, and what follows an entry of any type
+abbrev pub ChangeOf : (SessionStateInfo → Bool) → List ℕ → Reading SessionStateInfo → Result SessionStateChange FaultOf → List ℕ → Type 0
+ChangeOf takes_memory bytes (Ok x) r rest = Answers (takes_memory x.0) r [] (decoded_as_sent x.0) × (rest ≡ x.1)
+ChangeOf takes_memory bytes (Err kind) (Ok change) rest = ⊥
+ChangeOf takes_memory bytes (Err kind) (Err fault) rest = Faults {A = SessionStateInfo} false fault (Err kind) × (rest ≡ after_entry bytes)
+
+-- the next change of the bytes that are left, and what is left then, where the entries that the test tells take memory
+abbrev pub NextOf : (SessionStateInfo → Bool) → List ℕ → Option (Result SessionStateChange FaultOf) → List ℕ → Type 0
+NextOf takes_memory bytes None rest = (bytes ≡ []) × (rest ≡ [])
+NextOf takes_memory bytes (Some r) rest = (bytes ≢ []) × ChangeOf takes_memory bytes ((session_state_info.form tt).reads bytes) r rest
+
+-- the same, where a list of system variables takes memory
 abbrev pub NextChange : List ℕ → Option (Result SessionStateChange FaultOf) → List ℕ → Type 0
-NextChange bytes None rest = (bytes ≡ []) × (rest ≡ [])
-NextChange bytes (Some r) rest = (bytes ≢ []) × ChangeOf bytes ((session_state_info.form tt).reads bytes) r rest
+NextChange bytes r rest = NextOf (λ i. lists_variables (data_type i) (data_bytes i)) bytes r rest

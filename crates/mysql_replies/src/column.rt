@@ -6,8 +6,9 @@ ghost use Rattle.mysql_wire.specs.Text.{GivesText};
 ghost use Rattle.mysql_replies.specs.Column as spec;
 ghost use Rattle.mysql_replies.specs.ColumnNames.{has_a_name};
 
-use crate::column_fields::ColumnFields;
+use crate::column_fields::{ColumnFields, fields_of};
 use crate::column_names::{ColumnNames, Names};
+use crate::column_ref::read_column;
 use bstr::ByteSlice;
 use mysql_wire::{
     AnyWidth, ColumnFlags, ColumnType, Const, ConstBytes, ConstBytesValue, ConstFault, ConstU8,
@@ -47,7 +48,7 @@ pub type ColumnDefinitionCatalog = ConstBytes<Catalog, 4>;
 ///
 /// The catalog `def`; the schema, the table, the original table, the name and the original name,
 /// each a length-encoded string; then 13 bytes: `0c`, the character set (two bytes), the length
-/// (four), the type, the flags (two), the decimals, and two bytes that are skipped. Numbers have
+/// (four), the type, the flags (two), the decimals, and two bytes that are skipped. Numbers are
 /// little-endian.
 ///
 /// A short definition is `UnexpectedEof`; another catalog, another byte for `0c`, or a byte that is
@@ -84,15 +85,7 @@ impl Column {
         Column {
             catalog: ConstBytes::new(),
             meta: ColumnNames::default(),
-            fields: ColumnFields {
-                fixed_length_fields_len: ConstU8::new(),
-                character_set: RawInt::new(0),
-                column_length: RawInt::new(0),
-                column_type: Const::new(column_type),
-                flags: Const::new(ColumnFlags::default()),
-                decimals: RawInt::new(0),
-                filler: Skip,
-            },
+            fields: fields_of(0, 0, column_type, ColumnFlags::default(), 0),
         }
     }
 
@@ -319,13 +312,10 @@ impl<'de> MyDeserialize<'de> for Column {
 
     ghost form = { spec.column.form };
 
-    #[tactic(auto, using(mysql_wire::proofs::Tails::tails), unfolding(crate::specs::Column::column))]
+    #[tactic(auto, using(crate::proofs::NamesAfter::columns_begin))]
     fn deserialize<'s>(_ctx: (), buf: &mut ParseBuf<'de>) -> Result<Self, FaultOf<'s>> {
-        Ok(Column {
-            catalog: buf.parse(())?,
-            meta: buf.parse(())?,
-            fields: buf.parse(())?,
-        })
+        let column = read_column::<true>(buf)?;
+        Ok(column.to_column(buf.alloc())?)
     }
 
     ghost size_is = { λ _. unfold spec.column in refl };

@@ -7,7 +7,7 @@ ghost use Rattle.mysql_replies.specs.ColumnFields as spec;
 
 use mysql_wire::{
     ColumnFlags, ColumnType, Const, ConstFault, ConstU8, FaultOf, Fixed, LeU16, LeU32,
-    MyDeserialize, ParseBuf, Parts, RawInt, Sink, Skip, parts, take_u8, take_u16, take_u32,
+    MyDeserialize, ParseBuf, Parts, RawInt, Sink, Skip, parts,
 };
 use thiserror::Error;
 
@@ -24,7 +24,7 @@ impl ConstFault for InvalidFixedLengthFieldsLen {
 pub type FixedLengthFieldsLen = ConstU8<InvalidFixedLengthFieldsLen, 0x0c>;
 
 /// The fields of a column that have fixed lengths, 13 bytes in all. Numbers of more than one byte
-/// have little-endian.
+/// are little-endian.
 #[derive(Clone, Debug, PartialEq, Eq, Drop)]
 pub(crate) struct ColumnFields {
     pub(crate) fixed_length_fields_len: FixedLengthFieldsLen,
@@ -36,20 +36,25 @@ pub(crate) struct ColumnFields {
     pub(crate) filler: Skip<2>,
 }
 
-impl ColumnFields {
-    /// The same fields.
-    pub(crate) fn copied(&self) -> ColumnFields
-        ensures value { result ≡ self.now }
-    {
-        ColumnFields {
-            fixed_length_fields_len: ConstU8::new(),
-            character_set: RawInt::new(self.character_set.0),
-            column_length: RawInt::new(self.column_length.0),
-            column_type: Const::new(self.column_type.0),
-            flags: Const::new(self.flags.0),
-            decimals: RawInt::new(self.decimals.0),
-            filler: Skip,
-        }
+/// The fields of these.
+#[inline]
+pub(crate) fn fields_of(
+    character_set: u16,
+    column_length: u32,
+    column_type: ColumnType,
+    flags: ColumnFlags,
+    decimals: u8,
+) -> ColumnFields
+    ensures value { result ≡ spec.fields_of character_set column_length column_type flags decimals }
+{
+    ColumnFields {
+        fixed_length_fields_len: ConstU8::new(),
+        character_set: RawInt::new(character_set),
+        column_length: RawInt::new(column_length),
+        column_type: Const::new(column_type),
+        flags: Const::new(flags),
+        decimals: RawInt::new(decimals),
+        filler: Skip,
     }
 }
 
@@ -66,11 +71,11 @@ impl<'de> MyDeserialize<'de> for ColumnFields {
         let mut fields = ParseBuf::new(buf.alloc(), buf.eat(13));
         Ok(ColumnFields {
             fixed_length_fields_len: fields.parse_unchecked(())?,
-            character_set: take_u16(&mut fields),
-            column_length: take_u32(&mut fields),
+            character_set: RawInt::take(&mut fields),
+            column_length: RawInt::take(&mut fields),
             column_type: fields.parse_unchecked(())?,
             flags: fields.parse_unchecked(())?,
-            decimals: take_u8(&mut fields),
+            decimals: RawInt::take(&mut fields),
             filler: fields.parse_unchecked(())?,
         })
     }

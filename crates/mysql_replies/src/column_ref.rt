@@ -1,12 +1,13 @@
 //! A column of a result that stays in its packet.
 #![tactic(auto, using(mysql_wire::proofs::Packets::packets), unfolding(crate::specs::Column::column, crate::specs::ColumnNames::column_meta))]
 
-ghost use Rattle.std.specs.Prelude.{◌≡◌, None, refl, IfOk, IfErr, IsTrue};
+ghost use Rattle.std.specs.Prelude.{false, ◌≡◌, None, refl, IfOk, IfErr, IsTrue, OnErr};
+ghost use Rattle.mysql_wire.specs.Reading.{Answers, IsTail};
 ghost use Rattle.mysql_replies.specs.Column as spec;
 ghost use Rattle.mysql_replies.specs.ColumnNames.{has_a_name};
 
 use crate::column::{Column, ColumnDefinitionCatalog, named};
-use crate::column_fields::ColumnFields;
+use crate::column_fields::{ColumnFields, fields_of};
 use crate::column_names::{Names, read_names};
 use mysql_wire::{AnyWidth, ColumnFlags, ColumnType, FaultOf, MyDeserialize, ParseBuf};
 use std::alloc::{AllocError, Global};
@@ -18,15 +19,24 @@ use std::marker::Model;
 #[derive(Drop)]
 pub struct ColumnRef<'a> {
     names: Names<'a>,
-    fields: ColumnFields,
+    character_set: u16,
+    column_length: u32,
+    column_type: ColumnType,
+    flags: ColumnFlags,
+    decimals: u8,
 }
 
 impl<'a> Model for ColumnRef<'a> {
     ghost use Rattle.mysql_replies.specs.declared.column.Column.{Column};
+    ghost use Rattle.mysql_replies.specs.ColumnFields.{fields_of};
 
     ghost Value = { Column };
 
-    ghost view = { λ c. record { catalog = record { 0 = record {} }; meta = c.names; fields = c.fields } };
+    ghost view = { λ c. record {
+      catalog = record { 0 = record {} };
+      meta = c.names;
+      fields = fields_of c.character_set c.column_length c.column_type c.flags c.decimals;
+    } };
 }
 
 impl<'a> ColumnRef<'a> {
@@ -70,44 +80,44 @@ impl<'a> ColumnRef<'a> {
         self.names.org_name
     }
 
-    /// The number of the character set (collation).
+    /// As [`Column::character_set`].
     #[inline]
     pub fn character_set(&self) -> u16
         ensures value { result ≡ spec.character_set self.now }
     {
-        self.fields.character_set.0
+        self.character_set
     }
 
-    /// The most characters of a value, for showing it.
+    /// As [`Column::column_length`].
     #[inline]
     pub fn column_length(&self) -> u32
         ensures value { result ≡ spec.column_length self.now }
     {
-        self.fields.column_length.0
+        self.column_length
     }
 
-    /// The type of the values.
+    /// As [`Column::column_type`].
     #[inline]
     pub fn column_type(&self) -> ColumnType
         ensures value { result ≡ spec.column_type self.now }
     {
-        self.fields.column_type.0
+        self.column_type
     }
 
-    /// The flags.
+    /// As [`Column::flags`].
     #[inline]
     pub fn flags(&self) -> ColumnFlags
         ensures value { result ≡ spec.flags self.now }
     {
-        self.fields.flags.0
+        self.flags
     }
 
-    /// The most decimals of a value: 0 for integers and strings of fixed length, 31 for other strings and floats, else up to 81.
+    /// As [`Column::decimals`].
     #[inline]
     pub fn decimals(&self) -> u8
         ensures value { result ≡ spec.decimals self.now }
     {
-        self.fields.decimals.0
+        self.decimals
     }
 
     /// The column with names of its own. It takes memory where a name has any byte.
@@ -115,8 +125,41 @@ impl<'a> ColumnRef<'a> {
         ensures value { IfOk result (λ column. column ≡ self.now) }
         ensures memory { IfErr result (λ _. IsTrue (has_a_name (spec.names_of self.now))) }
     {
-        named(alloc, &self.names, self.fields.copied())
+        let fields = fields_of(
+            self.character_set,
+            self.column_length,
+            self.column_type,
+            self.flags,
+            self.decimals,
+        );
+        named(alloc, &self.names, fields)
     }
+}
+
+/// Reads a column.
+///
+/// Either reader of columns has an instance of its own, so that it stands there in line, and what nobody asks for costs nothing.
+#[inline(always)]
+#[tactic(auto, using(mysql_wire::proofs::Tails::tails), unfolding(crate::specs::Column::column, crate::specs::ColumnNames::column_meta))]
+pub(crate) fn read_column<'s, 'de, const COPIED: bool>(
+    buf: &mut ParseBuf<'de>,
+) -> Result<ColumnRef<'de>, FaultOf<'s>>
+    ensures value { Answers false result buf.new ((spec.column.form tt).reads buf.old) }
+    ensures tail { OnErr result (IsTail buf.new buf.old) }
+{
+    let mut rest = buf.rest();
+    let _catalog: ColumnDefinitionCatalog = rest.parse(())?;
+    let names = read_names(&mut rest)?;
+    let fields: ColumnFields = rest.parse(())?;
+    *buf = rest;
+    Ok(ColumnRef {
+        names,
+        character_set: fields.character_set.0,
+        column_length: fields.column_length.0,
+        column_type: fields.column_type.0,
+        flags: fields.flags.0,
+        decimals: fields.decimals.0,
+    })
 }
 
 /// As a [`Column`], but for `Memory`: none is taken.
@@ -130,14 +173,8 @@ impl<'de> MyDeserialize<'de> for ColumnRef<'de> {
     ghost form = { spec.column.form };
 
     #[inline]
-    #[tactic(auto, using(mysql_wire::proofs::Tails::tails), unfolding(crate::specs::Column::column, crate::specs::ColumnNames::column_meta))]
     fn deserialize<'s>(_ctx: (), buf: &mut ParseBuf<'de>) -> Result<Self, FaultOf<'s>> {
-        let mut rest = buf.rest();
-        let _catalog: ColumnDefinitionCatalog = rest.parse(())?;
-        let names = read_names::<false>(&mut rest)?;
-        let fields: ColumnFields = rest.parse(())?;
-        *buf = rest;
-        Ok(ColumnRef { names, fields })
+        read_column::<false>(buf)
     }
 
     ghost size_is = { λ _. unfold spec.column in refl };

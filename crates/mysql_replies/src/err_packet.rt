@@ -5,12 +5,13 @@ ghost use Rattle.std.specs.Prelude.{◌≡◌, None, Some, refl, IsTrue};
 ghost use Rattle.mysql_replies.specs.ErrPacket as spec;
 ghost use Rattle.mysql_replies.specs.declared.err_packet.ErrPacket.TheVariants as err;
 
+use crate::err_packet_ref::ErrPacketRef;
 use crate::progress_report::ProgressReport;
 use crate::server_error::ServerError;
 use bitflags::Flags;
 use mysql_wire::{
     AnyWidth, CapabilityFlags, ConstFault, ConstU8, FaultOf, LeU16, MyDeserialize, ParseBuf, Parts,
-    RawInt, Sink, parts, take_u16,
+    RawInt, Sink, parts,
 };
 use std::fmt;
 use thiserror::Error;
@@ -30,14 +31,28 @@ pub type ErrPacketHeader = ConstU8<InvalidErrPacketHeader, 0xff>;
 /// The code of a packet that may be a progress report.
 pub(crate) const PROGRESS_CODE: u16 = 0xffff;
 
-/// An error or a progress report (`Protocol::ERR_Packet`): the byte `ff`, a code of two bytes (the
-/// little-endian), then what it is the code of.
+/// An error or a progress report (`Protocol::ERR_Packet`): the byte `ff`, a code of two bytes,
+/// little-endian, then what it is the code of.
 ///
 /// Where the code is `ffff` and the flags have `CLIENT_PROGRESS_OBSOLETE`, that is a progress
 /// report. Else it is an error, with an SQL state where the flags have `CLIENT_PROTOCOL_41`.
 ///
 /// Before the handshake no flags are agreed: an error in place of the greeting, as 'Too many connections', has no SQL state
 /// on any server, and is read with no flags, `CapabilityFlags::from_bits_retain(0)`.
+///
+/// ```
+/// let packet: ErrPacket<'_> = buf.parse(connection.capabilities)?;
+/// match packet {
+///     ErrPacket::Error(error) => {
+///         let error = error.into_owned(alloc);
+///         Err(error.map_or(Error::Memory, Error::Server))
+///     }
+///     ErrPacket::Progress(report) => {
+///         let report = report.into_owned(alloc)?;
+///         Ok(connection.reports.push(report)?)
+///     }
+/// }
+/// ```
 #[derive(Clone, Debug, PartialEq, Drop)]
 pub enum ErrPacket<'a> {
     /// An error.
@@ -96,20 +111,12 @@ impl<'de> MyDeserialize<'de> for ErrPacket<'de> {
 
     ghost form = { spec.err_packet.form };
 
-    #[tactic(auto, using(mysql_wire::proofs::Blocks::blocks), unfolding(crate::specs::ErrPacket::err_packet))]
     fn deserialize<'s>(
         capabilities: CapabilityFlags,
         buf: &mut ParseBuf<'de>,
     ) -> Result<Self, FaultOf<'s>> {
-        let mut head: ParseBuf<'de> = buf.parse(3)?;
-        let _header: ErrPacketHeader = head.parse_unchecked(())?;
-        let code = take_u16(&mut head);
-        let takes_progress = capabilities.contains(CapabilityFlags::CLIENT_PROGRESS_OBSOLETE);
-        if takes_progress && code.0 == PROGRESS_CODE {
-            return Ok(ErrPacket::Progress(buf.parse(())?));
-        }
-        let has_state = capabilities.contains(CapabilityFlags::CLIENT_PROTOCOL_41);
-        Ok(ErrPacket::Error(buf.parse((code.0, has_state))?))
+        let packet: ErrPacketRef<'de> = buf.parse(capabilities)?;
+        Ok(packet.to_packet())
     }
 
     ghost size_is = { λ _. unfold spec.err_packet in refl };

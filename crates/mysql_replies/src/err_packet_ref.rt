@@ -9,9 +9,7 @@ use crate::err_packet::{ErrPacket, ErrPacketHeader, PROGRESS_CODE};
 use crate::progress_report_ref::ProgressReportRef;
 use crate::server_error_ref::ServerErrorRef;
 use bitflags::Flags;
-use mysql_wire::{
-    AnyWidth, CapabilityFlags, FaultOf, LeU16, MyDeserialize, ParseBuf, RawInt, take_u16,
-};
+use mysql_wire::{AnyWidth, CapabilityFlags, FaultOf, LeU16, MyDeserialize, ParseBuf, RawInt};
 use std::marker::Model;
 
 /// What the packet is.
@@ -107,7 +105,7 @@ impl<'de> MyDeserialize<'de> for ErrPacketRef<'de> {
     ) -> Result<Self, FaultOf<'s>> {
         let mut head: ParseBuf<'de> = buf.parse(3)?;
         let _header: ErrPacketHeader = head.parse_unchecked(())?;
-        let code = take_u16(&mut head);
+        let code: RawInt<LeU16> = RawInt::take(&mut head);
         let takes_progress = capabilities.contains(CapabilityFlags::CLIENT_PROGRESS_OBSOLETE);
         let answer = if takes_progress && code.0 == PROGRESS_CODE {
             Answer::Progress(buf.parse(())?)

@@ -4,8 +4,9 @@
 #![tactic(auto, using(mysql_wire::proofs::Packets::packets))]
 
 ghost use Rattle.std.specs.Prelude.{◌≡◌, ◌++◌, ◌<◌, ◌^◌, ◌↔◌, [], List, ℕ, length, Bool, None, Some, Ok, IfSome, IsTrue};
-ghost use Rattle.mysql_wire.specs.Flags.{CapabilityFlags};
+ghost use Rattle.mysql_wire.specs.Flags.{CapabilityFlags, MariadbCapabilities};
 ghost use Rattle.mysql_replies.specs.declared.column.Column.{Column};
+ghost use Rattle.mysql_replies.specs.declared.column_count.ColumnCount.{ColumnCount};
 ghost use Rattle.mysql_replies.specs.declared.err_packet.ErrPacket.{ErrPacket};
 ghost use Rattle.mysql_replies.specs.declared.local_infile.LocalInfilePacket.{LocalInfilePacket};
 ghost use Rattle.mysql_replies.specs.declared.ok_packet.OkPacket.{OkPacket};
@@ -14,6 +15,7 @@ ghost use Rattle.mysql_replies.specs.declared.server_error.ServerError.{ServerEr
 ghost use Rattle.mysql_replies.specs.declared.session_state_info.SessionStateInfo.{SessionStateInfo};
 ghost use Rattle.mysql_replies.specs.declared.sql_state.SqlState.{SqlState};
 ghost use Rattle.mysql_replies.specs.Column.{column, ColumnFits};
+ghost use Rattle.mysql_replies.specs.ColumnCount.{column_count, ColumnCountFits};
 ghost use Rattle.mysql_replies.specs.ErrPacket.{err_packet, ErrPacketFits};
 ghost use Rattle.mysql_replies.specs.LocalInfile.{local_infile};
 ghost use Rattle.mysql_replies.specs.OkKind.{common_ok_body, terminator_body, old_eof_body};
@@ -42,6 +44,14 @@ use std::hash::Hash;
 pub fn local_infile_round_trips()
     ensures spelled { (p : LocalInfilePacket) (rest : List ℕ) → local_infile.fits tt p rest → (local_infile.form tt).Spells p (local_infile.bytes p ++ rest) rest }
     ensures plain { (p : LocalInfilePacket) → (local_infile.form tt).Spells p (local_infile.bytes p) [] }
+{}
+
+/// What is written of a count of columns is read again, whatever follows: where a byte says whether definitions follow just
+/// where the flags ask for it.
+#[tactic(auto, using(mysql_wire::proofs::Packets::packets, crate::proofs::PlainFits::plain))]
+pub fn column_count_round_trips()
+    ensures spelled { (capabilities : MariadbCapabilities) (c : ColumnCount) (rest : List ℕ) → column_count.fits capabilities c rest → (column_count.form capabilities).Spells c (column_count.bytes c ++ rest) rest }
+    ensures plain { (capabilities : MariadbCapabilities) (c : ColumnCount) (rest : List ℕ) → ColumnCountFits capabilities c → (column_count.form capabilities).Spells c (column_count.bytes c ++ rest) rest }
 {}
 
 /// What is written of an SQL state is read again, whatever follows.

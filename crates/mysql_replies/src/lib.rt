@@ -3,6 +3,7 @@
 #![tactic(auto)]
 
 mod column;
+mod column_count;
 mod column_fields;
 mod column_names;
 mod column_ref;
@@ -10,8 +11,9 @@ mod err_packet;
 mod err_packet_ref;
 pub mod laws;
 mod local_infile;
+mod local_infile_ref;
+mod ok_body;
 mod ok_kind;
-mod ok_kind_ref;
 mod ok_packet;
 mod ok_packet_ref;
 mod ok_packet_serializer;
@@ -28,16 +30,18 @@ mod sql_state;
 mod sql_state_ref;
 
 pub use column::{Catalog, Column, ColumnDefinitionCatalog, InvalidCatalog};
+pub use column_count::ColumnCount;
 pub use column_fields::{FixedLengthFieldsLen, InvalidFixedLengthFieldsLen};
 pub use column_ref::ColumnRef;
 pub use err_packet::{ErrPacket, ErrPacketHeader, InvalidErrPacketHeader};
 pub use err_packet_ref::ErrPacketRef;
 pub use local_infile::{InvalidLocalInfileHeader, LocalInfileHeader, LocalInfilePacket};
+pub use local_infile_ref::LocalInfilePacketRef;
+pub use ok_body::OkPacketBodyRef;
 pub use ok_kind::{
-    CommonOkPacket, NetworkStreamTerminator, OkPacketBody, OkPacketKind, OldEofPacket,
-    ResultSetTerminator,
+    CommonOkPacket, NetworkStreamTerminator, OkPacketBody, OkPacketKind, OkPacketRefKind,
+    OldEofPacket, ResultSetTerminator,
 };
-pub use ok_kind_ref::{OkPacketBodyRef, OkPacketRefKind};
 pub use ok_packet::{InvalidOkPacketHeader, OkPacket, OkPacketDeserializer};
 pub use ok_packet_ref::{OkPacketRef, OkPacketRefDeserializer};
 pub use ok_packet_serializer::{OkPacketLayout, OkPacketSerializer};

@@ -6,6 +6,7 @@ ghost use Rattle.std.specs.Cow.{cow_slice_items};
 ghost use Rattle.mysql_wire.specs.Text.{GivesText};
 ghost use Rattle.mysql_replies.specs.LocalInfile as infile;
 
+use crate::local_infile_ref::LocalInfilePacketRef;
 use mysql_wire::{
     AnyWidth, ConstFault, ConstU8, EofBytes, FaultOf, MyDeserialize, ParseBuf, Parts, RawBytes,
     Sink, parts,
@@ -84,10 +85,8 @@ impl<'de> MyDeserialize<'de> for LocalInfilePacket<'de> {
     ghost form = { infile.local_infile.form };
 
     fn deserialize<'s>(_ctx: (), buf: &mut ParseBuf<'de>) -> Result<Self, FaultOf<'s>> {
-        Ok(LocalInfilePacket {
-            header: buf.parse(())?,
-            file_name: buf.parse(())?,
-        })
+        let request: LocalInfilePacketRef<'de> = buf.parse(())?;
+        Ok(request.to_packet())
     }
 
     ghost size_is = { λ _. unfold infile.local_infile in refl };

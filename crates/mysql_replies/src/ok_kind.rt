@@ -6,8 +6,10 @@ ghost use Rattle.mysql_wire.specs.Form.{Form};
 ghost use Rattle.mysql_wire.specs.Reading.{Answers, IsTail};
 ghost use Rattle.mysql_replies.specs.OkKind.{common_ok_body, terminator_body, old_eof_body};
 
-use crate::ok_kind_ref::OkPacketRefKind;
-use mysql_wire::{CapabilityFlags, FaultOf, LenEnc, ParseBuf, RawBytes, StatusFlags};
+use crate::ok_body::{OkPacketBodyRef, none, read_end};
+use mysql_wire::{
+    CapabilityFlags, Const, FaultOf, LeU16, LenEnc, ParseBuf, RawBytes, RawInt, StatusFlags,
+};
 
 /// The body of an OK packet: what stands after its header, as its kind reads it.
 ///
@@ -55,65 +57,68 @@ pub trait OkPacketKind {
         ensures tail { OnErr result (IsTail buf.new buf.old) };
 }
 
-/// The OK packet that ends a result set, where the old end packet is deprecated: header `fe`. Its
-/// rows and insert id are read, and answered as 0.
-#[derive(Clone, Copy, Debug, PartialEq, Eq, Hash)]
-pub struct ResultSetTerminator;
+/// A kind of OK packet whose body is read where it lies. It is open, as [`OkPacketKind`] is.
+pub trait OkPacketRefKind: OkPacketKind {
+    ghost use Rattle.std.specs.Prelude.{false, OnErr};
+    ghost use Rattle.mysql_wire.specs.Reading.{Answers, IsTail};
 
-impl OkPacketKind for ResultSetTerminator {
-    ghost HEADER = { 0xfe };
+    /// Reads the body after the header, as [`parse_body`](OkPacketKind::parse_body) does. It takes no memory.
+    fn parse_body_ref<'s, 'de>(
+        capabilities: CapabilityFlags,
+        buf: &mut ParseBuf<'de>,
+    ) -> Result<OkPacketBodyRef<'de>, FaultOf<'s>>
+        ensures value { Answers false result buf.new ((Self.body capabilities).reads buf.old) }
+        ensures tail { OnErr result (IsTail buf.new buf.old) };
+}
 
-    const HEADER: u8 = 0xfe;
+/// One of the protocol's kinds, whose bodies are read where they lie alone.
+pub trait ProtocolKind {
+    ghost use Rattle.std.specs.Prelude.{ℕ, false, OnErr};
+    ghost use Rattle.mysql_wire.specs.Flags as flags;
+    ghost use Rattle.mysql_wire.specs.Form.{Form};
+    ghost use Rattle.mysql_wire.specs.Reading.{Answers, IsTail};
+    ghost use Rattle.mysql_replies.specs.declared.ok_kind.OkPacketBody as declared;
 
-    ghost body = { terminator_body };
+    ghost FIRST: { ℕ };
 
-    #[inline]
+    /// The first byte of the packet.
+    const FIRST: u8;
+
+    /// How the body is spelled, for what both sides can do.
+    ghost layout: { flags.CapabilityFlags → Form declared.OkPacketBody };
+
+    /// Reads the body after the header. It takes no memory.
+    fn read<'s, 'de>(
+        capabilities: CapabilityFlags,
+        buf: &mut ParseBuf<'de>,
+    ) -> Result<OkPacketBodyRef<'de>, FaultOf<'s>>
+        ensures value { Answers false result buf.new ((layout capabilities).reads buf.old) }
+        ensures tail { OnErr result (IsTail buf.new buf.old) };
+}
+
+impl<T: ProtocolKind> OkPacketKind for T {
+    ghost HEADER = { T.FIRST };
+
+    const HEADER: u8 = T::FIRST;
+
+    ghost body = { T.layout };
+
+    #[inline(always)]
     fn parse_body<'s, 'de>(
         capabilities: CapabilityFlags,
         buf: &mut ParseBuf<'de>,
     ) -> Result<OkPacketBody<'de>, FaultOf<'s>> {
-        Ok(Self::parse_body_ref(capabilities, buf)?.into_body())
+        Ok(T::read(capabilities, buf)?.to_body())
     }
 }
 
-/// The old end of a result (`Protocol::EOF_Packet`): header `fe`, then two bytes of warnings and
-/// two of status flags, the low ones first.
-#[derive(Clone, Copy, Debug, PartialEq, Eq, Hash)]
-pub struct OldEofPacket;
-
-impl OkPacketKind for OldEofPacket {
-    ghost HEADER = { 0xfe };
-
-    const HEADER: u8 = 0xfe;
-
-    ghost body = { old_eof_body };
-
-    #[inline]
-    fn parse_body<'s, 'de>(
+impl<T: ProtocolKind> OkPacketRefKind for T {
+    #[inline(always)]
+    fn parse_body_ref<'s, 'de>(
         capabilities: CapabilityFlags,
         buf: &mut ParseBuf<'de>,
-    ) -> Result<OkPacketBody<'de>, FaultOf<'s>> {
-        Ok(Self::parse_body_ref(capabilities, buf)?.into_body())
-    }
-}
-
-/// The end of a stream of binlog events: as an [`OldEofPacket`].
-#[derive(Clone, Copy, Debug, PartialEq, Eq, Hash)]
-pub struct NetworkStreamTerminator;
-
-impl OkPacketKind for NetworkStreamTerminator {
-    ghost HEADER = { 0xfe };
-
-    const HEADER: u8 = 0xfe;
-
-    ghost body = { old_eof_body };
-
-    #[inline]
-    fn parse_body<'s, 'de>(
-        capabilities: CapabilityFlags,
-        buf: &mut ParseBuf<'de>,
-    ) -> Result<OkPacketBody<'de>, FaultOf<'s>> {
-        Ok(Self::parse_body_ref(capabilities, buf)?.into_body())
+    ) -> Result<OkPacketBodyRef<'de>, FaultOf<'s>> {
+        T::read(capabilities, buf)
     }
 }
 
@@ -123,18 +128,98 @@ impl OkPacketKind for NetworkStreamTerminator {
 #[derive(Clone, Copy, Debug, PartialEq, Eq, Hash)]
 pub struct CommonOkPacket;
 
-impl OkPacketKind for CommonOkPacket {
-    ghost HEADER = { 0 };
+impl ProtocolKind for CommonOkPacket {
+    ghost FIRST = { 0 };
 
-    const HEADER: u8 = 0;
+    const FIRST: u8 = 0;
 
-    ghost body = { common_ok_body };
+    ghost layout = { common_ok_body };
 
     #[inline(always)]
-    fn parse_body<'s, 'de>(
+    fn read<'s, 'de>(
         capabilities: CapabilityFlags,
         buf: &mut ParseBuf<'de>,
-    ) -> Result<OkPacketBody<'de>, FaultOf<'s>> {
-        Ok(Self::parse_body_ref(capabilities, buf)?.into_body())
+    ) -> Result<OkPacketBodyRef<'de>, FaultOf<'s>> {
+        let mut rest = buf.rest();
+        let affected_rows: RawInt<LenEnc> = rest.parse(())?;
+        let last_insert_id: RawInt<LenEnc> = rest.parse(())?;
+        let body = read_end(capabilities, affected_rows.0, last_insert_id.0, &mut rest)?;
+        *buf = rest;
+        Ok(body)
+    }
+}
+
+/// The OK packet that ends a result set, where the old end packet is deprecated: header `fe`. Its
+/// rows and insert id are read, and answered as 0.
+#[derive(Clone, Copy, Debug, PartialEq, Eq, Hash)]
+pub struct ResultSetTerminator;
+
+impl ProtocolKind for ResultSetTerminator {
+    ghost FIRST = { 0xfe };
+
+    const FIRST: u8 = 0xfe;
+
+    ghost layout = { terminator_body };
+
+    fn read<'s, 'de>(
+        capabilities: CapabilityFlags,
+        buf: &mut ParseBuf<'de>,
+    ) -> Result<OkPacketBodyRef<'de>, FaultOf<'s>> {
+        let mut rest = buf.rest();
+        let _affected_rows: RawInt<LenEnc> = rest.parse(())?;
+        let _last_insert_id: RawInt<LenEnc> = rest.parse(())?;
+        let body = read_end(capabilities, 0, 0, &mut rest)?;
+        *buf = rest;
+        Ok(body)
+    }
+}
+
+/// The old end of a result (`Protocol::EOF_Packet`): header `fe`, then two bytes of warnings and
+/// two of status flags, the low ones first.
+#[derive(Clone, Copy, Debug, PartialEq, Eq, Hash)]
+pub struct OldEofPacket;
+
+impl ProtocolKind for OldEofPacket {
+    ghost FIRST = { 0xfe };
+
+    const FIRST: u8 = 0xfe;
+
+    ghost layout = { old_eof_body };
+
+    #[tactic(auto, using(mysql_wire::proofs::Blocks::blocks))]
+    fn read<'s, 'de>(
+        _capabilities: CapabilityFlags,
+        buf: &mut ParseBuf<'de>,
+    ) -> Result<OkPacketBodyRef<'de>, FaultOf<'s>> {
+        let mut numbers: ParseBuf<'de> = buf.parse(4)?;
+        let warnings: RawInt<LeU16> = RawInt::take(&mut numbers);
+        let status_flags: Const<StatusFlags, LeU16> = numbers.parse_unchecked(())?;
+        Ok(OkPacketBodyRef {
+            affected_rows: 0,
+            last_insert_id: 0,
+            status_flags: status_flags.0,
+            warnings: warnings.0,
+            info: none(buf),
+            session_state_info: none(buf),
+        })
+    }
+}
+
+/// The end of a stream of binlog events: as an [`OldEofPacket`].
+#[derive(Clone, Copy, Debug, PartialEq, Eq, Hash)]
+pub struct NetworkStreamTerminator;
+
+impl ProtocolKind for NetworkStreamTerminator {
+    ghost FIRST = { 0xfe };
+
+    const FIRST: u8 = 0xfe;
+
+    ghost layout = { old_eof_body };
+
+    fn read<'s, 'de>(
+        capabilities: CapabilityFlags,
+        buf: &mut ParseBuf<'de>,
+    ) -> Result<OkPacketBodyRef<'de>, FaultOf<'s>> {
+        OldEofPacket::read(capabilities, buf)
     }
 }

@@ -274,9 +274,28 @@ impl ConstFault for InvalidOkPacketHeader {
     const MESSAGE: &'static str = "Invalid OK packet header";
 }
 
+/// Reads the header of a kind.
+#[inline(always)]
+#[tactic(auto, unfolding(crate::specs::OkPacket::ok_header))]
+pub(crate) fn read_header<'s, T: OkPacketKind>(buf: &mut ParseBuf<'_>) -> Result<(), FaultOf<'s>>
+    ensures value { Answers false result buf.new ((spec.ok_header T.HEADER).reads buf.old) }
+{
+    let header: RawInt<u8> = buf.parse(())?;
+    if header.0 != T::HEADER {
+        return Err(FaultOf::InvalidData(InvalidOkPacketHeader::MESSAGE));
+    }
+    Ok(())
+}
+
 /// An OK packet of the kind `T`: the header of `T`, and its body.
 ///
 /// No byte is `UnexpectedEof`, another header is `InvalidData`; else the fault is that of the body.
+///
+/// ```
+/// let ok: OkPacketDeserializer<'_, CommonOkPacket> = buf.parse(flags)?;
+/// let ok: OkPacket<'_> = ok.into_inner();
+/// let changes = ok.session_state_info(alloc)?; // every change of the session, or the first fault
+/// ```
 #[derive(Drop)]
 #[derive_where(Clone, Debug, PartialEq, Eq)]
 pub struct OkPacketDeserializer<'de, T>(OkPacket<'de>, PhantomData<T>);
@@ -317,10 +336,7 @@ impl<'de, T: OkPacketKind> MyDeserialize<'de> for OkPacketDeserializer<'de, T> {
         buf: &mut ParseBuf<'de>,
     ) -> Result<Self, FaultOf<'s>> {
         let mut rest = buf.rest();
-        let header: RawInt<u8> = rest.parse(())?;
-        if header.0 != T::HEADER {
-            return Err(FaultOf::InvalidData(InvalidOkPacketHeader::MESSAGE));
-        }
+        read_header::<T>(&mut rest)?;
         let body = T::parse_body(capabilities, &mut rest)?;
         *buf = rest;
         Ok(OkPacketDeserializer(OkPacket::from_body(body), PhantomData))

@@ -3,12 +3,11 @@
 ghost use Rattle.std.specs.Prelude.{◌≡◌, option_map};
 ghost use Rattle.mysql_replies.specs.OkPacket as spec;
 
-use crate::ok_kind_ref::{OkPacketBodyRef, OkPacketRefKind};
-use crate::ok_packet::{InvalidOkPacketHeader, OkPacket};
+use crate::ok_body::OkPacketBodyRef;
+use crate::ok_kind::OkPacketRefKind;
+use crate::ok_packet::{OkPacket, read_header};
 use crate::session_state_changes_ref::SessionStateChangesRef;
-use mysql_wire::{
-    AnyWidth, CapabilityFlags, ConstFault, FaultOf, MyDeserialize, ParseBuf, RawInt, StatusFlags,
-};
+use mysql_wire::{AnyWidth, CapabilityFlags, FaultOf, MyDeserialize, ParseBuf, StatusFlags};
 use std::marker::{Model, PhantomData};
 
 /// An OK packet of any kind whose texts stay in the packet: an [`OkPacket`] for as long as the packet lives.
@@ -99,6 +98,14 @@ impl<'a> OkPacketRef<'a> {
     {
         SessionStateChangesRef::new(self.body.session_state_info.rest())
     }
+
+    /// The packet in its other form, which borrows the texts still. It takes no memory.
+    #[inline]
+    pub fn to_ok_packet(&self) -> OkPacket<'a>
+        ensures value { result ≡ self.now }
+    {
+        OkPacket::from_body(self.body.to_body())
+    }
 }
 
 /// An OK packet of the kind `T` whose texts stay in the packet: the header of `T`, and its body.
@@ -146,10 +153,7 @@ impl<'de, T: OkPacketRefKind> MyDeserialize<'de> for OkPacketRefDeserializer<'de
         buf: &mut ParseBuf<'de>,
     ) -> Result<Self, FaultOf<'s>> {
         let mut rest = buf.rest();
-        let header: RawInt<u8> = rest.parse(())?;
-        if header.0 != T::HEADER {
-            return Err(FaultOf::InvalidData(InvalidOkPacketHeader::MESSAGE));
-        }
+        read_header::<T>(&mut rest)?;
         let body = T::parse_body_ref(capabilities, &mut rest)?;
         *buf = rest;
         let packet = OkPacketRef { body };

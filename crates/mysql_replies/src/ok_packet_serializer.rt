@@ -44,6 +44,11 @@ pub trait OkPacketLayout {
 ///
 /// The old end (`Protocol::EOF_Packet`) is `fe`, the warnings and the status. What a kind or the flags leave no place for is
 /// not written. Each flag word and each packet is written.
+///
+/// ```
+/// let sent = OkPacketSerializer::<CommonOkPacket>::new(&packet, capabilities);
+/// sent.serialize(out).map_err(|_| FaultOf::Memory)
+/// ```
 #[derive(Drop)]
 pub struct OkPacketSerializer<'p, 'a, T> {
     packet: &'p OkPacket<'a>,

@@ -5,9 +5,7 @@ ghost use Rattle.std.specs.Prelude.{◌≡◌, None, refl};
 ghost use Rattle.mysql_replies.specs.ProgressReport as spec;
 
 use crate::progress_report::ProgressReport;
-use mysql_wire::{
-    AnyWidth, BytesRepr, FaultOf, LeU24, LenEnc, MyDeserialize, ParseBuf, RawInt, take_u8, take_u24,
-};
+use mysql_wire::{AnyWidth, BytesRepr, FaultOf, LeU24, LenEnc, MyDeserialize, ParseBuf, RawInt};
 use std::borrow::CowSlice;
 use std::marker::Model;
 
@@ -16,43 +14,44 @@ use std::marker::Model;
 /// It is read of the same bytes with the same faults, and in a clause it is that report.
 #[derive(Drop)]
 pub struct ProgressReportRef<'a> {
-    stage: RawInt<u8>,
-    max_stage: RawInt<u8>,
-    progress: RawInt<LeU24>,
+    stage: u8,
+    max_stage: u8,
+    progress: u32,
     stage_info: &'a [u8],
 }
 
 impl<'a> Model for ProgressReportRef<'a> {
     ghost use Rattle.mysql_replies.specs.declared.progress_report.ProgressReport.{ProgressReport};
+    ghost use Rattle.mysql_replies.specs.ProgressReport.{report_of};
 
     ghost Value = { ProgressReport };
 
-    ghost view = { λ r. record { stage = r.stage; max_stage = r.max_stage; progress = r.progress; stage_info = r.stage_info.now } };
+    ghost view = { λ r. report_of r.stage r.max_stage r.progress r.stage_info.now };
 }
 
 impl<'a> ProgressReportRef<'a> {
-    /// The stage, from 1 to `max_stage`.
+    /// As [`ProgressReport::stage`].
     #[inline]
     pub fn stage(&self) -> u8
         ensures value { result ≡ spec.stage self.now }
     {
-        self.stage.0
+        self.stage
     }
 
-    /// The last stage.
+    /// As [`ProgressReport::max_stage`].
     #[inline]
     pub fn max_stage(&self) -> u8
         ensures value { result ≡ spec.max_stage self.now }
     {
-        self.max_stage.0
+        self.max_stage
     }
 
-    /// The progress in thousandths of a percent.
+    /// As [`ProgressReport::progress`].
     #[inline]
     pub fn progress(&self) -> u32
         ensures value { result ≡ spec.progress self.now }
     {
-        self.progress.0
+        self.progress
     }
 
     /// The bytes of the stage's text.
@@ -68,9 +67,9 @@ impl<'a> ProgressReportRef<'a> {
         ensures value { result ≡ self.now }
     {
         ProgressReport::new(
-            self.stage.0,
-            self.max_stage.0,
-            self.progress.0,
+            self.stage,
+            self.max_stage,
+            self.progress,
             CowSlice::Borrowed(self.stage_info),
         )
     }
@@ -89,15 +88,15 @@ impl<'de> MyDeserialize<'de> for ProgressReportRef<'de> {
     #[inline]
     fn deserialize<'s>(_ctx: (), buf: &mut ParseBuf<'de>) -> Result<Self, FaultOf<'s>> {
         let mut numbers: ParseBuf<'de> = buf.parse(6)?;
-        let _count = take_u8(&mut numbers);
-        let stage = take_u8(&mut numbers);
-        let max_stage = take_u8(&mut numbers);
-        let progress = take_u24(&mut numbers);
+        let _count: RawInt<u8> = RawInt::take(&mut numbers);
+        let stage: RawInt<u8> = RawInt::take(&mut numbers);
+        let max_stage: RawInt<u8> = RawInt::take(&mut numbers);
+        let progress: RawInt<LeU24> = RawInt::take(&mut numbers);
         let mut stage_info: ParseBuf<'de> = <LenEnc as BytesRepr>::deserialize((), buf)?;
         Ok(ProgressReportRef {
-            stage,
-            max_stage,
-            progress,
+            stage: stage.0,
+            max_stage: max_stage.0,
+            progress: progress.0,
             stage_info: stage_info.eat_all(),
         })
     }

@@ -6,6 +6,7 @@ ghost use Rattle.std.specs.Cow.{cow_slice_items};
 ghost use Rattle.mysql_wire.specs.Text.{GivesText};
 ghost use Rattle.mysql_replies.specs.ServerError as spec;
 
+use crate::server_error_ref::ServerErrorRef;
 use crate::sql_state::SqlState;
 use bstr::BStr;
 use mysql_wire::{
@@ -93,13 +94,8 @@ impl<'de> MyDeserialize<'de> for ServerError<'de> {
     ghost form = { spec.server_error.form };
 
     fn deserialize<'s>(ctx: (u16, bool), buf: &mut ParseBuf<'de>) -> Result<Self, FaultOf<'s>> {
-        let (code, is_sent) = ctx;
-        let state = if is_sent { Some(buf.parse(())?) } else { None };
-        Ok(ServerError {
-            code,
-            state,
-            message: buf.parse(())?,
-        })
+        let error: ServerErrorRef<'de> = buf.parse(ctx)?;
+        Ok(error.to_error())
     }
 
     ghost size_is = { λ _. unfold spec.server_error in refl };

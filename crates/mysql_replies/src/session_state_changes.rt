@@ -1,50 +1,19 @@
 //! The session's changes that an OK packet carries, one after another.
 #![tactic(auto, using(mysql_wire::proofs::Packets::packets), unfolding(crate::specs::SessionStateInfo::session_state_info))]
 
-ghost use Rattle.std.specs.Prelude.{◌≡◌, ◌≢◌, ◌<◌, length, [], false, OnErr, OnOk};
-ghost use Rattle.mysql_wire.specs.Reading.{Answers};
-ghost use Rattle.mysql_replies.specs.SessionStateInfo.{session_state_info};
+ghost use Rattle.std.specs.Prelude.{◌≡◌, ◌≢◌, ◌<◌, length, [], IfSome};
 ghost use Rattle.mysql_replies.specs.SessionStateChanges as spec;
 
 use crate::session_state_info::read_as_sent;
+use crate::session_state_info_ref::SessionStateInfoRef;
 use mysql_session::SessionStateChange;
-use mysql_wire::{BytesRepr, Const, Fault, LenEnc, ParseBuf, SessionStateType};
+use mysql_wire::{BytesRepr, Fault, LenEnc, ParseBuf};
 use std::marker::Model;
-
-/// An entry of a state string whose data is read where it lies. In a clause it is a
-/// [`SessionStateInfo`](crate::SessionStateInfo).
-#[derive(Drop)]
-pub(crate) struct Entry<'a> {
-    pub(crate) data_type: Const<SessionStateType, u8>,
-    pub(crate) content: ParseBuf<'a>,
-}
-
-impl<'a> Model for Entry<'a> {
-    ghost use Rattle.mysql_replies.specs.declared.session_state_info.SessionStateInfo as info;
-
-    ghost Value = { info.SessionStateInfo };
-
-    ghost view = { λ e. record { data_type = e.data_type; content = e.content } };
-}
-
-/// Reads the entry that the bytes begin with. After a fault they are as they were.
-#[tactic(auto, using(mysql_wire::proofs::Packets::packets, crate::proofs::AsSent::string_shorter), unfolding(crate::specs::SessionStateInfo::session_state_info))]
-pub(crate) fn read_entry<'a>(buf: &mut ParseBuf<'a>) -> Result<Entry<'a>, Fault>
-    ensures value { Answers false result buf.new ((session_state_info.form tt).reads buf.old) }
-    ensures shorter { OnOk result (length buf.new < length buf.old) }
-    ensures err { OnErr result (buf.new ≡ buf.old) }
-{
-    let mut rest = buf.rest();
-    let data_type: Const<SessionStateType, u8> = rest.parse(())?;
-    let content: ParseBuf<'a> = <LenEnc as BytesRepr>::deserialize((), &mut rest)?;
-    *buf = rest;
-    Ok(Entry { data_type, content })
-}
 
 /// Drops the entry that the bytes begin with, whatever its type: one byte, and a length-encoded string. Where that is cut,
 /// all bytes go.
 #[tactic(auto, using(crate::proofs::AsSent::string_shorter))]
-pub(crate) fn skip_entry(buf: &mut ParseBuf<'_>)
+fn skip_entry(buf: &mut ParseBuf<'_>)
     ensures value { buf.new ≡ spec.after_entry buf.old }
     ensures shorter { buf.old ≢ [] → length buf.new < length buf.old }
 {
@@ -55,6 +24,26 @@ pub(crate) fn skip_entry(buf: &mut ParseBuf<'_>)
         *buf = rest;
     } else {
         buf.eat_all();
+    }
+}
+
+/// The next entry of a state string, or its fault, after which the next one is given too. Each takes a byte at least.
+#[tactic(auto, using(mysql_wire::proofs::Packets::packets, crate::proofs::AsSent::entries_shorter))]
+pub(crate) fn next_entry<'a>(
+    entries: &mut ParseBuf<'a>,
+) -> Option<Result<SessionStateInfoRef<'a>, Fault>>
+    ensures value { spec.NextEntry entries.old result entries.new }
+    ensures shorter { IfSome result (λ entry. length entries.new < length entries.old) }
+{
+    if entries.is_empty() {
+        return None;
+    }
+    match entries.parse(()) {
+        Ok(entry) => Some(Ok(entry)),
+        Err(fault) => {
+            skip_entry(entries);
+            Some(Err(fault))
+        }
     }
 }
 
@@ -98,15 +87,9 @@ impl<'a> Iterator for SessionStateChanges<'a> {
 
     #[tactic(auto, using(crate::proofs::AsSent::next_changes))]
     fn next(&mut self) -> Option<Result<SessionStateChange<'a>, Fault>> {
-        if self.entries.is_empty() {
-            return None;
-        }
-        match read_entry(&mut self.entries) {
+        match next_entry(&mut self.entries)? {
             Ok(entry) => Some(read_as_sent(entry.data_type.0, entry.content)),
-            Err(fault) => {
-                skip_entry(&mut self.entries);
-                Some(Err(fault))
-            }
+            Err(fault) => Some(Err(fault)),
         }
     }
 }

@@ -4,8 +4,7 @@
 ghost use Rattle.std.specs.Prelude.{◌≡◌};
 ghost use Rattle.mysql_replies.specs.SessionStateChangesRef as spec;
 
-use crate::session_state_changes::{read_entry, skip_entry};
-use crate::session_state_info_ref::read_as_sent_ref;
+use crate::session_state_changes::next_entry;
 use mysql_session::SessionStateChangeRef;
 use mysql_wire::{Fault, ParseBuf};
 use std::marker::Model;
@@ -49,17 +48,11 @@ impl<'a> Iterator for SessionStateChangesRef<'a> {
 
     ghost remaining = { λ left. at_most (length left) };
 
-    #[tactic(auto, using(crate::proofs::AsSentRef::next_changes))]
+    #[tactic(auto, using(crate::proofs::AsSent::next_changes))]
     fn next(&mut self) -> Option<Result<SessionStateChangeRef<'a>, Fault>> {
-        if self.entries.is_empty() {
-            return None;
-        }
-        match read_entry(&mut self.entries) {
-            Ok(entry) => Some(read_as_sent_ref(entry.data_type.0, entry.content)),
-            Err(fault) => {
-                skip_entry(&mut self.entries);
-                Some(Err(fault))
-            }
+        match next_entry(&mut self.entries)? {
+            Ok(entry) => Some(entry.decode_as_sent()),
+            Err(fault) => Some(Err(fault)),
         }
     }
 }

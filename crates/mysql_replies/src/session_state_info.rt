@@ -9,6 +9,7 @@ ghost use Rattle.mysql_replies.specs.SessionStateInfo as spec;
 ghost use Rattle.mysql_replies.specs.SessionStateChanges as changes;
 ghost use Rattle.mysql_replies.specs.SentChange.{info_of};
 
+use crate::session_state_info_ref::SessionStateInfoRef;
 use mysql_session::SessionStateChange;
 use mysql_wire::{
     AnyWidth, Const, Fault, FaultOf, LenEnc, MyDeserialize, ParseBuf, Parts, RawBytes,
@@ -122,10 +123,8 @@ impl<'de> MyDeserialize<'de> for SessionStateInfo<'de> {
     ghost form = { spec.session_state_info.form };
 
     fn deserialize<'s>(_ctx: (), buf: &mut ParseBuf<'de>) -> Result<Self, FaultOf<'s>> {
-        Ok(SessionStateInfo {
-            data_type: buf.parse(())?,
-            content: buf.parse(())?,
-        })
+        let info: SessionStateInfoRef<'de> = buf.parse(())?;
+        Ok(info.to_info())
     }
 
     ghost size_is = { λ _. unfold spec.session_state_info in refl };

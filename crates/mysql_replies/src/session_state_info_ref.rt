@@ -22,8 +22,8 @@ use std::marker::Model;
 /// It is read of the same bytes with the same faults, and in a clause it is that entry.
 #[derive(Drop)]
 pub struct SessionStateInfoRef<'a> {
-    data_type: Const<SessionStateType, u8>,
-    content: ParseBuf<'a>,
+    pub(crate) data_type: Const<SessionStateType, u8>,
+    pub(crate) content: ParseBuf<'a>,
 }
 
 impl<'a> Model for SessionStateInfoRef<'a> {

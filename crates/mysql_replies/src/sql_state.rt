@@ -6,6 +6,7 @@ ghost use Rattle.mysql_wire.specs.Form.{size-block};
 ghost use Rattle.mysql_wire.specs.Text.{GivesText};
 ghost use Rattle.mysql_replies.specs.SqlState as spec;
 
+use crate::sql_state_ref::SqlStateRef;
 use bstr::ByteSlice;
 use mysql_wire::{
     ConstFault, ConstU8, FaultOf, Fixed, MyDeserialize, ParseBuf, Parts, Sink, parts,
@@ -72,13 +73,9 @@ impl<'de> MyDeserialize<'de> for SqlState {
 
     ghost form = { spec.sql_state.form };
 
-    #[tactic(auto, using(mysql_wire::proofs::There::blocks_there), unfolding(crate::specs::SqlState::sql_state))]
     fn deserialize<'s>(_ctx: (), buf: &mut ParseBuf<'de>) -> Result<Self, FaultOf<'s>> {
-        let mut fields = ParseBuf::new(buf.alloc(), buf.eat(6));
-        Ok(SqlState {
-            marker: fields.parse_unchecked(())?,
-            state: fields.eat_array(),
-        })
+        let state: SqlStateRef<'de> = buf.parse_unchecked(())?;
+        Ok(state.to_state())
     }
 
     ghost size_is = { λ _. unfold spec.sql_state in size-block 6 (spec.sql_state_fields.form tt) };

@@ -1,5 +1,5 @@
 -- What fits, in plain words, is read again.
-use Rattle.std.proofs.Common.{◌≡◌, ◌<◌, ◌^◌, ℕ, List, [], ◌++◌, length, All, refl}
+use Rattle.std.proofs.Common.{◌<◌, ◌^◌, ℕ, List, [], ◌++◌, length, All, refl}
 use Rattle.std.proofs.lemmas.List.{append-nil}
 use Rattle.mysql_wire.specs.declared.lenenc.LenEnc.{LenEnc}
 use Rattle.mysql_wire.specs.declared.codes.session_state_type.SessionStateType.{SessionStateType}

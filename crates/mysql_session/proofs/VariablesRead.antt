@@ -1,5 +1,5 @@
 -- Variables are read one after another, and are those that all of the bytes spell.
-use Rattle.std.proofs.Common.{◌≡◌, ◌≢◌, ℕ, ◌<◌, List, [], ◌∷◌, ◌++◌, length, Option, Some, None, Result, Ok, Err, Bool, true, false, if◌then◌else◌, nat_lt, refl, sym, ap, subst, ◌∙◌, arith}
+use Rattle.std.proofs.Common.{◌≡◌, ◌≢◌, ℕ, ◌<◌, List, [], ◌∷◌, ◌++◌, length, Option, None, Result, Ok, Err, Bool, true, false, if◌then◌else◌, nat_lt, refl, sym, ◌∙◌}
 use Rattle.mysql_wire.specs.declared.fault.FaultOf.{FaultOf}
 use Rattle.mysql_wire.specs.declared.fault.FaultOf.TheVariants as fault
 use Rattle.mysql_wire.specs.declared.fault.FaultKind.{FaultKind}
@@ -8,7 +8,7 @@ use Rattle.std.specs.Result.{result_ok}
 use Rattle.mysql_wire.specs.Reading.{Reading, Answers, then_read, Faults, done-value, done-rest}
 use Rattle.mysql_wire.specs.Form.{Form}
 use Rattle.mysql_wire.specs.Many.{many, value_and_more}
-use Rattle.mysql_wire.specs.ManyLaws.{many-next}
+use Rattle.mysql_wire.specs.Many.Laws.{many-next}
 use Rattle.mysql_wire.proofs.Counted.{with_front}
 use Rattle.mysql_wire.proofs.ReadAll.{one-more, no-more, takes-none, tail-shorter}
 use Rattle.mysql_session.specs.declared.system_variable.SystemVariable.{SystemVariable}

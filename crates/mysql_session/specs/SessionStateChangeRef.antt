@@ -1,5 +1,5 @@
 -- A change of a session's state where it lies.
-use Rattle.std.specs.Prelude.{ℕ, List}
+use Rattle.std.specs.Prelude.{◌≢◌, []}
 use Rattle.mysql_session.specs.SessionText.{text_of}
 use Rattle.mysql_session.specs.declared.session_state_change.SessionStateChange.{SessionStateChange}
 use Rattle.mysql_session.specs.declared.session_state_change.SessionStateChange.TheVariants as change
@@ -14,3 +14,13 @@ change_of (place.SystemVariables variables) = change.SystemVariables variables
 change_of (place.Gtids gtids) = change.Gtids (text_of gtids.now)
 change_of (place.TransactionCharacteristics characteristics) = change.TransactionCharacteristics (text_of characteristics.now)
 change_of (place.TransactionState state) = change.TransactionState (text_of state.now)
+
+-- the change lists at least one system variable
+abbrev pub ListsVariables : SessionStateChange → Type 0
+ListsVariables (change.SystemVariables variables) = variables ≢ []
+ListsVariables (change.IsTracked is_tracked) = ⊥
+ListsVariables (change.Schema schema) = ⊥
+ListsVariables (change.Gtids gtids) = ⊥
+ListsVariables (change.TransactionCharacteristics characteristics) = ⊥
+ListsVariables (change.TransactionState state) = ⊥
+ListsVariables (change.Unsupported other) = ⊥

@@ -1,16 +1,20 @@
 //! A change of a session's state, where it lies.
 #![tactic(auto, using(mysql_wire::proofs::Packets::packets), unfolding(crate::specs::SessionStateChange::session_state_change, crate::specs::SessionText::lenenc_text, crate::specs::SessionText::gtids))]
 
-ghost use Rattle.std.specs.Prelude.{false, ◌≡◌, OnErr};
+ghost use Rattle.std.specs.Prelude.{false, ◌≡◌, IfOk, OnErr};
 ghost use Rattle.mysql_wire.specs.LenEnc.{lenenc_string};
 ghost use Rattle.mysql_wire.specs.Reading.{Answers, IsTail};
 ghost use Rattle.mysql_session.specs.SessionStateChange as spec;
-ghost use Rattle.mysql_session.specs.SessionStateChangeRef.{change_of};
+ghost use Rattle.mysql_session.specs.SessionStateChangeRef.{change_of, ListsVariables};
 
+use crate::session_state_change::SessionStateChange;
+use crate::session_text::{Gtids, Schema, TransactionCharacteristics, TransactionState};
 use crate::system_variables_ref::SystemVariablesRef;
 use mysql_wire::{
     AnyWidth, BytesRepr, FaultOf, LenEnc, MyDeserialize, ParseBuf, SessionStateType as Kind,
 };
+use std::alloc::{AllocError, Global};
+use std::borrow::CowSlice;
 use std::marker::Model;
 
 /// What a [`SessionStateChangeRef`] tells, where it lies in the packet.
@@ -30,8 +34,8 @@ pub enum ChangeRef<'a> {
     TransactionState(&'a [u8]),
 }
 
-/// A change of a session's state that stays in its packet: a [`SessionStateChange`](crate::SessionStateChange) for as long
-/// as the packet lives, without memory.
+/// A change of a session's state that stays in its packet: a [`SessionStateChange`] for as long as the packet lives,
+/// without memory.
 ///
 /// It is read of the same bytes with the same faults but for `Memory`, and in a clause it is that change. Reading is passed
 /// the entry's [`SessionStateType`](mysql_wire::SessionStateType).
@@ -73,6 +77,39 @@ impl<'a> SessionStateChangeRef<'a> {
     {
         self.change
     }
+
+    /// The change in its other form, which borrows the texts still. Memory is taken for a list of system variables alone,
+    /// where it has any.
+    pub fn to_session_state_change(
+        &self,
+        alloc: Global,
+    ) -> Result<SessionStateChange<'a>, AllocError>
+        ensures value { IfOk result (λ change. change ≡ self.now) }
+        ensures memory { OnErr result (ListsVariables self.now) }
+    {
+        Ok(match &self.change {
+            ChangeRef::IsTracked(is_tracked) => SessionStateChange::IsTracked(*is_tracked),
+            ChangeRef::Schema(name) => {
+                SessionStateChange::Schema(Schema::new(CowSlice::Borrowed(*name)))
+            }
+            ChangeRef::SystemVariables(variables) => {
+                SessionStateChange::SystemVariables(variables.to_system_variables(alloc)?)
+            }
+            ChangeRef::Gtids(gtids) => {
+                SessionStateChange::Gtids(Gtids::new(CowSlice::Borrowed(*gtids)))
+            }
+            ChangeRef::TransactionCharacteristics(statements) => {
+                let characteristics = TransactionCharacteristics::new(CowSlice::Borrowed(
+                    *statements,
+                ));
+                SessionStateChange::TransactionCharacteristics(characteristics)
+            }
+            ChangeRef::TransactionState(state) => {
+                let state = TransactionState::new(CowSlice::Borrowed(*state));
+                SessionStateChange::TransactionState(state)
+            }
+        })
+    }
 }
 
 /// Reads a length-encoded string.
@@ -84,7 +121,7 @@ fn text<'s, 'de>(buf: &mut ParseBuf<'de>) -> Result<ParseBuf<'de>, FaultOf<'s>>
     <LenEnc as BytesRepr>::deserialize((), buf)
 }
 
-/// As a [`SessionStateChange`](crate::SessionStateChange), but for `Memory`: none is taken.
+/// As a [`SessionStateChange`], but for `Memory`: none is taken.
 impl<'de> MyDeserialize<'de> for SessionStateChangeRef<'de> {
     const SIZE: Option<usize> = None;
 

@@ -6,6 +6,7 @@ ghost use Rattle.std.specs.Cow.{cow_slice_items};
 ghost use Rattle.mysql_wire.specs.Text.{GivesText};
 ghost use Rattle.mysql_session.specs.SystemVariable as spec;
 
+use crate::system_variable_ref::SystemVariableRef;
 use mysql_wire::{
     AnyWidth, FaultOf, LenEnc, MyDeserialize, ParseBuf, Parts, RawBytes, Sink, parts,
 };
@@ -91,10 +92,8 @@ impl<'de> MyDeserialize<'de> for SystemVariable<'de> {
     ghost form = { spec.system_variable.form };
 
     fn deserialize<'s>(_ctx: (), buf: &mut ParseBuf<'de>) -> Result<Self, FaultOf<'s>> {
-        Ok(SystemVariable {
-            name: buf.parse(())?,
-            value: buf.parse(())?,
-        })
+        let variable: SystemVariableRef<'de> = buf.parse(())?;
+        Ok(variable.to_variable())
     }
 
     ghost size_is = { λ _. unfold spec.system_variable in refl };

@@ -8,7 +8,8 @@ ghost use Rattle.mysql_session.specs.SystemVariables as spec;
 
 use crate::system_variable::SystemVariable;
 use mysql_wire::{
-    AnyWidth, FaultOf, MyDeserialize, MySerialize, ParseBuf, append_items, items_len, read_all,
+    AnyWidth, Buffer, FaultOf, MyDeserialize, MySerialize, ParseBuf, append_items, items_len,
+    read_all,
 };
 use std::alloc::{AllocError, Global};
 use std::fmt;
@@ -129,7 +130,7 @@ impl MySerialize for SystemVariables<'_> {
         items_len(self.as_slice())
     }
 
-    fn append(&self, out: &mut Vec<u8>) {
+    fn append<O: Buffer>(&self, out: &mut O) {
         append_items(self.as_slice(), out);
     }
 }

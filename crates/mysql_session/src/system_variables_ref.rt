@@ -1,6 +1,6 @@
 //! System variables and their values, where they lie.
 
-ghost use Rattle.std.specs.Prelude.{◌≡◌, List, false, refl, IfErr, OnOk, Ok};
+ghost use Rattle.std.specs.Prelude.{◌≡◌, ◌≢◌, [], List, false, refl, IfOk, IfErr, OnOk, OnErr, Ok};
 ghost use Rattle.mysql_wire.specs.Many.{size-many};
 ghost use Rattle.mysql_wire.specs.Reading.{Faults};
 ghost use Rattle.mysql_session.specs.declared.system_variable.SystemVariable.{SystemVariable};
@@ -8,11 +8,13 @@ ghost use Rattle.mysql_session.specs.SystemVariables as spec;
 ghost use Rattle.mysql_session.specs.SystemVariablesRef.{AreVariables, NextVariable, variables_in};
 
 use crate::system_variable_ref::SystemVariableRef;
+use crate::system_variables::SystemVariables;
 use mysql_wire::{AnyWidth, Fault, FaultOf, MyDeserialize, ParseBuf};
+use std::alloc::{AllocError, Global};
 use std::marker::Model;
 
 /// The system variables that were assigned values (`SESSION_TRACK_SYSTEM_VARIABLES`), where they lie: a
-/// [`SystemVariables`](crate::SystemVariables) for as long as the packet lives, without memory.
+/// [`SystemVariables`] for as long as the packet lives, without memory.
 ///
 /// It gives one variable after another. All of them were read before the first one is given, so none is refused. In a
 /// clause it is the list of the variables that are left.
@@ -74,6 +76,18 @@ impl<'a> SystemVariablesRef<'a> {
             variables: self.variables.rest(),
         }
     }
+
+    /// The variables in their other form, which borrow their texts still. For no variable no memory is taken.
+    pub fn to_system_variables(&self, alloc: Global) -> Result<SystemVariables<'a>, AllocError>
+        ensures value { IfOk result (λ variables. variables ≡ self.now) }
+        ensures memory { OnErr result (self.now ≢ []) }
+    {
+        let mut variables = Vec::new(alloc);
+        for variable in self.iter() {
+            variables.push(variable.to_variable())?;
+        }
+        Ok(SystemVariables::new(variables))
+    }
 }
 
 impl<'a> Iterator for SystemVariablesRef<'a> {
@@ -93,7 +107,7 @@ impl<'a> Iterator for SystemVariablesRef<'a> {
     }
 }
 
-/// As [`SystemVariables`](crate::SystemVariables), but for `Memory`: none is taken.
+/// As [`SystemVariables`], but for `Memory`: none is taken.
 impl<'de> MyDeserialize<'de> for SystemVariablesRef<'de> {
     const SIZE: Option<usize> = None;
 

@@ -5,11 +5,9 @@ use Rattle.std.proofs.lemmas.Bool.{cases_lt, le-ltb, lt-ltb}
 use Rattle.std.proofs.lemmas.List.{length-drop}
 use Rattle.mysql_wire.specs.declared.fault.FaultKind.TheVariants as kind
 use Rattle.mysql_wire.specs.Form.{bytes, number, le_value}
-use Rattle.mysql_wire.specs.Int.{raw, raw_int, byte, le_u32}
+use Rattle.mysql_wire.specs.Int.{raw, byte, le_u32}
 use Rattle.mysql_wire.specs.LittleEndian.{sum-value}
 use Rattle.mysql_wire.proofs.There.{integer-there, byte-there}
-use Rattle.mysql_values.specs.declared.temporal.Day.{Day}
-use Rattle.mysql_values.specs.declared.temporal.Clock.{Clock}
 use Rattle.mysql_values.specs.Temporal.{day, clock, date_only, date_and_clock, date_clock_and_micros, span_without_micros, span_with_micros}
 
 one-byte : (b : ℕ) → le_value (b ∷ []) ≡ b

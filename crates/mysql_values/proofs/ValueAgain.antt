@@ -2,6 +2,7 @@
 use Rattle.std.proofs.Common.{◌≡◌, ℕ, ◌<◌, ◌^◌, ◌==◌, List, [], ◌∷◌, ◌++◌, Bool, true, false, ◌⊎◌, refl, sym, ap, arith, inl, inr, append_assoc, eq-eqb, ◌&&◌}
 use Rattle.std.proofs.lemmas.Bool.Decides.{eqb_tells}
 use Rattle.std.specs.Int.{w64, cast_unsigned}
+use Rattle.std.specs.Prelude.{ℤ}
 use Rattle.std.proofs.lemmas.Int.{to_z-of_z}
 use Rattle.std.proofs.Math.Facts.{Fits-of_z, Fits-lt-pow}
 use Rattle.mysql_wire.specs.Form.{number, bytes}
@@ -10,15 +11,17 @@ use Rattle.mysql_wire.specs.Writing.{le_bytes}
 use Rattle.mysql_wire.specs.Spelling.{IsSpelling, block-again, number-again, le_u16-again, le_u32-again}
 use Rattle.mysql_wire.specs.Again.{lenenc_string-again}
 use Rattle.mysql_wire.specs.declared.codes.column_type.ColumnType.{ColumnType}
-use Rattle.mysql_wire.specs.declared.codes.column_type.ColumnType.TheVariants as column_type
+use Rattle.mysql_values.specs.declared.value_kind.ValueKind.{ValueKind}
+use Rattle.mysql_values.specs.declared.value_kind.ValueKind.TheVariants as kind
 use Rattle.mysql_values.specs.declared.temporal.Day.{Day}
 use Rattle.mysql_values.specs.declared.temporal.Clock.{Clock}
 use Rattle.mysql_values.specs.declared.temporal.DateTime.{DateTime}
 use Rattle.mysql_values.specs.declared.temporal.TimeSpan.{TimeSpan}
 use Rattle.mysql_values.specs.Temporal.{day, day_fields, day_bytes, clock, clock_fields, clock_bytes, date_time, date_time_bytes, time_span, time_span_bytes, is_midnight, is_zero_day, zero_day, midnight, sign_byte}
 use Rattle.mysql_values.specs.Value.{Content, NULL, Bytes, Int, UInt, Float, Double, Date, Time, bin}
-use Rattle.mysql_values.specs.ValueDeserializer.{bin_value, string_value, date_value}
-use Rattle.mysql_values.specs.ReadingBack.{is_string, is_date, DateFits, TimeFits, ReadsBack, Agrees, IsInRange}
+use Rattle.mysql_values.specs.ValueDeserializer.{bin_value, date_value, value_of_kind}
+use Rattle.mysql_values.specs.ValueKind.{kind_of, is_date, is_longlong, suits}
+use Rattle.mysql_values.specs.ReadingBack.{DateFits, TimeFits, ReadsBack, Agrees, IsInRange}
 use Rattle.mysql_values.specs.SentType.{sent_type, is_uint}
 
 -- ---- leaves
@@ -119,40 +122,21 @@ time_span-again t fits rest = elim (eqb_tells t.micros 0) [
 
 -- ---- all values
 
-string-type : (type : ColumnType) (u : Bool) → is_string type ≡ true → bin_value type u ≡ string_value
-string-type column_type.MYSQL_TYPE_DECIMAL u e = refl
-string-type column_type.MYSQL_TYPE_VARCHAR u e = refl
-string-type column_type.MYSQL_TYPE_BIT u e = refl
-string-type column_type.MYSQL_TYPE_VECTOR u e = refl
-string-type column_type.MYSQL_TYPE_JSON u e = refl
-string-type column_type.MYSQL_TYPE_NEWDECIMAL u e = refl
-string-type column_type.MYSQL_TYPE_ENUM u e = refl
-string-type column_type.MYSQL_TYPE_SET u e = refl
-string-type column_type.MYSQL_TYPE_TINY_BLOB u e = refl
-string-type column_type.MYSQL_TYPE_MEDIUM_BLOB u e = refl
-string-type column_type.MYSQL_TYPE_LONG_BLOB u e = refl
-string-type column_type.MYSQL_TYPE_BLOB u e = refl
-string-type column_type.MYSQL_TYPE_VAR_STRING u e = refl
-string-type column_type.MYSQL_TYPE_STRING u e = refl
-string-type column_type.MYSQL_TYPE_GEOMETRY u e = refl
-string-type _ u e = absurd cc
-
-date-type : (type : ColumnType) (u : Bool) → is_date type ≡ true → bin_value type u ≡ date_value
-date-type column_type.MYSQL_TYPE_DATE u e = refl
-date-type column_type.MYSQL_TYPE_TIMESTAMP u e = refl
-date-type column_type.MYSQL_TYPE_DATETIME u e = refl
-date-type _ u e = absurd cc
+date-kind : (k : ValueKind) (u : Bool) → is_date k ≡ true → value_of_kind k u ≡ date_value
+date-kind kind.Date u e = refl
+date-kind kind.DateTime u e = refl
+date-kind _ u e = absurd cc
 
 pub value-again : (type : ColumnType) (u : Bool) (content : Content) (rest : List ℕ) → ReadsBack type u content → (bin_value type u).Spells content (bin content ++ rest) rest
 value-again type u NULL rest h = rw h (refl, refl)
-value-again type u (Bytes content) rest h = rw (string-type type u h.0) (content, refl, lenenc_string-again content h.1 rest)
+value-again type u (Bytes content) rest h = rw h.0 (content, refl, lenenc_string-again content h.1 rest)
 value-again type u (Int x) rest h =
     let fits : cast_unsigned w64 x < 2 ^ 64 = Fits-lt-pow (Fits-of_z h.2) in
     rw (h.0, h.1) (cast_unsigned w64 x, ap Int (to_z-of_z w64 x h.2), number-again 8 (cast_unsigned w64 x) fits rest)
 value-again type u (UInt n) rest h = rw (h.0, h.1) (n, refl, number-again 8 n h.2 rest)
 value-again type u (Float bits) rest h = rw h.0 (bits, refl, number-again 4 bits h.1 rest)
 value-again type u (Double bits) rest h = rw h.0 (bits, refl, number-again 8 bits h.1 rest)
-value-again type u (Date date) rest h = rw (date-type type u h.0) (date, refl, date_time-again date h.1 rest)
+value-again type u (Date date) rest h = rw (date-kind (kind_of type) u h.0) (date, refl, date_time-again date h.1 rest)
 value-again type u (Time time) rest h = rw h.0 (time, refl, time_span-again time h.1 rest)
 
 pub agrees-by_type : (type : ColumnType) (u : Bool) (content : Content) → ReadsBack type u content → Agrees type u content
@@ -164,6 +148,50 @@ agrees-by_type type u (Float bits) h = λ rest. value-again type u (Float bits) 
 agrees-by_type type u (Double bits) h = λ rest. value-again type u (Double bits) rest h
 agrees-by_type type u (Date date) h = λ rest. value-again type u (Date date) rest h
 agrees-by_type type u (Time time) h = λ rest. value-again type u (Time time) rest h
+
+-- ---- values that suit the kind of a type
+
+string-suits : (k : ValueKind) (bytes : List ℕ) → suits k (Bytes bytes) ≡ true → k ≡ kind.String
+string-suits kind.String bytes h = refl
+string-suits _ bytes h = absurd cc
+
+float-suits : (k : ValueKind) (bits : ℕ) → suits k (Float bits) ≡ true → k ≡ kind.Float
+float-suits kind.Float bits h = refl
+float-suits _ bits h = absurd cc
+
+double-suits : (k : ValueKind) (bits : ℕ) → suits k (Double bits) ≡ true → k ≡ kind.Double
+double-suits kind.Double bits h = refl
+double-suits _ bits h = absurd cc
+
+date-suits : (k : ValueKind) (date : DateTime) → suits k (Date date) ≡ true → is_date k ≡ true
+date-suits kind.Date date h = refl
+date-suits kind.DateTime date h = refl
+date-suits _ date h = absurd cc
+
+time-suits : (k : ValueKind) (time : TimeSpan) → suits k (Time time) ≡ true → k ≡ kind.Time
+time-suits kind.Time time h = refl
+time-suits _ time h = absurd cc
+
+integer-suits : (k : ValueKind) (x : ℤ) → suits k (Int x) ≡ true → ⊥
+integer-suits _ x h = absurd cc
+
+unsigned-suits : (k : ValueKind) (n : ℕ) → suits k (UInt n) ≡ true → ⊥
+unsigned-suits _ n h = absurd cc
+
+-- such a value agrees with the type
+pub agrees-by_kind : (type : ColumnType) (u : Bool) (content : Content) → suits (kind_of type) content ≡ true → IsInRange content → Agrees type u content
+agrees-by_kind type u NULL h fits = tt
+agrees-by_kind type u (Bytes bytes) h fits = agrees-by_type type u (Bytes bytes) (string-suits (kind_of type) bytes h, fits)
+agrees-by_kind type u (Int x) h fits = absurd (integer-suits (kind_of type) x h)
+agrees-by_kind type u (UInt n) h fits = absurd (unsigned-suits (kind_of type) n h)
+agrees-by_kind type u (Float bits) h fits = agrees-by_type type u (Float bits) (float-suits (kind_of type) bits h, fits)
+agrees-by_kind type u (Double bits) h fits = agrees-by_type type u (Double bits) (double-suits (kind_of type) bits h, fits)
+agrees-by_kind type u (Date date) h fits = agrees-by_type type u (Date date) (date-suits (kind_of type) date h, fits)
+agrees-by_kind type u (Time time) h fits = agrees-by_type type u (Time time) (time-suits (kind_of type) time h, fits)
+
+pub longlong-kind : (k : ValueKind) → is_longlong k ≡ true → k ≡ kind.LongLong
+longlong-kind kind.LongLong h = refl
+longlong-kind _ h = absurd cc
 
 -- ---- the type that a value is sent as
 

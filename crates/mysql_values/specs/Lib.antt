@@ -1,5 +1,6 @@
 pub mod Temporal
 pub mod Value
+pub mod ValueKind
 pub mod ValueDeserializer
 pub mod Numeral
 pub mod FromValue

@@ -2,7 +2,6 @@
 use Rattle.std.specs.Prelude.{◌≡◌, ℕ, ℤ, pos, Bool, true, false, List, [], ◌∷◌, ◌==◌, None, Ok, Err, refl}
 use Rattle.std.specs.Int.{Width, w8, w16, w32, w64, cast_signed}
 use Rattle.mysql_wire.specs.declared.codes.column_type.ColumnType.{ColumnType}
-use Rattle.mysql_wire.specs.declared.codes.column_type.ColumnType.TheVariants as column_type
 use Rattle.mysql_wire.specs.FlagMasks.{UNSIGNED_FLAG}
 use Rattle.mysql_wire.specs.Flags.{ColumnFlags, has}
 use Rattle.mysql_wire.specs.Reading.{Reading}
@@ -10,6 +9,9 @@ use Rattle.mysql_wire.specs.Form.{Form, map, bytes, number, give, refuse, either
 use Rattle.mysql_wire.specs.LenEnc.{lenenc_string}
 use Rattle.mysql_values.specs.Value.{Content, NULL, Bytes, Int, UInt, Float, Double, Date, Time}
 use Rattle.mysql_values.specs.Temporal.{date_time, time_span}
+use Rattle.mysql_values.specs.declared.value_kind.ValueKind.{ValueKind}
+use Rattle.mysql_values.specs.declared.value_kind.ValueKind.TheVariants as kind
+use Rattle.mysql_values.specs.ValueKind.{kind_of}
 
 -- the content is a string of at least one byte
 abbrev pub has_bytes : Content → Bool
@@ -65,42 +67,24 @@ date_value = map Date date_time
 abbrev pub time_value : Form Content
 time_value = map Time time_span
 
+-- how a value of the kind is spelled
+abbrev pub value_of_kind : ValueKind → Bool → Form Content
+value_of_kind kind.String u = string_value
+value_of_kind kind.Tiny u = short_integer w8 1 u
+value_of_kind kind.Short u = short_integer w16 2 u
+value_of_kind kind.Long u = short_integer w32 4 u
+value_of_kind kind.LongLong u = long_integer u
+value_of_kind kind.Float u = map Float (number 4)
+value_of_kind kind.Double u = map Double (number 8)
+value_of_kind kind.Date u = date_value
+value_of_kind kind.DateTime u = date_value
+value_of_kind kind.Time u = time_value
+value_of_kind kind.Null u = give NULL
+value_of_kind kind.Unsupported u = refuse
+
 -- how a value is spelled, by the type of its column
 abbrev pub bin_value : ColumnType → Bool → Form Content
-bin_value column_type.MYSQL_TYPE_DECIMAL u = string_value
-bin_value column_type.MYSQL_TYPE_TINY u = short_integer w8 1 u
-bin_value column_type.MYSQL_TYPE_SHORT u = short_integer w16 2 u
-bin_value column_type.MYSQL_TYPE_LONG u = short_integer w32 4 u
-bin_value column_type.MYSQL_TYPE_FLOAT u = map Float (number 4)
-bin_value column_type.MYSQL_TYPE_DOUBLE u = map Double (number 8)
-bin_value column_type.MYSQL_TYPE_NULL u = give NULL
-bin_value column_type.MYSQL_TYPE_TIMESTAMP u = date_value
-bin_value column_type.MYSQL_TYPE_LONGLONG u = long_integer u
-bin_value column_type.MYSQL_TYPE_INT24 u = short_integer w32 4 u
-bin_value column_type.MYSQL_TYPE_DATE u = date_value
-bin_value column_type.MYSQL_TYPE_TIME u = time_value
-bin_value column_type.MYSQL_TYPE_DATETIME u = date_value
-bin_value column_type.MYSQL_TYPE_YEAR u = short_integer w16 2 u
-bin_value column_type.MYSQL_TYPE_CODE_14 u = refuse
-bin_value column_type.MYSQL_TYPE_VARCHAR u = string_value
-bin_value column_type.MYSQL_TYPE_BIT u = string_value
-bin_value column_type.MYSQL_TYPE_CODE_17 u = refuse
-bin_value column_type.MYSQL_TYPE_CODE_18 u = refuse
-bin_value column_type.MYSQL_TYPE_CODE_19 u = refuse
-bin_value column_type.MYSQL_TYPE_CODE_20 u = refuse
-bin_value column_type.MYSQL_TYPE_VECTOR u = string_value
-bin_value column_type.MYSQL_TYPE_CODE_243 u = refuse
-bin_value column_type.MYSQL_TYPE_JSON u = string_value
-bin_value column_type.MYSQL_TYPE_NEWDECIMAL u = string_value
-bin_value column_type.MYSQL_TYPE_ENUM u = string_value
-bin_value column_type.MYSQL_TYPE_SET u = string_value
-bin_value column_type.MYSQL_TYPE_TINY_BLOB u = string_value
-bin_value column_type.MYSQL_TYPE_MEDIUM_BLOB u = string_value
-bin_value column_type.MYSQL_TYPE_LONG_BLOB u = string_value
-bin_value column_type.MYSQL_TYPE_BLOB u = string_value
-bin_value column_type.MYSQL_TYPE_VAR_STRING u = string_value
-bin_value column_type.MYSQL_TYPE_STRING u = string_value
-bin_value column_type.MYSQL_TYPE_GEOMETRY u = string_value
+bin_value type u = value_of_kind (kind_of type) u
 
 -- how a value is spelled in a column, of whose flags it is passed whether numbers have no sign
 abbrev pub value_in_column : ColumnType × ColumnFlags → Form Content

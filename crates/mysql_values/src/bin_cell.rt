@@ -6,8 +6,10 @@ ghost use Rattle.mysql_values.specs.Cells.{held, with_cell, PutsOne, RefusesValu
 ghost use Rattle.mysql_values.specs.Value.{content_of, contents};
 ghost use Rattle.mysql_values.specs.ValueDeserializer.{bin_value, reads_bytes, value_in_column};
 
+use crate::string_type;
 use crate::value::Value;
-use crate::value_deserializer::{read_bin, read_long, read_string};
+use crate::value_deserializer::{read_kind, read_long, read_string};
+use crate::value_kind::ValueKind;
 use bitflags::Flags;
 use mysql_wire::{ColumnFlags, ColumnType, FaultOf, LeU64, ParseBuf, RawInt};
 
@@ -22,7 +24,7 @@ fn put(value: Value, cells: &mut Vec<Option<Value>>)
     cells.push_reserved(Some(value));
 }
 
-/// A value of a column's type, by a call.
+/// A value in the form of the type, by a call.
 #[inline(never)]
 fn read_other<'s>(
     column_type: ColumnType,
@@ -31,35 +33,15 @@ fn read_other<'s>(
 ) -> Result<Value, FaultOf<'s>>
     ensures value { Answers (reads_bytes ((bin_value column_type is_unsigned).reads buf.old)) (contents result) buf.new ((bin_value column_type is_unsigned).reads buf.old) }
 {
-    read_bin(column_type, is_unsigned, buf)
+    read_kind(ValueKind::of(column_type), is_unsigned, buf)
 }
 
-/// Reads a value by a call. The buffer that is handed on is another, so that the caller's own stays in registers.
-#[inline(always)]
-fn put_other<'s>(
-    column_type: ColumnType,
-    is_unsigned: bool,
-    buf: &mut ParseBuf<'_>,
-    cells: &mut Vec<Option<Value>>,
-) -> Result<(), FaultOf<'s>>
-    requires { vec_len cells.old < vec_capacity cells.old }
-    ensures value { PutsOne (reads_bytes ((bin_value column_type is_unsigned).reads buf.old)) result (held cells.old.items) (held cells.new.items) buf.new ((bin_value column_type is_unsigned).reads buf.old) }
-    ensures len { OnOk result (vec_len cells.new ≡ vec_len cells.old + 1) }
-    ensures capacity { vec_capacity cells.old ≤ vec_capacity cells.new }
-    ensures err { OnErr result (cells.new.items ≡ cells.old.items) }
-{
-    let mut rest = buf.rest();
-    let value = read_other(column_type, is_unsigned, &mut rest)?;
-    *buf = rest;
-    put(value, cells);
-    Ok(())
-}
-
-/// A value of a column's type. What most columns hold is put by an arm of its own, so that its parts are written where
+/// A value in the form of the type. What most columns hold is put by an arm of its own, so that its parts are written where
 /// they are to stay: where all came together in one value first, each would be taken apart and put together for it.
+// (the compiler makes one choice of the types, where it would make two of their kinds)
 #[inline(always)]
 #[tactic(auto, unfolding(mysql_wire::specs::Int::raw))]
-fn put_bin<'s>(
+fn put_value<'s>(
     column_type: ColumnType,
     is_unsigned: bool,
     buf: &mut ParseBuf<'_>,
@@ -72,21 +54,7 @@ fn put_bin<'s>(
     ensures err { OnErr result (cells.new.items ≡ cells.old.items) }
 {
     match column_type {
-        ColumnType::MYSQL_TYPE_DECIMAL
-        | ColumnType::MYSQL_TYPE_VARCHAR
-        | ColumnType::MYSQL_TYPE_BIT
-        | ColumnType::MYSQL_TYPE_VECTOR
-        | ColumnType::MYSQL_TYPE_JSON
-        | ColumnType::MYSQL_TYPE_NEWDECIMAL
-        | ColumnType::MYSQL_TYPE_ENUM
-        | ColumnType::MYSQL_TYPE_SET
-        | ColumnType::MYSQL_TYPE_TINY_BLOB
-        | ColumnType::MYSQL_TYPE_MEDIUM_BLOB
-        | ColumnType::MYSQL_TYPE_LONG_BLOB
-        | ColumnType::MYSQL_TYPE_BLOB
-        | ColumnType::MYSQL_TYPE_VAR_STRING
-        | ColumnType::MYSQL_TYPE_STRING
-        | ColumnType::MYSQL_TYPE_GEOMETRY => {
+        string_type!() => {
             put(read_string(buf)?, cells);
             Ok(())
         }
@@ -103,7 +71,14 @@ fn put_bin<'s>(
             put(Value::Int(number.0.cast_signed()), cells);
             Ok(())
         }
-        _ => put_other(column_type, is_unsigned, buf, cells),
+        _ => {
+            // (the buffer that is handed on is another, so that the caller's own stays in registers)
+            let mut rest = buf.rest();
+            let value = read_other(column_type, is_unsigned, &mut rest)?;
+            *buf = rest;
+            put(value, cells);
+            Ok(())
+        }
     }
 }
 
@@ -123,7 +98,7 @@ pub fn read_bin_cell<'s>(
     ensures err { OnErr result (cells.new.items ≡ cells.old.items) }
 {
     let (column_type, flags) = column;
-    put_bin(
+    put_value(
         column_type,
         flags.contains(ColumnFlags::UNSIGNED_FLAG),
         buf,

@@ -5,7 +5,8 @@ ghost use Rattle.mysql_wire.specs.declared.codes.column_type.ColumnType.{ColumnT
 ghost use Rattle.mysql_values.specs.Value.{Content, bin, bin_size, content_of};
 ghost use Rattle.mysql_wire.specs.Flags.{ColumnFlags};
 ghost use Rattle.mysql_values.specs.ValueDeserializer.{bin_value, reads_bytes, starts_null, text_value, value_in_column};
-ghost use Rattle.mysql_values.specs.ReadingBack.{Agrees, IsInRange, ReadsBack, is_string};
+ghost use Rattle.mysql_values.specs.ReadingBack.{Agrees, IsInRange, ReadsBack};
+ghost use Rattle.mysql_values.specs.ValueKind.{is_string};
 ghost use Rattle.mysql_values.specs.SentType.{sent_type, is_uint};
 ghost use Rattle.mysql_values.specs.declared.value.Value.{Value};
 ghost use Rattle.mysql_values.specs.ContentEq.{content_eq};

@@ -12,6 +12,7 @@ mod side;
 mod temporal;
 mod value;
 mod value_deserializer;
+mod value_kind;
 mod value_ref;
 mod value_ref_reader;
 
@@ -23,5 +24,6 @@ pub use params::{Params, ParamsError};
 pub use side::{Binary, ClientSide, SerializationSide, ServerSide, Text};
 pub use value::Value;
 pub use value_deserializer::{BinValue, TextValue, ValueDeserializer};
+pub use value_kind::ValueKind;
 pub use value_ref::ValueRef;
-pub use value_ref_reader::{read_bin_ref, read_text_ref};
+pub use value_ref_reader::{read_bin_ref, read_kind_ref, read_text_ref};

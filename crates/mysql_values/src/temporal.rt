@@ -3,7 +3,8 @@
 ghost use Rattle.std.specs.Prelude.{false, ◌≡◌, ◌≤◌, ◌+◌, ◌==◌, ℕ, Ok, length};
 
 use mysql_wire::{
-    AnyWidth, FaultOf, Fixed, IntRepr, LeU16, LeU32, MyDeserialize, MySerialize, ParseBuf, RawInt,
+    AnyWidth, Buffer, FaultOf, Fixed, IntRepr, LeU16, LeU32, MyDeserialize, MySerialize, ParseBuf,
+    RawInt,
 };
 
 /// A day of the calendar.
@@ -144,22 +145,20 @@ impl MySerialize for DateTime {
         self.len() as usize
     }
 
-    #[tactic(auto, unfolding(mysql_wire::specs::Writing::le_bytes, crate::specs::Temporal::date_time_bytes, crate::specs::Temporal::day_bytes))]
+    #[tactic(auto, using(mysql_wire::proofs::After::after), unfolding(mysql_wire::specs::Writing::le_bytes, crate::specs::Temporal::date_time_bytes, crate::specs::Temporal::day_bytes))]
     #[inline(never)]
-    fn append(&self, out: &mut Vec<u8>) {
+    fn append<O: Buffer>(&self, out: &mut O) {
         let len = self.len();
-        out.push(len - 1).unwrap();
+        out.push_byte(len - 1);
         if len == 1 {
             return;
         }
         <LeU16 as IntRepr>::append(self.day.year, out);
-        out.extend_from_slice(&[self.day.month, self.day.day])
-            .unwrap();
+        out.push_bytes(&[self.day.month, self.day.day]);
         if len == 5 {
             return;
         }
-        out.extend_from_slice(&[self.clock.hour, self.clock.minute, self.clock.second])
-            .unwrap();
+        out.push_bytes(&[self.clock.hour, self.clock.minute, self.clock.second]);
         if len == 8 {
             return;
         }
@@ -177,18 +176,17 @@ impl MySerialize for TimeSpan {
         self.len() as usize
     }
 
-    #[tactic(auto, unfolding(mysql_wire::specs::Writing::le_bytes, crate::specs::Temporal::time_span_bytes))]
+    #[tactic(auto, using(mysql_wire::proofs::After::after), unfolding(mysql_wire::specs::Writing::le_bytes, crate::specs::Temporal::time_span_bytes))]
     #[inline(never)]
-    fn append(&self, out: &mut Vec<u8>) {
+    fn append<O: Buffer>(&self, out: &mut O) {
         let len = self.len();
-        out.push(len - 1).unwrap();
+        out.push_byte(len - 1);
         if len == 1 {
             return;
         }
-        out.push(self.is_negative as u8).unwrap();
+        out.push_byte(self.is_negative as u8);
         <LeU32 as IntRepr>::append(self.days, out);
-        out.extend_from_slice(&[self.clock.hour, self.clock.minute, self.clock.second])
-            .unwrap();
+        out.push_bytes(&[self.clock.hour, self.clock.minute, self.clock.second]);
         if len == 9 {
             return;
         }

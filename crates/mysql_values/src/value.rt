@@ -3,7 +3,7 @@
 ghost use Rattle.std.specs.Prelude.{◌≡◌};
 
 use crate::temporal::{Clock, DateTime, Day, TimeSpan};
-use mysql_wire::{BytesRepr, IntRepr, LeU32, LeU64, LenEnc, MySerialize};
+use mysql_wire::{Buffer, BytesRepr, IntRepr, LeU32, LeU64, LenEnc, MySerialize};
 use std::alloc::AllocError;
 use std::fmt;
 use std::fmt::Debug;
@@ -101,7 +101,7 @@ impl MySerialize for Value {
     }
 
     #[inline(always)]
-    fn append(&self, out: &mut Vec<u8>) {
+    fn append<O: Buffer>(&self, out: &mut O) {
         match self {
             Value::NULL => {}
             Value::Bytes(bytes) => <LenEnc as BytesRepr>::append(bytes, out),

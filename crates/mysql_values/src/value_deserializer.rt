@@ -5,8 +5,9 @@ ghost use Rattle.std.specs.Prelude.{false, ◌≡◌, OnErr, refl};
 ghost use Rattle.mysql_wire.specs.Reading.{Answers, IsTail};
 
 use crate::value::Value;
+use crate::value_kind::ValueKind;
 use crate::value_ref::copied;
-use crate::value_ref_reader::read_bin_ref;
+use crate::value_ref_reader::read_kind_ref;
 use bitflags::Flags;
 use mysql_wire::{
     AnyWidth, BytesRepr, ColumnFlags, ColumnType, FaultOf, LeU32, LenEnc, MyDeserialize, ParseBuf,
@@ -72,7 +73,7 @@ impl<'de> MyDeserialize<'de> for ValueDeserializer<TextValue> {
 }
 
 ghost use Rattle.mysql_values.specs.Value.{contents};
-ghost use Rattle.mysql_values.specs.ValueDeserializer.{reads_bytes, string_value, short_integer, bin_value};
+ghost use Rattle.mysql_values.specs.ValueDeserializer.{reads_bytes, string_value, short_integer, value_of_kind};
 
 /// The content of a length-encoded string, on memory of its own, which an empty one does not need.
 #[tactic(auto, using(mysql_wire::proofs::Tails::tails))]
@@ -103,18 +104,18 @@ pub(crate) fn read_long<'s>(is_unsigned: bool, buf: &mut ParseBuf<'_>) -> Result
     }))
 }
 
-/// A value of a column's type. A string of at least one byte alone takes memory.
+/// A value of the kind. A string of at least one byte alone takes memory.
 #[inline(always)]
-pub(crate) fn read_bin<'s>(
-    column_type: ColumnType,
+pub(crate) fn read_kind<'s>(
+    kind: ValueKind,
     is_unsigned: bool,
     buf: &mut ParseBuf<'_>,
 ) -> Result<Value, FaultOf<'s>>
-    ensures value { Answers (reads_bytes ((bin_value column_type is_unsigned).reads buf.old)) (contents result) buf.new ((bin_value column_type is_unsigned).reads buf.old) }
+    ensures value { Answers (reads_bytes ((value_of_kind kind is_unsigned).reads buf.old)) (contents result) buf.new ((value_of_kind kind is_unsigned).reads buf.old) }
     ensures tail { OnErr result (IsTail buf.new buf.old) }
 {
     let mut rest = buf.rest();
-    let value = read_bin_ref(column_type, is_unsigned, &mut rest)?;
+    let value = read_kind_ref(kind, is_unsigned, &mut rest)?;
     let value = value.to_value(buf.alloc())?;
     *buf = rest;
     Ok(value)
@@ -144,8 +145,9 @@ impl<'de> MyDeserialize<'de> for ValueDeserializer<BinValue> {
         buf: &mut ParseBuf<'de>,
     ) -> Result<Self, FaultOf<'s>> {
         let (column_type, flags) = column;
+        let kind = ValueKind::of(column_type);
         let is_unsigned = flags.contains(ColumnFlags::UNSIGNED_FLAG);
-        Ok(ValueDeserializer::new(read_bin(column_type, is_unsigned, buf)?))
+        Ok(ValueDeserializer::new(read_kind(kind, is_unsigned, buf)?))
     }
 
     ghost size_is = { λ _. refl };

@@ -4,7 +4,7 @@ ghost use Rattle.std.specs.Prelude.{◌≡◌, IfOk, IfErr, IsTrue};
 
 use crate::temporal::{Clock, DateTime, Day, TimeSpan};
 use crate::value::Value;
-use mysql_wire::{BytesRepr, IntRepr, LeU32, LeU64, LenEnc, MySerialize};
+use mysql_wire::{Buffer, BytesRepr, IntRepr, LeU32, LeU64, LenEnc, MySerialize};
 use std::alloc::{AllocError, Global};
 
 /// A value whose bytes stay where they lie, as in the packet of a row: what a [`Value`] holds, without memory of its own.
@@ -138,7 +138,7 @@ impl MySerialize for ValueRef<'_> {
     }
 
     #[inline(always)]
-    fn append(&self, out: &mut Vec<u8>) {
+    fn append<O: Buffer>(&self, out: &mut O) {
         match self {
             ValueRef::NULL => {}
             ValueRef::Bytes(bytes) => <LenEnc as BytesRepr>::append(bytes, out),

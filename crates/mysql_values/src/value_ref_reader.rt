@@ -4,9 +4,10 @@ ghost use Rattle.std.specs.Int.{w8, w16, w32};
 ghost use Rattle.std.specs.Prelude.{false, ◌≡◌, OnErr};
 ghost use Rattle.mysql_wire.specs.Reading.{Answers, IsTail};
 ghost use Rattle.mysql_values.specs.ValueRef.{refs_contents};
-ghost use Rattle.mysql_values.specs.ValueDeserializer.{text_value, bin_value, string_value, short_integer, long_integer, date_value, time_value};
+ghost use Rattle.mysql_values.specs.ValueDeserializer.{text_value, bin_value, value_of_kind, string_value, short_integer, long_integer, date_value, time_value};
 
 use crate::temporal::{DateTime, TimeSpan};
+use crate::value_kind::ValueKind;
 use crate::value_ref::ValueRef;
 use mysql_wire::{BytesRepr, ColumnType, FaultOf, LeU16, LeU32, LeU64, LenEnc, ParseBuf, RawInt};
 
@@ -139,9 +140,51 @@ fn longlong_ref<'s, 'de>(
     })
 }
 
+/// Reads a value of the kind. It takes no memory.
+#[tactic(auto, unfolding(mysql_wire::specs::Int::raw))]
+#[inline(always)]
+pub fn read_kind_ref<'s, 'de>(
+    kind: ValueKind,
+    is_unsigned: bool,
+    buf: &mut ParseBuf<'de>,
+) -> Result<ValueRef<'de>, FaultOf<'s>>
+    ensures value { Answers false (refs_contents result) buf.new ((value_of_kind kind is_unsigned).reads buf.old) }
+    ensures tail { OnErr result (IsTail buf.new buf.old) }
+{
+    match kind {
+        ValueKind::String => string_ref(buf),
+        ValueKind::Tiny => tiny_ref(is_unsigned, buf),
+        ValueKind::Short => short_ref(is_unsigned, buf),
+        ValueKind::Long => long_ref(is_unsigned, buf),
+        ValueKind::LongLong => longlong_ref(is_unsigned, buf),
+        ValueKind::Float => {
+            let bits: RawInt<LeU32> = buf.parse(())?;
+            Ok(ValueRef::Float(bits.0))
+        }
+        ValueKind::Double => {
+            let bits: RawInt<LeU64> = buf.parse(())?;
+            Ok(ValueRef::Double(bits.0))
+        }
+        ValueKind::Date | ValueKind::DateTime => {
+            // (a buffer of its own, so that no other arm's stands in memory)
+            let mut rest = buf.rest();
+            let value = date_ref(&mut rest)?;
+            *buf = rest;
+            Ok(value)
+        }
+        ValueKind::Time => {
+            let mut rest = buf.rest();
+            let value = time_ref(&mut rest)?;
+            *buf = rest;
+            Ok(value)
+        }
+        ValueKind::Null => Ok(ValueRef::NULL),
+        ValueKind::Unsupported => Err(FaultOf::InvalidData("Unsupported column type")),
+    }
+}
+
 /// Reads a value in the form of its column's type, as [`ValueDeserializer<BinValue>`](crate::ValueDeserializer) does. It
 /// takes no memory.
-#[tactic(auto, unfolding(mysql_wire::specs::Int::raw))]
 #[inline(always)]
 pub fn read_bin_ref<'s, 'de>(
     column_type: ColumnType,
@@ -151,55 +194,5 @@ pub fn read_bin_ref<'s, 'de>(
     ensures value { Answers false (refs_contents result) buf.new ((bin_value column_type is_unsigned).reads buf.old) }
     ensures tail { OnErr result (IsTail buf.new buf.old) }
 {
-    match column_type {
-        ColumnType::MYSQL_TYPE_DECIMAL
-        | ColumnType::MYSQL_TYPE_VARCHAR
-        | ColumnType::MYSQL_TYPE_BIT
-        | ColumnType::MYSQL_TYPE_VECTOR
-        | ColumnType::MYSQL_TYPE_JSON
-        | ColumnType::MYSQL_TYPE_NEWDECIMAL
-        | ColumnType::MYSQL_TYPE_ENUM
-        | ColumnType::MYSQL_TYPE_SET
-        | ColumnType::MYSQL_TYPE_TINY_BLOB
-        | ColumnType::MYSQL_TYPE_MEDIUM_BLOB
-        | ColumnType::MYSQL_TYPE_LONG_BLOB
-        | ColumnType::MYSQL_TYPE_BLOB
-        | ColumnType::MYSQL_TYPE_VAR_STRING
-        | ColumnType::MYSQL_TYPE_STRING
-        | ColumnType::MYSQL_TYPE_GEOMETRY => string_ref(buf),
-        ColumnType::MYSQL_TYPE_TINY => tiny_ref(is_unsigned, buf),
-        ColumnType::MYSQL_TYPE_SHORT | ColumnType::MYSQL_TYPE_YEAR => short_ref(is_unsigned, buf),
-        ColumnType::MYSQL_TYPE_LONG | ColumnType::MYSQL_TYPE_INT24 => long_ref(is_unsigned, buf),
-        ColumnType::MYSQL_TYPE_LONGLONG => longlong_ref(is_unsigned, buf),
-        ColumnType::MYSQL_TYPE_FLOAT => {
-            let bits: RawInt<LeU32> = buf.parse(())?;
-            Ok(ValueRef::Float(bits.0))
-        }
-        ColumnType::MYSQL_TYPE_DOUBLE => {
-            let bits: RawInt<LeU64> = buf.parse(())?;
-            Ok(ValueRef::Double(bits.0))
-        }
-        ColumnType::MYSQL_TYPE_DATE
-        | ColumnType::MYSQL_TYPE_TIMESTAMP
-        | ColumnType::MYSQL_TYPE_DATETIME => {
-            // (a buffer of its own, so that no other arm's stands in memory)
-            let mut rest = buf.rest();
-            let value = date_ref(&mut rest)?;
-            *buf = rest;
-            Ok(value)
-        }
-        ColumnType::MYSQL_TYPE_TIME => {
-            let mut rest = buf.rest();
-            let value = time_ref(&mut rest)?;
-            *buf = rest;
-            Ok(value)
-        }
-        ColumnType::MYSQL_TYPE_NULL => Ok(ValueRef::NULL),
-        ColumnType::MYSQL_TYPE_CODE_14
-        | ColumnType::MYSQL_TYPE_CODE_17
-        | ColumnType::MYSQL_TYPE_CODE_18
-        | ColumnType::MYSQL_TYPE_CODE_19
-        | ColumnType::MYSQL_TYPE_CODE_20
-        | ColumnType::MYSQL_TYPE_CODE_243 => Err(FaultOf::InvalidData("Unsupported column type")),
-    }
+    read_kind_ref(ValueKind::of(column_type), is_unsigned, buf)
 }

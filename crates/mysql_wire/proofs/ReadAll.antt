@@ -8,7 +8,7 @@ use Rattle.mysql_wire.specs.declared.fault.FaultKind.TheVariants as kind
 use Rattle.mysql_wire.specs.Reading.{Reading, IsTail, then_read, Faults}
 use Rattle.mysql_wire.specs.Form.{Form}
 use Rattle.mysql_wire.specs.Many.{many, value_and_more}
-use Rattle.mysql_wire.specs.ManyLaws.{many-next}
+use Rattle.mysql_wire.specs.Many.Laws.{many-next}
 use Rattle.mysql_wire.proofs.Counted.{with_front, regroup}
 
 pub tail-shorter : (tail bytes : List ℕ) → IsTail tail bytes → length tail ≢ length bytes → length tail < length bytes

@@ -2,7 +2,6 @@
 use Rattle.std.proofs.Common.{◌≡◌, ℕ, suc, ◌≤◌, List, [], ◌∷◌, length, take, drop, slice_index, Ok, refl, arith}
 use Rattle.std.specs.Int.{byte_worth, sum_through}
 use Rattle.std.proofs.lemmas.Bool.{le-ltb}
-use Rattle.std.proofs.lemmas.List.{length-drop}
 use Rattle.mysql_wire.specs.Form.{bytes, number, le_value}
 use Rattle.mysql_wire.specs.Int.{raw, raw_int, byte}
 use Rattle.mysql_wire.proofs.Blocks.{block_length, ended_whole}
@@ -20,8 +19,6 @@ byte-there (b ∷ rest) there =
     let value : le_value (b ∷ []) ≡ b = omega arith in
     rw (le-ltb _ _ there) cc
 byte-there [] there = absurd (omega arith)
-
-pub ruleset there = (integer-there, byte-there, length-drop)
 
 -- what the reader of a block needs whose bytes are there
 pub ruleset blocks_there = (block_length, ended_whole, bytes-there, skip-there)

@@ -14,7 +14,7 @@ use Rattle.mysql_wire.specs.Reading.{Reading, then_read, Faults, done-value, don
 use Rattle.mysql_wire.specs.Form.{number, le_value, bytes}
 use Rattle.mysql_wire.specs.Writing.{le_bytes}
 use Rattle.mysql_wire.specs.LittleEndian.{length-le_bytes, sum-value}
-use Rattle.mysql_wire.specs.VarlenAgain.{size_fits}
+use Rattle.mysql_wire.specs.Varlen.Again.{size_fits}
 use Rattle.mysql_wire.specs.Varlen.{varlen, varlen_bytes, varlen_size, low_ones, above_ones}
 
 -- ---- sizes

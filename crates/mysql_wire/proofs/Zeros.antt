@@ -4,7 +4,7 @@ use Rattle.std.proofs.lemmas.Bool.{eqb-false, eqb-true}
 use Rattle.memchr.specs.Find.{IsFirstByte, is_byte}
 use Rattle.mysql_wire.specs.declared.fault.FaultKind.TheVariants as kind
 use Rattle.mysql_wire.specs.Null.{HasNoZero, null_Spells, null_reads, null_string, before_zero}
-use Rattle.mysql_wire.specs.NullLaws.{null-only}
+use Rattle.mysql_wire.specs.Null.Laws.{null-only}
 
 -- the search of the rest, where the first byte is no zero
 rest-no-zero : (b : ℕ) (bytes : List ℕ) → IsFirstByte (is_byte 0) (suc b ∷ bytes) None → IsFirstByte (is_byte 0) bytes None

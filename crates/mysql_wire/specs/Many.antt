@@ -1,8 +1,10 @@
 -- Values one after another, until the bytes end.
+pub mod Grammar
+pub mod Laws
 use Rattle.std.specs.Prelude.{◌≡◌, List, None, refl}
 use Rattle.mysql_wire.specs.Form.{Form}
-use Rattle.mysql_wire.specs.ManyLaws as law
-pub use Rattle.mysql_wire.specs.ManyGrammar.{many_Spells, many_reads, value_and_more}
+use Rattle.mysql_wire.specs.Many.Laws as law
+pub use Rattle.mysql_wire.specs.Many.Grammar.{many_Spells, many_reads, value_and_more}
 
 -- each value takes at least one byte, and the last one ends the bytes
 unfoldable pub many : {A : Type 0} → Form A → Form (List A)

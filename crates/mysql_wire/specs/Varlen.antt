@@ -1,9 +1,12 @@
 -- Numbers of varying length: the low ones of the first byte count the bytes that follow it. And strings after such a length.
+pub mod Grammar
+pub mod Laws
+pub mod Again
 use Rattle.std.specs.Prelude.{◌≡◌, ℕ, zero, suc, ◌+◌, ◌-◌, ◌*◌, ◌^◌, List, ◌∷◌, ◌++◌, length, None, nat_lt, ◌==◌, if◌then◌else◌, refl}
 use Rattle.mysql_wire.specs.Form.{Form, ◌>>=◌, bytes}
-use Rattle.mysql_wire.specs.VarlenLaws as law
+use Rattle.mysql_wire.specs.Varlen.Laws as law
 use Rattle.mysql_wire.specs.Writing.{le_bytes}
-pub use Rattle.mysql_wire.specs.VarlenGrammar.{varlen_Spells, low_ones, above_ones, varlen_reads}
+pub use Rattle.mysql_wire.specs.Varlen.Grammar.{varlen_Spells, low_ones, above_ones, varlen_reads}
 
 -- in k + 1 bytes, the number above a zero above k ones; or the byte ff, and the number in eight bytes
 unfoldable pub varlen : Form ℕ

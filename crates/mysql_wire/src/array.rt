@@ -1,8 +1,9 @@
 //! Byte strings whose length the type tells.
 
-ghost use Rattle.std.specs.Prelude.{false, ◌≡◌, ◌+◌, ◌++◌, ◌≤◌, vec_len, vec_capacity};
+ghost use Rattle.std.specs.Prelude.{false, ◌≡◌, ◌+◌, ◌++◌, ◌≤◌, length, drop};
 
 use crate::buf::ParseBuf;
+use crate::buffer::Buffer;
 use crate::fault::FaultOf;
 use crate::proto::{Fixed, MyDeserialize, MySerialize};
 
@@ -37,23 +38,27 @@ impl<const N: usize> MySerialize for [u8; N] {
     }
 
     #[inline(always)]
-    fn append(&self, out: &mut Vec<u8>) {
+    #[tactic(auto, using(crate::proofs::After::after))]
+    fn append<O: Buffer>(&self, out: &mut O) {
         if N <= 8 {
             append_few(*self, out);
         } else {
-            out.extend_from_slice(self).unwrap();
+            out.push_bytes(self);
         }
     }
 }
 
 /// Writes a few bytes one by one, which the compiler makes one or two stores of.
 #[inline(always)]
-fn append_few<const N: usize>(bytes: [u8; N], out: &mut Vec<u8>)
-    requires { vec_len out.old + N ≤ vec_capacity out.old }
-    ensures items { out.new.items ≡ out.old.items ++ bytes.entry }
-    ensures capacity { vec_capacity out.old ≤ vec_capacity out.new }
+#[tactic(auto, using(crate::proofs::After::after))]
+fn append_few<const N: usize, O: Buffer>(bytes: [u8; N], out: &mut O)
+    requires { length (O.held out.old) + N ≤ O.capacity out.old }
+    ensures items { O.held out.new ≡ O.held out.old ++ bytes.entry }
+    ensures after { O.after out.new ≡ drop N (O.after out.old) }
+    ensures capacity { O.capacity out.old ≤ O.capacity out.new }
+    ensures kept { O.kept out.new ≡ O.kept out.old }
 {
     for byte in &bytes {
-        out.push_reserved(*byte);
+        out.push_byte(*byte);
     }
 }

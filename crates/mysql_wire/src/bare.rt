@@ -3,7 +3,8 @@
 ghost use Rattle.std.specs.Prelude.{◌≡◌, take, ◌≤◌, length, refl};
 
 use crate::buf::ParseBuf;
-use crate::bytes::{BytesRepr, append_to_capacity};
+use crate::buffer::Buffer;
+use crate::bytes::BytesRepr;
 use crate::fault::FaultOf;
 use std::cmp::min;
 
@@ -53,8 +54,9 @@ impl<const MAX: usize> BytesRepr for BareBytes<MAX> {
     }
 
     #[inline(always)]
-    fn append(content: &[u8], out: &mut Vec<u8>) {
-        append_to_capacity(Self::kept(content), out);
+    #[tactic(auto, using(crate::proofs::After::after))]
+    fn append<O: Buffer>(content: &[u8], out: &mut O) {
+        out.push_bytes(Self::kept(content));
     }
 
     ghost size_is = { λ _. refl };

@@ -1,6 +1,6 @@
 //! Byte strings in their wire forms.
 
-ghost use Rattle.std.specs.Prelude.{false, ◌≡◌, ◌+◌, ◌++◌, vec_len, vec_capacity, ◌≤◌, ◌↔◌, length, List, [], ℕ, None, OnErr, IfOk, IsTrue};
+ghost use Rattle.std.specs.Prelude.{false, ◌≡◌, ◌+◌, ◌++◌, ◌≤◌, ◌↔◌, length, drop, List, [], ℕ, None, OnErr, IfOk, IsTrue};
 ghost use Rattle.std.specs.Cow.{cow_slice_items, cow_str_bytes};
 ghost use Rattle.mysql_wire.specs.Text.{lossy_text, BorrowsUtf8};
 ghost use Rattle.mysql_wire.specs.Writing.{saturated};
@@ -8,6 +8,7 @@ ghost use Rattle.mysql_wire.specs.Form.{Form};
 ghost use Rattle.mysql_wire.specs.Reading.{Answers, IsTail};
 
 use crate::buf::ParseBuf;
+use crate::buffer::Buffer;
 use crate::fault::FaultOf;
 use crate::proto::{AnyWidth, MyDeserialize, MySerialize};
 use bstr::ByteSlice;
@@ -47,27 +48,15 @@ pub trait BytesRepr {
         ensures { result ≡ saturated (length (written content.now)) };
 
     /// Writes a content to a buffer that has capacity.
-    fn append(content: &[u8], out: &mut Vec<u8>)
-        requires { vec_len out.old + length (written content.now) ≤ vec_capacity out.old }
-        ensures items { out.new.items ≡ out.old.items ++ written content.now }
-        ensures capacity { vec_capacity out.old ≤ vec_capacity out.new };
+    fn append<O: Buffer>(content: &[u8], out: &mut O)
+        requires { length (O.held out.old) + length (written content.now) ≤ O.capacity out.old }
+        ensures items { O.held out.new ≡ O.held out.old ++ written content.now }
+        ensures after { O.after out.new ≡ drop (length (written content.now)) (O.after out.old) }
+        ensures capacity { O.capacity out.old ≤ O.capacity out.new }
+        ensures kept { O.kept out.new ≡ O.kept out.old };
 
     /// No form of bytes has a constant size.
     ghost size_is: { (ctx : Self.Ctx) → (form ctx).size ≡ None };
-}
-
-/// Copies bytes to the end of a buffer that has capacity for them.
-///
-/// That there is capacity is tested here once more: the compiler then leaves out the buffer's growth and what it would change.
-#[inline(always)]
-pub(crate) fn append_to_capacity(bytes: &[u8], out: &mut Vec<u8>)
-    requires { vec_len out.old + length bytes.now ≤ vec_capacity out.old }
-    ensures items { out.new.items ≡ out.old.items ++ bytes.now }
-    ensures capacity { vec_capacity out.old ≤ vec_capacity out.new }
-{
-    if bytes.len() <= out.capacity() - out.len() {
-        out.extend_from_slice(bytes).unwrap();
-    }
 }
 
 /// A byte string in the wire form `R`, borrowed or owned.
@@ -207,9 +196,10 @@ impl<R> Hash for RawBytes<'_, R> {
     }
 }
 
+/// The content as text in quotes, where each byte that is no visible ASCII is escaped.
 impl<R> Debug for RawBytes<'_, R> {
     fn fmt<W: fmt::Write>(&self, f: &mut fmt::Formatter<W>) -> fmt::Result {
-        self.as_bytes().fmt(f)
+        write!(f, "\"{}\"", self.as_bytes().escape_ascii())
     }
 }
 
@@ -240,7 +230,8 @@ impl<R: BytesRepr> MySerialize for RawBytes<'_, R> {
     }
 
     #[inline(always)]
-    fn append(&self, out: &mut Vec<u8>) {
+    #[tactic(auto, using(crate::proofs::After::after))]
+    fn append<O: Buffer>(&self, out: &mut O) {
         R::append(self.as_bytes(), out)
     }
 }

@@ -3,6 +3,7 @@
 ghost use Rattle.std.specs.Prelude.{false, ◌≡◌, length, List, ℕ};
 
 use crate::buf::ParseBuf;
+use crate::buffer::Buffer;
 use crate::constant::ConstFault;
 use crate::fault::FaultOf;
 use crate::proto::{Fixed, MyDeserialize, MySerialize};
@@ -75,7 +76,9 @@ impl<T: ConstBytesValue<LEN>, const LEN: usize> MySerialize for ConstBytes<T, LE
     }
 
     #[inline(always)]
-    fn append(&self, out: &mut Vec<u8>) {
-        out.extend_from_slice(&T::VALUE).unwrap();
+    #[tactic(auto, using(crate::proofs::After::after))]
+    fn append<O: Buffer>(&self, out: &mut O) {
+        out.is_in_memory();
+        out.push_bytes(&T::VALUE);
     }
 }

@@ -3,6 +3,7 @@
 ghost use Rattle.std.specs.Prelude.{false, [], ◌∷◌};
 
 use crate::buf::ParseBuf;
+use crate::buffer::Buffer;
 use crate::fault::FaultOf;
 use crate::int::RawInt;
 use crate::little_endian::LeU32;
@@ -68,8 +69,9 @@ impl<T, const VALUE: u8> MySerialize for ConstU8<T, VALUE> {
     }
 
     #[inline(always)]
-    fn append(&self, out: &mut Vec<u8>) {
-        out.push_reserved(VALUE);
+    #[tactic(auto, using(crate::proofs::After::after))]
+    fn append<O: Buffer>(&self, out: &mut O) {
+        out.push_byte(VALUE);
     }
 }
 
@@ -129,7 +131,8 @@ impl<T, const VALUE: u32> MySerialize for ConstU32<T, VALUE> {
     }
 
     #[inline(always)]
-    fn append(&self, out: &mut Vec<u8>) {
+    #[tactic(auto, using(crate::proofs::After::after))]
+    fn append<O: Buffer>(&self, out: &mut O) {
         RawInt::<LeU32>::new(VALUE).append(out);
     }
 }

@@ -3,6 +3,7 @@
 ghost use Rattle.std.specs.Prelude.{false, ◌≡◌, Option, Some};
 
 use crate::buf::ParseBuf;
+use crate::buffer::Buffer;
 use crate::fault::FaultOf;
 use crate::int::{IntRepr, IntWidth};
 use crate::proto::{MyDeserialize, MySerialize};
@@ -82,7 +83,8 @@ impl<T: ConstValue<U::Primitive>, U: IntRepr> MySerialize for Const<T, U> {
     }
 
     #[inline(always)]
-    fn append(&self, out: &mut Vec<u8>) {
+    #[tactic(auto, using(crate::proofs::After::after))]
+    fn append<O: Buffer>(&self, out: &mut O) {
         U::append(self.0.code(), out)
     }
 }

@@ -4,7 +4,8 @@ ghost use Rattle.std.specs.Prelude.{take};
 
 use crate::bare::first_bytes;
 use crate::buf::ParseBuf;
-use crate::bytes::{BytesRepr, append_to_capacity};
+use crate::buffer::Buffer;
+use crate::bytes::BytesRepr;
 use crate::fault::FaultOf;
 use crate::int::{IntRepr, RawInt};
 use crate::little_endian::LeU32;
@@ -51,11 +52,11 @@ impl BytesRepr for U8Bytes {
     }
 
     #[inline(always)]
-    #[tactic(auto, unfolding(crate::specs::CountedBytes::counted_bytes_of))]
-    fn append(content: &[u8], out: &mut Vec<u8>) {
+    #[tactic(auto, using(crate::proofs::After::after), unfolding(crate::specs::CountedBytes::counted_bytes_of))]
+    fn append<O: Buffer>(content: &[u8], out: &mut O) {
         let kept = first_bytes(content, u8::MAX as usize);
         <u8 as IntRepr>::append(kept.len() as u8, out);
-        append_to_capacity(kept, out);
+        out.push_bytes(kept);
     }
 
     ghost size_is = { λ _. size-counted_bytes byte };
@@ -104,11 +105,11 @@ impl BytesRepr for U32Bytes {
     }
 
     #[inline(always)]
-    #[tactic(auto, unfolding(crate::specs::CountedBytes::counted_bytes_of))]
-    fn append(content: &[u8], out: &mut Vec<u8>) {
+    #[tactic(auto, using(crate::proofs::After::after), unfolding(crate::specs::CountedBytes::counted_bytes_of))]
+    fn append<O: Buffer>(content: &[u8], out: &mut O) {
         let kept = first_bytes(content, u32::MAX as usize);
         <LeU32 as IntRepr>::append(kept.len() as u32, out);
-        append_to_capacity(kept, out);
+        out.push_bytes(kept);
     }
 
     ghost size_is = { λ _. size-counted_bytes le_u32 };

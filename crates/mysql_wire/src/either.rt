@@ -1,5 +1,6 @@
 //! One of two values.
 
+use crate::buffer::Buffer;
 use crate::proto::MySerialize;
 
 /// One of two values, written as that value alone. It is never read: the bytes do not tell which one they spell.
@@ -23,7 +24,8 @@ impl<L: MySerialize, R: MySerialize> MySerialize for Either<L, R> {
     }
 
     #[inline]
-    fn append(&self, out: &mut Vec<u8>) {
+    #[tactic(auto, using(crate::proofs::After::after))]
+    fn append<O: Buffer>(&self, out: &mut O) {
         match self {
             Either::Left(value) => value.append(out),
             Either::Right(value) => value.append(out),

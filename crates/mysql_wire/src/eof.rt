@@ -3,7 +3,8 @@
 ghost use Rattle.std.specs.Prelude.{refl};
 
 use crate::buf::ParseBuf;
-use crate::bytes::{BytesRepr, append_to_capacity};
+use crate::buffer::Buffer;
+use crate::bytes::BytesRepr;
 use crate::fault::FaultOf;
 
 /// All the bytes that are left (`string<EOF>`). A content is written whole.
@@ -41,8 +42,9 @@ impl BytesRepr for EofBytes {
     }
 
     #[inline(always)]
-    fn append(content: &[u8], out: &mut Vec<u8>) {
-        append_to_capacity(content, out);
+    #[tactic(auto, using(crate::proofs::After::after))]
+    fn append<O: Buffer>(content: &[u8], out: &mut O) {
+        out.push_bytes(content);
     }
 
     ghost size_is = { λ _. refl };

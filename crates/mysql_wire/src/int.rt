@@ -1,10 +1,11 @@
 //! Integers of fixed widths.
 
-ghost use Rattle.std.specs.Prelude.{false, ◌≡◌, ◌+◌, ◌++◌, vec_len, vec_capacity, ◌≤◌, length, List, ℕ, Option, OnErr};
+ghost use Rattle.std.specs.Prelude.{false, ◌≡◌, ◌+◌, ◌++◌, ◌≤◌, length, drop, List, ℕ, Ok, Option, OnErr};
 ghost use Rattle.mysql_wire.specs.Form.{Form};
 ghost use Rattle.mysql_wire.specs.Reading.{Answers, IsTail, HasBytes};
 
 use crate::buf::ParseBuf;
+use crate::buffer::Buffer;
 use crate::fault::FaultOf;
 use crate::proto::{MyDeserialize, MySerialize, Width};
 use std::fmt::Debug;
@@ -38,13 +39,27 @@ pub trait IntRepr {
         ensures { result ≡ length (written value) };
 
     /// Writes the number to the end of a buffer that has capacity.
-    fn append(value: Self::Primitive, out: &mut Vec<u8>)
-        requires { vec_len out.old + length (written value) ≤ vec_capacity out.old }
-        ensures items { out.new.items ≡ out.old.items ++ written value }
-        ensures capacity { vec_capacity out.old ≤ vec_capacity out.new };
+    fn append<O: Buffer>(value: Self::Primitive, out: &mut O)
+        requires { length (O.held out.old) + length (written value) ≤ O.capacity out.old }
+        ensures items { O.held out.new ≡ O.held out.old ++ written value }
+        ensures after { O.after out.new ≡ drop (length (written value)) (O.after out.old) }
+        ensures capacity { O.capacity out.old ≤ O.capacity out.new }
+        ensures kept { O.kept out.new ≡ O.kept out.old };
 
     /// The form has that size.
     ghost size_is: { form.size ≡ SIZE };
+}
+
+/// An integer of a fixed width, which any bytes spell: where they are there, as in a block that is read, it can't be refused.
+pub trait FixedInt: IntRepr {
+    /// How many bytes each number takes.
+    ghost width: { ℕ };
+
+    /// Takes the number off the front.
+    fn take(buf: &mut ParseBuf<'_>) -> Self::Primitive
+        requires { width ≤ length buf.old }
+        ensures value { Self.form.reads buf.old ≡ Ok (result, buf.new) }
+        ensures exact { length buf.old ≡ width + length buf.new };
 }
 
 /// An integer in its wire form, as the marker `R` says: `RawInt<LeU32>`, `RawInt<LenEnc>`.
@@ -61,6 +76,21 @@ impl<R: IntRepr> RawInt<R> {
         ensures { result.0 ≡ value }
     {
         RawInt(value, PhantomData)
+    }
+}
+
+impl<R: FixedInt> RawInt<R> {
+    ghost use Rattle.mysql_wire.specs.Int.{raw};
+
+    /// Takes the integer off the front, where its bytes are there.
+    #[inline(always)]
+    #[tactic(auto, unfolding(crate::specs::Int::raw))]
+    pub fn take(buf: &mut ParseBuf<'_>) -> Self
+        requires { R.width ≤ length buf.old }
+        ensures value { (raw R.form).reads buf.old ≡ Ok (result, buf.new) }
+        ensures exact { length buf.old ≡ R.width + length buf.new }
+    {
+        RawInt::new(R::take(buf))
     }
 }
 
@@ -103,7 +133,8 @@ impl<R: IntRepr> MySerialize for RawInt<R> {
     }
 
     #[inline(always)]
-    fn append(&self, out: &mut Vec<u8>) {
+    #[tactic(auto, using(crate::proofs::After::after))]
+    fn append<O: Buffer>(&self, out: &mut O) {
         R::append(self.0, out)
     }
 }

@@ -1,11 +1,11 @@
 //! Values of a slice, written one after another.
 
-ghost use Rattle.std.specs.Prelude.{◌≡◌, ◌+◌, ◌++◌, ◌≤◌, length, vec_len, vec_capacity};
+ghost use Rattle.std.specs.Prelude.{◌≡◌, ◌+◌, ◌++◌, ◌≤◌, length, drop};
 ghost use Rattle.std.specs.List.{flat_map};
 ghost use Rattle.mysql_wire.specs.Writing.{saturated};
 
+use crate::buffer::Buffer;
 use crate::proto::MySerialize;
-use std::mem;
 
 /// How many bytes the values are written as together, or `usize::MAX` where that is less.
 #[tactic(auto, unfolding(crate::specs::Writing::saturated))]
@@ -22,24 +22,26 @@ pub fn items_len<T: MySerialize>(values: &[T]) -> usize
 /// Writes the values, in order, to the end of a buffer that has capacity for them.
 ///
 /// It takes no memory.
-pub fn append_items<T: MySerialize>(values: &[T], out: &mut Vec<u8>)
-    requires { vec_len out.old + length (flat_map T.bytes values.now) ≤ vec_capacity out.old }
-    ensures items { out.new.items ≡ out.old.items ++ flat_map T.bytes values.now }
-    ensures capacity { vec_capacity out.old ≤ vec_capacity out.new }
+pub fn append_items<T: MySerialize, O: Buffer>(values: &[T], out: &mut O)
+    requires { length (O.held out.old) + length (flat_map T.bytes values.now) ≤ O.capacity out.old }
+    ensures items { O.held out.new ≡ O.held out.old ++ flat_map T.bytes values.now }
+    ensures after { O.after out.new ≡ drop (length (flat_map T.bytes values.now)) (O.after out.old) }
+    ensures capacity { O.capacity out.old ≤ O.capacity out.new }
+    ensures kept { O.kept out.new ≡ O.kept out.old }
 {
-    // While it is a variable of its own, the compiler keeps its length and its address in registers, and does not read
-    // them again after each byte.
-    let empty = Vec::new(*out.allocator());
-    let mut taken = mem::replace(out, empty);
+    let mut taken = out.taken();
     append_each(values, &mut taken);
     *out = taken;
 }
 
 #[inline(always)]
-fn append_each<T: MySerialize>(values: &[T], out: &mut Vec<u8>)
-    requires { vec_len out.old + length (flat_map T.bytes values.now) ≤ vec_capacity out.old }
-    ensures items { out.new.items ≡ out.old.items ++ flat_map T.bytes values.now }
-    ensures capacity { vec_capacity out.old ≤ vec_capacity out.new }
+#[tactic(auto, using(crate::proofs::After::after))]
+fn append_each<T: MySerialize, O: Buffer>(values: &[T], out: &mut O)
+    requires { length (O.held out.old) + length (flat_map T.bytes values.now) ≤ O.capacity out.old }
+    ensures items { O.held out.new ≡ O.held out.old ++ flat_map T.bytes values.now }
+    ensures after { O.after out.new ≡ drop (length (flat_map T.bytes values.now)) (O.after out.old) }
+    ensures capacity { O.capacity out.old ≤ O.capacity out.new }
+    ensures kept { O.kept out.new ≡ O.kept out.old }
 {
     for value in values {
         value.append(out);

@@ -3,7 +3,8 @@
 ghost use Rattle.std.specs.Prelude.{None};
 
 use crate::buf::ParseBuf;
-use crate::bytes::{BytesRepr, append_to_capacity};
+use crate::buffer::Buffer;
+use crate::bytes::BytesRepr;
 use crate::fault::FaultOf;
 use crate::int::{IntRepr, RawInt};
 use crate::little_endian::{LeU16, LeU24, LeU64};
@@ -69,20 +70,20 @@ impl IntRepr for LenEnc {
     }
 
     #[inline(always)]
-    #[tactic(auto, unfolding(crate::specs::Writing::le_bytes, crate::specs::LenEnc::lenenc_bytes))]
-    fn append(value: u64, out: &mut Vec<u8>) {
+    #[tactic(auto, using(crate::proofs::After::after), unfolding(crate::specs::Writing::le_bytes, crate::specs::LenEnc::lenenc_bytes))]
+    fn append<O: Buffer>(value: u64, out: &mut O) {
         match value {
-            0..251 => out.push_reserved(value as u8),
+            0..251 => out.push_byte(value as u8),
             251..0x1_0000 => {
-                out.push_reserved(252);
+                out.push_byte(252);
                 <LeU16 as IntRepr>::append(value as u16, out);
             }
             0x1_0000..0x100_0000 => {
-                out.push_reserved(253);
+                out.push_byte(253);
                 <LeU24 as IntRepr>::append(value as u32, out);
             }
             _ => {
-                out.push_reserved(254);
+                out.push_byte(254);
                 <LeU64 as IntRepr>::append(value, out);
             }
         }
@@ -125,10 +126,10 @@ impl BytesRepr for LenEnc {
     }
 
     #[inline(always)]
-    #[tactic(auto, unfolding(crate::specs::LenEnc::lenenc_string_bytes))]
-    fn append(content: &[u8], out: &mut Vec<u8>) {
+    #[tactic(auto, using(crate::proofs::After::after), unfolding(crate::specs::LenEnc::lenenc_string_bytes))]
+    fn append<O: Buffer>(content: &[u8], out: &mut O) {
         <LenEnc as IntRepr>::append(content.len() as u64, out);
-        append_to_capacity(content, out);
+        out.push_bytes(content);
     }
 
     ghost size_is = { λ _. size-lenenc_string };

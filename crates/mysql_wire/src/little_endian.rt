@@ -1,15 +1,16 @@
 //! Integers of fixed widths, little-endian.
 //!
-//! Their bytes are pushed to capacity that is proved to be there (`push_reserved`), so the buffer's capacity is not tested for
+//! Their bytes are pushed to capacity that is proved to be there (`push_byte`), so the buffer's capacity is not tested for
 //! each field of a packet, and the compiler makes one store of the bytes.
 
-ghost use Rattle.std.specs.Prelude.{Some};
+ghost use Rattle.std.specs.Prelude.{Some, Ok, ◌≡◌, ◌+◌, ◌≤◌, length};
 ghost use Rattle.mysql_wire.specs.Writing.{le_bytes};
 ghost use Rattle.mysql_wire.specs.Form.{number, size-number};
 
 use crate::buf::ParseBuf;
+use crate::buffer::Buffer;
 use crate::fault::FaultOf;
-use crate::int::IntRepr;
+use crate::int::{FixedInt, IntRepr};
 
 /// A number of 16 bits: two bytes, little-endian (`int<2>`).
 #[derive(Clone, Copy, Debug)]
@@ -25,9 +26,8 @@ impl IntRepr for LeU16 {
     ghost form = { number 2 };
 
     #[inline(always)]
-    #[tactic(auto, using(crate::proofs::Numbers::numbers))]
     fn deserialize<'s>(buf: &mut ParseBuf<'_>) -> Result<u16, FaultOf<'s>> {
-        Ok(u16::from_le_bytes(buf.eat_array()))
+        Ok(Self::take(buf))
     }
 
     ghost written = { le_bytes 2 };
@@ -39,14 +39,24 @@ impl IntRepr for LeU16 {
     }
 
     #[inline(always)]
-    #[tactic(auto, unfolding(crate::specs::Writing::le_bytes))]
-    fn append(value: u16, out: &mut Vec<u8>) {
+    #[tactic(auto, using(crate::proofs::After::after), unfolding(crate::specs::Writing::le_bytes))]
+    fn append<O: Buffer>(value: u16, out: &mut O) {
         let [low, high] = value.to_le_bytes();
-        out.push_reserved(low);
-        out.push_reserved(high);
+        out.push_byte(low);
+        out.push_byte(high);
     }
 
     ghost size_is = { size-number 2 };
+}
+
+impl FixedInt for LeU16 {
+    ghost width = { 2 };
+
+    #[inline(always)]
+    #[tactic(auto, using(crate::proofs::Numbers::numbers))]
+    fn take(buf: &mut ParseBuf<'_>) -> u16 {
+        u16::from_le_bytes(buf.eat_array())
+    }
 }
 
 /// A number of 32 bits: four bytes, little-endian (`int<4>`).
@@ -63,9 +73,8 @@ impl IntRepr for LeU32 {
     ghost form = { number 4 };
 
     #[inline(always)]
-    #[tactic(auto, using(crate::proofs::Numbers::numbers))]
     fn deserialize<'s>(buf: &mut ParseBuf<'_>) -> Result<u32, FaultOf<'s>> {
-        Ok(u32::from_le_bytes(buf.eat_array()))
+        Ok(Self::take(buf))
     }
 
     ghost written = { le_bytes 4 };
@@ -77,16 +86,26 @@ impl IntRepr for LeU32 {
     }
 
     #[inline(always)]
-    #[tactic(auto, unfolding(crate::specs::Writing::le_bytes))]
-    fn append(value: u32, out: &mut Vec<u8>) {
+    #[tactic(auto, using(crate::proofs::After::after), unfolding(crate::specs::Writing::le_bytes))]
+    fn append<O: Buffer>(value: u32, out: &mut O) {
         let [b0, b1, b2, b3] = value.to_le_bytes();
-        out.push_reserved(b0);
-        out.push_reserved(b1);
-        out.push_reserved(b2);
-        out.push_reserved(b3);
+        out.push_byte(b0);
+        out.push_byte(b1);
+        out.push_byte(b2);
+        out.push_byte(b3);
     }
 
     ghost size_is = { size-number 4 };
+}
+
+impl FixedInt for LeU32 {
+    ghost width = { 4 };
+
+    #[inline(always)]
+    #[tactic(auto, using(crate::proofs::Numbers::numbers))]
+    fn take(buf: &mut ParseBuf<'_>) -> u32 {
+        u32::from_le_bytes(buf.eat_array())
+    }
 }
 
 /// A number of 24 bits, held in a `u32`: three bytes, little-endian (`int<3>`).
@@ -105,10 +124,8 @@ impl IntRepr for LeU24 {
     ghost form = { number 3 };
 
     #[inline(always)]
-    #[tactic(auto, using(crate::proofs::Numbers::numbers))]
     fn deserialize<'s>(buf: &mut ParseBuf<'_>) -> Result<u32, FaultOf<'s>> {
-        let [low, middle, high] = buf.eat_array::<3>();
-        Ok(u32::from_le_bytes([low, middle, high, 0]))
+        Ok(Self::take(buf))
     }
 
     ghost written = { le_bytes 3 };
@@ -120,15 +137,26 @@ impl IntRepr for LeU24 {
     }
 
     #[inline(always)]
-    #[tactic(auto, unfolding(crate::specs::Writing::le_bytes))]
-    fn append(value: u32, out: &mut Vec<u8>) {
+    #[tactic(auto, using(crate::proofs::After::after), unfolding(crate::specs::Writing::le_bytes))]
+    fn append<O: Buffer>(value: u32, out: &mut O) {
         let [low, middle, high, _top] = value.to_le_bytes();
-        out.push_reserved(low);
-        out.push_reserved(middle);
-        out.push_reserved(high);
+        out.push_byte(low);
+        out.push_byte(middle);
+        out.push_byte(high);
     }
 
     ghost size_is = { size-number 3 };
+}
+
+impl FixedInt for LeU24 {
+    ghost width = { 3 };
+
+    #[inline(always)]
+    #[tactic(auto, using(crate::proofs::Numbers::numbers))]
+    fn take(buf: &mut ParseBuf<'_>) -> u32 {
+        let [low, middle, high] = buf.eat_array::<3>();
+        u32::from_le_bytes([low, middle, high, 0])
+    }
 }
 
 /// A number of 64 bits: eight bytes, little-endian (`int<8>`).
@@ -145,9 +173,8 @@ impl IntRepr for LeU64 {
     ghost form = { number 8 };
 
     #[inline(always)]
-    #[tactic(auto, using(crate::proofs::Numbers::numbers))]
     fn deserialize<'s>(buf: &mut ParseBuf<'_>) -> Result<u64, FaultOf<'s>> {
-        Ok(u64::from_le_bytes(buf.eat_array()))
+        Ok(Self::take(buf))
     }
 
     ghost written = { le_bytes 8 };
@@ -159,20 +186,30 @@ impl IntRepr for LeU64 {
     }
 
     #[inline(always)]
-    #[tactic(auto, unfolding(crate::specs::Writing::le_bytes))]
-    fn append(value: u64, out: &mut Vec<u8>) {
+    #[tactic(auto, using(crate::proofs::After::after), unfolding(crate::specs::Writing::le_bytes))]
+    fn append<O: Buffer>(value: u64, out: &mut O) {
         let [b0, b1, b2, b3, b4, b5, b6, b7] = value.to_le_bytes();
-        out.push_reserved(b0);
-        out.push_reserved(b1);
-        out.push_reserved(b2);
-        out.push_reserved(b3);
-        out.push_reserved(b4);
-        out.push_reserved(b5);
-        out.push_reserved(b6);
-        out.push_reserved(b7);
+        out.push_byte(b0);
+        out.push_byte(b1);
+        out.push_byte(b2);
+        out.push_byte(b3);
+        out.push_byte(b4);
+        out.push_byte(b5);
+        out.push_byte(b6);
+        out.push_byte(b7);
     }
 
     ghost size_is = { size-number 8 };
+}
+
+impl FixedInt for LeU64 {
+    ghost width = { 8 };
+
+    #[inline(always)]
+    #[tactic(auto, using(crate::proofs::Numbers::numbers))]
+    fn take(buf: &mut ParseBuf<'_>) -> u64 {
+        u64::from_le_bytes(buf.eat_array())
+    }
 }
 
 /// A byte (`int<1>`).
@@ -186,9 +223,8 @@ impl IntRepr for u8 {
     ghost form = { number 1 };
 
     #[inline(always)]
-    #[tactic(auto, using(crate::proofs::Numbers::numbers))]
     fn deserialize<'s>(buf: &mut ParseBuf<'_>) -> Result<u8, FaultOf<'s>> {
-        Ok(buf.eat(1)[0])
+        Ok(Self::take(buf))
     }
 
     ghost written = { le_bytes 1 };
@@ -200,10 +236,20 @@ impl IntRepr for u8 {
     }
 
     #[inline(always)]
-    #[tactic(auto, unfolding(crate::specs::Writing::le_bytes))]
-    fn append(value: u8, out: &mut Vec<u8>) {
-        out.push_reserved(value);
+    #[tactic(auto, using(crate::proofs::After::after), unfolding(crate::specs::Writing::le_bytes))]
+    fn append<O: Buffer>(value: u8, out: &mut O) {
+        out.push_byte(value);
     }
 
     ghost size_is = { size-number 1 };
+}
+
+impl FixedInt for u8 {
+    ghost width = { 1 };
+
+    #[inline(always)]
+    #[tactic(auto, using(crate::proofs::Numbers::numbers))]
+    fn take(buf: &mut ParseBuf<'_>) -> u8 {
+        buf.eat(1)[0]
+    }
 }

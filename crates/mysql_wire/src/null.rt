@@ -4,7 +4,8 @@ ghost use Rattle.std.specs.Prelude.{false, ◌≡◌, ◌<◌, ◌≤◌, ⊤, l
 ghost use Rattle.mysql_wire.specs.Null.{HasNoZero};
 
 use crate::buf::ParseBuf;
-use crate::bytes::{BytesRepr, append_to_capacity};
+use crate::buffer::Buffer;
+use crate::bytes::BytesRepr;
 use crate::fault::FaultOf;
 use memchr::memchr;
 
@@ -56,9 +57,10 @@ impl BytesRepr for NullBytes {
     }
 
     #[inline(always)]
-    fn append(content: &[u8], out: &mut Vec<u8>) {
-        append_to_capacity(Self::kept(content), out);
-        out.push_reserved(0);
+    #[tactic(auto, using(crate::proofs::After::after), unfolding(crate::specs::Null::null_bytes))]
+    fn append<O: Buffer>(content: &[u8], out: &mut O) {
+        out.push_bytes(Self::kept(content));
+        out.push_byte(0);
     }
 
     ghost size_is = { λ _. size-null_string };

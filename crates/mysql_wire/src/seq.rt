@@ -1,12 +1,13 @@
 //! Lists of values.
 
-ghost use Rattle.std.specs.Prelude.{true, false, ◌≡◌, ◌≤◌, ◌+◌, ◌++◌, ◌∷◌, [], ◌↔◌, length, vec_len, vec_capacity, List, ℕ, OnOk, OnErr, IfOk, IsTrue, refl};
+ghost use Rattle.std.specs.Prelude.{true, false, ◌≡◌, ◌≤◌, ◌+◌, ◌++◌, ◌∷◌, [], ◌↔◌, length, drop, List, ℕ, OnOk, OnErr, IfOk, IsTrue, refl};
 ghost use Rattle.std.specs.Cow.{cow_slice_items};
 ghost use Rattle.mysql_wire.specs.Reading.{Answers, IsTail};
 ghost use Rattle.mysql_wire.specs.Form.{Form, give};
 ghost use Rattle.mysql_wire.specs.Seq.{counted, counts_any, items_of, seq, seq_bytes, IsHeld};
 
 use crate::buf::ParseBuf;
+use crate::buffer::Buffer;
 use crate::fault::FaultOf;
 use crate::int::{IntRepr, RawInt};
 use crate::items::{append_items, items_len};
@@ -69,10 +70,12 @@ pub trait SeqRepr {
         ensures { result ≡ length (written count) };
 
     /// Writes the count to a buffer that has capacity.
-    fn append(count: usize, out: &mut Vec<u8>)
-        requires { vec_len out.old + length (written count) ≤ vec_capacity out.old }
-        ensures items { out.new.items ≡ out.old.items ++ written count }
-        ensures capacity { vec_capacity out.old ≤ vec_capacity out.new };
+    fn append<O: Buffer>(count: usize, out: &mut O)
+        requires { length (O.held out.old) + length (written count) ≤ O.capacity out.old }
+        ensures items { O.held out.new ≡ O.held out.old ++ written count }
+        ensures after { O.after out.new ≡ drop (length (written count)) (O.after out.old) }
+        ensures capacity { O.capacity out.old ≤ O.capacity out.new }
+        ensures kept { O.kept out.new ≡ O.kept out.old };
 }
 
 /// A count of eight bytes, little-endian.
@@ -97,7 +100,8 @@ impl SeqRepr for LeU64 {
         8
     }
 
-    fn append(count: usize, out: &mut Vec<u8>) {
+    #[tactic(auto, using(crate::proofs::After::after))]
+    fn append<O: Buffer>(count: usize, out: &mut O) {
         <LeU64 as IntRepr>::append(count as u64, out);
     }
 }
@@ -121,7 +125,7 @@ impl SeqRepr for Unknown {
         0
     }
 
-    fn append(_count: usize, _out: &mut Vec<u8>) {}
+    fn append<O: Buffer>(_count: usize, _out: &mut O) {}
 }
 
 /// A list of values in a wire form, borrowed or owned: the count in the form `L`, then the values.
@@ -310,7 +314,8 @@ impl<T: MySerialize, L: SeqRepr> MySerialize for Seq<'_, T, L> {
         L::written_len(self.len()).saturating_add(items_len(self.as_slice()))
     }
 
-    fn append(&self, out: &mut Vec<u8>) {
+    #[tactic(auto, using(crate::proofs::After::after))]
+    fn append<O: Buffer>(&self, out: &mut O) {
         L::append(self.len(), out);
         append_items(self.as_slice(), out);
     }

@@ -1,8 +1,10 @@
 //! Bytes that are skipped.
 
-ghost use Rattle.std.specs.Prelude.{false, replicate};
+ghost use Rattle.std.specs.Prelude.{false, replicate, ◌≡◌, ◌+◌, ◌≤◌, length, Ok};
+ghost use Rattle.mysql_wire.specs.Skip.{skip};
 
 use crate::buf::ParseBuf;
+use crate::buffer::Buffer;
 use crate::fault::FaultOf;
 use crate::proto::{Fixed, MyDeserialize, MySerialize};
 
@@ -10,6 +12,20 @@ use crate::proto::{Fixed, MyDeserialize, MySerialize};
 /// reserved bytes.
 #[derive(Clone, Copy, Debug, PartialEq, Eq, Hash, Default)]
 pub struct Skip<const N: usize>;
+
+impl<const N: usize> Skip<N> {
+    /// Skips the next `N` bytes, which are there.
+    #[inline(always)]
+    #[tactic(auto, using(crate::proofs::Arrays::arrays), unfolding(crate::specs::Skip::skip))]
+    pub fn take(buf: &mut ParseBuf<'_>) -> Self
+        requires { N ≤ length buf.old }
+        ensures value { (skip N).reads buf.old ≡ Ok (result, buf.new) }
+        ensures exact { length buf.old ≡ N + length buf.new }
+    {
+        buf.skip(N);
+        Skip
+    }
+}
 
 impl<'de, const N: usize> MyDeserialize<'de> for Skip<N> {
     const SIZE: Option<usize> = Some(N);
@@ -24,8 +40,7 @@ impl<'de, const N: usize> MyDeserialize<'de> for Skip<N> {
 
     #[inline(always)]
     fn deserialize<'s>(_ctx: (), buf: &mut ParseBuf<'de>) -> Result<Self, FaultOf<'s>> {
-        buf.skip(N);
-        Ok(Skip)
+        Ok(Skip::take(buf))
     }
 
     ghost size_is = { λ _. size-skip N };
@@ -41,7 +56,9 @@ impl<const N: usize> MySerialize for Skip<N> {
     }
 
     #[inline(always)]
-    fn append(&self, out: &mut Vec<u8>) {
+    #[tactic(auto, using(crate::proofs::After::after))]
+    fn append<O: Buffer>(&self, out: &mut O) {
+        out.is_in_memory();
         [0; N].append(out);
     }
 }

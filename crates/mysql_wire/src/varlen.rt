@@ -5,7 +5,8 @@ ghost use Rattle.mysql_wire.specs.Reading.{Answers};
 ghost use Rattle.mysql_wire.specs.Varlen.{varlen, varlen_bytes, varlen_size, size-varlen, varlen_string, varlen_string_bytes, size-varlen_string};
 
 use crate::buf::ParseBuf;
-use crate::bytes::{BytesRepr, append_to_capacity};
+use crate::buffer::Buffer;
+use crate::bytes::BytesRepr;
 use crate::fault::FaultOf;
 use crate::int::{IntRepr, RawInt};
 use crate::little_endian::LeU64;
@@ -39,15 +40,15 @@ impl IntRepr for VarLen {
         varlen_uint_size(value)
     }
 
-    #[tactic(auto, using(crate::proofs::Varlens::writing))]
-    fn append(value: u64, out: &mut Vec<u8>) {
+    #[tactic(auto, using(crate::proofs::After::after, crate::proofs::Varlens::writing))]
+    fn append<O: Buffer>(value: u64, out: &mut O) {
         let size = varlen_uint_size(value);
         if size == 9 {
-            out.push_reserved(0xff);
+            out.push_byte(0xff);
             <LeU64 as IntRepr>::append(value, out);
         } else {
             let word = above_ones(value, size);
-            out.extend_from_slice(&word.to_le_bytes()[..size]).unwrap();
+            out.push_bytes(&word.to_le_bytes()[..size]);
         }
     }
 
@@ -84,9 +85,10 @@ impl BytesRepr for VarLen {
         varlen_uint_size(content.len() as u64).saturating_add(content.len())
     }
 
-    fn append(content: &[u8], out: &mut Vec<u8>) {
+    #[tactic(auto, using(crate::proofs::After::after))]
+    fn append<O: Buffer>(content: &[u8], out: &mut O) {
         <VarLen as IntRepr>::append(content.len() as u64, out);
-        append_to_capacity(content, out);
+        out.push_bytes(content);
     }
 
     ghost size_is = { λ _. size-varlen_string };

@@ -126,7 +126,16 @@ pub fn write<T: MySerialize>(out: &mut Out, record: &T, bytes: &[u8]) -> Option<
         return None;
     }
     out.show("len", record.defined_len());
+    write_in_place(record, &mut buffer);
     Some(buffer)
+}
+
+/// Writes a record once more, to the places where it stands after a byte: what is read again then is what is written to a slice.
+fn write_in_place<T: MySerialize>(record: &T, buffer: &mut Vec<u8>) {
+    if let Some((_, places)) = buffer.split_first_mut() {
+        places.fill(0);
+        let _ = record.write_to_slice(places);
+    }
 }
 
 /// The same of a record that was made.

@@ -24,6 +24,44 @@ impl Shows<ComBinlogDumpGtid<'_>> for Connections {
     }
 }
 
+/// Whether bytes, in the form with tags or in the other, are read as these sids.
+fn are_read_again(place: (&[u8], bool), owned: &[Sid<'_>], out: &mut Out) -> bool {
+    let (bytes, is_tagged) = place;
+    let mut rest = ParseBuf::new(out.alloc(), bytes);
+    let are_same = owned.iter().all(|owned| {
+        let read = counted!(out.alloc(); value SidRef::parse_as(is_tagged, &mut rest));
+        read.is_ok_and(|sid| Connections::is(&sid, owned, out))
+    });
+    are_same && rest.is_empty()
+}
+
+/// Whether sids that stay in their packet are these: one by one, and where their bytes are read once more.
+fn are_sids(place: &SidsRef<'_>, owned: &[Sid<'_>], out: &mut Out) -> bool {
+    let alloc = out.alloc();
+    let listed = counted!(alloc; place.to_vec(alloc));
+    let mut left = place.iter();
+    let are_same = owned.iter().all(|owned| {
+        let next = counted!(out.alloc(); value left.next());
+        next.is_some_and(|sid| Connections::is(&sid, owned, out))
+    });
+    are_same
+        && left.next().is_none()
+        && place.left() == owned.len() as u64
+        && or_lost(out, listed).is_some_and(|listed| listed.len() == owned.len())
+        && are_read_again(place.as_bytes(), owned, out)
+}
+
+/// (a copy is made of it where its fields are the same, too)
+impl InPlace<ComBinlogDumpGtid<'_>, ComBinlogDumpGtidRef<'_>> for Connections {
+    fn is(place: &ComBinlogDumpGtidRef<'_>, owned: &ComBinlogDumpGtid<'_>, out: &mut Out) -> bool {
+        let alloc = out.alloc();
+        let made = counted!(alloc; place.to_packet(alloc));
+        or_lost(out, made).is_some_and(|made| made == *owned)
+            && fields!(place, owned; alike server_id, flags, filename with filename_raw, pos)
+            && are_sids(&place.sids(), owned.sids(), out)
+    }
+}
+
 fn is_dump_made(it: &ComBinlogDumpGtid<'_>, alloc: Global) -> Result<bool> {
     // (the sids change a flag, so the flags come last)
     let made = ComBinlogDumpGtid::new(it.server_id())

@@ -1,6 +1,6 @@
 //! Wire forms, with a count in front of the bytes where one is handed in, codes, and lists that a number is pushed to.
 //!
-//! `form NAME BYTES`, `code NAME NUMBER`, `push_seq BYTES`, `sizes WIDTH`.
+//! `form NAME BYTES`, `code NAME NUMBER`, `names WORD NUMBER`, `debug BYTES`, `push_seq BYTES`, `sizes WIDTH`.
 
 use crate::prelude::*;
 use std::fmt::Display;
@@ -43,7 +43,8 @@ fn constant(out: &mut Out, request: &Request<'_>) -> bool {
     answers!(Connections, out, request, request.word(1);
         with () => "const_u8": ConstU8<Marker, 0>, "const_u32": ConstU32<Marker, 1>, "const_bytes": ConstBytes<Marker, 4>,
             "column_type": Const<ColumnType, u8>, "bulk_indicator": Const<MariadbBulkIndicator, u8>,
-            "session_state_type": Const<SessionStateType, u8>, "cursor_type": Const<CursorType, u8>,
+            "session_state_type": Const<SessionStateType, u8>, "server_command": Const<ServerCommand, u8>,
+            "cursor_type": Const<CursorType, u8>,
             "status_flags": Const<StatusFlags, LeU16>, "capability_flags": Const<CapabilityFlags, LeU32>,
             "mariadb_capabilities": Const<MariadbCapabilities, LeU32>, "column_flags": Const<ColumnFlags, LeU16>,
             "dump_flags": Const<BinlogDumpFlags, LeU16>, "bulk_flags": Const<StmtBulkExecuteFlags, LeU16>,
@@ -106,8 +107,42 @@ pub fn code(out: &mut Out, request: &Request<'_>) {
     match request.word(1) {
         "column_type" => coded(out, ColumnType::try_from(number)),
         "bulk_indicator" => coded(out, MariadbBulkIndicator::try_from(number)),
+        "server_command" => coded(out, ServerCommand::try_from(number)),
         _ => coded(out, SessionStateType::try_from(number)),
     }
+}
+
+/// Adds the names of the bits that are set, from the lowest on.
+fn named<F: Flags>(out: &mut Out, flags: F) {
+    for (name, _) in flags.iter_names() {
+        out.field("name", name);
+    }
+}
+
+/// The names of a number's bits.
+pub fn names(out: &mut Out, request: &Request<'_>) {
+    let number = request.word(2);
+    match request.word(1) {
+        "capability_flags" => named(
+            out,
+            CapabilityFlags::from_bits_retain(words::number(number)),
+        ),
+        "mariadb_capabilities" => {
+            named(
+                out,
+                MariadbCapabilities::from_bits_retain(words::number(number)),
+            )
+        }
+        "status_flags" => named(out, StatusFlags::from_bits_retain(words::number(number))),
+        "column_flags" => named(out, ColumnFlags::from_bits_retain(words::number(number))),
+        _ => named(out, CursorType::from_bits_retain(words::number(number))),
+    }
+}
+
+/// A byte string as a person looks at it.
+pub fn debug(out: &mut Out, request: &Request<'_>) {
+    let content: RawBytes<'_, LenEnc> = RawBytes::new(CowSlice::Borrowed(request.bytes.as_slice()));
+    out.text("debug", &format_args!("{content:?}"))
 }
 
 /// A value as a list shows it.

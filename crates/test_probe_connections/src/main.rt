@@ -1,6 +1,7 @@
 //! Answers rows of authentication, replication and wire forms: a line for each line of its input.
 #![tactic(auto)]
 
+mod borrowed;
 mod buffers;
 mod client;
 mod commands;
@@ -22,11 +23,14 @@ struct Connections;
 /// The requests of authentication.
 fn of_authentication(out: &mut Out, request: &Request<'_>) -> bool {
     answers!(Connections, out, request, request.word(0);
-        with () => "response": HandshakeResponse<'_>,
-            "auth_switch": AuthSwitchRequest<'_>, "old_switch": OldAuthSwitchRequest, "auth_more_data": AuthMoreData<'_>,
-            "key_request": PublicKeyRequest, "key": PublicKeyResponse<'_>, "tls": SslRequest, "plugin": AuthPlugin<'_>,
-        with request.capabilities() => "change_user": ComChangeUser<'_>, "more_data": ComChangeUserMoreData<'_>,
+        with () => "old_switch": OldAuthSwitchRequest, "key_request": PublicKeyRequest, "tls": SslRequest,
+            "plugin": AuthPlugin<'_>,
         both () => "handshake": HandshakePacket<'_>, HandshakePacketRef<'_>,
+            "response": HandshakeResponse<'_>, HandshakeResponseRef<'_>,
+            "auth_switch": AuthSwitchRequest<'_>, AuthSwitchRequestRef<'_>,
+            "auth_more_data": AuthMoreData<'_>, AuthMoreDataRef<'_>, "key": PublicKeyResponse<'_>, PublicKeyResponseRef<'_>,
+        both request.capabilities() => "change_user": ComChangeUser<'_>, ComChangeUserRef<'_>,
+            "more_data": ComChangeUserMoreData<'_>, ComChangeUserMoreDataRef<'_>,
         call "version": handshake::version, "make_handshake": handshake::make, "supported": handshake::supported,
             "make_response": client::make_response, "make_change_user": client::make_change_user, "tls_of": client::tls_of,
             "make_switch": plugins::make_switch, "make_tls": plugins::make_tls, "add_data": plugins::add_data,
@@ -36,9 +40,11 @@ fn of_authentication(out: &mut Out, request: &Request<'_>) -> bool {
 /// The requests of replication.
 fn of_replication(out: &mut Out, request: &Request<'_>) -> bool {
     answers!(Connections, out, request, request.word(0);
-        with () => "register_slave": ComRegisterSlave<'_>, "table_dump": ComTableDump<'_>,
-            "binlog_dump": ComBinlogDump<'_>, "semi_sync_ack": SemiSyncAckPacket<'_>, "gtid": ComBinlogDumpGtid<'_>,
-            "sid_bytes": Sid<'_>, "interval": GnoInterval,
+        with () => "table_dump": ComTableDump<'_>, "semi_sync_ack": SemiSyncAckPacket<'_>, "interval": GnoInterval,
+        both () => "register_slave": ComRegisterSlave<'_>, ComRegisterSlaveRef<'_>,
+            "binlog_dump": ComBinlogDump<'_>, ComBinlogDumpRef<'_>,
+            "gtid": ComBinlogDumpGtid<'_>, ComBinlogDumpGtidRef<'_>,
+            "sid_bytes": Sid<'_>, SidRef<'_>,
         call "gtid_strict": dumps::strict, "gtid_with_sid": dumps::with_sid, "make_gtid": dumps::make,
             "gtid_of": dumps::of_count, "gtid_of_set": dumps::of_set, "gtid_set": sids::of_set,
             "new_request": commands::new_request, "request": commands::request,
@@ -52,7 +58,7 @@ fn of_wire_forms(out: &mut Out, request: &Request<'_>) -> bool {
         "text" => texts::text(out, request.word(1)),
         word => answers!(Connections, out, request, word;
             call "buf": buffers::calls, "content": buffers::content, "varlen": buffers::varlen, "code": forms::code,
-                "push_seq": forms::push, "sizes": forms::sizes,),
+                "names": forms::names, "debug": forms::debug, "push_seq": forms::push, "sizes": forms::sizes,),
     }
 }
 

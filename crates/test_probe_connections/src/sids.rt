@@ -34,6 +34,47 @@ impl Shows<Sid<'_>> for Connections {
     }
 }
 
+/// Whether a tag that stays in its packet is this one.
+fn is_tag(place: &TagRef<'_>, owned: &Tag<'_>) -> bool {
+    let again = TagRef::new(place.as_str()).map(|tag| tag.to_tag());
+    place.as_str() == owned.as_str() && again.is_ok_and(|tag| tag == *owned)
+}
+
+fn are_tags(place: Option<&TagRef<'_>>, owned: Option<&Tag<'_>>) -> bool {
+    match (place, owned) {
+        (Some(place), Some(owned)) => is_tag(place, owned),
+        (None, None) => true,
+        _ => false,
+    }
+}
+
+/// Whether intervals that stay in their packet are these: one by one, in a list, and by their bytes.
+fn are_intervals(place: &IntervalsRef<'_>, owned: &[GnoInterval], out: &mut Out) -> bool {
+    let alloc = out.alloc();
+    let listed = counted!(alloc; place.to_vec(alloc));
+    let mut left = place.iter();
+    let are_same = owned
+        .iter()
+        .all(|owned| left.next().as_ref() == Some(owned));
+    are_same
+        && left.next().is_none()
+        && place.left() == owned.len() as u64
+        && place.as_bytes().len() == 16 * owned.len()
+        && or_lost(out, listed).is_some_and(|listed| listed.as_slice() == owned)
+}
+
+/// (a copy is made of it where its fields are the same, too)
+impl InPlace<Sid<'_>, SidRef<'_>> for Connections {
+    fn is(place: &SidRef<'_>, owned: &Sid<'_>, out: &mut Out) -> bool {
+        let alloc = out.alloc();
+        let made = counted!(alloc; place.to_sid(alloc));
+        or_lost(out, made).is_some_and(|made| made == *owned)
+            && place.uuid() == owned.uuid()
+            && are_tags(place.tag(), owned.tag())
+            && are_intervals(&place.intervals(), owned.intervals(), out)
+    }
+}
+
 impl Shows<Tag<'_>> for Connections {
     fn show(it: &Tag<'_>, out: &mut Out) {
         anew!(out, it; owned it)

@@ -1,6 +1,8 @@
-//! Columns, and requests for a file: `column BYTES`, `local_infile BYTES`.
+//! Columns, their count, and requests for a file: `column BYTES`, `column_count MARIADB_CAPABILITIES BYTES`,
+//! `local_infile BYTES`.
 
 use crate::prelude::*;
+use mysql_wire::MariadbCapabilities;
 
 impl Shows<Column> for Server {
     fn show(it: &Column, out: &mut Out) {
@@ -15,11 +17,37 @@ impl Shows<Column> for Server {
     }
 }
 
+/// What both sides can do beyond MySQL's flags, at place 1.
+pub fn flags(request: &Request<'_>) -> MariadbCapabilities {
+    MariadbCapabilities::from_bits_retain(request.number(1))
+}
+
+impl Shows<ColumnCount> for Server {
+    fn show(it: &ColumnCount, out: &mut Out) {
+        fields!(out, it; count, metadata_follows, metadata_byte);
+        let made = ColumnCount::new(it.count());
+        let made = match it.metadata_byte() {
+            Some(byte) => made.with_metadata_follows(byte != 0),
+            None => made,
+        };
+        // (of the bytes that say that definitions follow, 1 is made)
+        let is_other = it.metadata_byte().is_some_and(|byte| byte > 1);
+        made_anew(out, if is_other { it } else { &made }, it.clone());
+        laws::this_column_count_round_trips(it)
+    }
+}
+
 impl Shows<LocalInfilePacket<'_>> for Server {
     fn show(it: &LocalInfilePacket<'_>, out: &mut Out) {
         fields!(out, it; file_name = file_name_ref; texts file_name_str = file_name_str);
         anew!(out, it; owned LocalInfilePacket::new(CowSlice::Borrowed(it.file_name_ref())));
         laws::this_local_infile_round_trips(it)
+    }
+}
+
+impl<'a> InPlace<LocalInfilePacket<'a>, LocalInfilePacketRef<'a>> for Server {
+    fn is(place: &LocalInfilePacketRef<'a>, owned: &LocalInfilePacket<'a>, _out: &mut Out) -> bool {
+        place.file_name() == owned.file_name_ref() && place.to_packet() == *owned
     }
 }
 

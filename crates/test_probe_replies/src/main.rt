@@ -20,8 +20,9 @@ struct Server;
 
 fn of_replies(out: &mut Out, request: &Request<'_>) -> bool {
     answers!(Server, out, request, request.word(0);
-        with () => "local_infile": LocalInfilePacket<'_>,
+        with column::flags(request) => "column_count": ColumnCount,
         both () => "column": Column, ColumnRef<'_>,
+            "local_infile": LocalInfilePacket<'_>, LocalInfilePacketRef<'_>,
             "sql_state": SqlState, SqlStateRef<'_>,
             "progress": ProgressReport<'_>, ProgressReportRef<'_>,
             "session_info": SessionStateInfo<'_>, SessionStateInfoRef<'_>,

@@ -5,6 +5,7 @@
 
 use crate::prelude::*;
 use crate::state::{Decoded, is_same_change, show_decoded, show_info};
+use mysql_wire::CapabilityFlags;
 use test_probe::places::compare;
 
 /// An OK packet of a kind.
@@ -91,6 +92,7 @@ impl<'a> InPlace<OkPacket<'a>, OkPacketRef<'a>> for Server {
             && changes.next().is_none()
             && fields!(place, owned; alike affected_rows, last_insert_id, status_flags, warnings, info with info_ref,
                 session_state_info with session_state_info_ref)
+            && place.to_ok_packet() == *owned
     }
 }
 
@@ -119,7 +121,26 @@ pub fn body(out: &mut Out, request: &Request<'_>) {
         counted!(alloc; CommonOkPacket::parse_body(request.capabilities(), &mut buf));
     if let Some(body) = taken(out, answer, buf.len() == bytes.len()) {
         show_body(&body, out);
-        out.show("rest", buf.len())
+        out.show("rest", buf.len());
+        let is_same = lies_in(bytes, request.capabilities(), &body, out);
+        out.or_other("borrowed", Ok(is_same))
+    }
+}
+
+/// Whether the body that stays in these bytes is the same.
+fn lies_in(
+    bytes: &[u8],
+    capabilities: CapabilityFlags,
+    body: &OkPacketBody<'_>,
+    out: &mut Out,
+) -> bool {
+    let alloc = out.alloc();
+    let mut buf = ParseBuf::new(alloc, bytes);
+    let place: Result<OkPacketBodyRef<'_>, Fault> =
+        counted!(alloc; CommonOkPacket::parse_body_ref(capabilities, &mut buf));
+    match place {
+        Ok(place) => place.to_body() == *body,
+        Err(_) => false,
     }
 }
 

@@ -82,17 +82,25 @@ impl Shows<SystemVariables<'_>> for Server {
 
 impl<'a> InPlace<Change<'a>, SessionStateChangeRef<'a>> for Server {
     fn is(place: &SessionStateChangeRef<'a>, owned: &Change<'a>, out: &mut Out) -> bool {
-        match (place.change(), owned) {
-            (Place::IsTracked(is_tracked), Change::IsTracked(it)) => is_tracked == it,
-            (Place::Schema(text), Change::Schema(it)) => *text == it.as_bytes(),
-            (Place::SystemVariables(all), Change::SystemVariables(it)) => Server::is(all, it, out),
-            (Place::Gtids(text), Change::Gtids(it)) => *text == it.as_bytes(),
-            (Place::TransactionCharacteristics(text), Change::TransactionCharacteristics(it)) => {
-                *text == it.as_bytes()
-            }
-            (Place::TransactionState(text), Change::TransactionState(it)) => *text == it.as_bytes(),
-            _ => false,
+        let alloc = out.alloc();
+        let made = counted!(alloc; place.to_session_state_change(alloc));
+        let is_made = or_lost(out, made).is_some_and(|made| made == *owned);
+        is_made && lies_there(place.change(), owned, out)
+    }
+}
+
+/// Whether a place tells what a change tells.
+fn lies_there<'a>(place: &Place<'a>, owned: &Change<'a>, out: &mut Out) -> bool {
+    match (place, owned) {
+        (Place::IsTracked(is_tracked), Change::IsTracked(it)) => is_tracked == it,
+        (Place::Schema(text), Change::Schema(it)) => *text == it.as_bytes(),
+        (Place::SystemVariables(all), Change::SystemVariables(it)) => Server::is(all, it, out),
+        (Place::Gtids(text), Change::Gtids(it)) => *text == it.as_bytes(),
+        (Place::TransactionCharacteristics(text), Change::TransactionCharacteristics(it)) => {
+            *text == it.as_bytes()
         }
+        (Place::TransactionState(text), Change::TransactionState(it)) => *text == it.as_bytes(),
+        _ => false,
     }
 }
 
@@ -129,7 +137,11 @@ impl<'a> InPlace<SystemVariables<'a>, SystemVariablesRef<'a>> for Server {
             let next = counted!(out.alloc(); value left.next());
             next.is_some_and(|variable| Server::is(&variable, owned, out))
         });
-        are_same && left.next().is_none()
+        let alloc = out.alloc();
+        let listed = counted!(alloc; place.to_system_variables(alloc));
+        are_same
+            && left.next().is_none()
+            && or_lost(out, listed).is_some_and(|listed| listed == *owned)
     }
 }
 

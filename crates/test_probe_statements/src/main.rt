@@ -25,8 +25,9 @@ struct Statements;
 
 fn of_statements(out: &mut Out, request: &Request<'_>) -> bool {
     answers!(Statements, out, request, request.word(0);
-        with () => "stmt": StmtPacket, "com_close": ComStmtClose, "com_execute_head": ComStmtExecuteHead, "com_long_data": ComStmtSendLongData<'_>,
+        with () => "stmt": StmtPacket, "com_close": ComStmtClose, "com_execute_head": ComStmtExecuteHead,
         with request.capabilities() => "stmt_metadata": StmtPacketWithMetadata,
+        both () => "com_long_data": ComStmtSendLongData<'_>, ComStmtSendLongDataRef<'_>,
         call "row_text": views::text::<ServerSide>, "row": views::binary::<ServerSide>,
             "row_text_client": views::text::<ClientSide>, "row_client": views::binary::<ClientSide>,
             "execute": execute::execute, "execute_many": execute::execute_many,

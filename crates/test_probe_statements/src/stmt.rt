@@ -40,6 +40,17 @@ impl Shows<ComStmtSendLongData<'_>> for Statements {
     }
 }
 
+impl InPlace<ComStmtSendLongData<'_>, ComStmtSendLongDataRef<'_>> for Statements {
+    fn is(
+        place: &ComStmtSendLongDataRef<'_>,
+        owned: &ComStmtSendLongData<'_>,
+        _out: &mut Out,
+    ) -> bool {
+        fields!(place, owned; alike stmt_id, param_index, data with data_ref)
+            && place.to_packet() == *owned
+    }
+}
+
 pub fn long_data(out: &mut Out, request: &Request<'_>) {
     let data = CowSlice::Borrowed(request.bytes.as_slice());
     let parameter = (request.number(2) & 0xffff) as u16;

@@ -4,13 +4,14 @@
 ghost use Rattle.std.specs.Prelude.{◌≡◌, List, ℕ, Bool};
 ghost use Rattle.mysql_wire.specs.Flags.{CapabilityFlags};
 ghost use Rattle.mysql_replies.specs.ErrPacket.{err_packet};
+ghost use Rattle.mysql_replies.specs.LocalInfile.{local_infile};
 ghost use Rattle.mysql_replies.specs.OkPacket.{ok_packet};
 ghost use Rattle.mysql_replies.specs.ProgressReport.{progress_report};
 ghost use Rattle.mysql_replies.specs.ServerError.{server_error};
 ghost use Rattle.mysql_replies.specs.SessionStateInfo.{session_state_info};
 ghost use Rattle.mysql_replies.specs.SqlState.{sql_state};
 
-use crate::ok_kind_ref::OkPacketRefKind;
+use crate::ok_kind::OkPacketRefKind;
 use mysql_wire::MyDeserialize;
 
 /// Errors and progress reports that stay in their packet are read as the others are.
@@ -19,6 +20,11 @@ pub fn borrowed_errors_read_errors()
     ensures error { (context : ℕ × Bool) (bytes : List ℕ) → (⟦<crate::server_error_ref::ServerErrorRef<'static> as MyDeserialize<'static>>⟧.form context).reads bytes ≡ (server_error.form context).reads bytes }
     ensures state { (bytes : List ℕ) → (⟦<crate::sql_state_ref::SqlStateRef<'static> as MyDeserialize<'static>>⟧.form tt).reads bytes ≡ (sql_state.form tt).reads bytes }
     ensures report { (bytes : List ℕ) → (⟦<crate::progress_report_ref::ProgressReportRef<'static> as MyDeserialize<'static>>⟧.form tt).reads bytes ≡ (progress_report.form tt).reads bytes }
+{}
+
+/// Requests for a local file that stay in their packet are read as the others are.
+pub fn borrowed_local_infiles_read_local_infiles()
+    ensures read { (bytes : List ℕ) → (⟦<crate::local_infile_ref::LocalInfilePacketRef<'static> as MyDeserialize<'static>>⟧.form tt).reads bytes ≡ (local_infile.form tt).reads bytes }
 {}
 
 /// OK packets of any kind that stay in their packet are read as the others are.

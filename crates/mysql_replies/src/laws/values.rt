@@ -5,17 +5,25 @@
 
 ghost use Rattle.std.specs.Prelude.{◌++◌, ◌<◌, ◌^◌, [], ℕ, List, is_some};
 ghost use Rattle.mysql_replies.specs.Column as spec;
-ghost use Rattle.mysql_wire.specs.Flags.{CapabilityFlags};
+ghost use Rattle.mysql_wire.specs.Flags.{CapabilityFlags, MariadbCapabilities};
+ghost use Rattle.mysql_replies.specs.ColumnCount.{column_count, says_follow, IsSaid};
 ghost use Rattle.mysql_replies.specs.ErrPacket.{err_packet, HasWidths, SuitsFlags};
 ghost use Rattle.mysql_replies.specs.LocalInfile.{local_infile};
+ghost use Rattle.mysql_replies.specs.declared.ok_kind.CommonOkPacket.{CommonOkPacket};
+ghost use Rattle.mysql_replies.specs.declared.ok_kind.ResultSetTerminator.{ResultSetTerminator};
+ghost use Rattle.mysql_replies.specs.OkKind.{common_ok_body, terminator_body};
+ghost use Rattle.mysql_replies.specs.OkPacket.{ok_packet};
+ghost use Rattle.mysql_replies.specs.OkPacketSent.{HasOkWidths, common_bytes, deserializer_of, terminator_bytes};
 ghost use Rattle.mysql_replies.specs.ProgressReport.{progress_report, progress};
 ghost use Rattle.mysql_replies.specs.ServerError.{server_error, error_code, sql_state_of};
 ghost use Rattle.mysql_replies.specs.SessionStateInfo.{session_state_info};
 ghost use Rattle.mysql_replies.specs.SqlState.{sql_state};
 
 use crate::column::Column;
+use crate::column_count::ColumnCount;
 use crate::err_packet::ErrPacket;
 use crate::local_infile::LocalInfilePacket;
+use crate::ok_packet::OkPacket;
 use crate::progress_report::ProgressReport;
 use crate::server_error::ServerError;
 use crate::session_state_info::SessionStateInfo;
@@ -34,6 +42,18 @@ pub fn this_column_round_trips(column: &Column)
     let _column_length = column.column_length();
     let _flags = column.flags();
     let _decimals = column.decimals();
+}
+
+/// What is written of this count of columns is read again, whatever follows, where a byte says whether definitions follow
+/// just where the flags ask for it.
+pub fn this_column_count_round_trips(columns: &ColumnCount)
+    ensures spelled { (capabilities : MariadbCapabilities) (rest : List ℕ) → IsSaid (says_follow capabilities) columns.now.metadata_follows
+        → (column_count.form capabilities).Spells columns.now (column_count.bytes columns.now ++ rest) rest }
+{
+    let _count = columns.count();
+    if let Some(byte) = columns.metadata_byte() {
+        let _byte = byte;
+    }
 }
 
 /// What is written of this request for a local file is read again, where nothing follows.
@@ -100,4 +120,31 @@ pub fn this_sql_state_round_trips(state: &SqlState)
     ensures spelled { (rest : List ℕ) → (sql_state.form tt).Spells state.now (sql_state.bytes state.now ++ rest) rest }
 {
     let _bytes = state.as_bytes();
+}
+
+/// An OK packet that was read as its kind under these flags is sent as the same.
+#[tactic(auto, using(crate::proofs::OkPacketRead::read_again))]
+pub fn this_ok_packet_round_trips(packet: &OkPacket<'_>)
+    ensures common { (c : CapabilityFlags) (bytes rest : List ℕ) → (ok_packet {T = CommonOkPacket} 0 (common_ok_body c)).Spells (deserializer_of packet.now) bytes rest
+        → (ok_packet {T = CommonOkPacket} 0 (common_ok_body c)).Spells (deserializer_of packet.now) (common_bytes c packet.now) [] }
+    ensures terminator { (c : CapabilityFlags) (bytes rest : List ℕ) → (ok_packet {T = ResultSetTerminator} 0xfe (terminator_body c)).Spells (deserializer_of packet.now) bytes rest
+        → (ok_packet {T = ResultSetTerminator} 0xfe (terminator_body c)).Spells (deserializer_of packet.now) (terminator_bytes c packet.now) [] }
+{
+    has_ok_widths(packet);
+}
+
+/// The numbers and lengths of an OK packet have their widths.
+fn has_ok_widths(packet: &OkPacket<'_>)
+    ensures value { HasOkWidths packet.now }
+{
+    let _affected_rows = packet.affected_rows();
+    let _last_insert_id = packet.last_insert_id();
+    let _status_flags = packet.status_flags();
+    let _warnings = packet.warnings();
+    if let Some(info) = packet.info_ref() {
+        let _len = info.len();
+    }
+    if let Some(state) = packet.session_state_info_ref() {
+        let _len = state.len();
+    }
 }

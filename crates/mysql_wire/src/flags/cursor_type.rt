@@ -1,7 +1,7 @@
 //! Which cursor a statement opens.
 
 ghost use Rattle.std.specs.Prelude.{[], ◌∷◌, codes};
-ghost use Rattle.mysql_wire.specs.FlagMasks.{CURSOR_TYPE_NO_CURSOR};
+ghost use Rattle.mysql_wire.specs.FlagMasks.{CURSOR_TYPE_NO_CURSOR, CURSOR_TYPE_READ_ONLY, CURSOR_TYPE_FOR_UPDATE, CURSOR_TYPE_SCROLLABLE, PARAMETER_COUNT_AVAILABLE};
 
 use crate::flags::{FlagNames, FlagWord, named_flags};
 use bitflags::Flag;
@@ -17,11 +17,24 @@ impl FlagWord<CursorNames, u8> {
     /// None.
     pub const CURSOR_TYPE_NO_CURSOR: CursorType = FlagWord(0, PhantomData);
 
-    const FLAGS: &'static [Flag<CursorType>] = named_flags!(CursorType: CURSOR_TYPE_NO_CURSOR);
+    /// Rows are fetched, and only read.
+    pub const CURSOR_TYPE_READ_ONLY: CursorType = FlagWord(1 << 0, PhantomData);
+
+    /// Rows are fetched to be changed.
+    pub const CURSOR_TYPE_FOR_UPDATE: CursorType = FlagWord(1 << 1, PhantomData);
+
+    /// Rows are fetched in any order.
+    pub const CURSOR_TYPE_SCROLLABLE: CursorType = FlagWord(1 << 2, PhantomData);
+
+    /// The count of parameters is sent (MySQL, under CLIENT_QUERY_ATTRIBUTES).
+    pub const PARAMETER_COUNT_AVAILABLE: CursorType = FlagWord(1 << 3, PhantomData);
+
+    const FLAGS: &'static [Flag<CursorType>] =
+        named_flags!(CursorType: CURSOR_TYPE_NO_CURSOR, CURSOR_TYPE_READ_ONLY, CURSOR_TYPE_FOR_UPDATE, CURSOR_TYPE_SCROLLABLE, PARAMETER_COUNT_AVAILABLE);
 }
 
 impl FlagNames<u8> for CursorNames {
-    ghost table = { (codes "CURSOR_TYPE_NO_CURSOR", CURSOR_TYPE_NO_CURSOR) ∷ [] };
+    ghost table = { (codes "CURSOR_TYPE_NO_CURSOR", CURSOR_TYPE_NO_CURSOR) ∷ (codes "CURSOR_TYPE_READ_ONLY", CURSOR_TYPE_READ_ONLY) ∷ (codes "CURSOR_TYPE_FOR_UPDATE", CURSOR_TYPE_FOR_UPDATE) ∷ (codes "CURSOR_TYPE_SCROLLABLE", CURSOR_TYPE_SCROLLABLE) ∷ (codes "PARAMETER_COUNT_AVAILABLE", PARAMETER_COUNT_AVAILABLE) ∷ [] };
 
     fn flags<'a>() -> &'a [Flag<CursorType>] {
         CursorType::FLAGS

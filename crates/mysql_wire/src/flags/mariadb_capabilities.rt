@@ -1,7 +1,7 @@
 //! What a MariaDB client and server can do.
 
 ghost use Rattle.std.specs.Prelude.{[], ◌∷◌, codes};
-ghost use Rattle.mysql_wire.specs.FlagMasks.{MARIADB_CLIENT_STMT_BULK_OPERATIONS, MARIADB_CLIENT_CACHE_METADATA};
+ghost use Rattle.mysql_wire.specs.FlagMasks.{MARIADB_CLIENT_PROGRESS, MARIADB_CLIENT_COM_MULTI, MARIADB_CLIENT_STMT_BULK_OPERATIONS, MARIADB_CLIENT_EXTENDED_METADATA, MARIADB_CLIENT_CACHE_METADATA, MARIADB_CLIENT_BULK_UNIT_RESULTS};
 
 use crate::flags::{FlagNames, FlagWord, named_flags};
 use bitflags::Flag;
@@ -14,21 +14,33 @@ pub struct MariadbCapabilityNames;
 pub type MariadbCapabilities = FlagWord<MariadbCapabilityNames, u32>;
 
 impl FlagWord<MariadbCapabilityNames, u32> {
+    /// The client takes progress reports.
+    pub const MARIADB_CLIENT_PROGRESS: MariadbCapabilities = FlagWord(1 << 0, PhantomData);
+
+    /// `COM_MULTI` is understood. No server offers it today.
+    pub const MARIADB_CLIENT_COM_MULTI: MariadbCapabilities = FlagWord(1 << 1, PhantomData);
+
     /// `COM_STMT_BULK_EXECUTE` is understood.
     pub const MARIADB_CLIENT_STMT_BULK_OPERATIONS: MariadbCapabilities = FlagWord(
         1 << 2,
         PhantomData,
     );
 
+    /// A column's definition names its type and its format.
+    pub const MARIADB_CLIENT_EXTENDED_METADATA: MariadbCapabilities = FlagWord(1 << 3, PhantomData);
+
     /// The columns of a result may be left out where the client has them.
     pub const MARIADB_CLIENT_CACHE_METADATA: MariadbCapabilities = FlagWord(1 << 4, PhantomData);
 
+    /// Each row of a bulk request may be answered with its own result.
+    pub const MARIADB_CLIENT_BULK_UNIT_RESULTS: MariadbCapabilities = FlagWord(1 << 5, PhantomData);
+
     const FLAGS: &'static [Flag<MariadbCapabilities>] =
-        named_flags!(MariadbCapabilities: MARIADB_CLIENT_STMT_BULK_OPERATIONS, MARIADB_CLIENT_CACHE_METADATA);
+        named_flags!(MariadbCapabilities: MARIADB_CLIENT_PROGRESS, MARIADB_CLIENT_COM_MULTI, MARIADB_CLIENT_STMT_BULK_OPERATIONS, MARIADB_CLIENT_EXTENDED_METADATA, MARIADB_CLIENT_CACHE_METADATA, MARIADB_CLIENT_BULK_UNIT_RESULTS);
 }
 
 impl FlagNames<u32> for MariadbCapabilityNames {
-    ghost table = { (codes "MARIADB_CLIENT_STMT_BULK_OPERATIONS", MARIADB_CLIENT_STMT_BULK_OPERATIONS) ∷ (codes "MARIADB_CLIENT_CACHE_METADATA", MARIADB_CLIENT_CACHE_METADATA) ∷ [] };
+    ghost table = { (codes "MARIADB_CLIENT_PROGRESS", MARIADB_CLIENT_PROGRESS) ∷ (codes "MARIADB_CLIENT_COM_MULTI", MARIADB_CLIENT_COM_MULTI) ∷ (codes "MARIADB_CLIENT_STMT_BULK_OPERATIONS", MARIADB_CLIENT_STMT_BULK_OPERATIONS) ∷ (codes "MARIADB_CLIENT_EXTENDED_METADATA", MARIADB_CLIENT_EXTENDED_METADATA) ∷ (codes "MARIADB_CLIENT_CACHE_METADATA", MARIADB_CLIENT_CACHE_METADATA) ∷ (codes "MARIADB_CLIENT_BULK_UNIT_RESULTS", MARIADB_CLIENT_BULK_UNIT_RESULTS) ∷ [] };
 
     fn flags<'a>() -> &'a [Flag<MariadbCapabilities>] {
         MariadbCapabilities::FLAGS

@@ -13,7 +13,7 @@ use crate::proto::{MyDeserialize, MySerialize};
 use crate::seq::SeqRepr;
 
 /// A number of varying length of up to 64 bits is read again, whatever follows.
-#[tactic(auto, using(crate::specs::VarlenAgain::varlen_round_trips))]
+#[tactic(auto, using(crate::specs::Varlen::Again::varlen_round_trips))]
 pub fn varlen_round_trips()
     ensures { (n : ℕ) → n < 2 ^ 64 → IsSpelling varlen n (varlen_bytes n) }
 {}

@@ -1,4 +1,4 @@
-use Rattle.std.proofs.Common.{◌≡◌, ◌+◌, ◌≤◌, ℕ, List, length, get_or, take, ap, ◌∙◌, arith}
+use Rattle.std.proofs.Common.{◌≡◌, ℕ, List, length, get_or, take, ap, ◌∙◌, arith}
 use Rattle.std.specs.List.{flat_map}
 use Rattle.std.proofs.lemmas.List.{length-append}
 use Rattle.std.proofs.lemmas.List.Folds.{length-flat_map-take}
@@ -11,5 +11,5 @@ append_cell-requires g c =
     let value = c.value-item.result in
     let fits = length-flat_map-take bytes c.args.values.now c.loop-value.value-index value c.loop-value-test.true in
     let this : length (bytes value) ≡ length (bytes (get_or c.args.values.now c.loop-value.value-index value)) = ap (λ x. length (bytes x)) c.value-item.is in
-    let so_far = ap length c.loop-value.invariant.items ∙ length-append c.args.out.now.items (flat_map bytes (take c.loop-value.value-index c.args.values.now)) in
-    omega (arith, fits, this, so_far, c.loop-value.bytes.ok, c.args.out.now.ok, c.loop-value.invariant.capacity, c.requires)
+    let so_far = ap length c.loop-value.invariant.items ∙ length-append (g.O.Buffer.held c.args.out.now) (flat_map bytes (take c.loop-value.value-index c.args.values.now)) in
+    omega (arith, fits, this, so_far, c.loop-value.invariant.capacity, c.requires)

@@ -3,7 +3,7 @@ use Rattle.std.specs.List.{list_all}
 use Rattle.mysql_bulk.specs.RequestWriter.{AddsAsBuilder, Holds, as_builder}
 use Rattle.mysql_values.specs.ValueRef.{ref_content}
 use Rattle.mysql_packets_c.specs.Bulk.{AreRows, RefusesAny, first_rows, row_at, waits}
-use Rattle.mysql_packets_c.specs.CValue.{is_value, values_contents}
+use Rattle.mysql_packets_c.specs.Value.{is_value, values_contents}
 use Rattle.mysql_packets_c.proofs.BulkRows.{all-taken, no-row, row-refused, row-taken, rows-next}
 use Rattle.mysql_packets_c.proofs.bulk.offer.Goals as goal
 
@@ -16,7 +16,7 @@ returns-in-Err-clause-refused c = λ other.
     let contents : map ref_content c.take_row.new.list.items ≡ values_contents c.row_after.result.now = search rules in
     let is = ap (map ref_content) c.as_slice.ensures.value ∙ contents ∙ ap values_contents c.row_after.ensures in
     let refused = row-refused s l.writer c.add_row_refs.new.self c.args.columns c.args.rows l.count c.args.values.now (map ref_content c.as_slice.result.now) c.in-Err.refusal
-    c.requires.whole c.loop-count-test.true l.invariant.are_rows whole l.invariant.holds l.invariant.settings (ap Some c.requires.arity) is c.in-Err.ensures (λ four. other (c.refusal_code.ensures ∙ four)) in
+    c.requires.whole c.loop-count-test.true l.invariant.are_rows whole l.invariant.holds l.invariant.settings (ap Some c.requires.arity) is c.in-Err.ensures.adds (λ four. other (c.refusal_code.ensures ∙ four)) in
     subst (λ code. RefusesAny s c.args.columns c.args.values.now code) (sym c.refusal_code.ensures) refused
 
 pub loop-count-preserved : goal.loop-count-preserved
@@ -28,7 +28,7 @@ loop-count-preserved c =
     let contents : map ref_content c.take_row.new.list.items ≡ values_contents c.row_after.result.now = search rules in
     let is = ap (map ref_content) c.as_slice.ensures.value ∙ contents ∙ ap values_contents c.row_after.ensures in
     let ok : c.add_row_refs.result ≡ Ok true = c.in-Ok-true.is ∙ ap (λ b. Ok b) c.in-Ok-true.field-0-test in
-    let adds = subst (λ r. AddsAsBuilder l.writer (map ref_content c.as_slice.result.now) r c.add_row_refs.new.self) ok c.add_row_refs.ensures in
+    let adds = subst (λ r. AddsAsBuilder l.writer (map ref_content c.as_slice.result.now) r c.add_row_refs.new.self) ok c.add_row_refs.ensures.adds in
     let next = row-taken s l.writer c.add_row_refs.new.self c.args.columns l.count c.args.values.now (map ref_content c.as_slice.result.now)
     l.invariant.holds l.invariant.settings (ap Some c.requires.arity) is adds in
     record {

@@ -1,7 +1,7 @@
 use Rattle.std.proofs.Common.{◌≡◌, ◌≤◌, true, map, take, vec_len, vec_capacity}
 use Rattle.std.specs.List.{list_all}
 use Rattle.mysql_values.specs.ValueRef.{ref_content}
-use Rattle.mysql_packets_c.specs.CValue.{is_value, values_contents}
+use Rattle.mysql_packets_c.specs.Value.{is_value, values_contents}
 use Rattle.mysql_packets_c.proofs.bulk.take_row.Given as goal
 
 abbrev pub invariant-loop-value : goal.invariant-loop-value

@@ -1,5 +1,5 @@
 use Rattle.std.proofs.Common.{◌≡◌, ◌+◌, ◌++◌, length, map, take}
-use Rattle.mysql_packets_c.specs.CValue.{value_content}
+use Rattle.mysql_packets_c.specs.Value.{value_content}
 use Rattle.mysql_packets_c.specs.Execution.{contents_of, types_of}
 use Rattle.mysql_packets_c.proofs.execution.fill_params.Given as goal
 

@@ -1,4 +1,4 @@
-use Rattle.std.proofs.Common.{rules, ◌≡◌, ℕ, subst, sym, ap}
+use Rattle.std.proofs.Common.{rules, ◌≡◌, subst}
 use Rattle.mysql_wire.specs.Flags.{CapabilityFlags}
 use Rattle.mysql_packets_c.specs.Code.{ReadsInto}
 use Rattle.mysql_packets_c.specs.OkPacket.{IsOk, common_ok, terminator}

@@ -1,9 +1,11 @@
-use Rattle.std.proofs.Common.{◌≡◌, ◌++◌, take, vec_capacity}
+use Rattle.std.proofs.Common.{◌≡◌, ◌++◌, ◌≤◌, take, drop}
 use Rattle.mysql_repl.proofs.id.append_bytes.Given as goal
 
 abbrev pub invariant-loop-byte : goal.invariant-loop-byte
-invariant-loop-byte l =
+invariant-loop-byte g l =
     record {
-      items : l.out.items ≡ l.initial.out.items ++ take l.byte-index l.fn.bytes;
-      capacity : vec_capacity l.initial.out ≡ vec_capacity l.out;
+      items : g.O.Buffer.held l.out ≡ g.O.Buffer.held l.initial.out ++ take l.byte-index l.fn.bytes;
+      after : g.O.Buffer.after l.out ≡ drop (l.byte-index) (g.O.Buffer.after l.initial.out);
+      capacity : g.O.Buffer.capacity l.initial.out ≤ g.O.Buffer.capacity l.out;
+      kept : g.O.Buffer.kept l.out ≡ g.O.Buffer.kept l.initial.out;
     }

@@ -1,4 +1,4 @@
-use Rattle.std.proofs.Common.{◌≡◌, ◌≢◌, [], arith, rules}
+use Rattle.std.proofs.Common.{arith}
 use Rattle.mysql_wire.proofs.ReadAll.{tail-shorter}
 use Rattle.mysql_session.proofs.VariablesRead.{one-further}
 use Rattle.mysql_session.proofs.system_variables_ref.read_variables.Goals as goal

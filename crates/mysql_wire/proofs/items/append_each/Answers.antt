@@ -10,5 +10,5 @@ append-requires g c =
     let value = c.value-item.result in
     let fits = length-flat_map-take bytes c.args.values.now c.loop-value.value-index value c.loop-value-test.true in
     let this : length (bytes value) ≡ length (bytes (get_or c.args.values.now c.loop-value.value-index value)) = ap (λ x. length (bytes x)) c.value-item.is in
-    let so_far = ap length c.loop-value.invariant.items ∙ length-append c.args.out.now.items (flat_map bytes (take c.loop-value.value-index c.args.values.now)) in
-    omega (arith, fits, this, so_far, c.loop-value.out.ok, c.args.out.now.ok, c.loop-value.invariant.capacity, c.requires)
+    let so_far = ap length c.loop-value.invariant.items ∙ length-append (g.O.Buffer.held c.args.out.now) (flat_map bytes (take c.loop-value.value-index c.args.values.now)) in
+    omega (arith, fits, this, so_far, c.loop-value.invariant.capacity, c.requires)

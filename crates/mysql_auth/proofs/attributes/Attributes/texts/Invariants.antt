@@ -1,7 +1,4 @@
-use Rattle.std.proofs.Common.{◌≡◌, [], map, take}
-use Rattle.std.specs.Cmp.Lexicographic.{pointwise}
-use Rattle.std.specs.Prelude.{nat_eq}
-use Rattle.indexmap.specs.IndexMap.{insert_all}
+use Rattle.std.proofs.Common.{◌≡◌, map, take}
 use Rattle.mysql_auth.specs.Attributes.{text_pair, lossy_pairs}
 use Rattle.mysql_auth.proofs.attributes.Attributes.texts.Given as goal
 

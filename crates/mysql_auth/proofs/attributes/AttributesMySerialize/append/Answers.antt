@@ -1,6 +1,5 @@
-use Rattle.std.proofs.Common.{length, ap, ◌∙◌, append_assoc, arith}
-use Rattle.std.proofs.lemmas.List.{length-append}
-use Rattle.std.specs.Vec.{vec_len, vec_capacity}
+use Rattle.std.proofs.Common.{length, drop, ap, sym, ◌+◌, ◌∙◌, append_assoc, arith}
+use Rattle.std.proofs.lemmas.List.{drop-drop, length-append}
 use Rattle.mysql_wire.specs.LenEnc.{lenenc_bytes, lenenc_string_bytes}
 use Rattle.mysql_auth.specs.Attributes.{attributes, pairs_bytes}
 use Rattle.mysql_auth.proofs.PairsWritten.{whole-count, string-length}
@@ -8,23 +7,33 @@ use Rattle.mysql_auth.proofs.attributes.AttributesMySerialize.append.Goals as go
 
 pub append-requires : goal.append-requires
 unfolding attributes
-append-requires c =
+append-requires g c =
     let content = pairs_bytes c.args.self.now in
-    let count = c.pairs_len.ensures.value ∙ whole-count content (vec_len c.args.out.now) (vec_capacity c.args.out.now) c.requires (omega (arith, c.args.out.now.small)) in
+    let count = c.pairs_len.ensures.value ∙ whole-count content (length (g.O.Buffer.held c.args.out.now)) (g.O.Buffer.capacity c.args.out.now) c.requires (omega (arith, c.is_in_memory.ensures)) in
     rw count (omega (arith, string-length content, c.requires))
 
 pub append_pairs-requires : goal.append_pairs-requires
 unfolding attributes
-append_pairs-requires c =
+append_pairs-requires g c =
     let content = pairs_bytes c.args.self.now in
-    let count = c.pairs_len.ensures.value ∙ whole-count content (vec_len c.args.out.now) (vec_capacity c.args.out.now) c.requires (omega (arith, c.args.out.now.small)) in
-    let counted = ap length c.append.ensures.items ∙ length-append c.args.out.now.items (lenenc_bytes c.pairs_len.result) in
+    let count = c.pairs_len.ensures.value ∙ whole-count content (length (g.O.Buffer.held c.args.out.now)) (g.O.Buffer.capacity c.args.out.now) c.requires (omega (arith, c.is_in_memory.ensures)) in
+    let counted = ap length c.append.ensures.items ∙ length-append (g.O.Buffer.held c.args.out.now) (lenenc_bytes c.pairs_len.result) in
     let long = ap (λ n. length (lenenc_bytes n)) count in
-    omega (arith, string-length content, c.requires, counted, long, c.append.new.out.ok, c.args.out.now.ok, c.append.ensures.capacity)
+    omega (arith, string-length content, c.requires, counted, long, c.append.ensures.capacity)
 
 pub returns-clause-items : goal.returns-clause-items
 unfolding attributes lenenc_string_bytes
-returns-clause-items c =
+returns-clause-items g c =
     let content = pairs_bytes c.args.self.now in
-    let count = c.pairs_len.ensures.value ∙ whole-count content (vec_len c.args.out.now) (vec_capacity c.args.out.now) c.requires (omega (arith, c.args.out.now.small)) in
-    rw (c.append_pairs.ensures.items, c.append.ensures.items, count) (append_assoc c.args.out.now.items (lenenc_bytes (length content)) content)
+    let count = c.pairs_len.ensures.value ∙ whole-count content (length (g.O.Buffer.held c.args.out.now)) (g.O.Buffer.capacity c.args.out.now) c.requires (omega (arith, c.is_in_memory.ensures)) in
+    rw (c.append_pairs.ensures.items, c.append.ensures.items, count) (append_assoc (g.O.Buffer.held c.args.out.now) (lenenc_bytes (length content)) content)
+
+pub returns-clause-after : goal.returns-clause-after
+unfolding attributes lenenc_string_bytes
+returns-clause-after g c =
+    let content = pairs_bytes c.args.self.now in
+    let was = g.O.Buffer.after c.args.out.now in
+    let count = c.pairs_len.ensures.value ∙ whole-count content (length (g.O.Buffer.held c.args.out.now)) (g.O.Buffer.capacity c.args.out.now) c.requires (omega (arith, c.is_in_memory.ensures)) in
+    let both = drop-drop (length content) (length (lenenc_bytes c.pairs_len.result)) was in
+    let long = ap (λ n. length (lenenc_bytes n) + length content) count ∙ sym (length-append (lenenc_bytes (length content)) content) in
+    c.append_pairs.ensures.after ∙ ap (drop (length content)) c.append.ensures.after ∙ both ∙ ap (λ n. drop n was) long

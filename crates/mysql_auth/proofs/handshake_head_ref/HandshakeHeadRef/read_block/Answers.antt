@@ -8,15 +8,15 @@ pub returns-clause-value : goal.returns-clause-value
 unfolding handshake_block raw coded
 returns-clause-value c =
     rw (
-      c.eat_u32.ensures.value,
+      c.take-connection_id.ensures.value,
       c.eat-scramble_1.ensures.value,
-      c.eat_skip-filler.ensures.value,
-      c.eat_u16.ensures.value,
-      c.eat_u8.ensures.value,
-      c.eat_u16-2.ensures.value,
-      c.eat_u16-3.ensures.value,
-      c.eat_u8-data_length.ensures.value,
-      c.eat_skip.ensures.value,
-      c.eat_u32-2.ensures.value,
+      c.take-filler.ensures.value,
+      c.take-capabilities_low.ensures.value,
+      c.take-default_collation.ensures.value,
+      c.take.ensures.value,
+      c.take-capabilities_high.ensures.value,
+      c.take-data_length.ensures.value,
+      c.take-2.ensures.value,
+      c.take-3.ensures.value,
     )
     (search rules)

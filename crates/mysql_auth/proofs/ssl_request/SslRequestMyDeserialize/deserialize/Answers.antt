@@ -9,5 +9,5 @@ use Rattle.mysql_auth.proofs.ssl_request.SslRequestMyDeserialize.deserialize.Goa
 pub returns-clause-value : goal.returns-clause-value
 unfolding ssl_request raw coded
 returns-clause-value c =
-    rw (c.in_ok-fields.ensures.value, c.eat_u32.ensures.value, c.eat_u32-2.ensures.value, c.eat_u8.ensures.value, c.eat_skip.ensures.value, c.eat_u32-3.ensures.value)
+    rw (c.in_ok-fields.ensures.value, c.take.ensures.value, c.take-2.ensures.value, c.take-3.ensures.value, c.take-4.ensures.value, c.take-5.ensures.value)
     (ended-as _ _ _ _ (omega (arith, block_length 32 _ _ _ c.in_ok-fields.ensures.value)) (search rules))

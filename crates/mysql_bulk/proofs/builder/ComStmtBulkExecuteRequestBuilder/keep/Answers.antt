@@ -1,14 +1,13 @@
-use Rattle.std.proofs.Common.{◌≡◌, ◌++◌, ◌∷◌, ℕ, List, [], refl, sym, ◌∙◌, ap, subst, sum_by, if◌then◌else◌}
+use Rattle.std.proofs.Common.{◌≡◌, ◌++◌, ◌∷◌, List, [], sym, ◌∙◌, ap, subst, sum_by, if◌then◌else◌}
 use Rattle.std.specs.Option.{option_copied}
 use Rattle.std.proofs.lemmas.List.{length-map}
 use Rattle.mysql_values.specs.declared.value.Value.{Value}
 use Rattle.mysql_values.specs.Value.{content_of, contents_of}
 use Rattle.mysql_values.specs.declared.param_type.ParamType.{ParamType}
-use Rattle.mysql_bulk.specs.ColumnTypes.{takes_types, types_after_row, MayFollow}
+use Rattle.mysql_bulk.specs.ColumnTypes.{types_after_row, MayFollow}
 use Rattle.mysql_bulk.specs.Row.{row_size}
 use Rattle.mysql_bulk.specs.Row.{contents_of_row}
-use Rattle.mysql_bulk.specs.Builder.{BuilderState, TakesArity, TakesRow, RowFits, after_row}
-use Rattle.mysql_bulk.proofs.RunSteps.{none_waits}
+use Rattle.mysql_bulk.specs.Builder.{BuilderState, TakesRow, RowFits, after_row}
 use Rattle.mysql_bulk.proofs.BuilderSteps.{stored_before, stored_next, state_next, held_after}
 use Rattle.mysql_bulk.proofs.builder.ComStmtBulkExecuteRequestBuilder.keep.Goals as goal
 

@@ -1,4 +1,4 @@
-use Rattle.std.proofs.Common.{Option, None, Some, Ok, Err, true, refl, subst, sym}
+use Rattle.std.proofs.Common.{Option, Some, Ok, Err, true, refl, subst, sym}
 use Rattle.std.specs.Global.{Vec}
 use Rattle.mysql_values.specs.declared.value.Value.{Value}
 use Rattle.mysql_bulk.specs.ParamsRun.{AcceptsParamsUntilFull, NextRequestOfParams}
@@ -17,22 +17,13 @@ returns-in-Err-clause-steps g c =
           c.if-self.false (subst F c.take.ensures.value c.in-Err.ensures.accepts)),
     )
 
-pub returns-in-Some-clause-steps : goal.returns-in-Some-clause-steps
-returns-in-Some-clause-steps g c =
+pub returns-in-Ok-clause-steps : goal.returns-in-Ok-clause-steps
+returns-in-Ok-clause-steps g c =
     let b = c.args.self.now.builder.now in
-    let F : Option (Vec Value) → Type 0 = λ o. AcceptsParamsUntilFull g.I.Iterator.next_gives b.names b o c.args.self.now.params (Ok c.in-Ok.last) c.fill_params.new.builder c.fill_params.new.params in (
+    let F : Option (Vec Value) → Type 0 = λ o. AcceptsParamsUntilFull g.I.Iterator.next_gives b.names b o c.args.self.now.params (Ok c.in-Ok.last) c.fill_params.new.builder c.fill_params.new.params in
+    let waiting = c.answer_waiting.ensures in (
       refl,
-      next_params_builds g.I.Iterator.next_gives b.names b c.fill_params.new.builder c.build_waiting.new.builder c.args.self.now.carried c.in-Ok.last c.args.self.now.params c.fill_params.new.params c.args.self.now.ended
-          c.is_none-self.result (Some c.in-Some.request) c.if-self.false (subst F c.take.ensures.value c.in-Ok.ensures.accepts)
-          (is_none_from c.in-Ok.last c.is_none-self.result c.is_none-self.ensures) c.in-Some.ensures,
-    )
-
-pub returns-in-None-clause-steps : goal.returns-in-None-clause-steps
-returns-in-None-clause-steps g c =
-    let b = c.args.self.now.builder.now in
-    let F : Option (Vec Value) → Type 0 = λ o. AcceptsParamsUntilFull g.I.Iterator.next_gives b.names b o c.args.self.now.params (Ok c.in-Ok.last) c.fill_params.new.builder c.fill_params.new.params in (
-      refl,
-      next_params_builds g.I.Iterator.next_gives b.names b c.fill_params.new.builder c.build_waiting.new.builder c.args.self.now.carried c.in-Ok.last c.args.self.now.params c.fill_params.new.params c.args.self.now.ended
-          c.is_none-self.result None c.if-self.false (subst F c.take.ensures.value c.in-Ok.ensures.accepts)
-          (is_none_from c.in-Ok.last c.is_none-self.result c.is_none-self.ensures) c.in-None.ensures,
+      rw (waiting.1) (next_params_builds g.I.Iterator.next_gives b.names b c.fill_params.new.builder c.answer_waiting.new.builder c.args.self.now.carried c.in-Ok.last c.args.self.now.params c.fill_params.new.params c.args.self.now.ended
+          c.is_none-self.result waiting.0 c.if-self.false (subst F c.take.ensures.value c.in-Ok.ensures.accepts)
+          (is_none_from c.in-Ok.last c.is_none-self.result c.is_none-self.ensures) waiting.2),
     )

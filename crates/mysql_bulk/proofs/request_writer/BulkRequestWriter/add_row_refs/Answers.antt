@@ -4,8 +4,8 @@ use Rattle.mysql_bulk.specs.RequestWriter.{WriterState, AddsAsBuilder}
 use Rattle.mysql_bulk.proofs.RequestWriter.{Spells, wrote_first, wrote_further}
 use Rattle.mysql_bulk.proofs.request_writer.BulkRequestWriter.add_row_refs.Goals as goal
 
-pub returns-then-write_first : goal.returns-then-write_first
-returns-then-write_first c =
+pub returns-then-write_first-clause-adds : goal.returns-then-write_first-clause-adds
+returns-then-write_first-clause-adds c =
     let w = c.args.self.now in
     let row = c.args.row.now in
     let long : length row ≡ length w.types = search rules in
@@ -13,8 +13,8 @@ returns-then-write_first c =
     let empty = sym (ap (λ (w : WriterState). w.count) c.self.view_is) ∙ c.if-self-eq0-2.true in
     subst (λ u. AddsAsBuilder w (map ref_content row) (Ok true) u) (sym c.if-write_first.ensures.written) (wrote_first w row c.in-Some.size long spells c.in-Some.ensures.1 c.in-Some.ensures.0 empty)
 
-pub returns-then-write_further : goal.returns-then-write_further
-returns-then-write_further c =
+pub returns-then-write_further-clause-adds : goal.returns-then-write_further-clause-adds
+returns-then-write_further-clause-adds c =
     let w = c.args.self.now in
     let row = c.args.row.now in
     let long : length row ≡ length w.types = search rules in

@@ -1,6 +1,6 @@
 use Rattle.std.proofs.Common.{◌≡◌, rules}
 use Rattle.mysql_replies.specs.SessionStateInfo as spec
-use Rattle.mysql_replies.proofs.AsSentRef.{front-spelled}
+use Rattle.mysql_replies.proofs.AsSent.{front-spelled}
 use Rattle.mysql_replies.proofs.session_state_info_ref.SessionStateInfoRef.decode.Goals as goal
 
 pub returns-clause-spelled : goal.returns-clause-spelled

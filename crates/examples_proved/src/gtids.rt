@@ -1,0 +1,20 @@
+//! A replica: its sets of GTIDs, as servers write them.
+
+ghost use Rattle.std.specs.Prelude.{◌≡◌, true, IfOk};
+ghost use Rattle.mysql_packets.specs.Sid.{intervals};
+ghost use Rattle.mysql_packets.specs.MergedIntervals.{NumbersFit};
+ghost use Rattle.mysql_packets.specs.ServerSids.{is_as_servers_write};
+
+use mysql_packets::laws::repl::merged_intervals_are_as_servers_write;
+use mysql_packets::packets::Sid;
+use std::alloc::{AllocError, Global};
+
+/// The transactions of a server in the form that servers write, where their numbers are from 1 to 2^63 - 2.
+pub fn merged<'a>(alloc: Global, sid: Sid<'a>) -> Result<Sid<'a>, AllocError>
+    requires fit { NumbersFit (intervals sid) }
+    ensures servers { IfOk result (λ s. is_as_servers_write s ≡ true) }
+{
+    let merged = sid.with_merged_intervals(alloc)?;
+    merged_intervals_are_as_servers_write();
+    Ok(merged)
+}

@@ -1,0 +1,16 @@
+//! Callers of the library with contracts of their own, which rest on its contracts and laws: `docs/CALLING.md` walks through one.
+#![tactic(auto)]
+
+mod client;
+mod gtids;
+mod load;
+mod proxy;
+mod report;
+mod server;
+
+pub use client::execution;
+pub use gtids::merged;
+pub use load::stream;
+pub use proxy::{forward, statement};
+pub use report::{sum_of_column, value_at};
+pub use server::resend;

@@ -1,0 +1,36 @@
+//! A proxy: what is no packet is named, and the bytes of a packet go on unchanged.
+
+ghost use Rattle.std.specs.Prelude.{◌≡◌, ◌++◌, List, ℕ, false, IfOk, IfErr, OnErr};
+ghost use Rattle.mysql_packets.specs.Reading.{Faults};
+ghost use Rattle.mysql_packets.specs.Stmt.{stmt};
+
+use mysql_packets::io::{FaultOf, ParseBuf};
+use mysql_packets::packets::StmtPacket;
+use mysql_packets::proto::MyDeserialize;
+use std::alloc::Global;
+
+/// The packet that answers a preparation; or the fault that the grammar has first.
+pub fn statement<'s>(alloc: Global, payload: &[u8]) -> Result<StmtPacket, FaultOf<'s>>
+    ensures packet { IfOk result (λ packet. (rest : List ℕ) × (stmt.form tt).Spells packet payload.now rest) }
+    ensures fault { IfErr result (λ fault. Faults false fault ((stmt.form tt).reads payload.now)) }
+{
+    let mut buf = ParseBuf::new(alloc, payload);
+    buf.parse(())
+}
+
+/// Appends a payload to what is sent on, unchanged, where it begins with a packet of that type.
+///
+/// Where it doesn't, or memory is refused, nothing is sent on.
+pub fn forward<'a, 's, T: MyDeserialize<'a> + Drop>(
+    alloc: Global,
+    ctx: T::Ctx,
+    payload: &'a [u8],
+    out: &mut Vec<u8>,
+) -> Result<(), FaultOf<'s>>
+    ensures sent { IfOk result (λ done. (packet : T) × (rest : List ℕ) × (T.form ctx).Spells packet payload.now rest × (out.new.items ≡ out.old.items ++ payload.now)) }
+    ensures nothing { OnErr result (out.new.items ≡ out.old.items) }
+{
+    let mut buf = ParseBuf::new(alloc, payload);
+    let _packet: T = buf.parse(ctx)?;
+    out.extend_from_slice(payload).map_err(|_| FaultOf::Memory)
+}

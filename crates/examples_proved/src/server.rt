@@ -1,0 +1,38 @@
+//! A proxy: an OK packet that was read is sent on as the same.
+
+ghost use Rattle.std.specs.Prelude.{◌≡◌, ◌++◌, [], List, ℕ, IfOk, OnErr};
+ghost use Rattle.mysql_packets.specs.OkBody.{common_ok_body};
+ghost use Rattle.mysql_packets.specs.OkPacket.{ok_packet};
+ghost use Rattle.mysql_packets.specs.OkPacketSent.{deserializer_of};
+ghost use Rattle.mysql_packets.specs.declared.packets.CommonOkPacket.{CommonOkPacket};
+ghost use Rattle.mysql_packets.specs.declared.packets.OkPacket.{OkPacket};
+
+use mysql_packets::constants::CapabilityFlags;
+use mysql_packets::io::{FaultOf, ParseBuf};
+use mysql_packets::laws::replies::values::this_ok_packet_round_trips;
+use mysql_packets::packets::{CommonOkPacket, OkPacketDeserializer, OkPacketSerializer};
+use mysql_packets::proto::MySerialize;
+use std::alloc::Global;
+
+/// Reads an OK packet, and sends it on: what is sent is read again as the packet that was read.
+///
+/// Where the payload is no OK packet, or memory is refused, nothing is sent.
+pub fn resend<'s>(
+    alloc: Global,
+    capabilities: CapabilityFlags,
+    payload: &[u8],
+    out: &mut Vec<u8>,
+) -> Result<(), FaultOf<'s>>
+    ensures same { IfOk result (λ _. (sent : List ℕ) × (rest : List ℕ) × (p : OkPacket)
+        × (ok_packet {T = CommonOkPacket} 0 (common_ok_body capabilities)).Spells (deserializer_of p) payload.now rest
+        × (out.new.items ≡ out.old.items ++ sent)
+        × (ok_packet {T = CommonOkPacket} 0 (common_ok_body capabilities)).Spells (deserializer_of p) sent []) }
+    ensures nothing { OnErr result (out.new.items ≡ out.old.items) }
+{
+    let mut buf = ParseBuf::new(alloc, payload);
+    let packet: OkPacketDeserializer<'_, CommonOkPacket> = buf.parse(capabilities)?;
+    let packet = packet.into_inner();
+    this_ok_packet_round_trips(&packet);
+    let sent = OkPacketSerializer::<CommonOkPacket>::new(&packet, capabilities);
+    sent.serialize(out).map_err(|_| FaultOf::Memory)
+}

@@ -1,0 +1,117 @@
+-- Pairs are read one after another, and are those that all of the bytes spell.
+use Rattle.std.proofs.Common.{◌≡◌, ◌≢◌, ℕ, List, [], ◌∷◌, ◌++◌, length, Option, None, Result, Ok, Err, Bool, true, false, if◌then◌else◌, nat_lt, refl, sym, ◌∙◌}
+use Rattle.std.specs.Result.{result_ok}
+use Rattle.mysql_wire.proofs.Counted.{with_front}
+use Rattle.mysql_wire.proofs.ReadAll.{one-more, no-more, one-fails}
+use Rattle.mysql_wire.specs.declared.fault.FaultOf.{FaultOf}
+use Rattle.mysql_wire.specs.declared.fault.FaultOf.TheVariants as fault
+use Rattle.mysql_wire.specs.declared.fault.FaultKind.{FaultKind}
+use Rattle.mysql_wire.specs.declared.fault.FaultKind.TheVariants as kind
+use Rattle.mysql_wire.specs.Many.{many}
+use Rattle.mysql_wire.specs.Reading.{Reading, Answers, Faults, then_read, done-value, done-rest}
+use Rattle.mysql_auth.specs.Attributes.{Attribute, merged, pairs}
+use Rattle.mysql_auth.specs.ConnectAttributesRef.{ArePairs, NextPair, pairs_in, pairs_read}
+use Rattle.mysql_auth.proofs.PairsRead.{f, opened, pair-shorter}
+
+-- ---- a loop that reads all of them
+
+-- what is read of the rest, after what was read before, is what is read of the bytes
+pub record Passed (rest bytes : List ℕ) : Type 0 where
+  pub before : List Attribute
+  pub same : with_front before ((many f).reads rest) ≡ (many f).reads bytes
+
+none-before : (read : Reading (List Attribute)) → with_front [] read ≡ read
+none-before (Ok x) = refl
+none-before (Err e) = refl
+
+pub passed-none : (bytes : List ℕ) → Passed bytes bytes
+passed-none bytes = record { before = []; same = none-before ((many f).reads bytes) }
+
+pub passed-one : (p : Attribute) (rest after bytes : List ℕ) → f.reads rest ≡ Ok (p, after) → Passed rest bytes → Passed after bytes
+passed-one p rest after bytes e so_far = record { before = so_far.before ++ p ∷ []; same = one-more f so_far.before rest _ so_far.same p after (pair-shorter p rest after e) e }
+
+abbrev Whole : Reading (List Attribute) → Type 0
+Whole read = read ≡ Ok (pairs_read read, [])
+
+whole : (before : List Attribute) (total : Reading (List Attribute)) → total ≡ Ok (before, []) → Whole total
+whole before total e = rw e refl
+
+pub passed-all : (rest bytes : List ℕ) → rest ≡ [] → Passed rest bytes → ArePairs bytes
+passed-all rest bytes none so_far = whole so_far.before _ (no-more f so_far.before rest _ so_far.same none)
+
+faults-all : (bytes : List ℕ) (k : FaultKind) → (many f).reads bytes ≡ Err k → pairs.reads bytes ≡ Err k
+faults-all bytes k e = rw e refl
+
+pub passed-fault : (e : FaultOf) (rest bytes : List ℕ) → rest ≢ [] → Faults false e (f.reads rest) → Passed rest bytes → Faults false e (pairs.reads bytes)
+passed-fault fault.Memory rest bytes some h so_far = absurd cc
+passed-fault fault.UnexpectedEof rest bytes some h so_far = faults-all bytes _ (one-fails f so_far.before rest _ so_far.same false fault.UnexpectedEof some h)
+passed-fault (fault.InvalidData text) rest bytes some h so_far = faults-all bytes _ (one-fails f so_far.before rest _ so_far.same false (fault.InvalidData text) some h)
+passed-fault (fault.InvalidInput text) rest bytes some h so_far = faults-all bytes _ (one-fails f so_far.before rest _ so_far.same false (fault.InvalidInput text) some h)
+
+-- ---- the first one and the others
+
+-- after one pair come others to the end
+abbrev Goes : Attribute → Reading (List Attribute) → Reading (List Attribute) → Type 0
+Goes p total after = Whole after × (pairs_read total ≡ p ∷ pairs_read after)
+
+joined : (p : Attribute) (total after : Reading (List Attribute)) → total ≡ then_read after (λ xs rest. Ok (p ∷ xs, rest)) → Whole total → Goes p total after
+joined p total (Ok x) e w =
+    let same : ◌≡◌ {A = Reading (List Attribute)} (Ok (p ∷ x.0, x.1)) (Ok (pairs_read total, [])) = sym e ∙ w in
+    let end : x.1 ≡ [] = done-rest (p ∷ x.0) (pairs_read total) x.1 [] same in
+    let items : p ∷ x.0 ≡ pairs_read total = done-value (p ∷ x.0) (pairs_read total) x.1 [] same in
+    (rw end refl, sym items)
+joined p total (Err k) e w =
+    let same : ◌≡◌ {A = Reading (List Attribute)} (Err k) (Ok (pairs_read total, [])) = sym e ∙ w in
+    absurd cc
+
+guarded : (p : Attribute) (b : Bool) (total after : Reading (List Attribute))
+    → total ≡ (if b then then_read after (λ xs rest. Ok (p ∷ xs, rest)) else Err kind.InvalidData) → Whole total → Goes p total after
+guarded p true total after e w = joined p total after e w
+guarded p false total after e w =
+    let same : ◌≡◌ {A = Reading (List Attribute)} (Err kind.InvalidData) (Ok (pairs_read total, [])) = sym e ∙ w in
+    absurd cc
+
+goes-on : (bytes after : List ℕ) (p : Attribute) → bytes ≢ [] → ArePairs bytes → f.reads bytes ≡ Ok (p, after) → Goes p ((many f).reads bytes) ((many f).reads after)
+goes-on bytes after p some w e =
+    guarded p (nat_lt (length after) (length bytes)) ((many f).reads bytes) ((many f).reads after) (rw (opened bytes some, e) refl) w
+
+-- none of them is refused
+refused : (bytes : List ℕ) (k : FaultKind) → bytes ≢ [] → ArePairs bytes → f.reads bytes ≡ Err k → ⊥
+refused bytes k some w h =
+    let e : (many f).reads bytes ≡ Err k = rw (opened bytes some, h) refl in
+    let same : ◌≡◌ {A = Reading (List Attribute)} (Err k) (Ok (pairs_in bytes, [])) = sym e ∙ w in
+    absurd cc
+
+none-refused : (bytes : List ℕ) (e : FaultOf) → bytes ≢ [] → ArePairs bytes → Faults {A = Attribute} false e (f.reads bytes) → ⊥
+none-refused bytes fault.Memory some w h = absurd cc
+none-refused bytes fault.UnexpectedEof some w h = refused bytes _ some w h
+none-refused bytes (fault.InvalidData text) some w h = refused bytes _ some w h
+none-refused bytes (fault.InvalidInput text) some w h = refused bytes _ some w h
+
+pub answered-next : (bytes after : List ℕ) (r : Result Attribute FaultOf) (next : Option Attribute) → next ≡ result_ok r → bytes ≢ [] → ArePairs bytes
+    → Answers false r after (f.reads bytes) → NextPair (pairs_in bytes) next (pairs_in after)
+answered-next bytes after (Ok p) next same some w h = rw same ((goes-on bytes after p some w h).1)
+answered-next bytes after (Err e) next same some w h = absurd (none-refused bytes e some w h)
+
+pub answered-others : (bytes after : List ℕ) (r : Result Attribute FaultOf) → bytes ≢ [] → ArePairs bytes → Answers false r after (f.reads bytes) → ArePairs after
+answered-others bytes after (Ok p) some w h = (goes-on bytes after p some w h).0
+answered-others bytes after (Err e) some w h = absurd (none-refused bytes e some w h)
+
+pub none-left : (bytes : List ℕ) → bytes ≡ [] → NextPair (pairs_in bytes) None (pairs_in bytes)
+unfolding many
+none-left bytes e = rw e (refl, refl)
+
+pub ruleset pairs_passed = (passed-none, passed-one, passed-all, passed-fault, pair-shorter, answered-next, answered-others, none-left)
+
+-- ---- each key once
+
+pub merged-read : (bytes : List ℕ) → ArePairs bytes → pairs.reads bytes ≡ Ok (merged (pairs_in bytes), [])
+merged-read bytes w = merged-of ((many f).reads bytes) (pairs_in bytes) w
+  where
+    merged-of : (read : Reading (List Attribute)) (found : List Attribute) → read ≡ Ok (found, []) → then_read read (λ ps rest. Ok (merged ps, rest)) ≡ Ok (merged found, [])
+    merged-of read found e = rw e refl
+
+pub merged-found : (bytes : List ℕ) (found : List Attribute) → ArePairs bytes → pairs.reads bytes ≡ Ok (found, []) → found ≡ merged (pairs_in bytes)
+merged-found bytes found w e = done-value found (merged (pairs_in bytes)) [] [] (sym e ∙ merged-read bytes w)
+
+pub ruleset pairs_merged = (merged-read, merged-found)

@@ -1,0 +1,31 @@
+-- The answer to a handshake, part by part.
+use Rattle.std.specs.Prelude.{List, Option, None}
+use Rattle.mysql_wire.specs.Form.{Form, ◌>>=◌, give}
+use Rattle.mysql_wire.specs.Null.{null_string}
+use Rattle.mysql_auth.specs.Attributes.{Attribute}
+use Rattle.mysql_auth.specs.HandshakeResponse.{scramble, database, plugin}
+use Rattle.mysql_auth.specs.SslRequest.{ssl_request}
+use Rattle.mysql_auth.specs.declared.handshake_response.HandshakeResponse.{HandshakeResponse}
+
+-- what stands in front of the attributes: the response without any
+abbrev pub before_attributes : Form HandshakeResponse
+before_attributes = do
+  head ← ssl_request.form tt
+  user ← null_string
+  scramble_buf ← (scramble head).form tt
+  db_name ← (database head).form tt
+  auth_plugin ← (plugin head).form tt
+  give (
+      record {
+        head = head;
+        user = user;
+        scramble_buf = scramble_buf;
+        db_name = db_name;
+        auth_plugin = auth_plugin;
+        connect_attributes = None;
+      }
+      )
+
+-- the same response with these attributes
+abbrev pub with_attributes : Option (List Attribute) → HandshakeResponse → HandshakeResponse
+with_attributes given p = record p { connect_attributes = given }

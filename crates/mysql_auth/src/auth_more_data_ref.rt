@@ -1,0 +1,67 @@
+//! Further data of an authentication, where it lies.
+#![tactic(auto, using(mysql_wire::proofs::Packets::packets), unfolding(crate::specs::AuthMoreData::auth_more_data))]
+
+ghost use Rattle.std.specs.Prelude.{◌≡◌};
+ghost use Rattle.mysql_auth.specs.AuthMoreData as spec;
+
+use crate::auth_more_data::{AuthMoreData, AuthMoreDataHeader};
+use mysql_wire::{AnyWidth, FaultOf, MyDeserialize, ParseBuf};
+use std::borrow::CowSlice;
+use std::marker::Model;
+
+/// What a server sends beyond its first challenge, whose data stays in the packet: an [`AuthMoreData`] for as long as the
+/// packet lives.
+///
+/// It is read of the same bytes with the same faults, and in a clause it is that packet.
+#[derive(Drop)]
+pub struct AuthMoreDataRef<'a> {
+    content: &'a [u8],
+}
+
+impl<'a> Model for AuthMoreDataRef<'a> {
+    ghost use Rattle.mysql_auth.specs.declared.auth_more_data.AuthMoreData.{AuthMoreData};
+    ghost use Rattle.mysql_auth.specs.AuthMoreData.{more_data_of};
+
+    ghost Value = { AuthMoreData };
+
+    ghost view = { λ p. more_data_of p.content.now };
+}
+
+impl<'a> AuthMoreDataRef<'a> {
+    /// The plugin's data.
+    #[inline]
+    pub fn data(&self) -> &'a [u8]
+        ensures value { result.now ≡ spec.more_data self.now }
+    {
+        self.content
+    }
+
+    /// The packet in its other form, which borrows the data still. It takes no memory.
+    #[inline]
+    pub fn to_packet(&self) -> AuthMoreData<'a>
+        ensures value { result ≡ self.now }
+    {
+        AuthMoreData::new(CowSlice::Borrowed(self.content))
+    }
+}
+
+/// As an [`AuthMoreData`].
+impl<'de> MyDeserialize<'de> for AuthMoreDataRef<'de> {
+    const SIZE: Option<usize> = None;
+
+    type Size = AnyWidth;
+
+    type Ctx = ();
+
+    ghost form = { spec.auth_more_data.form };
+
+    #[inline]
+    fn deserialize<'s>(_ctx: (), buf: &mut ParseBuf<'de>) -> Result<Self, FaultOf<'s>> {
+        let _header: AuthMoreDataHeader = buf.parse(())?;
+        Ok(AuthMoreDataRef {
+            content: buf.eat_all(),
+        })
+    }
+
+    ghost size_is = { λ _. spec.size-auth_more_data };
+}

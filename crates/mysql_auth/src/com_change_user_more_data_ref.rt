@@ -1,0 +1,172 @@
+//! What a change of a session's user tells besides, where it lies.
+#![tactic(auto, using(mysql_wire::proofs::Packets::packets))]
+
+ghost use Rattle.std.specs.Prelude.{true, false, ◌≡◌, IfOk, is_ok, None, option_map};
+ghost use Rattle.mysql_wire.specs.Reading.{Answers};
+ghost use Rattle.mysql_auth.specs.Attributes.{merged};
+ghost use Rattle.mysql_auth.specs.AuthPlugin.{plugin_of};
+ghost use Rattle.mysql_auth.specs.ComChangeUser as spec;
+ghost use Rattle.mysql_auth.specs.ComChangeUserRef.{before_attributes};
+ghost use Rattle.mysql_auth.specs.ConnectAttributesRef.{AnswersGiven};
+
+use crate::attributes::Attributes;
+use crate::auth_plugin::AuthPlugin;
+use crate::com_change_user_more_data::ComChangeUserMoreData;
+use crate::connect_attributes_ref::{ConnectAttributesRef, attributes_given, iter_given};
+use crate::plugin_name::{AuthPluginRef, name_given, plugin_given};
+use bitflags::Flags;
+use mysql_wire::{AnyWidth, CapabilityFlags, FaultOf, LeU16, MyDeserialize, ParseBuf, RawInt};
+use std::alloc::{AllocError, Global};
+use std::marker::Model;
+
+/// What a change of a session's user tells besides, whose texts stay in the packet: a [`ComChangeUserMoreData`] for as
+/// long as the packet lives, without memory.
+///
+/// It is read of the same bytes with the same faults but for `Memory`, and in a clause it is that data.
+#[derive(Drop)]
+pub struct ComChangeUserMoreDataRef<'a> {
+    character_set: RawInt<LeU16>,
+    auth_plugin: Option<AuthPluginRef<'a>>,
+    connect_attributes: Option<ConnectAttributesRef<'a>>,
+}
+
+impl<'a> Model for ComChangeUserMoreDataRef<'a> {
+    ghost use Rattle.std.specs.Prelude.{option_map};
+    ghost use Rattle.mysql_auth.specs.Attributes.{merged};
+    ghost use Rattle.mysql_auth.specs.declared.com_change_user_more_data.ComChangeUserMoreData.{ComChangeUserMoreData};
+
+    ghost Value = { ComChangeUserMoreData };
+
+    ghost view = { λ p. record {
+      character_set = p.character_set;
+      auth_plugin = p.auth_plugin;
+      connect_attributes = option_map merged p.connect_attributes;
+    } };
+}
+
+impl<'a> ComChangeUserMoreDataRef<'a> {
+    /// The number of the character set and collation.
+    #[inline]
+    pub fn character_set(&self) -> u16
+        ensures value { result ≡ spec.character_set self.now }
+    {
+        self.character_set.0
+    }
+
+    /// As [`HandshakeResponseRef::auth_plugin`](crate::HandshakeResponseRef::auth_plugin).
+    pub fn auth_plugin(&self) -> Option<AuthPlugin<'a>>
+        ensures value { result ≡ spec.auth_plugin self.now }
+    {
+        plugin_given(&self.auth_plugin)
+    }
+
+    /// As [`HandshakeResponseRef::auth_plugin_name`](crate::HandshakeResponseRef::auth_plugin_name).
+    #[inline]
+    pub fn auth_plugin_name(&self) -> Option<&'a [u8]>
+        ensures value { option_map (λ s. plugin_of s.now) result ≡ spec.auth_plugin self.now }
+    {
+        name_given(&self.auth_plugin)
+    }
+
+    /// As [`HandshakeResponseRef::connect_attributes`](crate::HandshakeResponseRef::connect_attributes).
+    #[inline]
+    pub fn connect_attributes(&self) -> Option<ConnectAttributesRef<'a>>
+        ensures value { option_map merged result ≡ spec.connect_attributes self.now }
+    {
+        iter_given(&self.connect_attributes)
+    }
+
+    /// The data in its other form, which borrows the texts still. It takes memory for the attributes alone.
+    pub fn to_more_data(&self, alloc: Global) -> Result<ComChangeUserMoreData<'a>, AllocError>
+        ensures value { IfOk result (λ more. more ≡ self.now) }
+        // Without attributes it takes no memory.
+        ensures no_attributes { spec.connect_attributes self.now ≡ None → is_ok result ≡ true }
+    {
+        Ok(self.with_attributes(attributes_given(&self.connect_attributes, alloc)?))
+    }
+
+    /// The data with these attributes in place of its own, in its other form.
+    #[inline]
+    pub(crate) fn with_attributes(
+        &self,
+        connect_attributes: Option<Attributes<'a>>,
+    ) -> ComChangeUserMoreData<'a>
+        ensures value { result ≡ spec.with_connect_attributes connect_attributes.entry self.now }
+    {
+        ComChangeUserMoreData {
+            character_set: RawInt::new(self.character_set.0),
+            auth_plugin: self.auth_plugin(),
+            connect_attributes,
+        }
+    }
+
+    /// The data without its attributes, which are left.
+    pub(crate) fn read_before_attributes<'s>(
+        capabilities: CapabilityFlags,
+        buf: &mut ParseBuf<'a>,
+    ) -> Result<ComChangeUserMoreDataRef<'a>, FaultOf<'s>>
+        ensures value { Answers false result buf.new ((before_attributes capabilities).reads buf.old) }
+    {
+        let character_set = buf.parse(())?;
+        let auth_plugin = read_plugin(capabilities, buf)?;
+        Ok(ComChangeUserMoreDataRef {
+            character_set,
+            auth_plugin,
+            connect_attributes: None,
+        })
+    }
+}
+
+/// The plugin, where the flags say that it is named.
+#[tactic(auto, unfolding(crate::specs::ComChangeUser::named_plugin))]
+fn read_plugin<'s, 'a>(
+    capabilities: CapabilityFlags,
+    buf: &mut ParseBuf<'a>,
+) -> Result<Option<AuthPluginRef<'a>>, FaultOf<'s>>
+    ensures value { Answers false result buf.new ((spec.named_plugin.form capabilities).reads buf.old) }
+{
+    if !capabilities.contains(CapabilityFlags::CLIENT_PLUGIN_AUTH) {
+        return Ok(None);
+    }
+    Ok(Some(AuthPluginRef::to_zero(buf)?))
+}
+
+/// The attributes, where the flags say that they are there.
+#[tactic(auto, unfolding(crate::specs::ComChangeUser::written_attributes))]
+fn read_attributes<'s, 'a>(
+    capabilities: CapabilityFlags,
+    buf: &mut ParseBuf<'a>,
+) -> Result<Option<ConnectAttributesRef<'a>>, FaultOf<'s>>
+    ensures value { AnswersGiven result buf.new ((spec.written_attributes.form capabilities).reads buf.old) }
+{
+    if !capabilities.contains(CapabilityFlags::CLIENT_CONNECT_ATTRS) {
+        return Ok(None);
+    }
+    Ok(Some(ConnectAttributesRef::read(buf)?))
+}
+
+/// As a [`ComChangeUserMoreData`], but for `Memory`: none is taken.
+impl<'de> MyDeserialize<'de> for ComChangeUserMoreDataRef<'de> {
+    const SIZE: Option<usize> = None;
+
+    type Size = AnyWidth;
+
+    /// What both sides can do.
+    type Ctx = CapabilityFlags;
+
+    ghost form = { spec.more_data.form };
+
+    #[tactic(auto, using(crate::proofs::ChangeRead::more_data_parts))]
+    fn deserialize<'s>(
+        capabilities: CapabilityFlags,
+        buf: &mut ParseBuf<'de>,
+    ) -> Result<Self, FaultOf<'s>> {
+        let mut rest = buf.rest();
+        let mut more = ComChangeUserMoreDataRef::read_before_attributes(capabilities, &mut rest)?;
+        more.connect_attributes = read_attributes(capabilities, &mut rest)?;
+        *buf = rest;
+        Ok(more)
+    }
+
+    ghost size_is = { spec.size-more_data };
+}

@@ -1,0 +1,162 @@
+//! The change of a session's user, where it lies.
+#![tactic(auto, using(mysql_wire::proofs::Packets::packets))]
+
+ghost use Rattle.std.specs.Prelude.{true, false, ◌≡◌, IfOk, is_ok, None, option_map};
+ghost use Rattle.mysql_wire.specs.Reading.{Answers};
+ghost use Rattle.mysql_auth.specs.ComChangeUser as spec;
+ghost use Rattle.mysql_auth.specs.ComChangeUserRef.{before_more_data};
+
+use crate::com_change_user::{ComChangeUser, ComChangeUserHeader};
+use crate::com_change_user_more_data::ComChangeUserMoreData;
+use crate::com_change_user_more_data_ref::ComChangeUserMoreDataRef;
+use crate::handshake_head_ref::bytes_of;
+use mysql_wire::{
+    AnyWidth, BytesRepr, CapabilityFlags, ConstU8, FaultOf, MyDeserialize, NullBytes, ParseBuf,
+    RawBytes, U8Bytes,
+};
+use std::alloc::{AllocError, Global};
+use std::borrow::CowSlice;
+use std::marker::Model;
+
+/// The change of a session's user, whose texts stay in the packet: a [`ComChangeUser`] for as long as the packet lives,
+/// without memory.
+///
+/// It is read of the same bytes with the same faults but for `Memory`, and in a clause it is that change.
+#[derive(Drop)]
+pub struct ComChangeUserRef<'a> {
+    user: ParseBuf<'a>,
+    auth_plugin_data: ParseBuf<'a>,
+    database: ParseBuf<'a>,
+    more_data: Option<ComChangeUserMoreDataRef<'a>>,
+}
+
+impl<'a> Model for ComChangeUserRef<'a> {
+    ghost use Rattle.mysql_auth.specs.declared.com_change_user.ComChangeUser.{ComChangeUser};
+    ghost use Rattle.mysql_auth.specs.ComChangeUser.{change_of};
+
+    ghost Value = { ComChangeUser };
+
+    ghost view = { λ p. change_of p.user p.auth_plugin_data p.database p.more_data };
+}
+
+impl<'a> ComChangeUserRef<'a> {
+    /// The user's name.
+    #[inline]
+    pub fn user(&self) -> &'a [u8]
+        ensures value { result.now ≡ spec.user self.now }
+    {
+        bytes_of(&self.user)
+    }
+
+    /// What the client answers to the scramble.
+    #[inline]
+    pub fn auth_plugin_data(&self) -> &'a [u8]
+        ensures value { result.now ≡ spec.auth_plugin_data self.now }
+    {
+        bytes_of(&self.auth_plugin_data)
+    }
+
+    /// The database's name, which may be empty.
+    #[inline]
+    pub fn database(&self) -> &'a [u8]
+        ensures value { result.now ≡ spec.database self.now }
+    {
+        bytes_of(&self.database)
+    }
+
+    /// More data, where it was sent.
+    #[inline]
+    pub fn more_data(&self) -> Option<&ComChangeUserMoreDataRef<'a>>
+        ensures value { option_map (λ more. more.now) result ≡ spec.more_data_in self.now }
+    {
+        self.more_data.as_ref()
+    }
+
+    /// The change with this in place of its own more data, in its other form.
+    #[inline]
+    pub(crate) fn with_more_data(
+        &self,
+        more_data: Option<ComChangeUserMoreData<'a>>,
+    ) -> ComChangeUser<'a>
+        ensures value { result ≡ spec.with_more_data more_data.entry self.now }
+    {
+        ComChangeUser {
+            header: ConstU8::new(),
+            user: RawBytes::new(CowSlice::Borrowed(self.user())),
+            auth_plugin_data: RawBytes::new(CowSlice::Borrowed(self.auth_plugin_data())),
+            database: RawBytes::new(CowSlice::Borrowed(self.database())),
+            more_data,
+        }
+    }
+
+    /// The change in its other form, which borrows the texts still. It takes memory for the attributes alone.
+    pub fn to_change(&self, alloc: Global) -> Result<ComChangeUser<'a>, AllocError>
+        ensures value { IfOk result (λ change. change ≡ self.now) }
+        // Without more data it takes no memory.
+        ensures no_more_data { spec.more_data_in self.now ≡ None → is_ok result ≡ true }
+    {
+        let more_data = match &self.more_data {
+            Some(more) => Some(more.to_more_data(alloc)?),
+            None => None,
+        };
+        Ok(self.with_more_data(more_data))
+    }
+
+    /// The change without its more data, which is left.
+    pub(crate) fn read_before_more_data<'s>(
+        buf: &mut ParseBuf<'a>,
+    ) -> Result<ComChangeUserRef<'a>, FaultOf<'s>>
+        ensures value { Answers false result buf.new (before_more_data.reads buf.old) }
+    {
+        let _header: ComChangeUserHeader = buf.parse(())?;
+        let user = <NullBytes as BytesRepr>::deserialize((), buf)?;
+        let auth_plugin_data = <U8Bytes as BytesRepr>::deserialize((), buf)?;
+        let database = <NullBytes as BytesRepr>::deserialize((), buf)?;
+        Ok(ComChangeUserRef {
+            user,
+            auth_plugin_data,
+            database,
+            more_data: None,
+        })
+    }
+}
+
+/// More data, where bytes are left.
+#[tactic(auto, unfolding(crate::specs::ComChangeUser::last_part))]
+fn read_more_data<'s, 'a>(
+    capabilities: CapabilityFlags,
+    buf: &mut ParseBuf<'a>,
+) -> Result<Option<ComChangeUserMoreDataRef<'a>>, FaultOf<'s>>
+    ensures value { Answers false result buf.new ((spec.last_part.form capabilities).reads buf.old) }
+{
+    if buf.is_empty() {
+        return Ok(None);
+    }
+    Ok(Some(buf.parse(capabilities)?))
+}
+
+/// As a [`ComChangeUser`], but for `Memory`: none is taken.
+impl<'de> MyDeserialize<'de> for ComChangeUserRef<'de> {
+    const SIZE: Option<usize> = None;
+
+    type Size = AnyWidth;
+
+    /// What both sides can do.
+    type Ctx = CapabilityFlags;
+
+    ghost form = { spec.change_user.form };
+
+    #[tactic(auto, using(crate::proofs::ChangeRead::change_parts))]
+    fn deserialize<'s>(
+        capabilities: CapabilityFlags,
+        buf: &mut ParseBuf<'de>,
+    ) -> Result<Self, FaultOf<'s>> {
+        let mut rest = buf.rest();
+        let mut change = ComChangeUserRef::read_before_more_data(&mut rest)?;
+        change.more_data = read_more_data(capabilities, &mut rest)?;
+        *buf = rest;
+        Ok(change)
+    }
+
+    ghost size_is = { spec.size-change_user };
+}

@@ -1,0 +1,63 @@
+//! One attribute of a connection, where it lies.
+#![tactic(auto, using(mysql_wire::proofs::Packets::packets), unfolding(crate::specs::Attributes::attribute))]
+
+ghost use Rattle.std.specs.Prelude.{◌≡◌, refl};
+ghost use Rattle.mysql_auth.specs.Attributes as spec;
+
+use mysql_wire::{AnyWidth, BytesRepr, FaultOf, LenEnc, MyDeserialize, ParseBuf};
+use std::marker::Model;
+
+/// A key with its value, which stay in the packet: each a length-encoded string.
+///
+/// In a clause it is the pair of their bytes.
+#[derive(Drop)]
+pub struct ConnectAttributeRef<'a> {
+    key: &'a [u8],
+    value: &'a [u8],
+}
+
+impl<'a> Model for ConnectAttributeRef<'a> {
+    ghost use Rattle.std.specs.Prelude.{ℕ, List};
+
+    ghost Value = { List ℕ × List ℕ };
+
+    ghost view = { λ p. (p.key.now, p.value.now) };
+}
+
+impl<'a> ConnectAttributeRef<'a> {
+    /// The bytes of the key.
+    #[inline]
+    pub fn key(&self) -> &'a [u8]
+        ensures value { result.now ≡ self.now.0 }
+    {
+        self.key
+    }
+
+    /// The bytes of the value.
+    #[inline]
+    pub fn value(&self) -> &'a [u8]
+        ensures value { result.now ≡ self.now.1 }
+    {
+        self.value
+    }
+}
+
+impl<'de> MyDeserialize<'de> for ConnectAttributeRef<'de> {
+    const SIZE: Option<usize> = None;
+
+    type Size = AnyWidth;
+
+    type Ctx = ();
+
+    ghost form = { spec.attribute.form };
+
+    fn deserialize<'s>(_ctx: (), buf: &mut ParseBuf<'de>) -> Result<Self, FaultOf<'s>> {
+        let mut rest = buf.rest();
+        let key = <LenEnc as BytesRepr>::deserialize((), &mut rest)?.eat_all();
+        let value = <LenEnc as BytesRepr>::deserialize((), &mut rest)?.eat_all();
+        *buf = rest;
+        Ok(ConnectAttributeRef { key, value })
+    }
+
+    ghost size_is = { λ _. spec.size-attribute };
+}

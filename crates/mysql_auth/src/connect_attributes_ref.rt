@@ -1,0 +1,149 @@
+//! Attributes of a connection, where they lie.
+#![tactic(auto, using(crate::proofs::PairsPassed::pairs_passed))]
+
+ghost use Rattle.std.specs.Prelude.{true, false, ◌≡◌, List, None, IfErr, IfOk, OnOk, is_ok, option_map};
+ghost use Rattle.mysql_wire.specs.Reading.{Faults};
+ghost use Rattle.mysql_auth.specs.Attributes as spec;
+ghost use Rattle.mysql_auth.specs.Attributes.{Attribute};
+ghost use Rattle.mysql_auth.specs.ConnectAttributesRef.{AnswersPairs, ArePairs, NextPair, pairs_in, sent_pairs};
+
+use crate::attributes::{Attributes, read_pairs};
+use crate::connect_attribute_ref::ConnectAttributeRef;
+use mysql_wire::{BytesRepr, Fault, FaultOf, LenEnc, ParseBuf};
+use std::alloc::{AllocError, Global};
+use std::marker::Model;
+
+/// What a client tells of itself, where it lies: keys with their values, one after another as they were sent, without
+/// memory.
+///
+/// A key may come again: its last value counts, at its first place. All pairs were read before the first one is given, so
+/// none is refused. In a clause it is the list of the pairs that are left.
+#[derive(Drop)]
+pub struct ConnectAttributesRef<'a> {
+    pairs: ParseBuf<'a>,
+}
+
+impl<'a> Model for ConnectAttributesRef<'a> {
+    ghost use Rattle.std.specs.Prelude.{List};
+    ghost use Rattle.mysql_auth.specs.Attributes.{Attribute};
+    ghost use Rattle.mysql_auth.specs.ConnectAttributesRef.{ArePairs, pairs_in};
+
+    ghost Value = { List Attribute };
+
+    ghost view = { λ a. pairs_in a.pairs };
+
+    ghost invariant = { λ a. ArePairs a.pairs };
+}
+
+/// Reads pairs to the end, and keeps none.
+fn check_pairs<'s>(pairs: ParseBuf<'_>) -> Result<(), FaultOf<'s>>
+    ensures ok { OnOk result (ArePairs pairs.entry) }
+    ensures err { IfErr result (λ e. Faults {A = List Attribute} false e (spec.pairs.reads pairs.entry)) }
+{
+    let mut rest = pairs;
+    while !rest.is_empty() {
+        let _pair: ConnectAttributeRef<'_> = rest.parse(())?;
+    }
+    Ok(())
+}
+
+/// Takes the first pair off the front, where one is left.
+fn next_pair<'a>(pairs: &mut ParseBuf<'a>) -> Option<ConnectAttributeRef<'a>>
+    requires { ArePairs pairs.old }
+    ensures next { NextPair (pairs_in pairs.old) result (pairs_in pairs.new) }
+    ensures others { ArePairs pairs.new }
+{
+    if pairs.is_empty() {
+        return None;
+    }
+    let pair: Result<ConnectAttributeRef<'a>, Fault> = pairs.parse(());
+    pair.ok()
+}
+
+impl<'a> ConnectAttributesRef<'a> {
+    /// Reads the attributes after the length of all.
+    #[tactic(auto, using(mysql_wire::proofs::Packets::packets, crate::proofs::PairsPassed::pairs_merged), unfolding(crate::specs::Attributes::attributes))]
+    pub(crate) fn read<'s>(buf: &mut ParseBuf<'a>) -> Result<ConnectAttributesRef<'a>, FaultOf<'s>>
+        ensures value { AnswersPairs result buf.new ((spec.attributes.form tt).reads buf.old) }
+    {
+        let pairs = <LenEnc as BytesRepr>::deserialize((), buf)?;
+        check_pairs(pairs.rest())?;
+        Ok(ConnectAttributesRef { pairs })
+    }
+
+    /// The same pairs once more.
+    #[inline]
+    pub fn iter(&self) -> ConnectAttributesRef<'a>
+        ensures value { result ≡ self.now }
+    {
+        ConnectAttributesRef {
+            pairs: self.pairs.rest(),
+        }
+    }
+
+    /// The bytes of the pairs that are left: each key and each value a length-encoded string.
+    #[inline]
+    pub fn as_bytes(&self) -> &'a [u8]
+        ensures value { pairs_in result.now ≡ self.now }
+    {
+        let mut pairs = self.pairs.rest();
+        pairs.eat_all()
+    }
+
+    /// The attributes in their other form, which borrows the texts still. It takes memory for the list of them.
+    #[tactic(auto, using(crate::proofs::PairsPassed::pairs_merged))]
+    pub(crate) fn to_attributes(&self, alloc: Global) -> Result<Attributes<'a>, AllocError>
+        ensures value { IfOk result (λ attributes. attributes ≡ spec.merged self.now) }
+    {
+        let bytes = self.as_bytes();
+        match read_pairs(ParseBuf::new(alloc, bytes)) {
+            Ok(attributes) => Ok(attributes),
+            Err(_) => Err(AllocError),
+        }
+    }
+}
+
+/// The same pairs once more, where attributes are given.
+#[inline]
+pub(crate) fn iter_given<'a>(
+    attributes: &Option<ConnectAttributesRef<'a>>,
+) -> Option<ConnectAttributesRef<'a>>
+    ensures value { result ≡ attributes.now }
+{
+    match attributes {
+        Some(attributes) => Some(attributes.iter()),
+        None => None,
+    }
+}
+
+/// The attributes in their other form, where they are given. Without them it takes no memory.
+#[inline]
+pub(crate) fn attributes_given<'a>(
+    attributes: &Option<ConnectAttributesRef<'a>>,
+    alloc: Global,
+) -> Result<Option<Attributes<'a>>, AllocError>
+    ensures value { IfOk result (λ given. given ≡ option_map spec.merged attributes.now) }
+    ensures none { attributes.now ≡ None → is_ok result ≡ true }
+{
+    match attributes {
+        Some(attributes) => Ok(Some(attributes.to_attributes(alloc)?)),
+        None => Ok(None),
+    }
+}
+
+impl<'a> Iterator for ConnectAttributesRef<'a> {
+    type Item = ConnectAttributeRef<'a>;
+
+    ghost use Rattle.std.specs.Prelude.{length, ⊤};
+    ghost use Rattle.std.specs.Iterator.{at_most};
+
+    ghost can_next = { λ _. ⊤ };
+
+    ghost next_gives = { NextPair };
+
+    ghost remaining = { λ left. at_most (length left) };
+
+    fn next(&mut self) -> Option<ConnectAttributeRef<'a>> {
+        next_pair(&mut self.pairs)
+    }
+}

@@ -1,0 +1,281 @@
+//! The answer to a handshake, where it lies.
+#![tactic(auto, using(mysql_wire::proofs::Packets::packets))]
+
+ghost use Rattle.std.specs.Prelude.{true, false, ◌≡◌, IfOk, is_ok, None, Ok, option_map};
+ghost use Rattle.mysql_wire.specs.Reading.{Answers};
+ghost use Rattle.mysql_auth.specs.Attributes.{merged};
+ghost use Rattle.mysql_auth.specs.AuthPlugin.{plugin_of};
+ghost use Rattle.mysql_auth.specs.ConnectAttributesRef.{AnswersGiven};
+ghost use Rattle.mysql_auth.specs.HandshakeResponse as spec;
+ghost use Rattle.mysql_auth.specs.HandshakeResponseRef.{before_attributes, with_attributes};
+
+use crate::attributes::Attributes;
+use crate::auth_plugin::AuthPlugin;
+use crate::connect_attributes_ref::{ConnectAttributesRef, attributes_given, iter_given};
+use crate::handshake_head_ref::bytes_of;
+use crate::handshake_response::HandshakeResponse;
+use crate::plugin_name::{AuthPluginRef, name_given, plugin_given};
+use crate::ssl_request::SslRequest;
+use bitflags::Flags;
+use mysql_wire::{
+    AnyWidth, BytesRepr, CapabilityFlags, FaultOf, LenEnc, MariadbCapabilities, MyDeserialize,
+    NullBytes, ParseBuf, RawBytes, U8Bytes,
+};
+use std::alloc::{AllocError, Global};
+use std::borrow::CowSlice;
+use std::marker::Model;
+
+/// A client's answer to a handshake, whose texts stay in the packet: a [`HandshakeResponse`] for as long as the packet
+/// lives, without memory.
+///
+/// It is read of the same bytes with the same faults but for `Memory`, and in a clause it is that response.
+#[derive(Drop)]
+pub struct HandshakeResponseRef<'a> {
+    pub(crate) head: SslRequest,
+    user: ParseBuf<'a>,
+    scramble_buf: ParseBuf<'a>,
+    db_name: Option<ParseBuf<'a>>,
+    auth_plugin: Option<AuthPluginRef<'a>>,
+    connect_attributes: Option<ConnectAttributesRef<'a>>,
+}
+
+impl<'a> Model for HandshakeResponseRef<'a> {
+    ghost use Rattle.std.specs.Prelude.{option_map};
+    ghost use Rattle.mysql_auth.specs.Attributes.{merged};
+    ghost use Rattle.mysql_auth.specs.declared.handshake_response.HandshakeResponse.{HandshakeResponse};
+
+    ghost Value = { HandshakeResponse };
+
+    ghost view = { λ p. record {
+      head = p.head;
+      user = p.user;
+      scramble_buf = p.scramble_buf;
+      db_name = p.db_name;
+      auth_plugin = p.auth_plugin;
+      connect_attributes = option_map merged p.connect_attributes;
+    } };
+}
+
+impl<'a> HandshakeResponseRef<'a> {
+    /// As [`HandshakeResponse::capabilities`].
+    #[inline]
+    pub fn capabilities(&self) -> CapabilityFlags
+        ensures value { result ≡ spec.capabilities self.now }
+    {
+        self.head.capabilities()
+    }
+
+    /// The largest packet that the client takes, in bytes.
+    #[inline]
+    pub fn max_packet_size(&self) -> u32
+        ensures value { result ≡ spec.max_packet_size self.now }
+    {
+        self.head.max_packet_size()
+    }
+
+    /// As [`HandshakeResponse::collation`].
+    #[inline]
+    pub fn collation(&self) -> u8
+        ensures value { result ≡ spec.collation self.now }
+    {
+        self.head.character_set()
+    }
+
+    /// As [`HandshakeResponse::mariadb_ext_capabilities`].
+    #[inline]
+    pub fn mariadb_ext_capabilities(&self) -> MariadbCapabilities
+        ensures value { result ≡ spec.mariadb_ext_capabilities self.now }
+    {
+        self.head.mariadb_capabilities()
+    }
+
+    /// As [`HandshakeResponse::user`].
+    #[inline]
+    pub fn user(&self) -> &'a [u8]
+        ensures value { result.now ≡ spec.user self.now }
+    {
+        bytes_of(&self.user)
+    }
+
+    /// As [`HandshakeResponse::scramble_buf`].
+    #[inline]
+    pub fn scramble_buf(&self) -> &'a [u8]
+        ensures value { result.now ≡ spec.scramble_buf self.now }
+    {
+        bytes_of(&self.scramble_buf)
+    }
+
+    /// As [`HandshakeResponse::db_name`].
+    #[inline]
+    pub fn db_name(&self) -> Option<&'a [u8]>
+        ensures value { option_map (λ s. s.now) result ≡ spec.db_name self.now }
+    {
+        match &self.db_name {
+            Some(name) => Some(bytes_of(name)),
+            None => None,
+        }
+    }
+
+    /// The name of the plugin that made the answer, where one was sent.
+    #[inline]
+    pub fn auth_plugin_name(&self) -> Option<&'a [u8]>
+        ensures value { option_map (λ s. plugin_of s.now) result ≡ spec.auth_plugin self.now }
+    {
+        name_given(&self.auth_plugin)
+    }
+
+    /// As [`HandshakeResponse::auth_plugin`].
+    pub fn auth_plugin(&self) -> Option<AuthPlugin<'a>>
+        ensures value { result ≡ spec.auth_plugin self.now }
+    {
+        plugin_given(&self.auth_plugin)
+    }
+
+    /// The attributes, where they were sent: each as it was sent. Where a key comes again, its last value counts.
+    #[inline]
+    pub fn connect_attributes(&self) -> Option<ConnectAttributesRef<'a>>
+        ensures value { option_map merged result ≡ spec.connect_attributes self.now }
+    {
+        iter_given(&self.connect_attributes)
+    }
+
+    /// The response with these attributes in place of its own, in its other form.
+    #[inline]
+    pub(crate) fn with_attributes(
+        &self,
+        connect_attributes: Option<Attributes<'a>>,
+    ) -> HandshakeResponse<'a>
+        ensures value { result ≡ with_attributes connect_attributes.entry self.now }
+    {
+        HandshakeResponse {
+            head: self.head.again(),
+            user: RawBytes::new(CowSlice::Borrowed(self.user())),
+            scramble_buf: RawBytes::new(CowSlice::Borrowed(self.scramble_buf())),
+            db_name: match &self.db_name {
+                Some(name) => Some(RawBytes::new(CowSlice::Borrowed(bytes_of(name)))),
+                None => None,
+            },
+            auth_plugin: self.auth_plugin(),
+            connect_attributes,
+        }
+    }
+
+    /// The response in its other form, which borrows the texts still. It takes memory for the attributes alone.
+    pub fn to_response(&self, alloc: Global) -> Result<HandshakeResponse<'a>, AllocError>
+        ensures value { IfOk result (λ response. response ≡ self.now) }
+        // Without attributes it takes no memory.
+        ensures no_attributes { spec.connect_attributes self.now ≡ None → is_ok result ≡ true }
+    {
+        Ok(self.with_attributes(attributes_given(&self.connect_attributes, alloc)?))
+    }
+
+    /// The response without its attributes, which are left.
+    #[tactic(auto, using(mysql_wire::proofs::Packets::packets))]
+    pub(crate) fn read_before_attributes<'s>(
+        buf: &mut ParseBuf<'a>,
+    ) -> Result<HandshakeResponseRef<'a>, FaultOf<'s>>
+        ensures value { Answers false result buf.new (before_attributes.reads buf.old) }
+    {
+        let head: SslRequest = buf.parse(())?;
+        let user = <NullBytes as BytesRepr>::deserialize((), buf)?;
+        let scramble_buf = read_scramble(&head, buf)?;
+        let db_name = read_database(&head, buf)?;
+        let auth_plugin = read_plugin(&head, buf);
+        Ok(HandshakeResponseRef {
+            head,
+            user,
+            scramble_buf,
+            db_name,
+            auth_plugin,
+            connect_attributes: None,
+        })
+    }
+}
+
+/// A scramble in the form that the flags ask for.
+#[tactic(auto, unfolding(crate::specs::HandshakeResponse::scramble))]
+fn read_scramble<'s, 'a>(
+    head: &SslRequest,
+    buf: &mut ParseBuf<'a>,
+) -> Result<ParseBuf<'a>, FaultOf<'s>>
+    ensures value { Answers false result buf.new (((spec.scramble head.now).form tt).reads buf.old) }
+{
+    let capabilities = head.capabilities();
+    if capabilities.contains(CapabilityFlags::CLIENT_PLUGIN_AUTH_LENENC_CLIENT_DATA) {
+        <LenEnc as BytesRepr>::deserialize((), buf)
+    } else if capabilities.contains(CapabilityFlags::CLIENT_SECURE_CONNECTION) {
+        <U8Bytes as BytesRepr>::deserialize((), buf)
+    } else {
+        <NullBytes as BytesRepr>::deserialize((), buf)
+    }
+}
+
+/// The database's name, where it was sent.
+#[tactic(auto, using(mysql_wire::proofs::Packets::packets), unfolding(crate::specs::HandshakeResponse::database))]
+fn read_database<'s, 'a>(
+    head: &SslRequest,
+    buf: &mut ParseBuf<'a>,
+) -> Result<Option<ParseBuf<'a>>, FaultOf<'s>>
+    ensures value { Answers false result buf.new (((spec.database head.now).form tt).reads buf.old) }
+{
+    if !head
+        .capabilities()
+        .contains(CapabilityFlags::CLIENT_CONNECT_WITH_DB)
+    {
+        return Ok(None);
+    }
+    Ok(Some(<NullBytes as BytesRepr>::deserialize((), buf)?))
+}
+
+/// The plugin, where it was named.
+#[tactic(auto, unfolding(crate::specs::HandshakeResponse::plugin))]
+fn read_plugin<'a>(head: &SslRequest, buf: &mut ParseBuf<'a>) -> Option<AuthPluginRef<'a>>
+    ensures value { ((spec.plugin head.now).form tt).reads buf.old ≡ Ok (result, buf.new) }
+{
+    if !head
+        .capabilities()
+        .contains(CapabilityFlags::CLIENT_PLUGIN_AUTH)
+    {
+        return None;
+    }
+    Some(AuthPluginRef::to_zero_or_end(buf))
+}
+
+/// The attributes, where they were sent.
+#[tactic(auto, unfolding(crate::specs::HandshakeResponse::sent_attributes))]
+fn read_attributes<'s, 'a>(
+    head: &SslRequest,
+    buf: &mut ParseBuf<'a>,
+) -> Result<Option<ConnectAttributesRef<'a>>, FaultOf<'s>>
+    ensures value { AnswersGiven result buf.new (((spec.sent_attributes head.now).form tt).reads buf.old) }
+{
+    if !head
+        .capabilities()
+        .contains(CapabilityFlags::CLIENT_CONNECT_ATTRS)
+    {
+        return Ok(None);
+    }
+    Ok(Some(ConnectAttributesRef::read(buf)?))
+}
+
+/// As a [`HandshakeResponse`], but for `Memory`: none is taken.
+impl<'de> MyDeserialize<'de> for HandshakeResponseRef<'de> {
+    const SIZE: Option<usize> = None;
+
+    type Size = AnyWidth;
+
+    type Ctx = ();
+
+    ghost form = { spec.handshake_response.form };
+
+    #[tactic(auto, using(crate::proofs::ResponseRead::response_parts))]
+    fn deserialize<'s>(_ctx: (), buf: &mut ParseBuf<'de>) -> Result<Self, FaultOf<'s>> {
+        let mut rest = buf.rest();
+        let mut response = HandshakeResponseRef::read_before_attributes(&mut rest)?;
+        response.connect_attributes = read_attributes(&response.head, &mut rest)?;
+        *buf = rest;
+        Ok(response)
+    }
+
+    ghost size_is = { λ _. spec.size-handshake_response };
+}

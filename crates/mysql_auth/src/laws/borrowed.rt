@@ -1,0 +1,54 @@
+//! Records that stay in their packet are read as the records that they are forms of.
+#![tactic(auto)]
+
+ghost use Rattle.std.specs.Prelude.{◌≡◌, ℕ, List};
+ghost use Rattle.mysql_wire.specs.Flags.{CapabilityFlags};
+ghost use Rattle.mysql_auth.specs.Attributes.{attribute};
+ghost use Rattle.mysql_auth.specs.AuthMoreData.{auth_more_data};
+ghost use Rattle.mysql_auth.specs.AuthSwitchRequest.{auth_switch_request};
+ghost use Rattle.mysql_auth.specs.ComChangeUser.{change_user, more_data};
+ghost use Rattle.mysql_auth.specs.Handshake.{handshake};
+ghost use Rattle.mysql_auth.specs.HandshakeResponse.{handshake_response};
+ghost use Rattle.mysql_auth.specs.PublicKeyResponse.{public_key_response};
+
+use mysql_wire::MyDeserialize;
+
+/// A handshake that stays in its packet is read of the same bytes as a handshake, and is that handshake.
+pub fn borrowed_handshakes_read_handshakes()
+    ensures read { (bytes : List ℕ) → (⟦<crate::handshake_ref::HandshakePacketRef<'static> as MyDeserialize<'static>>⟧.form tt).reads bytes ≡ (handshake.form tt).reads bytes }
+{}
+
+/// So is a response to a handshake.
+pub fn borrowed_handshake_responses_read_handshake_responses()
+    ensures read { (bytes : List ℕ) → (⟦<crate::handshake_response_ref::HandshakeResponseRef<'static> as MyDeserialize<'static>>⟧.form tt).reads bytes ≡ (handshake_response.form tt).reads bytes }
+{}
+
+/// So is a change of user.
+pub fn borrowed_changes_of_user_read_changes_of_user()
+    ensures read { (c : CapabilityFlags) (bytes : List ℕ) → (⟦<crate::com_change_user_ref::ComChangeUserRef<'static> as MyDeserialize<'static>>⟧.form c).reads bytes ≡ (change_user.form c).reads bytes }
+{}
+
+/// So is what a change of user tells besides.
+pub fn borrowed_more_data_reads_more_data()
+    ensures read { (c : CapabilityFlags) (bytes : List ℕ) → (⟦<crate::com_change_user_more_data_ref::ComChangeUserMoreDataRef<'static> as MyDeserialize<'static>>⟧.form c).reads bytes ≡ (more_data.form c).reads bytes }
+{}
+
+/// So is a switch to another plugin.
+pub fn borrowed_auth_switch_requests_read_auth_switch_requests()
+    ensures read { (bytes : List ℕ) → (⟦<crate::auth_switch_request_ref::AuthSwitchRequestRef<'static> as MyDeserialize<'static>>⟧.form tt).reads bytes ≡ (auth_switch_request.form tt).reads bytes }
+{}
+
+/// So is further data of an authentication.
+pub fn borrowed_auth_more_data_reads_auth_more_data()
+    ensures read { (bytes : List ℕ) → (⟦<crate::auth_more_data_ref::AuthMoreDataRef<'static> as MyDeserialize<'static>>⟧.form tt).reads bytes ≡ (auth_more_data.form tt).reads bytes }
+{}
+
+/// So is a public key.
+pub fn borrowed_public_keys_read_public_keys()
+    ensures read { (bytes : List ℕ) → (⟦<crate::public_key_response_ref::PublicKeyResponseRef<'static> as MyDeserialize<'static>>⟧.form tt).reads bytes ≡ (public_key_response.form tt).reads bytes }
+{}
+
+/// So is an attribute of a connection.
+pub fn borrowed_connect_attributes_read_attributes()
+    ensures read { (bytes : List ℕ) → (⟦<crate::connect_attribute_ref::ConnectAttributeRef<'static> as MyDeserialize<'static>>⟧.form tt).reads bytes ≡ (attribute.form tt).reads bytes }
+{}

@@ -1,0 +1,9 @@
+-- The switch to another plugin, as C has it.
+use Rattle.std.specs.Prelude.{◌≡◌, ℕ, List}
+use Rattle.mysql_auth.specs.AuthSwitchRequest.{plugin_name, plugin_data}
+use Rattle.mysql_auth.specs.declared.auth_switch_request.AuthSwitchRequest.{AuthSwitchRequest}
+use Rattle.mysql_packets_c.specs.declared.auth_switch.CAuthSwitch.{CAuthSwitch}
+
+-- the plugin's name and its data
+abbrev pub IsSwitch : AuthSwitchRequest → List ℕ → CAuthSwitch → Type 0
+IsSwitch p rest out = (out.plugin_name.now ≡ plugin_name p) × (out.plugin_data.now ≡ plugin_data p)

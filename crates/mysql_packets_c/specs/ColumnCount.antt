@@ -1,0 +1,17 @@
+-- The count of columns that a result begins with, as C has it.
+use Rattle.std.specs.Prelude.{◌≡◌, not, ◌==◌, if◌then◌else◌, ℕ, List}
+use Rattle.mysql_replies.specs.ColumnCount.{columns, count, metadata_follows, says_follow, with_metadata_follows}
+use Rattle.mysql_replies.specs.declared.column_count.ColumnCount.{ColumnCount}
+use Rattle.mysql_wire.specs.Flags.{MariadbCapabilities}
+use Rattle.mysql_packets_c.specs.Input.{used_of}
+use Rattle.mysql_packets_c.specs.declared.column_count.CColumnCount.{CColumnCount}
+
+pub record IsCount (packet : List ℕ) (c : ColumnCount) (rest : List ℕ) (out : CColumnCount) : Type 0 where
+  pub count : out.count ≡ count c
+  pub metadata_follows : out.metadata_follows ≡ (if metadata_follows c then 1 else 0)
+  pub used : out.used ≡ used_of packet rest
+
+-- the count of these fields: where a byte says it, 1 says that definitions follow, and 0 that none do
+abbrev pub count_given : MariadbCapabilities → CColumnCount → ColumnCount
+count_given capabilities c =
+    if says_follow capabilities then with_metadata_follows (not (c.metadata_follows == 0)) (columns c.count) else columns c.count

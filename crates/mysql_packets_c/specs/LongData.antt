@@ -1,0 +1,10 @@
+-- Data that is sent ahead of an execution, as C has it.
+use Rattle.std.specs.Prelude.{◌≡◌, ℕ, List}
+use Rattle.mysql_prepared.specs.LongData as long
+use Rattle.mysql_prepared.specs.declared.long_data.ComStmtSendLongData.{ComStmtSendLongData}
+use Rattle.mysql_packets_c.specs.declared.long_data.CLongData.{CLongData}
+
+pub record IsLongData (p : ComStmtSendLongData) (rest : List ℕ) (out : CLongData) : Type 0 where
+  pub content : out.content.now ≡ long.content p
+  pub statement_id : out.statement_id ≡ long.stmt_id p
+  pub param_index : out.param_index ≡ long.param_index p

@@ -1,0 +1,56 @@
+-- Rows, as C has them.
+use Rattle.std.specs.List.{list_all}
+use Rattle.std.specs.Prelude.{◌≡◌, ◌≤◌, ◌-◌, ◌++◌, ℕ, List, length, take, drop, map, Option, Some, Result, Ok, Err, false, None, Bool, if◌then◌else◌, ◌==◌, ◌&&◌, nat_lt}
+use Rattle.mysql_prepared.specs.BinaryRow.{IsRowBytes, takes_row}
+use Rattle.mysql_prepared.specs.RowView.{RowLeft}
+use Rattle.mysql_values.specs.Value.{Content}
+use Rattle.mysql_wire.specs.Reading.{Reading, Faults}
+use Rattle.mysql_wire.specs.declared.fault.FaultOf.{FaultOf}
+use Rattle.mysql_packets_c.specs.Code.{kind_code}
+use Rattle.mysql_packets_c.specs.ColumnType.{type_of, unsigned_of}
+use Rattle.mysql_packets_c.specs.Input.{used_of}
+use Rattle.mysql_packets_c.specs.Output.{Puts}
+use Rattle.mysql_packets_c.specs.Value.{value_content, is_value, values_contents}
+use Rattle.mysql_packets_c.specs.declared.rows.CColumnType.{CColumnType}
+use Rattle.mysql_packets_c.specs.declared.value.CValue.{CValue}
+
+abbrev pub values_held : List CValue → List (Option Content)
+values_held values = map Some (map value_content values)
+
+-- the values that were read stand in the first places, and the other places are as they were
+pub record Fills (old new : RowLeft) (before after : List CValue) : Type 0 where
+  pub fewer : new.left ≤ old.left
+  pub values : old.values ≡ map value_content (take (old.left - new.left) after) ++ new.values
+  pub end : new.end ≡ old.end
+  pub others : drop (old.left - new.left) after ≡ drop (old.left - new.left) before
+  pub len : length after ≡ length before
+
+-- the values are what reading gives, and so many bytes are used; or reading gives the fault
+abbrev pub TakesRow : List ℕ → Result ℕ FaultOf → List CValue → Reading (List (Option Content)) → Type 0
+TakesRow packet (Ok used) values read = (rest : List ℕ) × (read ≡ Ok (values_held values, rest)) × (used ≡ used_of packet rest)
+TakesRow packet (Err e) values read = Faults false e read
+
+-- 0 where the bytes spell a row, whose values these are; else the code of the first fault
+abbrev pub RowInto : List ℕ → List CValue → Reading (List (Option Content)) → ℕ → ℕ → ℕ → Type 0
+RowInto packet values (Ok x) code old new = (code ≡ 0) × (values_held values ≡ x.0) × (new ≡ used_of packet x.1)
+RowInto packet values (Err k) code old new = (code ≡ kind_code k) × (new ≡ old)
+
+-- the value is NULL or bytes
+abbrev pub is_cell : CValue → Bool
+is_cell v = nat_lt v.kind 2
+
+-- the bytes, none of NULL
+abbrev pub cell_of : CValue → Option (List ℕ)
+cell_of v = if v.kind == 0 then None else Some v.bytes.now
+
+abbrev pub cells_of : List CValue → List (Option (List ℕ))
+cells_of values = map cell_of values
+
+-- each is a value, and there is one for each column, which takes it
+abbrev pub row_fits : List CColumnType → List CValue → Bool
+row_fits columns values = list_all is_value values && takes_row type_of unsigned_of columns (values_contents values)
+
+-- the bytes of the row are put
+abbrev pub PutsRow : List CColumnType → List CValue → ℕ → (old new : List ℕ) → ℕ → Type 0
+PutsRow columns values code old new written =
+    (bytes : List ℕ) × IsRowBytes type_of unsigned_of columns (values_contents values) bytes × Puts bytes code old new written

@@ -1,0 +1,90 @@
+//! The count of columns that a result begins with.
+#![tactic(auto, using(crate::proofs::Codes::codes))]
+
+ghost use Rattle.std.specs.Prelude.{◌≡◌, ◌≢◌, ◌<◌, false, true};
+ghost use Rattle.mysql_replies.specs.ColumnCount.{column_count, says_follow};
+ghost use Rattle.mysql_packets_c.specs.Code.{ReadsInto};
+ghost use Rattle.mysql_packets_c.specs.ColumnCount.{IsCount, count_given};
+ghost use Rattle.mysql_packets_c.specs.Output.{Puts};
+
+use crate::code::{INVALID_INPUT, OK, code_of};
+use crate::flags::mariadb_of;
+use crate::input::read;
+use crate::output::put_packet;
+use bitflags::Flags;
+use mysql_replies::ColumnCount;
+use mysql_wire::MariadbCapabilities;
+use std::alloc::Global;
+
+/// `myp_column_count`.
+#[repr(C)]
+#[derive(Drop)]
+pub struct CColumnCount {
+    pub count: u64,
+    pub metadata_follows: u8,
+    pub used: usize,
+}
+
+/// Reads how many columns a result has: 0; or 1 or 2, and the struct is as it was.
+#[unsafe(no_mangle)]
+pub extern "C" fn myp_read_column_count(
+    alloc: Global,
+    packet: &[u8],
+    mariadb_capabilities: u32,
+    out: &mut CColumnCount,
+) -> u32
+    ensures value { ReadsInto (IsCount packet.now) ((column_count.form (record { 0 = mariadb_capabilities; 1 = record {} })).reads packet.now) result out.old out.new }
+{
+    let capabilities = MariadbCapabilities::from_bits_retain(mariadb_capabilities);
+    match read::<ColumnCount>(alloc, packet, capabilities) {
+        Ok((columns, used)) => {
+            out.count = columns.count();
+            out.metadata_follows = u8::from(columns.metadata_follows());
+            out.used = used;
+            OK
+        }
+        Err(fault) => code_of(&fault),
+    }
+}
+
+/// Whether a byte says that definitions follow.
+fn says_follow(capabilities: MariadbCapabilities) -> bool
+    ensures value { result ≡ says_follow capabilities }
+{
+    capabilities.contains(MariadbCapabilities::MARIADB_CLIENT_CACHE_METADATA)
+}
+
+/// The count of the caller's fields.
+fn count_of(capabilities: MariadbCapabilities, columns: &CColumnCount) -> ColumnCount
+    ensures value { result ≡ count_given capabilities columns.now }
+{
+    let count = ColumnCount::new(columns.count);
+    if says_follow(capabilities) {
+        count.with_metadata_follows(columns.metadata_follows != 0)
+    } else {
+        count
+    }
+}
+
+/// Writes how many columns a result has: 0; 5, and how many bytes it takes; 4; or 3, where no definitions follow and no byte
+/// says so.
+#[unsafe(no_mangle)]
+pub extern "C" fn myp_write_column_count(
+    alloc: Global,
+    columns: &CColumnCount,
+    mariadb_capabilities: u32,
+    out: &mut [u8],
+    written: &mut usize,
+) -> u32
+    ensures refused { columns.now.metadata_follows ≡ 0 → says_follow (record { 0 = mariadb_capabilities; 1 = record {} }) ≡ false → (result ≡ 3) × (out.new ≡ out.old) × (written.new ≡ 0) }
+    ensures memory { result ≡ 4 → (out.new ≡ out.old) × (written.new ≡ 0) }
+    ensures follow { columns.now.metadata_follows ≢ 0 → result ≢ 4 → Puts (column_count.bytes (count_given (record { 0 = mariadb_capabilities; 1 = record {} }) columns.now)) result out.old out.new written.new }
+    ensures said { says_follow (record { 0 = mariadb_capabilities; 1 = record {} }) ≡ true → result ≢ 4 → Puts (column_count.bytes (count_given (record { 0 = mariadb_capabilities; 1 = record {} }) columns.now)) result out.old out.new written.new }
+{
+    let capabilities = mariadb_of(mariadb_capabilities);
+    if columns.metadata_follows == 0 && !says_follow(capabilities) {
+        *written = 0;
+        return INVALID_INPUT;
+    }
+    put_packet(alloc, &count_of(capabilities, columns), out, written)
+}

@@ -1,0 +1,61 @@
+//! Data that is sent ahead of an execution.
+#![tactic(auto, using(crate::proofs::Codes::codes))]
+
+ghost use Rattle.std.specs.Prelude.{◌≡◌, ◌≢◌};
+ghost use Rattle.mysql_prepared.specs.LongData.{long_data, long_data_of};
+ghost use Rattle.mysql_packets_c.specs.Code.{ReadsInto};
+ghost use Rattle.mysql_packets_c.specs.LongData.{IsLongData};
+ghost use Rattle.mysql_packets_c.specs.Output.{Puts};
+
+use crate::code::{OK, code_of};
+use crate::input::read;
+use crate::output::put_packet;
+use mysql_stmt::{ComStmtSendLongData, ComStmtSendLongDataRef};
+use std::alloc::Global;
+use std::borrow::CowSlice;
+
+/// `myp_long_data`.
+#[repr(C)]
+#[derive(Drop)]
+pub struct CLongData<'a> {
+    pub content: &'a [u8],
+    pub statement_id: u32,
+    pub param_index: u16,
+}
+
+/// Reads `COM_STMT_SEND_LONG_DATA`: 0; or 1 or 2, and the struct is as it was.
+#[unsafe(no_mangle)]
+pub extern "C" fn myp_read_long_data<'a>(
+    alloc: Global,
+    packet: &'a [u8],
+    out: &mut CLongData<'a>,
+) -> u32
+    ensures value { ReadsInto IsLongData ((long_data.form tt).reads packet.now) result out.old out.new }
+{
+    match read::<ComStmtSendLongDataRef<'a>>(alloc, packet, ()) {
+        Ok((found, _used)) => {
+            out.content = found.data();
+            out.statement_id = found.stmt_id();
+            out.param_index = found.param_index();
+            OK
+        }
+        Err(fault) => code_of(&fault),
+    }
+}
+
+/// Writes `COM_STMT_SEND_LONG_DATA`: 0; 5, and how many bytes it takes; or 4.
+#[unsafe(no_mangle)]
+pub extern "C" fn myp_write_long_data(
+    alloc: Global,
+    statement_id: u32,
+    param_index: u16,
+    content: &[u8],
+    out: &mut [u8],
+    written: &mut usize,
+) -> u32
+    ensures memory { result ≡ 4 → (out.new ≡ out.old) × (written.new ≡ 0) }
+    ensures value { result ≢ 4 → Puts (long_data.bytes (long_data_of statement_id param_index content.now)) result out.old out.new written.new }
+{
+    let packet = ComStmtSendLongData::new(statement_id, param_index, CowSlice::Borrowed(content));
+    put_packet(alloc, &packet, out, written)
+}

@@ -1,0 +1,75 @@
+//! The registration of a replica.
+#![tactic(auto, using(crate::proofs::Codes::codes))]
+
+ghost use Rattle.std.specs.Prelude.{◌≡◌, ◌≢◌};
+ghost use Rattle.mysql_repl.specs.RegisterSlave.{register_slave};
+ghost use Rattle.mysql_packets_c.specs.Code.{ReadsInto};
+ghost use Rattle.mysql_packets_c.specs.Output.{Puts};
+ghost use Rattle.mysql_packets_c.specs.RegisterReplica.{registration_of, IsReplica};
+
+use crate::code::{OK, code_of};
+use crate::input::read;
+use crate::output::put_packet;
+use mysql_repl::{ComRegisterSlave, ComRegisterSlaveRef};
+use std::alloc::Global;
+use std::borrow::CowSlice;
+
+/// `myp_replica`.
+#[repr(C)]
+#[derive(Drop)]
+pub struct CReplica<'a> {
+    pub hostname: &'a [u8],
+    pub user: &'a [u8],
+    pub password: &'a [u8],
+    pub used: usize,
+    pub server_id: u32,
+    pub replication_rank: u32,
+    pub master_id: u32,
+    pub port: u16,
+}
+
+/// Reads `COM_REGISTER_SLAVE`: 0; or 1 or 2, and the struct is as it was.
+#[unsafe(no_mangle)]
+pub extern "C" fn myp_read_register_replica<'a>(
+    alloc: Global,
+    packet: &'a [u8],
+    out: &mut CReplica<'a>,
+) -> u32
+    ensures value { ReadsInto (IsReplica packet.now) ((register_slave.form tt).reads packet.now) result out.old out.new }
+{
+    match read::<ComRegisterSlaveRef<'a>>(alloc, packet, ()) {
+        Ok((found, used)) => {
+            out.hostname = found.hostname();
+            out.user = found.user();
+            out.password = found.password();
+            out.used = used;
+            out.server_id = found.server_id();
+            out.replication_rank = found.replication_rank();
+            out.master_id = found.master_id();
+            out.port = found.port();
+            OK
+        }
+        Err(fault) => code_of(&fault),
+    }
+}
+
+/// Writes `COM_REGISTER_SLAVE`: 0; 5, and how many bytes it takes; or 4. Of a longer string the first 255 bytes are written.
+#[unsafe(no_mangle)]
+pub extern "C" fn myp_write_register_replica(
+    alloc: Global,
+    replica: &CReplica<'_>,
+    out: &mut [u8],
+    written: &mut usize,
+) -> u32
+    ensures memory { result ≡ 4 → (out.new ≡ out.old) × (written.new ≡ 0) }
+    ensures value { result ≢ 4 → Puts (register_slave.bytes (registration_of replica.now)) result out.old out.new written.new }
+{
+    let packet = ComRegisterSlave::new(replica.server_id)
+        .with_hostname(CowSlice::Borrowed(replica.hostname))
+        .with_user(CowSlice::Borrowed(replica.user))
+        .with_password(CowSlice::Borrowed(replica.password))
+        .with_port(replica.port)
+        .with_replication_rank(replica.replication_rank)
+        .with_master_id(replica.master_id);
+    put_packet(alloc, &packet, out, written)
+}

@@ -1,0 +1,24 @@
+pub mod Cells
+pub mod RowMemory
+pub mod Nulls
+pub mod OptionLengths
+pub mod OptionBytes
+pub mod ParamLengths
+pub mod Copies
+pub mod NullBits
+pub mod BitmapAgain
+pub mod Converted
+pub mod HeadLength
+pub mod CellsEq
+pub mod EqualRows
+pub mod StmtAgain
+pub mod PutCells
+pub mod RowViews
+pub mod PlainOptions
+pub mod TextRowAgain
+pub mod RowBytes
+pub mod BinaryRowAgain
+pub mod ParamViews
+pub mod ExecutionAgain
+pub mod BuiltExecution
+mod WrittenExecution

@@ -1,0 +1,84 @@
+-- The bytes of an execution that is written at once, and how many they are.
+use Rattle.std.proofs.Common.{◌≡◌, ◌≢◌, ◌≤◌, ℕ, ◌+◌, ◌*◌, Bool, false, None, List, [], ◌∷◌, ◌++◌, length, append_assoc, refl, sym, ◌∙◌, ap, arith}
+use Rattle.std.proofs.lemmas.List.{append-nil, length-append, length-map}
+use Rattle.mysql_wire.specs.Writing.{le_bytes}
+use Rattle.mysql_prepared.specs.Bitmap.{bytes_for}
+use Rattle.mysql_prepared.specs.ExecuteHead.{execute_head, head_without_cursor}
+use Rattle.mysql_prepared.specs.ExecuteParam.{Param, contents, param_types, param_values, type_bytes, value_of}
+use Rattle.mysql_prepared.specs.Execution.{params_bytes}
+use Rattle.mysql_prepared.specs.NullMarks.{AppendsNulls}
+use Rattle.mysql_prepared.specs.WrittenExecution.{AppendsExecution, AppendsParams, execution_size, params_size}
+use Rattle.mysql_prepared.proofs.Nulls.{cell-zeros}
+use Rattle.mysql_prepared.proofs.OptionLengths.{length-type_bytes}
+
+regroup : (old nulls flag types values : List ℕ) → (old ++ nulls) ++ (flag ++ (types ++ (values ++ []))) ≡ old ++ (nulls ++ flag ++ types ++ [] ++ values ++ [])
+regroup old nulls flag types values = simp (append-nil, append_assoc)
+
+after-head : (old head params : List ℕ) → (old ++ head) ++ params ≡ old ++ (head ++ [] ++ params)
+after-head old head params = simp (append-nil, append_assoc)
+
+module _ {V : Type 0} (param : V → Param) (as_long_data : Bool) where
+  -- ---- how many bytes
+
+  pub size-none : (params : List V) → length params ≡ 0 → execution_size param params as_long_data ≡ 10
+  size-none [] none = refl
+  size-none (p ∷ params) none = absurd (omega (arith, none))
+
+  pub size-some : (params : List V) → length params ≢ 0 → execution_size param params as_long_data ≡ 10 + params_size param params as_long_data
+  size-some [] some = absurd (some refl)
+  size-some (p ∷ params) some = refl
+
+  pub size-least : (params : List V) → 10 ≤ execution_size param params as_long_data
+  size-least [] = omega arith
+  size-least (p ∷ params) = omega arith
+
+  length-types : (params : List V) → length (param_types param false params) ≡ 2 * length params
+  length-types [] = refl
+  length-types (p ∷ params) =
+      omega (arith, length-append (type_bytes false [] (value_of (param p))) (param_types param false params), length-type_bytes false (value_of (param p)), length-types params)
+
+  -- there is capacity for what stands after the bitmap
+  pub rest_fits : (params : List V) (old new : List ℕ) (flag capacity later : ℕ)
+      → AppendsNulls 0 (contents param params) old new
+      → length old + params_size param params as_long_data ≤ capacity
+      → capacity ≤ later
+      → length new + length (le_bytes 1 flag ++ (param_types param false params ++ (param_values param as_long_data params ++ []))) ≤ later
+  unfolding le_bytes
+  rest_fits params old new flag capacity later (nulls, marks, is) fits more =
+      let long = ap length is ∙ length-append old nulls in
+      let same = ap (bytes_for 0) (length-map params (λ p. value_of (param p))) in
+      let rest = length-append (param_types param false params) (param_values param as_long_data params ++ []) in
+      let values = length-append (param_values param as_long_data params) [] in
+      omega (arith, long, marks.len, same, length-types params, rest, values, fits, more)
+
+  -- ---- which bytes
+
+  pub params_appended : (params : List V) (old new last : List ℕ) (flag : ℕ)
+      → AppendsNulls 0 (contents param params) old new
+      → flag ≡ 1
+      → last ≡ new ++ (le_bytes 1 flag ++ (param_types param false params ++ (param_values param as_long_data params ++ [])))
+      → AppendsParams param params as_long_data old last
+  params_appended params old new last flag (nulls, marks, is) one ends = (
+    nulls,
+    marks,
+    ends ∙ rw (is, one) (regroup old nulls (le_bytes 1 1) (param_types param false params) (param_values param as_long_data params)),
+  )
+
+  pub none_appended : (stmt_id : ℕ) (params : List V) (old new : List ℕ)
+      → length params ≡ 0 → new ≡ old ++ execute_head.bytes (head_without_cursor stmt_id) → AppendsExecution param stmt_id params as_long_data old new
+  none_appended stmt_id [] old new none is =
+      let head = execute_head.bytes (head_without_cursor stmt_id) in (
+        head ++ [] ++ [],
+        ([], record { len = refl; cells = λ k. cell-zeros 0 k }, refl),
+        is ∙ sym (append-nil (old ++ head)) ∙ after-head old head [],
+      )
+  none_appended stmt_id (p ∷ params) old new none is = absurd (omega (arith, none))
+
+  pub some_appended : (stmt_id : ℕ) (params : List V) (old new last : List ℕ)
+      → length params ≢ 0 → new ≡ old ++ execute_head.bytes (head_without_cursor stmt_id) → AppendsParams param params as_long_data new last
+      → AppendsExecution param stmt_id params as_long_data old last
+  some_appended stmt_id [] old new last some is ends = absurd (some refl)
+  some_appended stmt_id (p ∷ params) old new last some is (nulls, marks, ends) =
+      let head = execute_head.bytes (head_without_cursor stmt_id) in
+      let after = params_bytes param nulls (p ∷ params) None as_long_data in
+      (head ++ [] ++ after, (nulls, marks, refl), ends ∙ rw (is) (after-head old head after))

@@ -1,0 +1,12 @@
+use Rattle.std.proofs.Common.{◌≡◌, length, drop}
+use Rattle.mysql_prepared.specs.RowView.{refs_held}
+use Rattle.mysql_prepared.specs.BinaryRow.{takes_row}
+use Rattle.mysql_prepared.proofs.binary_row.refused_at.Given as goal
+
+abbrev pub invariant-loop-place : goal.invariant-loop-place
+invariant-loop-place g l =
+    let taken = takes_row g.C.TypedColumn.type_of g.C.TypedColumn.unsigned in
+    record {
+      lengths : length l.columns ≡ length l.values;
+      left : taken l.columns (refs_held l.values) ≡ taken (drop l.place l.columns) (refs_held (drop l.place l.values));
+    }

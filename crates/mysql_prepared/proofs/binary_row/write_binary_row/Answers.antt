@@ -1,0 +1,32 @@
+use Rattle.std.proofs.Common.{rules, ◌≡◌, ◌+◌, ◌≤◌, length, ap, ◌∙◌, arith, length-append, vec_len, vec_capacity}
+use Rattle.std.proofs.lemmas.List.{length-map}
+use Rattle.mysql_wire.specs.Writing.{saturated}
+use Rattle.mysql_values.specs.ValueRef.{ref_content}
+use Rattle.mysql_prepared.specs.Bitmap.{bytes_for}
+use Rattle.mysql_prepared.proofs.binary_row.write_binary_row.Goals as goal
+
+pub append_values-requires-clause-capacity : goal.append_values-requires-clause-capacity
+unfolding saturated
+append_values-requires-clause-capacity g c =
+    let values = c.args.values.now in
+    let nulls = c.append_nulls.ensures.items in
+    let marked : length nulls.0 ≡ bytes_for 2 (length values) = nulls.1.len ∙ ap (bytes_for 2) (length-map values ref_content) in
+    let there : vec_len c.args.out.now + c.saturating_add-len.result ≤ vec_capacity c.reserve.new.self = search rules in
+    omega (
+      arith,
+      ap length nulls.2,
+      length-append c.push_reserved.new.self.items nulls.0,
+      marked,
+      there,
+      c.reserve.ensures.len,
+      c.push_reserved.ensures.len,
+      c.push_reserved.ensures.capacity,
+      c.append_nulls.ensures.capacity,
+      c.saturating_add-len.ensures,
+      c.values_len.ensures,
+      c.bitmap_len-front.ensures.value,
+      c.append_nulls.new.out.ok,
+      c.push_reserved.new.self.ok,
+      c.reserve.new.self.ok,
+      c.reserve.new.self.small,
+    )

@@ -1,0 +1,14 @@
+use Rattle.std.proofs.Common.{◌≡◌, Some, sym, rules}
+use Rattle.mysql_prepared.specs.Row.{value_at}
+use Rattle.mysql_prepared.proofs.Converted.{copy-made}
+use Rattle.mysql_prepared.proofs.row.Row.get.Goals as goal
+
+pub returns : goal.returns
+returns g c =
+    let place = Some c.in-Some.place in
+    let value = c.in-Some-as_ref.value.now in
+    let there : value_at c.args.self.now.cells place ≡ Some value = sym c.in-Some-as_ref.ensures.value in
+    let finds : g.I.ColumnIndex.Finds c.args.index c.args.self.now.columns place = search rules in
+    let converts = c.requires.converts place value finds there in
+    let made = copy-made g.T.FromValue.Converts g.met.T.FromValue.by_content value c.in_ok-copy.copy c.in_ok-copy.ensures.cases converts c.from_value_opt.result c.from_value_opt.ensures.ok c.from_value_opt.ensures.err in
+    record { value = (place, finds, rw (there, c.ok.ensures.value) made) }

@@ -1,0 +1,81 @@
+-- Binary rows, written from their values.
+use Rattle.std.specs.Prelude.{◌≡◌, ◌≢◌, ℕ, ℤ, pos, negsuc, ◌+◌, ◌^◌, Bool, true, false, not, ◌&&◌, nat_lt, IsTrue, IsFalse, List, [], ◌∷◌, ◌++◌, length, slice_get, Some}
+use Rattle.std.specs.Int.{w64, cast_unsigned}
+use Rattle.mysql_wire.specs.declared.codes.column_type.ColumnType.{ColumnType}
+use Rattle.mysql_wire.specs.Writing.{le_bytes}
+use Rattle.mysql_values.specs.Value.{Content, Int, UInt, bin}
+use Rattle.mysql_values.specs.declared.value_kind.ValueKind.{ValueKind}
+use Rattle.mysql_values.specs.declared.value_kind.ValueKind.TheVariants as kind
+use Rattle.mysql_values.specs.ValueKind.{kind_of, is_longlong, suits}
+use Rattle.mysql_prepared.specs.NullMarks.{MarksNulls}
+use Rattle.mysql_prepared.specs.declared.binary_row.BinaryRowError.{BinaryRowError}
+use Rattle.mysql_prepared.specs.declared.binary_row.BinaryRowError.TheVariants as error
+
+-- ---- the values that a column takes
+
+-- an integer from -half to below half, or without a sign below twice the half
+abbrev pub has_width : (is_unsigned : Bool) (half : ℕ) → ℤ → Bool
+has_width true half (pos n) = nat_lt n (half + half)
+has_width true half (negsuc n) = false
+has_width false half (pos n) = nat_lt n half
+has_width false half (negsuc n) = nat_lt n half
+
+abbrev pub takes_integer : ValueKind → (is_unsigned : Bool) → ℤ → Bool
+takes_integer kind.Tiny u n = has_width u (2 ^ 7) n
+takes_integer kind.Short u n = has_width u (2 ^ 15) n
+takes_integer kind.Long u n = has_width u (2 ^ 31) n
+takes_integer kind.LongLong u n = not u
+takes_integer _ u n = false
+
+-- the value is one that a column of the type is read as; a date alone has no time of day
+abbrev pub takes : ColumnType → (is_unsigned : Bool) → Content → Bool
+takes t u (Int n) = takes_integer (kind_of t) u n
+takes t u (UInt n) = is_longlong (kind_of t) && u
+takes t u value = suits (kind_of t) value
+
+-- ---- the bytes
+
+-- how many bytes an integer of the kind takes
+abbrev pub integer_size : ValueKind → ℕ
+integer_size kind.Tiny = 1
+integer_size kind.Short = 2
+integer_size kind.Long = 4
+integer_size kind.LongLong = 8
+integer_size _ = 0
+
+-- a value in a column of the type: the low bytes of an integer, else its binary form
+abbrev pub bin_in : ColumnType → Content → List ℕ
+bin_in t (Int n) = le_bytes (integer_size (kind_of t)) (cast_unsigned w64 n)
+bin_in t value = bin value
+
+module _ {C : Type 0} (type_of : C → ColumnType) (unsigned : C → Bool) where
+  -- there is a value for each column, which takes it
+  abbrev pub takes_row : List C → List Content → Bool
+  takes_row [] [] = true
+  takes_row [] (v ∷ vs) = false
+  takes_row (c ∷ cs) [] = false
+  takes_row (c ∷ cs) (v ∷ vs) = takes (type_of c) (unsigned c) v && takes_row cs vs
+
+  abbrev pub values_bytes : List C → List Content → List ℕ
+  values_bytes [] values = []
+  values_bytes (c ∷ cs) [] = []
+  values_bytes (c ∷ cs) (v ∷ vs) = bin_in (type_of c) v ++ values_bytes cs vs
+
+  -- a byte, the bitmap of NULLs, and the values
+  abbrev pub IsRowBytes : List C → List Content → List ℕ → Type 0
+  IsRowBytes columns values bytes = (nulls : List ℕ) × MarksNulls 2 values nulls × (bytes ≡ 0 ∷ nulls ++ values_bytes columns values)
+
+  -- the buffer ends in the row
+  abbrev pub AppendsRow : List C → List Content → (old new : List ℕ) → Type 0
+  AppendsRow columns values old new = (bytes : List ℕ) × IsRowBytes columns values bytes × (new ≡ old ++ bytes)
+
+  -- ---- refusals
+
+  -- the column at the place does not take the value there
+  abbrev pub IsRefusedAt : List C → List Content → ℕ → Type 0
+  IsRefusedAt columns values place = (c : C) × (v : Content) × (slice_get columns place ≡ Some c) × (slice_get values place ≡ Some v) × IsFalse (takes (type_of c) (unsigned c) v)
+
+  abbrev pub RefusesRow : List C → List Content → BinaryRowError → Type 0
+  RefusesRow columns values error.Count = length columns ≢ length values
+  RefusesRow columns values (error.Value place) = IsRefusedAt columns values place
+  RefusesRow columns values error.Memory = IsTrue (takes_row columns values)

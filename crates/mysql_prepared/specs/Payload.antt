@@ -1,0 +1,6 @@
+-- What one packet carries.
+use Rattle.std.specs.Prelude.{ℕ, ◌-◌, ◌^◌}
+
+-- the most bytes of a packet
+abbrev pub max_payload : ℕ
+max_payload = 2 ^ 24 - 1

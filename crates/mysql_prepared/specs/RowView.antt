@@ -1,0 +1,128 @@
+-- Rows that are read value by value.
+use Rattle.std.specs.Prelude.{◌≡◌, ℕ, suc, ◌+◌, ◌-◌, ◌*◌, ◌<◌, ◌≤◌, ◌^◌, ◌==◌, ◌++◌, Bool, false, List, [], ◌∷◌, length, map, take, drop, replicate, Option, Some, None, Result, Ok, Err, IsTrue}
+use Rattle.std.specs.List.{All}
+use Rattle.mysql_wire.specs.declared.fault.FaultOf.{FaultOf}
+use Rattle.mysql_wire.specs.declared.fault.FaultKind.{FaultKind}
+use Rattle.mysql_wire.specs.declared.codes.column_type.ColumnType.{ColumnType}
+use Rattle.mysql_wire.specs.Reading.{Reading, Faults}
+use Rattle.mysql_wire.specs.Form.{Form, ◌>>=◌, give, either}
+use Rattle.mysql_wire.specs.Each.{each}
+use Rattle.mysql_wire.specs.Seq.{counted}
+use Rattle.mysql_wire.specs.Skip.{skip}
+use Rattle.mysql_values.specs.Value.{Content, NULL}
+use Rattle.mysql_values.specs.ValueDeserializer.{text_value, bin_value}
+use Rattle.mysql_values.specs.declared.value_ref.ValueRef.{ValueRef}
+use Rattle.mysql_values.specs.ValueRef.{ref_content}
+use Rattle.mysql_prepared.specs.Bitmap.{Bitmap, cell}
+use Rattle.mysql_prepared.specs.NullBitmap.{null_bitmap}
+use Rattle.mysql_prepared.specs.RowForm.{there}
+
+-- ---- the grammars
+
+module _ {C : Type 0} (type_of : C → ColumnType) (unsigned : C → Bool) where
+  -- a value in the binary form of its column's type; nothing is spelled where the bitmap says NULL
+  abbrev pub ref_unless : (is_null : Bool) → C → Form Content
+  ref_unless is_null column = either is_null (give NULL) (bin_value (type_of column) (unsigned column))
+
+  abbrev pub ref_cell : (nulls : List ℕ) (offset : ℕ) → ℕ → C → Form Content
+  ref_cell nulls offset place column = ref_unless (cell nulls (place + offset) == 1) column
+
+  -- the byte and the bitmap
+  abbrev pub row_front : (offset : ℕ) → List C → Form Bitmap
+  row_front offset columns = skip 1 >>= (λ header. null_bitmap offset (length columns))
+
+  -- ProtocolBinary::ResultsetRow: a byte with any value, the bitmap of NULLs, and the values that it leaves
+  abbrev pub bin_row_of : (offset : ℕ) → List C → Form (List (Option Content))
+  bin_row_of offset columns = do
+    header ← skip 1
+    nulls ← null_bitmap offset (length columns)
+    each (λ place column. there (ref_cell nulls.bytes offset place column)) 0 columns
+
+-- ProtocolText::ResultsetRow: so many text values
+abbrev pub text_row_of : ℕ → Form (List (Option Content))
+text_row_of columns = counted columns (there text_value)
+
+-- ---- value by value
+
+-- the values that are read one after another until one has a fault; and the bytes after the last, or the kind of that fault
+pub record Values : Type 0 where
+  pub values : List Content
+  pub end : Result (List ℕ) FaultKind
+
+-- a value, and those that are read of the bytes after it
+abbrev pub then_values : Reading Content → (List ℕ → Values) → Values
+then_values (Ok x) next = record { values = x.0 ∷ (next x.1).values; end = (next x.1).end }
+then_values (Err e) next = record { values = []; end = Err e }
+
+-- a value of each form
+unfoldable pub values_in : {C : Type 0} → (ℕ → C → Form Content) → ℕ → List C → List ℕ → Values
+values_in form place [] bytes = record { values = []; end = Ok bytes }
+values_in form place (c ∷ cs) bytes = then_values ((form place c).reads bytes) (values_in form (place + 1) cs)
+
+-- what is left of a row: how many values, those that are good, and the bytes after the last value, or the kind of the fault
+-- that stands after those that are good
+pub record RowLeft : Type 0 where
+  pub left : ℕ
+  pub values : List Content
+  pub end : Result (List ℕ) FaultKind
+
+abbrev pub row_left : {C : Type 0} → (ℕ → C → Form Content) → ℕ → List C → List ℕ → RowLeft
+row_left form place columns bytes = record {
+  left = length columns;
+  values = (values_in form place columns bytes).values;
+  end = (values_in form place columns bytes).end;
+}
+
+abbrev pub text_row_left : ℕ → List ℕ → RowLeft
+text_row_left left bytes = record {
+  left = left;
+  values = (values_in (λ place (column : Unit {0}). text_value) 0 (replicate left tt) bytes).values;
+  end = (values_in (λ place (column : Unit {0}). text_value) 0 (replicate left tt) bytes).end;
+}
+
+-- the row stands after the byte and the bitmap, which are there
+abbrev pub IsBinaryRow : {C : Type 0} (type_of : C → ColumnType) (unsigned : C → Bool) (offset : ℕ) → List C → List ℕ → RowLeft → Type 0
+IsBinaryRow type_of unsigned offset columns bytes row =
+    (nulls : Bitmap) × (after : List ℕ) × ((row_front type_of unsigned offset columns).reads bytes ≡ Ok (nulls, after))
+    × (row ≡ row_left (ref_cell type_of unsigned nulls.bytes offset) 0 columns after)
+
+-- what reading all that is left gives
+abbrev pub read_to : List Content → Result (List ℕ) FaultKind → Reading (List (Option Content))
+read_to values (Ok rest) = Ok (map Some values, rest)
+read_to values (Err e) = Err e
+
+abbrev pub read_of : RowLeft → Reading (List (Option Content))
+read_of row = read_to row.values row.end
+
+-- the bitmap has a bit for each column that is left, and they are as many as a machine counts
+pub record HasBits (nulls : List ℕ) (offset : ℕ) (none : Bool) (place left : ℕ) : Type 0 where
+  pub bits : (i : ℕ) → i < left → place + i + offset < 8 * length nulls
+  pub clear : IsTrue none → All (λ b. b ≡ 0) nulls
+  pub counted : place + left < 2 ^ 64
+
+-- ---- what reading does
+
+-- no value is good before this fault
+abbrev pub RefusesNext : FaultOf → RowLeft → Type 0
+RefusesNext e row = (row.values ≡ []) × Faults false e (read_of row)
+
+-- no value is left
+abbrev pub IsDone : RowLeft → Type 0
+IsDone row = (row.left ≡ 0) × (row.values ≡ [])
+
+-- the first of the values that are good, or none is left, or the fault and all is left
+abbrev pub GivesOne : RowLeft → Result (Option ValueRef) FaultOf → RowLeft → Type 0
+GivesOne old (Ok (Some v)) new = (old.left ≡ suc new.left) × (old.values ≡ ref_content v ∷ new.values) × (new.end ≡ old.end)
+GivesOne old (Ok None) new = IsDone old × (new ≡ old)
+GivesOne old (Err e) new = RefusesNext e old × (new ≡ old)
+
+-- what the values hold
+abbrev pub refs_held : List ValueRef → List Content
+refs_held values = map ref_content values
+
+-- the values that were read stand in the first places, and the other places are as they were
+pub record Fills (old new : RowLeft) (before after : List ValueRef) : Type 0 where
+  pub fewer : new.left ≤ old.left
+  pub values : old.values ≡ refs_held (take (old.left - new.left) after) ++ new.values
+  pub end : new.end ≡ old.end
+  pub others : drop (old.left - new.left) after ≡ drop (old.left - new.left) before

@@ -1,0 +1,217 @@
+//! Binary rows, written from their values.
+
+ghost use Rattle.std.specs.Prelude.{◌≡◌, ◌+◌, ◌++◌, ◌≤◌, [], length, vec_len, vec_capacity, OnOk, OnErr, IfErr, IfNone, IfSome, IsTrue};
+ghost use Rattle.mysql_wire.specs.Writing.{saturated};
+ghost use Rattle.mysql_values.specs.Value.{Int};
+ghost use Rattle.mysql_values.specs.ValueKind.{kind_of};
+ghost use Rattle.mysql_values.specs.ValueRef.{ref_content};
+ghost use Rattle.mysql_prepared.specs.RowView.{refs_held};
+ghost use Rattle.mysql_prepared.specs.BinaryRow as spec;
+
+use crate::null_bitmap::NullBitmap;
+use crate::null_marks::append_nulls;
+use crate::typed_column::TypedColumn;
+use mysql_values::{ServerSide, ValueKind, ValueRef, string_type};
+use mysql_wire::{ColumnType, MySerialize};
+use thiserror::Error;
+
+/// Why a binary row is not written.
+#[derive(Clone, Copy, Debug, PartialEq, Eq, Error)]
+pub enum BinaryRowError {
+    /// There is not a value for each column.
+    #[error("Not a value for each column")]
+    Count,
+    /// The column at this place does not take its value.
+    #[error("Value that its column does not take")]
+    Value(usize),
+    /// Memory for the row was refused.
+    #[error("Memory")]
+    Memory,
+}
+
+/// Whether an integer lies from -half to below half, or without a sign below twice the half.
+#[inline]
+fn has_width(is_unsigned: bool, half: u64, n: i64) -> bool
+    requires { half ≤ 2147483648 }
+    ensures { result ≡ spec.has_width is_unsigned half n }
+{
+    if n < 0 {
+        !is_unsigned && n.unsigned_abs() <= half
+    } else if is_unsigned {
+        n.unsigned_abs() < 2 * half
+    } else {
+        n.unsigned_abs() < half
+    }
+}
+
+fn takes_integer(column_type: ColumnType, is_unsigned: bool, n: i64) -> bool
+    ensures { result ≡ spec.takes_integer (kind_of column_type) is_unsigned n }
+{
+    match column_type {
+        ColumnType::MYSQL_TYPE_TINY => has_width(is_unsigned, 1 << 7, n),
+        ColumnType::MYSQL_TYPE_SHORT | ColumnType::MYSQL_TYPE_YEAR => {
+            has_width(is_unsigned, 1 << 15, n)
+        }
+        ColumnType::MYSQL_TYPE_LONG | ColumnType::MYSQL_TYPE_INT24 => {
+            has_width(is_unsigned, 1 << 31, n)
+        }
+        ColumnType::MYSQL_TYPE_LONGLONG => !is_unsigned,
+        _ => false,
+    }
+}
+
+/// Whether the value is one that a column of the type is read as.
+fn takes(column_type: ColumnType, is_unsigned: bool, value: &ValueRef<'_>) -> bool
+    ensures { result ≡ spec.takes column_type is_unsigned (ref_content value.now) }
+{
+    match value {
+        ValueRef::NULL => true,
+        ValueRef::Bytes(_) => matches!(column_type, string_type!()),
+        ValueRef::Int(n) => takes_integer(column_type, is_unsigned, *n),
+        ValueRef::UInt(_) => {
+            matches!(column_type, ColumnType::MYSQL_TYPE_LONGLONG) && is_unsigned
+        }
+        value => ValueKind::of(column_type).suits(value),
+    }
+}
+
+/// A place whose column does not take its value: the first one. There is a value for each column.
+fn refused_at<C: TypedColumn>(columns: &[C], values: &[ValueRef<'_>]) -> Option<usize>
+    requires { length columns.now ≡ length values.now }
+    ensures none { IfNone result (IsTrue (spec.takes_row C.type_of C.unsigned columns.now (refs_held values.now))) }
+    ensures some { IfSome result (λ place. spec.IsRefusedAt C.type_of C.unsigned columns.now (refs_held values.now) place) }
+{
+    for place in 0..values.len() {
+        let column = &columns[place];
+        if !takes(column.value_type(), column.is_unsigned(), &values[place]) {
+            return Some(place);
+        }
+    }
+    None
+}
+
+/// How many bytes an integer takes in a column of the type.
+#[inline]
+fn integer_size(column_type: ColumnType) -> usize
+    ensures { result ≡ spec.integer_size (kind_of column_type) }
+{
+    match column_type {
+        ColumnType::MYSQL_TYPE_TINY => 1,
+        ColumnType::MYSQL_TYPE_SHORT | ColumnType::MYSQL_TYPE_YEAR => 2,
+        ColumnType::MYSQL_TYPE_LONG | ColumnType::MYSQL_TYPE_INT24 => 4,
+        ColumnType::MYSQL_TYPE_LONGLONG => 8,
+        _ => 0,
+    }
+}
+
+/// How many bytes a value takes in a column of the type, or `usize::MAX` where that is less.
+#[inline]
+#[tactic(auto, unfolding(mysql_wire::specs::Writing::saturated))]
+fn cell_len(column_type: ColumnType, value: &ValueRef<'_>) -> usize
+    ensures { result ≡ saturated (length (spec.bin_in column_type (ref_content value.now))) }
+{
+    match value {
+        ValueRef::Int(_) => integer_size(column_type),
+        value => value.defined_len(),
+    }
+}
+
+/// The same of all values of a row.
+fn values_len<C: TypedColumn>(columns: &[C], values: &[ValueRef<'_>]) -> usize
+    requires { length columns.now ≡ length values.now }
+    ensures { result ≡ saturated (length (spec.values_bytes C.type_of C.unsigned columns.now (refs_held values.now))) }
+{
+    let mut total: usize = 0;
+    for place in 0..values.len() {
+        total = total.saturating_add(cell_len(columns[place].value_type(), &values[place]));
+    }
+    total
+}
+
+/// Writes the low bytes of an integer, as many as it takes in a column of the type.
+#[inline]
+#[tactic(auto, using(crate::proofs::RowBytes::row_bytes))]
+fn append_integer(column_type: ColumnType, n: i64, out: &mut Vec<u8>)
+    requires { vec_len out.old + length (spec.bin_in column_type (Int n)) ≤ vec_capacity out.old }
+    ensures items { out.new.items ≡ out.old.items ++ spec.bin_in column_type (Int n) }
+    ensures capacity { vec_capacity out.old ≤ vec_capacity out.new }
+{
+    let bytes = n.cast_unsigned().to_le_bytes();
+    let size = integer_size(column_type);
+    out.extend_from_slice(&bytes[..size]).unwrap();
+}
+
+/// Writes a value in a column of the type.
+#[inline]
+fn append_cell(column_type: ColumnType, value: &ValueRef<'_>, out: &mut Vec<u8>)
+    requires { vec_len out.old + length (spec.bin_in column_type (ref_content value.now)) ≤ vec_capacity out.old }
+    ensures items { out.new.items ≡ out.old.items ++ spec.bin_in column_type (ref_content value.now) }
+    ensures capacity { vec_capacity out.old ≤ vec_capacity out.new }
+{
+    match value {
+        ValueRef::Int(n) => append_integer(column_type, *n, out),
+        value => value.append(out),
+    }
+}
+
+/// Writes the values of a row.
+fn append_values<C: TypedColumn>(columns: &[C], values: &[ValueRef<'_>], out: &mut Vec<u8>)
+    requires same { length columns.now ≡ length values.now }
+    requires capacity { vec_len out.old + length (spec.values_bytes C.type_of C.unsigned columns.now (refs_held values.now)) ≤ vec_capacity out.old }
+    ensures items { out.new.items ≡ out.old.items ++ spec.values_bytes C.type_of C.unsigned columns.now (refs_held values.now) }
+    ensures capacity { vec_capacity out.old ≤ vec_capacity out.new }
+{
+    for place in 0..values.len() {
+        append_cell(columns[place].value_type(), &values[place], out);
+    }
+}
+
+/// Writes a binary row (`ProtocolBinary::ResultsetRow`) of a server to the end of a buffer, which grows once at the most.
+///
+/// | Bytes | Field |
+/// |---|---|
+/// | 1 | a zero |
+/// | 1 for 8 columns and 2 bits more | a bit for each value, the first one the third, set for NULL |
+/// | to the end | the values that are not NULL, one after another, each as its column's type says |
+///
+/// A column takes NULL, and the values that its type is read as:
+///
+/// | Type | Values |
+/// |---|---|
+/// | `TINY`; `SHORT`, `YEAR`; `LONG`, `INT24` | `Int` that has 8, 16, 32 bits: with a sign, or without where the column is unsigned |
+/// | `LONGLONG` | `Int` |
+/// | `LONGLONG`, unsigned | `UInt` |
+/// | `FLOAT`, `DOUBLE` | `Float`, `Double` |
+/// | `DATETIME`, `TIMESTAMP` | `Date` |
+/// | `DATE` | `Date` without a time of day |
+/// | `TIME` | `Time` |
+/// | `VARCHAR`, `VAR_STRING`, `STRING`, the four `BLOB`s, `DECIMAL`, `NEWDECIMAL`, `ENUM`, `SET`, `BIT`, `JSON`, `VECTOR`, `GEOMETRY` | `Bytes` |
+///
+/// What is written is read again as the same values; but a negative span of no time is read without its sign. After a refusal
+/// the buffer is as it was.
+pub fn write_binary_row<C: TypedColumn>(
+    columns: &[C],
+    values: &[ValueRef<'_>],
+    out: &mut Vec<u8>,
+) -> Result<(), BinaryRowError>
+    ensures taken { OnOk result (IsTrue (spec.takes_row C.type_of C.unsigned columns.now (refs_held values.now))) }
+    ensures ok { OnOk result (spec.AppendsRow C.type_of C.unsigned columns.now (refs_held values.now) out.old.items out.new.items) }
+    ensures refused { IfErr result (λ e. spec.RefusesRow C.type_of C.unsigned columns.now (refs_held values.now) e) }
+    ensures err { OnErr result (out.new.items ≡ out.old.items) }
+{
+    if columns.len() != values.len() {
+        return Err(BinaryRowError::Count);
+    }
+    if let Some(place) = refused_at(columns, values) {
+        return Err(BinaryRowError::Value(place));
+    }
+    let front = 1 + NullBitmap::<ServerSide>::bitmap_len(values.len());
+    let len = values_len(columns, values).saturating_add(front);
+    if out.reserve(len).is_err() {
+        return Err(BinaryRowError::Memory);
+    }
+    out.push_reserved(0);
+    append_nulls::<ServerSide, ValueRef<'_>>(values, out);
+    append_values(columns, values, out);
+    Ok(())
+}

@@ -1,0 +1,236 @@
+//! Binary rows that are read value by value, without memory.
+
+ghost use Rattle.std.specs.Prelude.{false, ◌≡◌, ◌<◌, ◌≤◌, Ok, Some, length, IfOk, IfErr, OnOk, OnErr};
+ghost use Rattle.mysql_wire.specs.Reading.{Answers, Faults};
+ghost use Rattle.mysql_values.specs.ValueDeserializer.{bin_value};
+ghost use Rattle.mysql_values.specs.ValueRef.{ref_content, refs_contents};
+ghost use Rattle.mysql_prepared.specs.RowView.{Fills, GivesOne, IsBinaryRow, IsDone, RefusesNext, bin_row_of, read_of, ref_unless};
+
+use crate::null_bitmap::NullBitmap;
+use crate::row_values::is_null_at;
+use crate::typed_column::TypedColumn;
+use mysql_values::{SerializationSide, ValueRef, read_bin_ref, string_type};
+use mysql_wire::{ColumnType, FaultOf, MyDeserialize, ParseBuf, Skip};
+use std::marker::Model;
+
+/// The value of a column: NULL where it is that, which takes no bytes.
+#[inline(always)]
+fn read_unless<'s, 'de, C: TypedColumn>(
+    is_null: bool,
+    column: &C,
+    buf: &mut ParseBuf<'de>,
+) -> Result<ValueRef<'de>, FaultOf<'s>>
+    ensures value { Answers false (refs_contents result) buf.new ((ref_unless C.type_of C.unsigned is_null column.now).reads buf.old) }
+{
+    if is_null {
+        return Ok(ValueRef::NULL);
+    }
+    read_bin_ref(column.value_type(), column.is_unsigned(), buf)
+}
+
+/// Puts a value of this type into its place.
+#[inline]
+fn put_value<'s, 'de>(
+    column_type: ColumnType,
+    is_unsigned: bool,
+    buf: &mut ParseBuf<'de>,
+    place: &mut ValueRef<'de>,
+) -> Result<(), FaultOf<'s>>
+    ensures value { OnOk result ((bin_value column_type is_unsigned).reads buf.old ≡ Ok (ref_content place.new, buf.new)) }
+    ensures fault { IfErr result (λ e. Faults false e ((bin_value column_type is_unsigned).reads buf.old)) }
+    ensures place { OnErr result (place.new ≡ place.old) }
+{
+    *place = read_bin_ref(column_type, is_unsigned, buf)?;
+    Ok(())
+}
+
+/// The same, for a type that is seldom met.
+#[inline(never)]
+fn put_seldom<'s, 'de>(
+    column_type: ColumnType,
+    is_unsigned: bool,
+    buf: &mut ParseBuf<'de>,
+    place: &mut ValueRef<'de>,
+) -> Result<(), FaultOf<'s>>
+    ensures value { OnOk result ((bin_value column_type is_unsigned).reads buf.old ≡ Ok (ref_content place.new, buf.new)) }
+    ensures fault { IfErr result (λ e. Faults false e ((bin_value column_type is_unsigned).reads buf.old)) }
+    ensures place { OnErr result (place.new ≡ place.old) }
+{
+    put_value(column_type, is_unsigned, buf, place)
+}
+
+/// The same, with a buffer of its own, so that the caller's need not stand in memory.
+#[inline(always)]
+fn put_apart<'s, 'de>(
+    column_type: ColumnType,
+    is_unsigned: bool,
+    buf: &mut ParseBuf<'de>,
+    place: &mut ValueRef<'de>,
+) -> Result<(), FaultOf<'s>>
+    ensures value { OnOk result ((bin_value column_type is_unsigned).reads buf.old ≡ Ok (ref_content place.new, buf.new)) }
+    ensures fault { IfErr result (λ e. Faults false e ((bin_value column_type is_unsigned).reads buf.old)) }
+    ensures place { OnErr result (place.new ≡ place.old) }
+{
+    let mut rest = buf.rest();
+    put_seldom(column_type, is_unsigned, &mut rest, place)?;
+    *buf = rest;
+    Ok(())
+}
+
+/// Puts a value of one of the types that rows mostly have by code of that type alone, and any other by a call: so a place gets
+/// the fields of its own kind, and no value of all kinds is put together first. Types of one form are one.
+macro_rules! put_by_type {
+    ($column_type:expr, $is_unsigned:expr, $buf:expr, $place:expr; $($often:ident $(| $alike:ident)*,)*) => {
+        match $column_type {
+            $(ColumnType::$often $(| ColumnType::$alike)* => put_value(ColumnType::$often, $is_unsigned, $buf, $place),)*
+            string_type!() => put_value(ColumnType::MYSQL_TYPE_STRING, $is_unsigned, $buf, $place),
+            other => put_apart(other, $is_unsigned, $buf, $place),
+        }
+    };
+}
+
+/// Puts the value of a column into its place: NULL where it is that, which takes no bytes.
+#[inline(always)]
+fn put_unless<'s, 'de, C: TypedColumn>(
+    is_null: bool,
+    column: &C,
+    buf: &mut ParseBuf<'de>,
+    place: &mut ValueRef<'de>,
+) -> Result<(), FaultOf<'s>>
+    ensures value { OnOk result ((ref_unless C.type_of C.unsigned is_null column.now).reads buf.old ≡ Ok (ref_content place.new, buf.new)) }
+    ensures fault { IfErr result (λ e. Faults false e ((ref_unless C.type_of C.unsigned is_null column.now).reads buf.old)) }
+    ensures place { OnErr result (place.new ≡ place.old) }
+{
+    if is_null {
+        *place = ValueRef::NULL;
+        return Ok(());
+    }
+    put_by_type!(column.value_type(), column.is_unsigned(), buf, place;
+        MYSQL_TYPE_TINY, MYSQL_TYPE_SHORT | MYSQL_TYPE_YEAR, MYSQL_TYPE_LONG | MYSQL_TYPE_INT24, MYSQL_TYPE_LONGLONG,
+        MYSQL_TYPE_DOUBLE,)
+}
+
+/// A binary row (`ProtocolBinary::ResultsetRow`) that is read value by value, of the columns `C` and written by the side `S`.
+///
+/// It takes no memory, and the bytes of a value stay in the row. A loop over [`next_value`](Self::next_value) gives the same
+/// values as [`RowDeserializer`](crate::RowDeserializer), and the same fault; [`read_rest`](Self::read_rest) puts them into
+/// places of the caller's.
+///
+/// In a clause it is how many values are left, those of them that are good, and the bytes after the last, or the kind of the
+/// fault that ends them.
+#[derive(Drop)]
+pub struct BinaryRowView<'a, 'c, S: SerializationSide, C: TypedColumn> {
+    buf: ParseBuf<'a>,
+    nulls: NullBitmap<'a, S>,
+    none: bool,
+    place: usize,
+    columns: &'c [C],
+}
+
+impl<'a, 'c, S: SerializationSide, C: TypedColumn> Model for BinaryRowView<'a, 'c, S, C> {
+    ghost use Rattle.std.specs.Prelude.{length};
+    ghost use Rattle.mysql_prepared.specs.RowView.{RowLeft, HasBits, ref_cell, row_left};
+
+    ghost Value = { RowLeft };
+
+    ghost view = { λ r. row_left (ref_cell C.type_of C.unsigned r.nulls.bytes S.BIT_OFFSET) r.place r.columns.now r.buf };
+
+    ghost invariant = { λ r. HasBits r.nulls.bytes S.BIT_OFFSET r.none r.place (length r.columns.now) };
+}
+
+impl<'a, 'c, S: SerializationSide, C: TypedColumn> BinaryRowView<'a, 'c, S, C> {
+    /// Reads what stands before the values: a byte with any value, and the bitmap of NULLs. Fewer bytes are `UnexpectedEof`.
+    #[inline(always)]
+    pub fn new<'s>(columns: &'c [C], buf: ParseBuf<'a>) -> Result<Self, FaultOf<'s>>
+        ensures left { IfOk result (λ row. row.left ≡ length columns.now) }
+        ensures read { IfOk result (λ row. read_of row ≡ (bin_row_of C.type_of C.unsigned S.BIT_OFFSET columns.now).reads buf.entry) }
+        ensures values { IfOk result (IsBinaryRow C.type_of C.unsigned S.BIT_OFFSET columns.now buf.entry) }
+        ensures fault { IfErr result (λ e. Faults false e ((bin_row_of C.type_of C.unsigned S.BIT_OFFSET columns.now).reads buf.entry)) }
+    {
+        let mut rest = buf;
+        let _header: Skip<1> = rest.parse(())?;
+        let nulls = NullBitmap::<'a, S>::deserialize(columns.len(), &mut rest)?;
+        let none = nulls.as_bytes().iter().all(|byte| *byte == 0);
+        Ok(BinaryRowView {
+            buf: rest,
+            nulls,
+            none,
+            place: 0,
+            columns,
+        })
+    }
+
+    /// How many values are left.
+    #[inline(always)]
+    pub fn left(&self) -> usize
+        ensures value { result ≡ self.now.left }
+        ensures done { result ≡ 0 → IsDone self.now }
+    {
+        self.columns.len()
+    }
+
+    /// The bytes after the values that were read: after the last, those that the row does not take.
+    #[inline(always)]
+    pub fn rest(&self) -> ParseBuf<'a>
+        ensures value { self.now.left ≡ 0 → self.now.end ≡ Ok result }
+    {
+        self.buf.rest()
+    }
+
+    /// The next value, or none after the last. After a refusal the row is as it was.
+    #[inline(always)]
+    pub fn next_value<'s>(&mut self) -> Result<Option<ValueRef<'a>>, FaultOf<'s>>
+        ensures value { GivesOne self.old result self.new }
+    {
+        let Some((column, columns)) = self.columns.split_first() else {
+            return Ok(None);
+        };
+        let is_null = is_null_at(&self.nulls, self.none, self.place);
+        let mut rest = self.buf.rest();
+        let value = read_unless(is_null, column, &mut rest)?;
+        self.buf = rest;
+        self.columns = columns;
+        self.place += 1;
+        Ok(Some(value))
+    }
+
+    /// Puts the next value, of which there is one, into a place. After a refusal the row and the place are as they were.
+    #[inline(always)]
+    fn put_next<'s>(&mut self, place: &mut ValueRef<'a>) -> Result<(), FaultOf<'s>>
+        requires { 0 < self.old.left }
+        ensures value { OnOk result (GivesOne self.old (Ok (Some place.new)) self.new) }
+        ensures refused { IfErr result (λ e. RefusesNext e self.old) }
+        ensures row { OnErr result (self.new ≡ self.old) }
+        ensures place { OnErr result (place.new ≡ place.old) }
+    {
+        let Some((column, columns)) = self.columns.split_first() else {
+            return Ok(());
+        };
+        let is_null = is_null_at(&self.nulls, self.none, self.place);
+        let mut rest = self.buf.rest();
+        put_unless(is_null, column, &mut rest, place)?;
+        self.buf = rest;
+        self.columns = columns;
+        self.place += 1;
+        Ok(())
+    }
+
+    /// Reads the values that are left into the first of these places, of which there is one for each at least.
+    ///
+    /// After a refusal the values before the one that is refused are good: they are as many as there are fewer
+    /// [`left`](Self::left), and the row stands before that one. The other places are as they were.
+    #[inline(always)]
+    pub fn read_rest<'s>(&mut self, values: &mut [ValueRef<'a>]) -> Result<(), FaultOf<'s>>
+        requires { self.old.left ≤ length values.old }
+        ensures good { Fills self.old self.new values.old values.new }
+        ensures all { OnOk result (IsDone self.new) }
+        ensures refused { IfErr result (λ e. RefusesNext e self.new) }
+    {
+        let mut place = 0;
+        while self.left() > 0 {
+            self.put_next(&mut values[place])?;
+            place += 1;
+        }
+        Ok(())
+    }
+}

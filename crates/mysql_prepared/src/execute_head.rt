@@ -1,0 +1,95 @@
+//! What stands before the parameters of an execution.
+#![tactic(auto, using(mysql_wire::proofs::Packets::packets), unfolding(crate::specs::ExecuteHead::execute_head))]
+
+ghost use Rattle.std.specs.Prelude.{◌≡◌};
+ghost use Rattle.mysql_wire.specs.Form.{size-block};
+ghost use Rattle.mysql_prepared.specs.ExecuteHead as spec;
+
+use crate::execute::{ComStmtExecuteHeader, IterationCount};
+use mysql_wire::{
+    Const, ConstU8, ConstU32, CursorType, FaultOf, Fixed, LeU32, MyDeserialize, ParseBuf, Parts,
+    RawInt, Sink, parts,
+};
+
+/// What stands before the parameters of `COM_STMT_EXECUTE`: a server reads it first, since the number tells which statement is
+/// executed, and [`ExecuteParamsView`](crate::ExecuteParamsView) reads what follows.
+///
+/// It takes 10 bytes, numbers little-endian:
+///
+/// | Bytes | Field |
+/// |---|---|
+/// | 1 | the byte `17` |
+/// | 4 | the statement's number |
+/// | 1 | flags: which cursor is opened |
+/// | 4 | the count of executions, always 1 |
+///
+/// Fewer than 10 bytes are refused as `UnexpectedEof`, another first byte or count as `InvalidData`.
+#[derive(Clone, Debug, PartialEq, Eq, Drop)]
+pub struct ComStmtExecuteHead {
+    header: ComStmtExecuteHeader,
+    stmt_id: RawInt<LeU32>,
+    flags: Const<CursorType, u8>,
+    iteration_count: IterationCount,
+}
+
+impl ComStmtExecuteHead {
+    /// The head of an execution of the statement of that number, with these flags.
+    pub fn new(stmt_id: u32, flags: CursorType) -> Self
+        ensures stmt_id { spec.stmt_id result ≡ stmt_id }
+        ensures flags { spec.cursor_flags result ≡ flags.0 }
+        ensures head { result ≡ spec.head_with stmt_id flags }
+    {
+        ComStmtExecuteHead {
+            header: ConstU8::new(),
+            stmt_id: RawInt::new(stmt_id),
+            flags: Const::new(flags),
+            iteration_count: ConstU32::new(),
+        }
+    }
+
+    /// The number of the statement.
+    pub fn stmt_id(&self) -> u32
+        ensures value { result ≡ spec.stmt_id self.now }
+    {
+        self.stmt_id.0
+    }
+
+    /// Which cursor is opened.
+    pub fn flags(&self) -> CursorType
+        ensures value { result.0 ≡ spec.cursor_flags self.now }
+    {
+        self.flags.0
+    }
+}
+
+impl<'de> MyDeserialize<'de> for ComStmtExecuteHead {
+    const SIZE: Option<usize> = Some(10);
+
+    type Size = Fixed<10>;
+
+    type Ctx = ();
+
+    ghost form = { spec.execute_head.form };
+
+    #[tactic(auto, using(mysql_wire::proofs::There::blocks_there), unfolding(crate::specs::ExecuteHead::execute_head))]
+    fn deserialize<'s>(_ctx: (), buf: &mut ParseBuf<'de>) -> Result<Self, FaultOf<'s>> {
+        let mut fields = ParseBuf::new(buf.alloc(), buf.eat(10));
+        Ok(ComStmtExecuteHead {
+            header: fields.parse_unchecked(())?,
+            stmt_id: RawInt::take(&mut fields),
+            flags: fields.parse_unchecked(())?,
+            iteration_count: fields.parse_unchecked(())?,
+        })
+    }
+
+    ghost size_is = { λ _. unfold spec.execute_head in size-block 10 (spec.execute_head_fields.form tt) };
+}
+
+impl Parts for ComStmtExecuteHead {
+    ghost bytes = { spec.execute_head.bytes };
+
+    #[inline(always)]
+    fn put<S: Sink>(&self, sink: &mut S) {
+        sink.part(&parts!(self.header, self.stmt_id, self.flags, self.iteration_count));
+    }
+}

@@ -1,0 +1,52 @@
+//! Lists whose items are written in a form that the items alone don't tell.
+
+ghost use Rattle.std.specs.Prelude.{◌≡◌, ◌+◌, ◌++◌, ◌≤◌, length, drop, List, ℕ};
+ghost use Rattle.mysql_wire.specs.Writing.{saturated};
+
+use mysql_wire::{Buffer, MySerialize};
+
+/// The form in which the items of a list are written.
+pub(crate) trait ItemForm<T> {
+    ghost item_bytes: { Self → T → List ℕ };
+
+    /// How many bytes an item takes, or `usize::MAX` where that is less.
+    fn item_len(&self, item: &T) -> usize
+        ensures value { result ≡ saturated (length (item_bytes self.now item.now)) };
+
+    /// Writes an item to the end of a buffer that has capacity for it.
+    fn append_item<O: Buffer>(&self, item: &T, out: &mut O)
+        requires { length (O.held out.old) + length (item_bytes self.now item.now) ≤ O.capacity out.old }
+        ensures items { O.held out.new ≡ O.held out.old ++ item_bytes self.now item.now }
+        ensures after { O.after out.new ≡ drop (length (item_bytes self.now item.now)) (O.after out.old) }
+        ensures capacity { O.capacity out.old ≤ O.capacity out.new }
+        ensures kept { O.kept out.new ≡ O.kept out.old };
+}
+
+/// The items of a list, one after another, each in this form.
+#[derive(Drop)]
+pub(crate) struct Items<'a, T, F> {
+    pub(crate) items: &'a [T],
+    pub(crate) form: F,
+}
+
+impl<T, F: ItemForm<T>> MySerialize for Items<'_, T, F> {
+    ghost use Rattle.std.specs.List.{flat_map};
+
+    ghost bytes = { λ l. flat_map (F.item_bytes l.form) l.items.now };
+
+    #[tactic(auto, unfolding(mysql_wire::specs::Writing::saturated))]
+    fn defined_len(&self) -> usize {
+        let mut total: usize = 0;
+        for item in self.items {
+            total = total.saturating_add(self.form.item_len(item));
+        }
+        total
+    }
+
+    #[tactic(auto, using(mysql_wire::proofs::After::after))]
+    fn append<O: Buffer>(&self, out: &mut O) {
+        for item in self.items {
+            self.form.append_item(item, out);
+        }
+    }
+}

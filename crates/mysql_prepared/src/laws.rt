@@ -1,0 +1,247 @@
+//! Laws over the grammars and the defined bytes of this crate's packets.
+//!
+//! Each law is a function with nothing in it, whose contract holds for all values.
+#![tactic(auto, using(mysql_wire::proofs::Packets::packets))]
+
+ghost use Rattle.std.specs.Prelude.{◌≡◌, ◌+◌, ◌<◌, ◌^◌, ◌++◌, ◌↔◌, ℕ, List, Ok, Option, Some, None, IsTrue, length, map};
+ghost use Rattle.mysql_prepared.specs.Bitmap.{Bitmap, bytes_for};
+ghost use Rattle.mysql_prepared.specs.NullBitmap.{null_bitmap, borrowed};
+ghost use Rattle.mysql_prepared.specs.declared.stmt.StmtPacket.{StmtPacket};
+ghost use Rattle.mysql_prepared.specs.Stmt.{stmt, StmtPacketFits};
+ghost use Rattle.mysql_wire.specs.Flags.{CapabilityFlags};
+ghost use Rattle.mysql_prepared.specs.declared.stmt_with_metadata.StmtPacketWithMetadata.{StmtPacketWithMetadata};
+ghost use Rattle.mysql_prepared.specs.StmtWithMetadata.{stmt_with_metadata};
+ghost use Rattle.mysql_prepared.specs.declared.close.ComStmtClose.{ComStmtClose};
+ghost use Rattle.mysql_prepared.specs.Close.{close};
+ghost use Rattle.mysql_prepared.specs.declared.long_data.ComStmtSendLongData.{ComStmtSendLongData};
+ghost use Rattle.mysql_prepared.specs.LongData.{long_data};
+ghost use Rattle.mysql_replies.specs.declared.column.Column.{Column};
+ghost use Rattle.mysql_values.specs.Value.{Content};
+ghost use Rattle.mysql_prepared.specs.ExecuteHead as head;
+ghost use Rattle.mysql_prepared.specs.declared.execute_head.ComStmtExecuteHead.{ComStmtExecuteHead};
+ghost use Rattle.mysql_prepared.specs.declared.execute_view.BoundParam.{BoundParam};
+ghost use Rattle.mysql_prepared.specs.ExecuteRead.{execute_params};
+ghost use Rattle.mysql_prepared.specs.ReadAgain.{IsReadable, bytes_after_head, params_as_read};
+ghost use Rattle.mysql_prepared.specs.declared.execute.ComStmtExecuteRequest.{ComStmtExecuteRequest};
+ghost use Rattle.mysql_prepared.specs.Execute.{execute_bytes};
+ghost use Rattle.mysql_prepared.specs.ExecuteWithOptions as with_options;
+ghost use Rattle.mysql_prepared.specs.NullMarks.{MarksNulls};
+ghost use Rattle.mysql_prepared.specs.PlainExecution.{AsksForNothing};
+ghost use Rattle.mysql_prepared.specs.WrittenExecution.{IsExecutionBytes};
+ghost use Rattle.mysql_prepared.specs.declared.execute_with_options.ComStmtExecuteWithOptions.{ComStmtExecuteWithOptions};
+ghost use Rattle.mysql_prepared.specs.Row.{AnswersFound, Cells, CopyConvertsTo, FoundConverts};
+ghost use Rattle.mysql_prepared.specs.RowForm.{text_row, bin_row};
+ghost use Rattle.mysql_prepared.specs.RowView.{bin_row_of, text_row_of};
+ghost use Rattle.mysql_prepared.specs.TextRow.{text_row_bytes, text_contents, TextCellFits};
+ghost use Rattle.mysql_prepared.specs.BinaryRow.{takes_row, IsRowBytes};
+ghost use Rattle.mysql_values.specs.ReadingBack.{IsInRange};
+ghost use Rattle.std.specs.List.{All};
+ghost use Rattle.mysql_values.specs.ByContent.{IsConvertible};
+ghost use Rattle.mysql_values.specs.Cells.{held};
+ghost use Rattle.mysql_values.specs.declared.value.Value.{Value};
+
+pub mod values;
+
+use crate::column_index::ColumnIndex;
+use crate::execute_param::AsExecuteParam;
+use crate::typed_column::TypedColumn;
+use mysql_values::FromValue;
+use mysql_wire::MyDeserialize;
+use std::hash::Hash;
+
+/// What is written of a statement packet is read again, whatever follows.
+#[tactic(auto, using(mysql_wire::proofs::Packets::packets, crate::proofs::StmtAgain::stmt_again))]
+pub fn stmt_packet_round_trips()
+    ensures spelled { (p : StmtPacket) (rest : List ℕ) → stmt.fits tt p rest → (stmt.form tt).Spells p (stmt.bytes p ++ rest) rest }
+    ensures read { (p : StmtPacket) (rest : List ℕ) → stmt.fits tt p rest → (stmt.form tt).reads (stmt.bytes p ++ rest) ≡ Ok (p, rest) }
+    ensures plain { (p : StmtPacket) (rest : List ℕ) → StmtPacketFits p → (stmt.form tt).Spells p (stmt.bytes p ++ rest) rest }
+{}
+
+/// What is written of a statement packet with its metadata byte is read again under the flags that it was read under, whatever
+/// follows.
+pub fn stmt_packet_with_metadata_round_trips()
+    ensures spelled { (capabilities : CapabilityFlags) (p : StmtPacketWithMetadata) (rest : List ℕ) → stmt_with_metadata.fits capabilities p rest →
+        (stmt_with_metadata.form capabilities).Spells p (stmt_with_metadata.bytes p ++ rest) rest }
+    ensures read { (capabilities : CapabilityFlags) (p : StmtPacketWithMetadata) (rest : List ℕ) → stmt_with_metadata.fits capabilities p rest →
+        (stmt_with_metadata.form capabilities).reads (stmt_with_metadata.bytes p ++ rest) ≡ Ok (p, rest) }
+{}
+
+/// A statement packet that may have its metadata byte has no constant size.
+pub fn stmt_packet_with_metadata_has_no_constant_size() -> Option<usize>
+    ensures value { result ≡ None }
+{
+    <crate::stmt_with_metadata::StmtPacketWithMetadata as MyDeserialize>::SIZE
+}
+
+/// A statement packet takes 12 bytes.
+pub fn stmt_packet_size() -> Option<usize>
+    ensures value { result ≡ Some 12 }
+{
+    <crate::stmt::StmtPacket as MyDeserialize>::SIZE
+}
+
+/// Bytes spell at most one statement packet, with one rest after it.
+#[tactic(auto, using(mysql_wire::specs::Once::once))]
+pub fn stmt_packet_once()
+    ensures value { (p q : StmtPacket) (bytes rest left : List ℕ) → (stmt.form tt).Spells p bytes rest → (stmt.form tt).Spells q bytes left → p ≡ q }
+    ensures rest { (p q : StmtPacket) (bytes rest left : List ℕ) → (stmt.form tt).Spells p bytes rest → (stmt.form tt).Spells q bytes left → rest ≡ left }
+{}
+
+/// What is written of the data of one parameter is read again, where nothing follows.
+pub fn long_data_round_trips()
+    ensures spelled { (p : ComStmtSendLongData) (rest : List ℕ) → long_data.fits tt p rest → (long_data.form tt).Spells p (long_data.bytes p ++ rest) rest }
+    ensures read { (p : ComStmtSendLongData) (rest : List ℕ) → long_data.fits tt p rest → (long_data.form tt).reads (long_data.bytes p ++ rest) ≡ Ok (p, rest) }
+{}
+
+/// Data that stays in its packet is read of the same bytes as the data of one parameter, and is that data.
+pub fn borrowed_long_data_reads_long_data()
+    ensures read { (bytes : List ℕ) → (⟦<crate::long_data_ref::ComStmtSendLongDataRef<'static> as MyDeserialize<'static>>⟧.form tt).reads bytes ≡ (long_data.form tt).reads bytes }
+{}
+
+/// What is written of the end of a statement is read again, whatever follows.
+pub fn close_round_trips()
+    ensures spelled { (p : ComStmtClose) (rest : List ℕ) → close.fits tt p rest → (close.form tt).Spells p (close.bytes p ++ rest) rest }
+    ensures read { (p : ComStmtClose) (rest : List ℕ) → close.fits tt p rest → (close.form tt).reads (close.bytes p ++ rest) ≡ Ok (p, rest) }
+{}
+
+/// The end of a statement takes 5 bytes.
+pub fn close_size() -> Option<usize>
+    ensures value { result ≡ Some 5 }
+{
+    <crate::close::ComStmtClose as MyDeserialize>::SIZE
+}
+
+/// The data of one parameter has no constant size.
+pub fn long_data_has_no_constant_size() -> Option<usize>
+    ensures value { result ≡ None }
+{
+    <crate::long_data::ComStmtSendLongData as MyDeserialize>::SIZE
+}
+
+/// What is written of a bitmap of NULLs is read again for the count of its values, whatever follows.
+pub fn null_bitmap_round_trips()
+    ensures spelled { (offset count : ℕ) (bytes rest : List ℕ) → count + 7 + offset < 2 ^ 64 → length bytes ≡ bytes_for offset count →
+        (null_bitmap offset count).Spells (borrowed bytes) (bytes ++ rest) rest }
+    ensures read { (offset count : ℕ) (bytes rest : List ℕ) → count + 7 + offset < 2 ^ 64 → length bytes ≡ bytes_for offset count →
+        (null_bitmap offset count).reads (bytes ++ rest) ≡ Ok (borrowed bytes, rest) }
+{}
+
+/// Bytes spell at most one row of these columns, with one rest after it, in either protocol.
+#[tactic(auto, using(mysql_wire::specs::Once::once))]
+pub fn row_once()
+    ensures text { (columns : List Column) (v w : List (Option Content)) (bytes rest left : List ℕ) → (text_row columns).Spells v bytes rest → (text_row columns).Spells w bytes left → (v ≡ w) × (rest ≡ left) }
+    ensures binary { (offset : ℕ) (columns : List Column) (v w : List (Option Content)) (bytes rest left : List ℕ) → (bin_row offset columns).Spells v bytes rest → (bin_row offset columns).Spells w bytes left → (v ≡ w) × (rest ≡ left) }
+{}
+
+/// Reading all values of a row by a view gives what [`RowDeserializer`](crate::RowDeserializer) reads of it: the same values,
+/// the same bytes after them, or the same kind of fault.
+#[tactic(auto, using(crate::proofs::RowViews::row_views))]
+pub fn views_read_rows()
+    ensures binary { (offset : ℕ) (columns : List Column) (bytes : List ℕ) →
+        (bin_row_of ⟦<mysql_replies::Column as TypedColumn>⟧.type_of ⟦<mysql_replies::Column as TypedColumn>⟧.unsigned offset columns).reads bytes ≡ (bin_row offset columns).reads bytes }
+    ensures text { (columns : List Column) (bytes : List ℕ) → (text_row_of (length columns)).reads bytes ≡ (text_row columns).reads bytes }
+{}
+
+/// What is written of a text row is read again as the same cells, whatever follows.
+#[tactic(auto, using(crate::proofs::TextRowAgain::text_rows))]
+pub fn text_row_round_trips()
+    ensures spelled { (cells : List (Option (List ℕ))) (rest : List ℕ) → All TextCellFits cells →
+        (text_row_of (length cells)).Spells (text_contents cells) (text_row_bytes cells ++ rest) rest }
+    ensures read { (cells : List (Option (List ℕ))) (rest : List ℕ) → All TextCellFits cells →
+        (text_row_of (length cells)).reads (text_row_bytes cells ++ rest) ≡ Ok (text_contents cells, rest) }
+{}
+
+/// What is written of a binary row, which its columns take, is read again as the same values, whatever follows. Their numbers
+/// have their widths, as those of every [`ValueRef`](mysql_values::ValueRef) have, and a span of no time has no sign.
+#[tactic(auto, using(crate::proofs::BinaryRowAgain::binary_rows))]
+pub fn binary_row_round_trips<C: TypedColumn>()
+    ensures spelled { (columns : List C) (values : List Content) (bytes rest : List ℕ) → IsTrue (takes_row C.type_of C.unsigned columns values) → All IsInRange values
+        → length columns + 9 < 2 ^ 64 → IsRowBytes C.type_of C.unsigned columns values bytes
+        → (bin_row_of C.type_of C.unsigned 2 columns).Spells (map Some values) (bytes ++ rest) rest }
+    ensures read { (columns : List C) (values : List Content) (bytes rest : List ℕ) → IsTrue (takes_row C.type_of C.unsigned columns values) → All IsInRange values
+        → length columns + 9 < 2 ^ 64 → IsRowBytes C.type_of C.unsigned columns values bytes
+        → (bin_row_of C.type_of C.unsigned 2 columns).reads (bytes ++ rest) ≡ Ok (map Some values, rest) }
+{}
+
+/// What is written of the head of an execution is read again, whatever follows.
+pub fn execute_head_round_trips()
+    ensures spelled { (p : ComStmtExecuteHead) (rest : List ℕ) → head.execute_head.fits tt p rest → (head.execute_head.form tt).Spells p (head.execute_head.bytes p ++ rest) rest }
+    ensures read { (p : ComStmtExecuteHead) (rest : List ℕ) → head.execute_head.fits tt p rest → (head.execute_head.form tt).reads (head.execute_head.bytes p ++ rest) ≡ Ok (p, rest) }
+{}
+
+/// What is written of an execution without attributes is read again, whatever follows: its head, and then its parameters, each with
+/// the type that it is sent with. The server knows how many there are, and which were sent ahead, as byte strings of long data are.
+#[tactic(auto, using(crate::proofs::ExecutionAgain::executions_again))]
+pub fn execution_round_trips<V: AsExecuteParam>()
+    ensures head { (r : ComStmtExecuteWithOptions V) (rest : List ℕ) → with_options.attributes r ≡ None → with_options.stmt_id r < 2 ^ 32 → with_options.flags r < 2 ^ 8
+        → (head.execute_head.form tt).reads (with_options.request_bytes V.param r ++ rest) ≡ Ok (with_options.head_of r, bytes_after_head V.param r ++ rest) }
+    ensures spelled { (bound : List BoundParam) (r : ComStmtExecuteWithOptions V) (rest : List ℕ) → IsReadable V.param bound r
+        → (execute_params bound).Spells (params_as_read V.param r) (bytes_after_head V.param r ++ rest) rest }
+    ensures read { (bound : List BoundParam) (r : ComStmtExecuteWithOptions V) (rest : List ℕ) → IsReadable V.param bound r
+        → (execute_params bound).reads (bytes_after_head V.param r ++ rest) ≡ Ok (params_as_read V.param r, rest) }
+{}
+
+/// An execution that is built without a cursor and attributes has the bytes of one that is written at once, with the same
+/// parameters: so what is written at once is read again, as what is built.
+#[tactic(auto, using(crate::proofs::BuiltExecution::built))]
+pub fn built_executions_are_written_ones<V: AsExecuteParam>()
+    ensures bytes { (r : ComStmtExecuteWithOptions V) → with_options.attributes r ≡ None → with_options.flags r ≡ 0 → MarksNulls 0 (with_options.values V.param r) (with_options.bitmap r)
+        → IsExecutionBytes V.param (with_options.stmt_id r) (with_options.params r) (with_options.as_long_data r) (with_options.request_bytes V.param r) }
+{}
+
+/// The head of an execution takes 10 bytes.
+pub fn execute_head_size() -> Option<usize>
+    ensures value { result ≡ Some 10 }
+{
+    <crate::execute_head::ComStmtExecuteHead as MyDeserialize>::SIZE
+}
+
+/// The bitmap of an execution stands after its first ten bytes.
+#[tactic(auto, using(crate::proofs::HeadLength::head_length))]
+pub fn null_bitmap_offset() -> usize
+    ensures value { result ≡ 10 }
+    ensures before { (h : ComStmtExecuteHead) → length (head.execute_head.bytes h) ≡ result }
+{
+    crate::execute::ComStmtExecuteRequestBuilder::NULL_BITMAP_OFFSET
+}
+
+/// An execution that asks for nothing beside its values is written as the plain request of the same values.
+#[tactic(auto, using(crate::proofs::PlainOptions::plain_options))]
+pub fn options_for_nothing_write_the_plain_request()
+    ensures bytes { (o : ComStmtExecuteWithOptions Value) (r : ComStmtExecuteRequest) → AsksForNothing o r →
+        with_options.request_bytes ⟦<mysql_values::Value as AsExecuteParam>⟧.param o ≡ execute_bytes r }
+{}
+
+/// Statement packets are equal exactly where they are the same, and equal ones hash equally.
+#[tactic(auto, using(crate::proofs::StmtAgain::stmt_again))]
+pub fn equal_stmt_packets_are_the_same()
+    ensures same { (x y : StmtPacket) → IsTrue (⟦<crate::stmt::StmtPacket as PartialEq>⟧.eq x y) ↔ (x ≡ y) }
+    ensures hash { (x y : StmtPacket) → IsTrue (⟦<crate::stmt::StmtPacket as PartialEq>⟧.eq x y) → ⟦<crate::stmt::StmtPacket as Hash>⟧.hash_input x ≡ ⟦<crate::stmt::StmtPacket as Hash>⟧.hash_input y }
+{}
+
+/// Long data and closes are equal exactly where they are the same.
+#[tactic(auto, using(crate::proofs::StmtAgain::stmt_again))]
+pub fn equal_stmt_commands_are_the_same()
+    ensures long_data { (x y : ComStmtSendLongData) → IsTrue (⟦<crate::long_data::ComStmtSendLongData<'static> as PartialEq>⟧.eq x y) ↔ (x ≡ y) }
+    ensures close { (x y : ComStmtClose) → IsTrue (⟦<crate::close::ComStmtClose as PartialEq>⟧.eq x y) ↔ (x ≡ y) }
+{}
+
+/// Bitmaps are equal exactly where their bytes are the same, whoever owns them.
+#[tactic(auto, using(crate::proofs::StmtAgain::stmt_again))]
+pub fn equal_null_bitmaps_have_the_same_bytes<T>()
+    ensures same { (x y : Bitmap) → IsTrue (⟦<crate::null_bitmap::NullBitmap<'static, T> as PartialEq>⟧.eq x y) ↔ (x.bytes ≡ y.bytes) }
+{}
+
+/// Rows are equal exactly where their values hold the same, and their columns are the same.
+#[tactic(auto, using(crate::proofs::EqualRows::equal_rows))]
+pub fn equal_rows_hold_the_same()
+    ensures same { (x y : Cells) → IsTrue (⟦<crate::row::Row as PartialEq>⟧.eq x y) ↔ ((held x.cells ≡ held y.cells) × (x.columns ≡ y.columns)) }
+{}
+
+/// A value of which [`Row::get_opt`](crate::Row::get_opt) answered a copy, converted, converts itself. So where an index
+/// finds one place alone, its value may be asked for by `get` and `take`.
+pub fn get_after_get_opt<T: FromValue, I: ColumnIndex>()
+    ensures value { (value : Value) (x : T) → CopyConvertsTo T.Converts value (Ok x) → IsConvertible T.Converts value }
+    ensures found { (index : I) (columns : List Column) (cells : List (Option Value)) (x : T) → ((p q : Option ℕ) → I.Finds index columns p → I.Finds index columns q → p ≡ q)
+        → AnswersFound (I.Finds index columns) cells (CopyConvertsTo T.Converts) (Some (Ok x)) → FoundConverts (I.Finds index columns) cells T.Converts }
+{}

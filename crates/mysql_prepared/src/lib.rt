@@ -1,0 +1,59 @@
+//! Prepared statements: what a server answers to one that it prepared, what an execution, long data and a close are
+//! written as, the bitmaps of NULLs, and the rows of results.
+#![tactic(auto)]
+
+mod binary_row;
+mod binary_row_view;
+mod close;
+mod column_index;
+mod execute;
+mod execute_head;
+mod execute_param;
+mod execute_params;
+mod execute_view;
+mod execute_with_options;
+mod items;
+pub mod laws;
+mod long_data;
+mod long_data_ref;
+mod null_bitmap;
+mod null_marks;
+mod payload;
+mod row;
+mod row_deserializer;
+mod row_protocol;
+mod row_values;
+mod sent_params;
+mod sent_values;
+mod stmt;
+mod stmt_with_metadata;
+mod text_row;
+mod text_row_view;
+mod typed_column;
+mod write_execution;
+
+pub use binary_row::{BinaryRowError, write_binary_row};
+pub use binary_row_view::BinaryRowView;
+pub use close::{ComStmtClose, ComStmtCloseHeader, InvalidComStmtCloseHeader};
+pub use column_index::ColumnIndex;
+pub use execute::{
+    ComStmtExecuteHeader, ComStmtExecuteRequest, ComStmtExecuteRequestBuilder,
+    InvalidComStmtExecuteHeader, InvalidIterationCount, IterationCount,
+};
+pub use execute_head::ComStmtExecuteHead;
+pub use execute_param::{AsExecuteParam, ExecuteParam, QueryAttribute};
+pub use execute_view::{BoundParam, ExecuteParamsView};
+pub use execute_with_options::{ComStmtExecuteOptionsBuilder, ComStmtExecuteWithOptions, Cursor};
+pub use long_data::{
+    ComStmtSendLongData, ComStmtSendLongDataHeader, InvalidComStmtSendLongDataHeader,
+};
+pub use long_data_ref::ComStmtSendLongDataRef;
+pub use null_bitmap::NullBitmap;
+pub use row::{Row, new_row, new_row_raw};
+pub use row_deserializer::RowDeserializer;
+pub use row_protocol::RowProtocol;
+pub use stmt::{InvalidStmtPacketStatus, StmtPacket};
+pub use stmt_with_metadata::StmtPacketWithMetadata;
+pub use text_row::write_text_row;
+pub use text_row_view::TextRowView;
+pub use typed_column::TypedColumn;

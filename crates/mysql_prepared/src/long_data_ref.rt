@@ -1,0 +1,88 @@
+//! The data of one parameter, sent ahead of an execution, where it lies.
+#![tactic(auto, using(mysql_wire::proofs::Packets::packets), unfolding(crate::specs::LongData::long_data))]
+
+ghost use Rattle.std.specs.Prelude.{◌≡◌, refl};
+ghost use Rattle.mysql_prepared.specs.LongData as spec;
+
+use crate::long_data::{ComStmtSendLongData, ComStmtSendLongDataHeader};
+use mysql_wire::{AnyWidth, FaultOf, LeU16, LeU32, MyDeserialize, ParseBuf, RawInt};
+use std::borrow::CowSlice;
+use std::marker::Model;
+
+/// The data of one parameter, which stays in the packet: a [`ComStmtSendLongData`] for as long as the packet lives.
+///
+/// It is read of the same bytes with the same faults, and in a clause it is that packet.
+#[derive(Drop)]
+pub struct ComStmtSendLongDataRef<'a> {
+    stmt_id: u32,
+    param_index: u16,
+    content: &'a [u8],
+}
+
+impl<'a> Model for ComStmtSendLongDataRef<'a> {
+    ghost use Rattle.mysql_prepared.specs.declared.long_data.ComStmtSendLongData.{ComStmtSendLongData};
+    ghost use Rattle.mysql_prepared.specs.LongData.{long_data_of};
+
+    ghost Value = { ComStmtSendLongData };
+
+    ghost view = { λ p. long_data_of p.stmt_id p.param_index p.content.now };
+}
+
+impl<'a> ComStmtSendLongDataRef<'a> {
+    /// The statement's number.
+    #[inline]
+    pub fn stmt_id(&self) -> u32
+        ensures value { result ≡ spec.stmt_id self.now }
+    {
+        self.stmt_id
+    }
+
+    /// Which parameter, the first being 0.
+    #[inline]
+    pub fn param_index(&self) -> u16
+        ensures value { result ≡ spec.param_index self.now }
+    {
+        self.param_index
+    }
+
+    /// The data.
+    #[inline]
+    pub fn data(&self) -> &'a [u8]
+        ensures value { result.now ≡ spec.content self.now }
+    {
+        self.content
+    }
+
+    /// The packet in its other form, which borrows the data still. It takes no memory.
+    #[inline]
+    pub fn to_packet(&self) -> ComStmtSendLongData<'a>
+        ensures value { result ≡ self.now }
+    {
+        let content = CowSlice::Borrowed(self.content);
+        ComStmtSendLongData::new(self.stmt_id, self.param_index, content)
+    }
+}
+
+impl<'de> MyDeserialize<'de> for ComStmtSendLongDataRef<'de> {
+    const SIZE: Option<usize> = None;
+
+    type Size = AnyWidth;
+
+    type Ctx = ();
+
+    ghost form = { spec.long_data.form };
+
+    #[inline]
+    fn deserialize<'s>(_ctx: (), buf: &mut ParseBuf<'de>) -> Result<Self, FaultOf<'s>> {
+        let _header: ComStmtSendLongDataHeader = buf.parse(())?;
+        let stmt_id: RawInt<LeU32> = buf.parse(())?;
+        let param_index: RawInt<LeU16> = buf.parse(())?;
+        Ok(ComStmtSendLongDataRef {
+            stmt_id: stmt_id.0,
+            param_index: param_index.0,
+            content: buf.eat_all(),
+        })
+    }
+
+    ghost size_is = { λ _. unfold spec.long_data in refl };
+}

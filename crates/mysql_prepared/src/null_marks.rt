@@ -1,0 +1,88 @@
+//! The bits of NULLs in a bitmap that is written.
+
+ghost use Rattle.std.specs.Prelude.{◌≡◌, ◌+◌, ◌*◌, ◌<◌, ◌≤◌, ◌^◌, ◌++◌, ℕ, List, length, map, get_or, replicate, vec_len, vec_capacity, IfOk};
+ghost use Rattle.mysql_prepared.specs.Bitmap.{bytes_for, cell};
+ghost use Rattle.mysql_prepared.specs.ExecuteParam.{all_values, contents};
+ghost use Rattle.mysql_prepared.specs.NullMarks.{AppendsNulls, MarksNulls, null_bit};
+
+use crate::execute_param::{AsExecuteParam, QueryAttribute};
+use crate::null_bitmap::{NullBitmap, put};
+use mysql_values::{ClientSide, SerializationSide};
+use std::alloc::{AllocError, Global};
+use std::borrow::CowSlice;
+
+/// Sets the bits of the values that are NULL, after so many other bits, in a bitmap in which they are clear.
+fn mark_nulls<V: AsExecuteParam>(nulls: &mut [u8], before: usize, values: &[V])
+    requires fits { before + length values.now < 2 ^ 64 }
+    requires there { before + length values.now ≤ 8 * length nulls.old }
+    ensures len { length nulls.new ≡ length nulls.old }
+    ensures cells { (front : List ℕ) → length front ≡ before → ((k : ℕ) → cell nulls.old k ≡ get_or front k 0)
+        → (k : ℕ) → cell nulls.new k ≡ get_or (front ++ map null_bit (contents V.param values.now)) k 0 }
+{
+    for (i, value) in values.iter().enumerate() {
+        if value.is_null() {
+            let place = before + i;
+            put(nulls, place / 8, place % 8, true);
+        }
+    }
+}
+
+/// The same in a bitmap as this side has it, in which no bit is set.
+fn mark_side<S: SerializationSide, V: AsExecuteParam>(nulls: &mut [u8], values: &[V])
+    requires count { length values.now + 7 + S.BIT_OFFSET < 2 ^ 64 }
+    requires len { length nulls.old ≡ bytes_for S.BIT_OFFSET (length values.now) }
+    requires clear { nulls.old ≡ replicate (bytes_for S.BIT_OFFSET (length values.now)) 0 }
+    ensures { MarksNulls S.BIT_OFFSET (contents V.param values.now) nulls.new }
+{
+    mark_nulls(nulls, S::BIT_OFFSET, values);
+}
+
+/// The same for parameters, and for attributes after them.
+fn mark_all<V: AsExecuteParam>(nulls: &mut [u8], params: &[V], attributes: &[QueryAttribute<'_>])
+    requires count { length params.now + length attributes.now + 7 < 2 ^ 64 }
+    requires len { length nulls.old ≡ bytes_for 0 (length params.now + length attributes.now) }
+    requires clear { nulls.old ≡ replicate (bytes_for 0 (length params.now + length attributes.now)) 0 }
+    ensures { MarksNulls 0 (all_values V.param params.now attributes.now) nulls.new }
+{
+    mark_nulls(nulls, 0, params);
+    mark_nulls(nulls, params.len(), attributes);
+}
+
+/// Writes so many zeros.
+fn append_zeros(count: usize, out: &mut Vec<u8>)
+    requires { vec_len out.old + count ≤ vec_capacity out.old }
+    ensures items { out.new.items ≡ out.old.items ++ replicate count 0 }
+    ensures capacity { vec_capacity out.old ≤ vec_capacity out.new }
+{
+    for _ in 0..count {
+        out.push_reserved(0);
+    }
+}
+
+/// Writes the bitmap of the values that are NULL, as this side writes it.
+pub(crate) fn append_nulls<S: SerializationSide, V: AsExecuteParam>(values: &[V], out: &mut Vec<u8>)
+    requires count { length values.now + 7 + S.BIT_OFFSET < 2 ^ 64 }
+    requires capacity { vec_len out.old + bytes_for S.BIT_OFFSET (length values.now) ≤ vec_capacity out.old }
+    ensures items { AppendsNulls S.BIT_OFFSET (contents V.param values.now) out.old.items out.new.items }
+    ensures capacity { vec_capacity out.old ≤ vec_capacity out.new }
+{
+    let start = out.len();
+    append_zeros(NullBitmap::<S>::bitmap_len(values.len()), out);
+    let (_, nulls) = out.split_at_mut(start);
+    mark_side::<S, V>(nulls, values);
+}
+
+/// The bitmap in which the bit of each parameter and each attribute that is NULL is set, the attributes after the parameters.
+pub(crate) fn nulls_of<V: AsExecuteParam>(
+    alloc: Global,
+    params: &[V],
+    attributes: &[QueryAttribute<'_>],
+) -> Result<NullBitmap<'static, ClientSide>, AllocError>
+    requires { length params.now + length attributes.now + 7 < 2 ^ 64 }
+    ensures { IfOk result (λ bitmap. MarksNulls 0 (all_values V.param params.now attributes.now) bitmap.bytes) }
+{
+    let count = params.len() + attributes.len();
+    let mut nulls = vec![in alloc; 0; NullBitmap::<ClientSide>::bitmap_len(count)]?;
+    mark_all(&mut nulls, params, attributes);
+    Ok(NullBitmap::from_bytes(CowSlice::Owned(nulls)))
+}

@@ -1,0 +1,98 @@
+//! The answer to a prepared statement, under the flags of the connection.
+#![tactic(auto, using(mysql_wire::proofs::Packets::packets), unfolding(crate::specs::StmtWithMetadata::stmt_with_metadata))]
+
+ghost use Rattle.std.specs.Prelude.{◌≡◌, None, refl};
+ghost use Rattle.mysql_prepared.specs.StmtWithMetadata as spec;
+
+use crate::stmt::StmtPacket;
+use mysql_wire::{
+    AnyWidth, CapabilityFlags, FaultOf, Flags, MyDeserialize, ParseBuf, Parts, RawInt, Sink, parts,
+};
+
+/// What a server answers to a statement that it prepared, `COM_STMT_PREPARE_OK`, under the capabilities that both sides have
+/// agreed to.
+///
+/// | Bytes | Field |
+/// |---|---|
+/// | 12 | the [`StmtPacket`] |
+/// | 1 | `metadata`, with CLIENT_OPTIONAL_RESULTSET_METADATA (`02000000`, in hexadecimal) alone: 1 where definitions of columns and parameters follow, 0 where they don't |
+///
+/// Fewer bytes are refused as `UnexpectedEof`, another status of the statement packet as `InvalidData`. The metadata byte has any value.
+#[derive(Clone, Debug, PartialEq, Eq, Drop)]
+pub struct StmtPacketWithMetadata {
+    packet: StmtPacket,
+    metadata: Option<RawInt<u8>>,
+}
+
+impl StmtPacketWithMetadata {
+    /// The statement packet with that metadata byte, or without one.
+    ///
+    /// It is read again under capabilities with CLIENT_OPTIONAL_RESULTSET_METADATA where there is a byte, and under others
+    /// where there is none.
+    pub fn new(packet: StmtPacket, metadata: Option<u8>) -> Self
+        ensures packet { spec.packet_of result ≡ packet }
+        ensures metadata { spec.metadata_of result ≡ metadata }
+    {
+        StmtPacketWithMetadata {
+            packet,
+            metadata: match metadata {
+                Some(byte) => Some(RawInt::new(byte)),
+                None => None,
+            },
+        }
+    }
+
+    /// The statement packet.
+    pub fn packet(&self) -> &StmtPacket
+        ensures value { result.now ≡ spec.packet_of self.now }
+    {
+        &self.packet
+    }
+
+    /// Whether definitions of columns and parameters follow, where a byte says so: 1 for yes, 0 for no. Without the byte they
+    /// follow.
+    pub fn metadata(&self) -> Option<u8>
+        ensures value { result ≡ spec.metadata_of self.now }
+    {
+        match &self.metadata {
+            Some(byte) => Some(byte.0),
+            None => None,
+        }
+    }
+}
+
+impl<'de> MyDeserialize<'de> for StmtPacketWithMetadata {
+    const SIZE: Option<usize> = None;
+
+    type Size = AnyWidth;
+
+    /// The capabilities that both sides have agreed to.
+    type Ctx = CapabilityFlags;
+
+    ghost form = { spec.stmt_with_metadata.form };
+
+    fn deserialize<'s>(
+        capabilities: CapabilityFlags,
+        buf: &mut ParseBuf<'de>,
+    ) -> Result<Self, FaultOf<'s>> {
+        let packet: StmtPacket = buf.parse(())?;
+        let flag = CapabilityFlags::CLIENT_OPTIONAL_RESULTSET_METADATA;
+        let metadata = if capabilities.contains(flag) {
+            Some(buf.parse(())?)
+        } else {
+            None
+        };
+        Ok(StmtPacketWithMetadata { packet, metadata })
+    }
+
+    ghost size_is = { λ _. unfold spec.stmt_with_metadata in refl };
+}
+
+impl Parts for StmtPacketWithMetadata {
+    ghost bytes = { spec.stmt_with_metadata.bytes };
+
+    #[inline(always)]
+    fn put<S: Sink>(&self, sink: &mut S) {
+        sink.part(&parts!(self.packet, self.metadata));
+    }
+}

@@ -1,0 +1,55 @@
+//! Text rows, written from their cells.
+#![tactic(auto, using(crate::proofs::OptionLengths::written), unfolding(mysql_wire::specs::Writing::saturated))]
+
+ghost use Rattle.std.specs.Prelude.{◌≡◌, ◌++◌, map, OnOk, OnErr};
+ghost use Rattle.std.specs.Option.{option_copied};
+ghost use Rattle.mysql_prepared.specs.TextRow.{text_row_bytes};
+
+use crate::items::{ItemForm, Items};
+use mysql_wire::{Buffer, BytesRepr, LenEnc, MySerialize};
+use std::alloc::AllocError;
+
+/// The first byte of a cell without a value.
+const NULL: u8 = 0xfb;
+
+/// Cells are written as text.
+#[derive(Drop)]
+struct AsText;
+
+impl<'a> ItemForm<Option<&'a [u8]>> for AsText {
+    ghost use Rattle.std.specs.Option.{option_copied};
+    ghost use Rattle.mysql_prepared.specs.TextRow.{text_cell_bytes};
+
+    ghost item_bytes = { λ _ cell. text_cell_bytes (option_copied cell) };
+
+    #[inline(always)]
+    fn item_len(&self, cell: &Option<&'a [u8]>) -> usize {
+        match cell {
+            Some(content) => <LenEnc as BytesRepr>::written_len(content),
+            None => 1,
+        }
+    }
+
+    #[inline(always)]
+    fn append_item<O: Buffer>(&self, cell: &Option<&'a [u8]>, out: &mut O) {
+        match cell {
+            Some(content) => <LenEnc as BytesRepr>::append(content, out),
+            None => out.push_byte(NULL),
+        }
+    }
+}
+
+/// Writes a text row (`ProtocolText::ResultsetRow`) to the end of a buffer, which grows once at the most.
+///
+/// Each cell is the byte `fb` where there is no value, else a length-encoded string. Where that allocation fails, the buffer
+/// is as it was.
+pub fn write_text_row(cells: &[Option<&[u8]>], out: &mut Vec<u8>) -> Result<(), AllocError>
+    ensures ok { OnOk result (out.new.items ≡ out.old.items ++ text_row_bytes (map option_copied cells.now)) }
+    ensures err { OnErr result (out.new.items ≡ out.old.items) }
+{
+    let row = Items {
+        items: cells,
+        form: AsText,
+    };
+    row.serialize(out)
+}

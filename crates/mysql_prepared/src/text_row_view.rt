@@ -1,0 +1,98 @@
+//! Text rows that are read value by value, without memory.
+
+ghost use Rattle.std.specs.Prelude.{◌≡◌, ◌≤◌, Ok, length, IfErr, OnOk};
+ghost use Rattle.mysql_prepared.specs.RowView.{Fills, GivesOne, IsDone, RefusesNext, read_of, text_row_left, text_row_of};
+
+use mysql_values::{ValueRef, read_text_ref};
+use mysql_wire::{FaultOf, ParseBuf};
+use std::marker::Model;
+
+/// A text row (`ProtocolText::ResultsetRow`) that is read value by value. Each value is bytes, or NULL.
+///
+/// It takes no memory, and the bytes of a value stay in the row. A loop over [`next_value`](Self::next_value) gives the same
+/// values as [`RowDeserializer`](crate::RowDeserializer), and the same fault; [`read_rest`](Self::read_rest) puts them into
+/// places of the caller's.
+///
+/// In a clause it is how many values are left, those of them that are good, and the bytes after the last, or the kind of the
+/// fault that ends them.
+///
+/// ```
+/// let mut row = TextRowView::new(2, ParseBuf::new(alloc, payload));
+/// let first = row.next_value()?; // NULL, or bytes where they lie in the packet: no memory is taken
+/// ```
+#[derive(Drop)]
+pub struct TextRowView<'a> {
+    buf: ParseBuf<'a>,
+    left: usize,
+}
+
+impl<'a> Model for TextRowView<'a> {
+    ghost use Rattle.mysql_prepared.specs.RowView.{RowLeft, text_row_left};
+
+    ghost Value = { RowLeft };
+
+    ghost view = { λ r. text_row_left r.left r.buf };
+}
+
+impl<'a> TextRowView<'a> {
+    /// The row of so many columns.
+    #[inline(always)]
+    pub fn new(columns: usize, buf: ParseBuf<'a>) -> Self
+        ensures left { result.left ≡ columns }
+        ensures read { read_of result ≡ (text_row_of columns).reads buf.entry }
+        ensures values { result ≡ text_row_left columns buf.entry }
+    {
+        TextRowView { buf, left: columns }
+    }
+
+    /// How many values are left.
+    #[inline(always)]
+    pub fn left(&self) -> usize
+        ensures value { result ≡ self.now.left }
+        ensures done { result ≡ 0 → IsDone self.now }
+    {
+        self.left
+    }
+
+    /// The bytes after the values that were read: after the last, those that the row does not take.
+    #[inline(always)]
+    pub fn rest(&self) -> ParseBuf<'a>
+        ensures value { self.now.left ≡ 0 → self.now.end ≡ Ok result }
+    {
+        self.buf.rest()
+    }
+
+    /// The next value, or none after the last. After a refusal the row is as it was.
+    #[inline(always)]
+    pub fn next_value<'s>(&mut self) -> Result<Option<ValueRef<'a>>, FaultOf<'s>>
+        ensures value { GivesOne self.old result self.new }
+    {
+        let Some(left) = self.left.checked_sub(1) else {
+            return Ok(None);
+        };
+        let mut rest = self.buf.rest();
+        let value = read_text_ref(&mut rest)?;
+        self.buf = rest;
+        self.left = left;
+        Ok(Some(value))
+    }
+
+    /// Reads the values that are left into the first of these places, of which there is one for each at least.
+    ///
+    /// After a refusal the values before the one that is refused are good: they are as many as there are fewer
+    /// [`left`](Self::left), and the row stands before that one. The other places are as they were.
+    #[inline(always)]
+    pub fn read_rest<'s>(&mut self, values: &mut [ValueRef<'a>]) -> Result<(), FaultOf<'s>>
+        requires { self.old.left ≤ length values.old }
+        ensures good { Fills self.old self.new values.old values.new }
+        ensures all { OnOk result (IsDone self.new) }
+        ensures refused { IfErr result (λ e. RefusesNext e self.new) }
+    {
+        let mut place = 0;
+        while let Some(value) = self.next_value()? {
+            values[place] = value;
+            place += 1;
+        }
+        Ok(())
+    }
+}

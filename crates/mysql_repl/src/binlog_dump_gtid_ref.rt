@@ -1,0 +1,116 @@
+//! The request for a binary log without the transactions of a GTID set, where it lies.
+#![tactic(auto, using(mysql_wire::proofs::Packets::packets), unfolding(crate::specs::BinlogDumpGtid::gtid_dump))]
+
+ghost use Rattle.std.specs.Prelude.{false, ◌≡◌, ◌≢◌, [], IfOk, OnErr};
+ghost use Rattle.mysql_repl.specs.BinlogDumpGtid as spec;
+
+use crate::binlog_dump_gtid::{ComBinlogDumpGtid, of_parts, read_head};
+use crate::sids_ref::{SidsRef, read_block_ref};
+use mysql_wire::{
+    AnyWidth, BinlogDumpFlags, BytesRepr, Const, FaultOf, LeU16, LeU32, LeU64, MyDeserialize,
+    ParseBuf, RawInt, U32Bytes,
+};
+use std::alloc::{AllocError, Global};
+use std::marker::Model;
+
+/// A replica's request for a binary log without the transactions that it has, whose file's name and sids stay in the packet:
+/// a [`ComBinlogDumpGtid`] for as long as the packet lives, without memory.
+///
+/// It is read of the same bytes with the same faults but for `Memory`, and in a clause it is that request.
+#[derive(Drop)]
+pub struct ComBinlogDumpGtidRef<'a> {
+    flags: BinlogDumpFlags,
+    server_id: u32,
+    filename: &'a [u8],
+    pos: u64,
+    sids: SidsRef<'a>,
+}
+
+impl<'a> Model for ComBinlogDumpGtidRef<'a> {
+    ghost use Rattle.mysql_repl.specs.declared.binlog_dump_gtid.ComBinlogDumpGtid.{ComBinlogDumpGtid};
+    ghost use Rattle.mysql_repl.specs.BinlogDumpGtid.{dump_of};
+
+    ghost Value = { ComBinlogDumpGtid };
+
+    ghost view = { λ p. dump_of p.server_id p.pos p.flags.0 p.filename.now p.sids };
+}
+
+impl<'a> ComBinlogDumpGtidRef<'a> {
+    /// As [`ComBinlogDumpGtid::server_id`].
+    #[inline]
+    pub fn server_id(&self) -> u32
+        ensures value { result ≡ spec.server_id self.now }
+    {
+        self.server_id
+    }
+
+    /// As [`ComBinlogDumpGtid::flags`].
+    #[inline]
+    pub fn flags(&self) -> BinlogDumpFlags
+        ensures value { result.0 ≡ spec.flag_bits self.now }
+    {
+        self.flags
+    }
+
+    /// The bytes of the log's name.
+    #[inline]
+    pub fn filename(&self) -> &'a [u8]
+        ensures value { result.now ≡ spec.filename self.now }
+    {
+        self.filename
+    }
+
+    /// As [`ComBinlogDumpGtid::pos`].
+    #[inline]
+    pub fn pos(&self) -> u64
+        ensures value { result ≡ spec.pos self.now }
+    {
+        self.pos
+    }
+
+    /// The transactions that the replica has.
+    #[inline]
+    pub fn sids(&self) -> SidsRef<'a>
+        ensures value { result ≡ spec.sids self.now }
+    {
+        self.sids.iter()
+    }
+
+    /// The request in its other form, which borrows the name and the tags still. For no sid no memory is taken.
+    pub fn to_packet(&self, alloc: Global) -> Result<ComBinlogDumpGtid<'a>, AllocError>
+        ensures value { IfOk result (λ packet. packet ≡ self.now) }
+        ensures memory { OnErr result (spec.sids self.now ≢ []) }
+    {
+        let sids = self.sids.to_vec(alloc)?;
+        Ok(of_parts(self.flags, self.server_id, self.filename, self.pos, sids))
+    }
+}
+
+/// As a [`ComBinlogDumpGtid`], but for `Memory`: none is taken.
+impl<'de> MyDeserialize<'de> for ComBinlogDumpGtidRef<'de> {
+    const SIZE: Option<usize> = None;
+
+    type Size = AnyWidth;
+
+    type Ctx = ();
+
+    ghost form = { λ _. spec.gtid_dump.form false };
+
+    fn deserialize<'s>(_ctx: (), buf: &mut ParseBuf<'de>) -> Result<Self, FaultOf<'s>> {
+        let mut rest = buf.rest();
+        let (_header, flags, server_id) = read_head(false, &mut rest)?;
+        let filename = <U32Bytes as BytesRepr>::deserialize((), &mut rest)?.eat_all();
+        let pos: RawInt<LeU64> = rest.parse(())?;
+        let sids = read_block_ref(&mut rest)?;
+        *buf = rest;
+        Ok(ComBinlogDumpGtidRef {
+            flags: flags.0,
+            server_id: server_id.0,
+            filename,
+            pos: pos.0,
+            sids,
+        })
+    }
+
+    ghost size_is = { λ _. spec.size-gtid_dump false };
+}

@@ -1,0 +1,165 @@
+//! The intervals of a sid, where they lie.
+#![tactic(auto, using(mysql_wire::proofs::Packets::packets))]
+
+ghost use Rattle.std.specs.Prelude.{false, [], ◌≡◌, ◌≢◌, length, option_map, refl, IfOk, OnErr};
+ghost use Rattle.mysql_wire.specs.Int.{le_u64, number_of};
+ghost use Rattle.mysql_wire.specs.Reading.{Answers};
+ghost use Rattle.mysql_wire.specs.Seq.{counted, seq};
+ghost use Rattle.mysql_repl.specs.GnoInterval.{interval};
+ghost use Rattle.mysql_repl.specs.InPlace.{NextItem, StandIn, joined, passed};
+
+use crate::gno_interval::GnoInterval;
+use mysql_wire::{AnyWidth, FaultOf, LeU64, MyDeserialize, ParseBuf, RawInt};
+use std::alloc::{AllocError, Global};
+use std::marker::Model;
+
+/// The intervals of a sid, where they lie: the list of [`Sid::intervals`](crate::Sid::intervals) for as long as the packet
+/// lives, without memory.
+///
+/// It gives one interval after another. All of them were read before the first one is given, so none is refused. In a
+/// clause it is the list of the intervals that are left.
+#[derive(Drop)]
+pub struct IntervalsRef<'a> {
+    count: u64,
+    /// How many bytes they take.
+    len: usize,
+    /// They, and what follows them.
+    bytes: ParseBuf<'a>,
+}
+
+impl<'a> Model for IntervalsRef<'a> {
+    ghost use Rattle.std.specs.Prelude.{List};
+    ghost use Rattle.mysql_repl.specs.declared.gno_interval.GnoInterval.{GnoInterval};
+    ghost use Rattle.mysql_repl.specs.GnoInterval.{interval};
+    ghost use Rattle.mysql_repl.specs.InPlace.{AreThere, items_in};
+
+    ghost Value = { List GnoInterval };
+
+    ghost view = { λ p. items_in (interval.form tt) p.count p.bytes };
+
+    ghost invariant = { λ p. AreThere (interval.form tt) p.count p.len p.bytes };
+}
+
+/// Reads past so many intervals.
+fn skip_intervals<'s>(count: u64, buf: &mut ParseBuf<'_>) -> Result<(), FaultOf<'s>>
+    ensures value { Answers false result buf.new (passed ((counted count (interval.form tt)).reads buf.old)) }
+{
+    for _ in 0..count {
+        let _interval: GnoInterval = buf.parse(())?;
+    }
+    Ok(())
+}
+
+/// Reads so many intervals.
+#[tactic(auto, using(crate::proofs::InPlace::places))]
+fn read_counted<'s, 'a>(count: u64, buf: &mut ParseBuf<'a>) -> Result<IntervalsRef<'a>, FaultOf<'s>>
+    ensures value { Answers false result buf.new ((counted count (interval.form tt)).reads buf.old) }
+{
+    let bytes = buf.rest();
+    skip_intervals(count, buf)?;
+    let len = bytes.len().saturating_sub(buf.len());
+    Ok(IntervalsRef { count, len, bytes })
+}
+
+/// The first interval and the others, where one is left.
+#[tactic(auto, using(crate::proofs::InPlace::one_by_one))]
+fn first_and_others<'a>(intervals: &IntervalsRef<'a>) -> Option<(GnoInterval, IntervalsRef<'a>)>
+    ensures value { intervals.now ≡ joined (option_map (λ p. (p.0, p.1)) result) }
+{
+    if intervals.count == 0 {
+        return None;
+    }
+    let mut bytes = intervals.bytes.rest();
+    let first: GnoInterval = bytes.parse(()).ok()?;
+    let taken = intervals.bytes.len().saturating_sub(bytes.len());
+    let others = IntervalsRef {
+        count: intervals.count - 1,
+        len: intervals.len.saturating_sub(taken),
+        bytes,
+    };
+    Some((first, others))
+}
+
+impl<'a> IntervalsRef<'a> {
+    /// How many are left.
+    #[inline]
+    #[tactic(auto, using(crate::proofs::InPlace::how_many))]
+    pub fn left(&self) -> u64
+        ensures value { result ≡ length self.now }
+    {
+        self.count
+    }
+
+    /// The bytes of those that are left, after their count.
+    #[inline]
+    pub fn as_bytes(&self) -> &'a [u8]
+        ensures value { StandIn (interval.form tt) (length self.now) result.now self.now }
+    {
+        let mut bytes = self.bytes.rest();
+        bytes.eat(self.len)
+    }
+
+    /// The same intervals once more.
+    #[inline]
+    pub fn iter(&self) -> IntervalsRef<'a>
+        ensures value { result ≡ self.now }
+    {
+        IntervalsRef {
+            count: self.count,
+            len: self.len,
+            bytes: self.bytes.rest(),
+        }
+    }
+
+    /// The intervals, on memory of their own. For no interval no memory is taken.
+    pub fn to_vec(&self, alloc: Global) -> Result<Vec<GnoInterval>, AllocError>
+        ensures value { IfOk result (λ intervals. intervals.items ≡ self.now) }
+        ensures memory { OnErr result (self.now ≢ []) }
+    {
+        let mut intervals = Vec::with_capacity(alloc, self.left() as usize)?;
+        for interval in self.iter() {
+            intervals.push(interval)?;
+        }
+        Ok(intervals)
+    }
+}
+
+impl<'a> Iterator for IntervalsRef<'a> {
+    type Item = GnoInterval;
+
+    ghost use Rattle.std.specs.Prelude.{length, ⊤};
+    ghost use Rattle.std.specs.Iterator.{at_most};
+
+    ghost can_next = { λ _. ⊤ };
+
+    ghost next_gives = { NextItem };
+
+    ghost remaining = { λ left. at_most (length left) };
+
+    fn next(&mut self) -> Option<GnoInterval> {
+        let (first, others) = first_and_others(self)?;
+        *self = others;
+        Some(first)
+    }
+}
+
+/// A count of eight bytes, and so many intervals. Missing bytes are `UnexpectedEof`.
+impl<'de> MyDeserialize<'de> for IntervalsRef<'de> {
+    const SIZE: Option<usize> = None;
+
+    type Size = AnyWidth;
+
+    type Ctx = ();
+
+    ghost form = { λ _. seq (number_of le_u64) (interval.form tt) };
+
+    fn deserialize<'s>(_ctx: (), buf: &mut ParseBuf<'de>) -> Result<Self, FaultOf<'s>> {
+        let mut rest = buf.rest();
+        let count: RawInt<LeU64> = rest.parse(())?;
+        let intervals = read_counted(count.0, &mut rest)?;
+        *buf = rest;
+        Ok(intervals)
+    }
+
+    ghost size_is = { λ _. refl };
+}

@@ -1,0 +1,129 @@
+//! A server's transactions, where they lie.
+#![tactic(auto, using(mysql_wire::proofs::Packets::packets), unfolding(crate::specs::Sid::sid, crate::specs::Sid::tagged_sid))]
+
+ghost use Rattle.std.specs.Prelude.{false, ◌≡◌, ◌≢◌, [], option_map, IfOk, OnErr};
+ghost use Rattle.mysql_wire.specs.Reading.{Answers};
+ghost use Rattle.mysql_repl.specs.Sid as spec;
+
+use crate::intervals_ref::IntervalsRef;
+use crate::sid::{Sid, UUID_LEN};
+use crate::tag_field::read_tag_ref;
+use crate::tag_ref::TagRef;
+use mysql_wire::{AnyWidth, Fault, FaultOf, MyDeserialize, ParseBuf};
+use std::alloc::{AllocError, Global};
+use std::marker::Model;
+
+/// The transactions of one server, or those of them that have one tag, where they lie: a [`Sid`] for as long as the packet
+/// lives, without memory.
+///
+/// It is read of the same bytes with the same faults but for `Memory`, and in a clause it is that sid.
+#[derive(Drop)]
+pub struct SidRef<'a> {
+    uuid: [u8; UUID_LEN],
+    tag: Option<TagRef<'a>>,
+    intervals: IntervalsRef<'a>,
+}
+
+impl<'a> Model for SidRef<'a> {
+    ghost use Rattle.mysql_repl.specs.declared.sid.Sid.{Sid};
+
+    ghost Value = { Sid };
+
+    ghost view = { λ s. record { uuid = s.uuid; tag = s.tag; intervals = s.intervals } };
+}
+
+impl<'a> SidRef<'a> {
+    /// The server's identifier.
+    #[inline]
+    pub fn uuid(&self) -> [u8; UUID_LEN]
+        ensures value { result ≡ spec.uuid self.now }
+    {
+        self.uuid
+    }
+
+    /// The tag, if there is one.
+    #[inline]
+    pub fn tag(&self) -> Option<&TagRef<'a>>
+        ensures value { option_map (λ t. t.now) result ≡ spec.tag self.now }
+    {
+        self.tag.as_ref()
+    }
+
+    /// The intervals.
+    #[inline]
+    pub fn intervals(&self) -> IntervalsRef<'a>
+        ensures value { result ≡ spec.intervals self.now }
+    {
+        self.intervals.iter()
+    }
+
+    /// Reads a sid in the form with tags or in the other, as [`ParseBuf::parse`] reads the other. After a refusal the buffer
+    /// is as it was.
+    pub fn parse_as(tagged: bool, buf: &mut ParseBuf<'a>) -> Result<Self, Fault>
+        ensures value { Answers false result buf.new (((spec.sid_as tagged).form tt).reads buf.old) }
+        ensures err { OnErr result (buf.new ≡ buf.old) }
+    {
+        let mut rest = buf.rest();
+        let sid = read_sid_ref(tagged, &mut rest)?;
+        *buf = rest;
+        Ok(sid)
+    }
+
+    /// The sid in its other form, which borrows the tag still, with intervals of its own. For no interval no memory is taken.
+    pub fn to_sid(&self, alloc: Global) -> Result<Sid<'a>, AllocError>
+        ensures value { IfOk result (λ sid. sid ≡ self.now) }
+        ensures memory { OnErr result (spec.intervals self.now ≢ []) }
+    {
+        let sid = Sid::new(self.uuid).with_intervals(self.intervals.to_vec(alloc)?);
+        match &self.tag {
+            Some(tag) => Ok(sid.with_tag(tag.to_tag())),
+            None => Ok(sid),
+        }
+    }
+}
+
+/// Reads a sid in the form with tags.
+fn read_tagged<'s, 'a>(buf: &mut ParseBuf<'a>) -> Result<SidRef<'a>, FaultOf<'s>>
+    ensures value { Answers false result buf.new ((spec.tagged_sid.form tt).reads buf.old) }
+{
+    Ok(SidRef {
+        uuid: buf.parse(())?,
+        tag: read_tag_ref(buf)?,
+        intervals: buf.parse(())?,
+    })
+}
+
+/// Reads a sid in the form with tags or in the other.
+pub(crate) fn read_sid_ref<'s, 'a>(
+    tagged: bool,
+    buf: &mut ParseBuf<'a>,
+) -> Result<SidRef<'a>, FaultOf<'s>>
+    ensures value { Answers false result buf.new (((spec.sid_as tagged).form tt).reads buf.old) }
+{
+    if tagged {
+        read_tagged(buf)
+    } else {
+        SidRef::deserialize((), buf)
+    }
+}
+
+/// As a [`Sid`], in the form without tags, but for `Memory`: none is taken.
+impl<'de> MyDeserialize<'de> for SidRef<'de> {
+    const SIZE: Option<usize> = None;
+
+    type Size = AnyWidth;
+
+    type Ctx = ();
+
+    ghost form = { spec.sid.form };
+
+    fn deserialize<'s>(_ctx: (), buf: &mut ParseBuf<'de>) -> Result<Self, FaultOf<'s>> {
+        Ok(SidRef {
+            uuid: buf.parse(())?,
+            tag: None,
+            intervals: buf.parse(())?,
+        })
+    }
+
+    ghost size_is = { λ _. spec.size-sid };
+}

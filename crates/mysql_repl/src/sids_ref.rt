@@ -1,0 +1,177 @@
+//! The sids of a dump, where they lie.
+#![tactic(auto, using(mysql_wire::proofs::Packets::packets))]
+
+ghost use Rattle.std.specs.Prelude.{false, [], ◌≡◌, ◌≢◌, length, option_map, IfOk, OnErr};
+ghost use Rattle.mysql_wire.specs.Reading.{Answers};
+ghost use Rattle.mysql_wire.specs.Seq.{counted};
+ghost use Rattle.mysql_repl.specs.InPlace.{NextItem, StandIn, joined, passed};
+ghost use Rattle.mysql_repl.specs.Sid.{sid_as};
+ghost use Rattle.mysql_repl.specs.SidBlock as block;
+
+use crate::sid::Sid;
+use crate::sid_block::{count_of, layout};
+use crate::sid_ref::{SidRef, read_sid_ref};
+use mysql_wire::{BytesRepr, FaultOf, LeU64, ParseBuf, RawInt, U32Bytes};
+use std::alloc::{AllocError, Global};
+use std::marker::Model;
+
+/// The sids of a dump, where they lie: the list of [`ComBinlogDumpGtid::sids`](crate::ComBinlogDumpGtid::sids) for as long as
+/// the packet lives, without memory.
+///
+/// It gives one sid after another. All of them were read before the first one is given, so none is refused. In a clause it
+/// is the list of the sids that are left.
+#[derive(Drop)]
+pub struct SidsRef<'a> {
+    tagged: bool,
+    count: u64,
+    /// How many bytes they take.
+    len: usize,
+    /// They, and what follows them.
+    bytes: ParseBuf<'a>,
+}
+
+impl<'a> Model for SidsRef<'a> {
+    ghost use Rattle.std.specs.Prelude.{List};
+    ghost use Rattle.mysql_repl.specs.declared.sid.Sid.{Sid};
+    ghost use Rattle.mysql_repl.specs.InPlace.{AreThere, items_in};
+    ghost use Rattle.mysql_repl.specs.Sid.{sid_as};
+
+    ghost Value = { List Sid };
+
+    ghost view = { λ p. items_in ((sid_as p.tagged).form tt) p.count p.bytes };
+
+    ghost invariant = { λ p. AreThere ((sid_as p.tagged).form tt) p.count p.len p.bytes };
+}
+
+/// Reads past so many sids.
+fn skip_sids<'s>(tagged: bool, count: u64, buf: &mut ParseBuf<'_>) -> Result<(), FaultOf<'s>>
+    ensures value { Answers false result buf.new (passed ((counted count ((sid_as tagged).form tt)).reads buf.old)) }
+{
+    for _ in 0..count {
+        let _sid = read_sid_ref(tagged, buf)?;
+    }
+    Ok(())
+}
+
+/// Reads so many sids.
+#[tactic(auto, using(crate::proofs::InPlace::places))]
+fn read_counted<'s, 'a>(
+    tagged: bool,
+    count: u64,
+    buf: &mut ParseBuf<'a>,
+) -> Result<SidsRef<'a>, FaultOf<'s>>
+    ensures value { Answers false result buf.new ((counted count ((sid_as tagged).form tt)).reads buf.old) }
+{
+    let bytes = buf.rest();
+    skip_sids(tagged, count, buf)?;
+    let len = bytes.len().saturating_sub(buf.len());
+    Ok(SidsRef {
+        tagged,
+        count,
+        len,
+        bytes,
+    })
+}
+
+/// Reads the head, and so many sids.
+#[tactic(auto, using(mysql_wire::proofs::Packets::packets), unfolding(crate::specs::SidBlock::sids_form))]
+fn read_sids<'s, 'a>(buf: &mut ParseBuf<'a>) -> Result<SidsRef<'a>, FaultOf<'s>>
+    ensures value { Answers false result buf.new ((block.sids_form false).reads buf.old) }
+{
+    let head: RawInt<LeU64> = buf.parse(())?;
+    read_counted(layout(head.0) == 1, count_of(head.0), buf)
+}
+
+/// Reads a block after its length. Bytes after the last sid are ignored.
+#[tactic(auto, using(mysql_wire::proofs::Packets::packets), unfolding(crate::specs::SidBlock::block_form))]
+pub(crate) fn read_block_ref<'s, 'a>(buf: &mut ParseBuf<'a>) -> Result<SidsRef<'a>, FaultOf<'s>>
+    ensures value { Answers false result buf.new ((block.block_form false).reads buf.old) }
+{
+    let mut inside = <U32Bytes as BytesRepr>::deserialize((), buf)?;
+    let sids = read_sids(&mut inside)?;
+    Ok(sids)
+}
+
+/// The first sid and the others, where one is left.
+#[tactic(auto, using(crate::proofs::InPlace::one_by_one))]
+fn first_and_others<'a>(sids: &SidsRef<'a>) -> Option<(SidRef<'a>, SidsRef<'a>)>
+    ensures value { sids.now ≡ joined (option_map (λ p. (p.0, p.1)) result) }
+{
+    if sids.count == 0 {
+        return None;
+    }
+    let mut bytes = sids.bytes.rest();
+    let first = read_sid_ref(sids.tagged, &mut bytes).ok()?;
+    let taken = sids.bytes.len().saturating_sub(bytes.len());
+    let others = SidsRef {
+        tagged: sids.tagged,
+        count: sids.count - 1,
+        len: sids.len.saturating_sub(taken),
+        bytes,
+    };
+    Some((first, others))
+}
+
+impl<'a> SidsRef<'a> {
+    /// How many are left.
+    #[inline]
+    #[tactic(auto, using(crate::proofs::InPlace::how_many))]
+    pub fn left(&self) -> u64
+        ensures value { result ≡ length self.now }
+    {
+        self.count
+    }
+
+    /// The bytes of those that are left, after their head, and whether they are in the form with tags.
+    #[inline]
+    pub fn as_bytes(&self) -> (&'a [u8], bool)
+        ensures value { StandIn ((sid_as result.1).form tt) (length self.now) result.0.now self.now }
+    {
+        let mut bytes = self.bytes.rest();
+        (bytes.eat(self.len), self.tagged)
+    }
+
+    /// The same sids once more.
+    #[inline]
+    pub fn iter(&self) -> SidsRef<'a>
+        ensures value { result ≡ self.now }
+    {
+        SidsRef {
+            tagged: self.tagged,
+            count: self.count,
+            len: self.len,
+            bytes: self.bytes.rest(),
+        }
+    }
+
+    /// The sids in their other form, which borrow their tags still. For no sid no memory is taken.
+    pub fn to_vec(&self, alloc: Global) -> Result<Vec<Sid<'a>>, AllocError>
+        ensures value { IfOk result (λ sids. sids.items ≡ self.now) }
+        ensures memory { OnErr result (self.now ≢ []) }
+    {
+        let mut sids = Vec::with_capacity(alloc, self.left() as usize)?;
+        for sid in self.iter() {
+            sids.push(sid.to_sid(alloc)?)?;
+        }
+        Ok(sids)
+    }
+}
+
+impl<'a> Iterator for SidsRef<'a> {
+    type Item = SidRef<'a>;
+
+    ghost use Rattle.std.specs.Prelude.{length, ⊤};
+    ghost use Rattle.std.specs.Iterator.{at_most};
+
+    ghost can_next = { λ _. ⊤ };
+
+    ghost next_gives = { NextItem };
+
+    ghost remaining = { λ left. at_most (length left) };
+
+    fn next(&mut self) -> Option<SidRef<'a>> {
+        let (first, others) = first_and_others(self)?;
+        *self = others;
+        Some(first)
+    }
+}

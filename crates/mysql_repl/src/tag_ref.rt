@@ -1,0 +1,55 @@
+//! A tag that stays in its packet.
+
+ghost use Rattle.std.specs.Prelude.{◌≡◌, Some, None, IfOk, IfErr};
+ghost use Rattle.mysql_repl.specs.Tag.{IsTag, tag_fault};
+
+use crate::tag::{InvalidTag, Tag, fault_in};
+use std::marker::Model;
+
+/// A tag whose text stays in the packet: a [`Tag`] for as long as the packet lives. In a clause it is that tag.
+#[derive(Drop)]
+pub struct TagRef<'a> {
+    text: &'a str,
+}
+
+impl<'a> Model for TagRef<'a> {
+    ghost use Rattle.std.specs.Prelude.{ℕ, List};
+    ghost use Rattle.mysql_repl.specs.Tag.{IsTag};
+
+    ghost Value = { List ℕ };
+
+    ghost view = { λ t. t.text.now };
+
+    ghost invariant = { λ t. IsTag t.text.now };
+}
+
+impl<'a> TagRef<'a> {
+    /// The tag of this text, or the text's first fault.
+    #[tactic(auto, using(crate::proofs::Tags::tag_faults))]
+    pub fn new(text: &'a str) -> Result<Self, InvalidTag>
+        ensures ok { IfOk result (λ tag. (tag ≡ text.now) × (tag_fault text.now ≡ None)) }
+        ensures err { IfErr result (λ fault. tag_fault text.now ≡ Some fault) }
+    {
+        match fault_in(text) {
+            Some(fault) => Err(fault),
+            None => Ok(TagRef { text }),
+        }
+    }
+
+    /// The text, which is that of a tag.
+    #[inline]
+    pub fn as_str(&self) -> &'a str
+        ensures value { result.now ≡ self.now }
+        ensures tag { IsTag self.now }
+    {
+        self.text
+    }
+
+    /// The tag in its other form, which borrows the text still. It takes no memory.
+    #[inline]
+    pub fn to_tag(&self) -> Tag<'a>
+        ensures value { result ≡ self.now }
+    {
+        Tag::of(self.text)
+    }
+}

@@ -1,0 +1,116 @@
+//! The count of columns that a result begins with.
+#![tactic(auto, using(mysql_wire::proofs::Packets::packets), unfolding(crate::specs::ColumnCount::column_count))]
+
+ghost use Rattle.std.specs.Prelude.{◌≡◌, None, refl, option_map};
+ghost use Rattle.mysql_wire.specs.Codecs.{raw_int};
+ghost use Rattle.mysql_replies.specs.ColumnCount as spec;
+
+use bitflags::Flags;
+use mysql_wire::{
+    AnyWidth, FaultOf, LenEnc, MariadbCapabilities, MyDeserialize, ParseBuf, Parts, RawInt, Sink,
+    parts,
+};
+
+/// How many columns a result has, and whether their definitions follow: the packet that a result begins with.
+///
+/// | Bytes | Field |
+/// |---|---|
+/// | 1, 3, 4 or 9 | `count`, length-encoded |
+/// | 1 | `metadata_follows`, where both sides have `MARIADB_CLIENT_CACHE_METADATA` |
+///
+/// The byte is 0 where the server leaves the definitions out, since they are those of the statement's last execution. Where
+/// no byte says so, they follow. Missing bytes are `UnexpectedEof`, a first byte of `fb` or `ff` is `InvalidData`.
+#[derive(Clone, Debug, PartialEq, Eq, Drop)]
+pub struct ColumnCount {
+    count: RawInt<LenEnc>,
+    metadata_follows: Option<RawInt<u8>>,
+}
+
+impl ColumnCount {
+    /// So many columns, whose definitions follow. No byte says so.
+    #[inline]
+    pub fn new(count: u64) -> Self
+        ensures value { result ≡ spec.columns count }
+    {
+        ColumnCount {
+            count: RawInt::new(count),
+            metadata_follows: None,
+        }
+    }
+
+    /// The same count with a byte that says whether definitions follow, as `MARIADB_CLIENT_CACHE_METADATA` asks for.
+    #[inline]
+    pub fn with_metadata_follows(self, follows: bool) -> Self
+        ensures value { result ≡ spec.with_metadata_follows follows self }
+    {
+        ColumnCount {
+            count: self.count,
+            metadata_follows: Some(RawInt::new(if follows { 1 } else { 0 })),
+        }
+    }
+
+    /// How many columns there are.
+    #[inline]
+    pub fn count(&self) -> u64
+        ensures value { result ≡ spec.count self.now }
+    {
+        self.count.0
+    }
+
+    /// Whether the definitions of the columns follow.
+    #[inline]
+    pub fn metadata_follows(&self) -> bool
+        ensures value { result ≡ spec.metadata_follows self.now }
+    {
+        match &self.metadata_follows {
+            Some(byte) => byte.0 != 0,
+            None => true,
+        }
+    }
+
+    /// The byte that says so, where there is one.
+    #[inline]
+    pub fn metadata_byte(&self) -> Option<u8>
+        ensures value { option_map raw_int result ≡ self.now.metadata_follows }
+    {
+        match &self.metadata_follows {
+            Some(byte) => Some(byte.0),
+            None => None,
+        }
+    }
+}
+
+impl<'de> MyDeserialize<'de> for ColumnCount {
+    const SIZE: Option<usize> = None;
+
+    type Size = AnyWidth;
+
+    /// What both sides can do beyond MySQL's flags.
+    type Ctx = MariadbCapabilities;
+
+    ghost form = { spec.column_count.form };
+
+    fn deserialize<'s>(
+        capabilities: MariadbCapabilities,
+        buf: &mut ParseBuf<'de>,
+    ) -> Result<Self, FaultOf<'s>> {
+        let count = buf.parse(())?;
+        let says = capabilities.contains(MariadbCapabilities::MARIADB_CLIENT_CACHE_METADATA);
+        let metadata_follows = if says { Some(buf.parse(())?) } else { None };
+        Ok(ColumnCount {
+            count,
+            metadata_follows,
+        })
+    }
+
+    ghost size_is = { λ _. unfold spec.column_count in refl };
+}
+
+impl Parts for ColumnCount {
+    ghost bytes = { spec.column_count.bytes };
+
+    #[inline(always)]
+    fn put<S: Sink>(&self, sink: &mut S) {
+        sink.part(&parts!(self.count, self.metadata_follows));
+    }
+}

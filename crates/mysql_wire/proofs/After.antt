@@ -1,0 +1,12 @@
+-- What lies after what is written.
+use Rattle.std.specs.Prelude.{◌≡◌, ℕ, List, ◌+◌, drop, slice_set}
+use Rattle.std.proofs.Common.{arith}
+use Rattle.std.proofs.lemmas.List.{drop-drop, drop-set-lt, length-append}
+use Rattle.std.proofs.lemmas.Slice.{drop-put_mid}
+
+pub ruleset after = (drop-drop, length-append)
+
+pub after_set : {X : Type 0} (n : ℕ) (xs : List X) (v : X) → drop (n + 1) (slice_set xs n v) ≡ drop (n + 1) xs
+after_set n xs v = drop-set-lt (n + 1) xs n v (omega arith)
+
+pub ruleset after_slice = (drop-drop, after_set, drop-put_mid)

@@ -1,0 +1,90 @@
+//! What values are written to the end of.
+
+ghost use Rattle.std.specs.Prelude.{◌≡◌, ◌+◌, ◌++◌, ◌∷◌, [], ◌^◌, ◌<◌, ◌≤◌, length, drop, vec_capacity, List, ℕ};
+
+use std::mem;
+
+/// What values are written to the end of: a vector that has capacity, or a slice of which a front is written.
+///
+/// Nothing of it takes memory.
+pub trait Buffer: Sized + Drop {
+    ghost Kept: { Type 0 };
+
+    /// The bytes that it holds.
+    ghost held: { Self → List ℕ };
+
+    /// What lies in the places after them.
+    ghost after: { Self → List ℕ };
+
+    /// How many bytes it can hold.
+    ghost capacity: { Self → ℕ };
+
+    /// What no write changes.
+    ghost kept: { Self → Kept };
+
+    /// Writes a byte.
+    fn push_byte(&mut self, byte: u8)
+        requires { length (held self.old) + 1 ≤ capacity self.old }
+        ensures items { held self.new ≡ held self.old ++ byte ∷ [] }
+        ensures after { after self.new ≡ drop 1 (after self.old) }
+        ensures capacity { capacity self.old ≤ capacity self.new }
+        ensures kept { kept self.new ≡ kept self.old };
+
+    /// Writes bytes.
+    fn push_bytes(&mut self, bytes: &[u8])
+        requires { length (held self.old) + length bytes.now ≤ capacity self.old }
+        ensures items { held self.new ≡ held self.old ++ bytes.now }
+        ensures after { after self.new ≡ drop (length bytes.now) (after self.old) }
+        ensures capacity { capacity self.old ≤ capacity self.new }
+        ensures kept { kept self.new ≡ kept self.old };
+
+    /// It can hold no more bytes than memory has. Nothing is done.
+    fn is_in_memory(&self)
+        ensures { capacity self.now < 2 ^ 63 };
+
+    /// The buffer, which something else stands in for until it is put back.
+    ///
+    /// While it is a variable of its own, the compiler keeps its length and its address in registers, and does not read
+    /// them again after each byte.
+    fn taken(&mut self) -> Self
+        ensures items { held result ≡ held self.old }
+        ensures after { after result ≡ after self.old }
+        ensures capacity { capacity result ≡ capacity self.old }
+        ensures kept { kept result ≡ kept self.old };
+}
+
+impl Buffer for Vec<u8> {
+    ghost Kept = { Unit {0} };
+
+    ghost held = { λ v. v.items };
+
+    ghost after = { λ _. [] };
+
+    ghost capacity = { λ v. vec_capacity v };
+
+    ghost kept = { λ _. tt };
+
+    #[inline(always)]
+    fn push_byte(&mut self, byte: u8) {
+        self.push_reserved(byte);
+    }
+
+    // That there is capacity is tested here once more: the compiler then leaves out the buffer's growth and what it would change.
+    #[inline(always)]
+    fn push_bytes(&mut self, bytes: &[u8]) {
+        if bytes.len() <= self.capacity() - self.len() {
+            self.extend_from_slice(bytes).unwrap();
+        }
+    }
+
+    #[inline(always)]
+    fn is_in_memory(&self) {
+        let _capacity = self.capacity();
+    }
+
+    #[inline(always)]
+    fn taken(&mut self) -> Self {
+        let empty = Vec::new(*self.allocator());
+        mem::replace(self, empty)
+    }
+}

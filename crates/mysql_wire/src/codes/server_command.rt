@@ -1,0 +1,181 @@
+//! The commands.
+
+ghost use Rattle.std.specs.Prelude.{◌≡◌};
+ghost use Rattle.mysql_wire.specs.Codes.{known_or};
+ghost use Rattle.mysql_wire.specs.ServerCommand.{server_command_code, server_command_of, server_command-back};
+
+use crate::constant_value::ConstValue;
+use thiserror::Error;
+
+/// `enum_server_command`: what a client asks of a server, in the first byte of its packet.
+#[derive(Clone, Copy, Debug, PartialEq, Eq, Hash)]
+pub enum ServerCommand {
+    /// Nothing: servers use it inside.
+    COM_SLEEP = 0,
+    /// The client ends the connection.
+    COM_QUIT = 1,
+    /// The default schema is set.
+    COM_INIT_DB = 2,
+    /// A query, as text.
+    COM_QUERY = 3,
+    /// The columns of a table.
+    COM_FIELD_LIST = 4,
+    /// A schema is made.
+    COM_CREATE_DB = 5,
+    /// A schema is dropped.
+    COM_DROP_DB = 6,
+    /// Caches are emptied, logs are begun anew.
+    COM_REFRESH = 7,
+    /// The server ends.
+    COM_SHUTDOWN = 8,
+    /// A line about the server.
+    COM_STATISTICS = 9,
+    /// The sessions of the server.
+    COM_PROCESS_INFO = 10,
+    /// Nothing: servers use it inside.
+    COM_CONNECT = 11,
+    /// A session is ended.
+    COM_PROCESS_KILL = 12,
+    /// The server writes into its log what it does.
+    COM_DEBUG = 13,
+    /// Whether the server is there.
+    COM_PING = 14,
+    /// Nothing: servers use it inside.
+    COM_TIME = 15,
+    /// Nothing: servers use it inside.
+    COM_DELAYED_INSERT = 16,
+    /// Another user in the same connection.
+    COM_CHANGE_USER = 17,
+    /// The binary log from a position.
+    COM_BINLOG_DUMP = 18,
+    /// The content of a table.
+    COM_TABLE_DUMP = 19,
+    /// Nothing: servers use it inside.
+    COM_CONNECT_OUT = 20,
+    /// A replica says who it is.
+    COM_REGISTER_SLAVE = 21,
+    /// A statement is prepared.
+    COM_STMT_PREPARE = 22,
+    /// A prepared statement is executed.
+    COM_STMT_EXECUTE = 23,
+    /// A parameter's data, ahead of the execution.
+    COM_STMT_SEND_LONG_DATA = 24,
+    /// A prepared statement is dropped.
+    COM_STMT_CLOSE = 25,
+    /// Data that was sent ahead is dropped, and the cursor is closed.
+    COM_STMT_RESET = 26,
+    /// Whether a query may hold several statements.
+    COM_SET_OPTION = 27,
+    /// Rows of a cursor.
+    COM_STMT_FETCH = 28,
+    /// Nothing: servers use it inside.
+    COM_DAEMON = 29,
+    /// The binary log without the transactions that the replica has (MySQL).
+    COM_BINLOG_DUMP_GTID = 30,
+    /// The session is as after its login.
+    COM_RESET_CONNECTION = 31,
+    /// The server's data is copied (MySQL).
+    COM_CLONE = 32,
+    /// The stream of group replication (MySQL).
+    COM_SUBSCRIBE_GROUP_REPLICATION_STREAM = 33,
+    /// A prepared statement is executed for many rows (MariaDB).
+    COM_STMT_BULK_EXECUTE = 250,
+    /// Nothing: MariaDB servers use it inside.
+    COM_SLAVE_WORKER = 251,
+    /// Nothing: MariaDB servers use it inside.
+    COM_SLAVE_IO = 252,
+    /// Nothing: MariaDB servers use it inside.
+    COM_SLAVE_SQL = 253,
+    /// Several commands at once (MariaDB). No server takes it today.
+    COM_MULTI = 254,
+}
+
+/// A code that no [`ServerCommand`] has.
+#[derive(Clone, Copy, Debug, PartialEq, Eq, Hash, Error)]
+#[error("Unknown command")]
+pub struct UnknownServerCommand(pub u8);
+
+impl ConstValue<u8> for ServerCommand {
+    ghost code = { server_command_code };
+
+    ghost of_code = { server_command_of };
+
+    const MESSAGE: &'static str = "Unknown command";
+
+    #[inline(always)]
+    #[tactic(auto, unfolding(crate::specs::ServerCommand::server_command_code))]
+    fn code(&self) -> u8 {
+        *self as u8
+    }
+
+    #[inline(always)]
+    #[tactic(auto, unfolding(crate::specs::ServerCommand::server_command_code, crate::specs::ServerCommand::server_command_of))]
+    fn from_code(number: u8) -> Option<ServerCommand> {
+        match number {
+            0 => Some(ServerCommand::COM_SLEEP),
+            1 => Some(ServerCommand::COM_QUIT),
+            2 => Some(ServerCommand::COM_INIT_DB),
+            3 => Some(ServerCommand::COM_QUERY),
+            4 => Some(ServerCommand::COM_FIELD_LIST),
+            5 => Some(ServerCommand::COM_CREATE_DB),
+            6 => Some(ServerCommand::COM_DROP_DB),
+            7 => Some(ServerCommand::COM_REFRESH),
+            8 => Some(ServerCommand::COM_SHUTDOWN),
+            9 => Some(ServerCommand::COM_STATISTICS),
+            10 => Some(ServerCommand::COM_PROCESS_INFO),
+            11 => Some(ServerCommand::COM_CONNECT),
+            12 => Some(ServerCommand::COM_PROCESS_KILL),
+            13 => Some(ServerCommand::COM_DEBUG),
+            14 => Some(ServerCommand::COM_PING),
+            15 => Some(ServerCommand::COM_TIME),
+            16 => Some(ServerCommand::COM_DELAYED_INSERT),
+            17 => Some(ServerCommand::COM_CHANGE_USER),
+            18 => Some(ServerCommand::COM_BINLOG_DUMP),
+            19 => Some(ServerCommand::COM_TABLE_DUMP),
+            20 => Some(ServerCommand::COM_CONNECT_OUT),
+            21 => Some(ServerCommand::COM_REGISTER_SLAVE),
+            22 => Some(ServerCommand::COM_STMT_PREPARE),
+            23 => Some(ServerCommand::COM_STMT_EXECUTE),
+            24 => Some(ServerCommand::COM_STMT_SEND_LONG_DATA),
+            25 => Some(ServerCommand::COM_STMT_CLOSE),
+            26 => Some(ServerCommand::COM_STMT_RESET),
+            27 => Some(ServerCommand::COM_SET_OPTION),
+            28 => Some(ServerCommand::COM_STMT_FETCH),
+            29 => Some(ServerCommand::COM_DAEMON),
+            30 => Some(ServerCommand::COM_BINLOG_DUMP_GTID),
+            31 => Some(ServerCommand::COM_RESET_CONNECTION),
+            32 => Some(ServerCommand::COM_CLONE),
+            33 => Some(ServerCommand::COM_SUBSCRIBE_GROUP_REPLICATION_STREAM),
+            250 => Some(ServerCommand::COM_STMT_BULK_EXECUTE),
+            251 => Some(ServerCommand::COM_SLAVE_WORKER),
+            252 => Some(ServerCommand::COM_SLAVE_IO),
+            253 => Some(ServerCommand::COM_SLAVE_SQL),
+            254 => Some(ServerCommand::COM_MULTI),
+            _ => None,
+        }
+    }
+
+    ghost read_back = { server_command-back };
+}
+
+/// The command with that code; a code without one is the error.
+impl TryFrom<u8> for ServerCommand {
+    type Error = UnknownServerCommand;
+
+    ghost try_from_gives = { λ code r. r ≡ known_or (record { 0 = code }) (server_command_of code) };
+
+    #[inline(always)]
+    fn try_from(code: u8) -> Result<ServerCommand, UnknownServerCommand> {
+        ServerCommand::from_code(code).ok_or(UnknownServerCommand(code))
+    }
+}
+
+/// The code.
+impl From<ServerCommand> for u8 {
+    ghost from_gives = { λ value code. code ≡ server_command_code value };
+
+    #[inline(always)]
+    fn from(value: ServerCommand) -> u8 {
+        value.code()
+    }
+}
