@@ -77,7 +77,7 @@ typedef struct myp_header {
 uint32_t myp_read_header(const uint8_t *bytes, size_t len, myp_header *out);
 
 /* Writes the four bytes before a payload. MYP_INVALID_INPUT of a length past 16,777,215, and *written is 0;
- * MYP_BUFFER_TOO_SMALL; MYP_NO_MEMORY, and *written is 0. */
+ * MYP_BUFFER_TOO_SMALL. */
 uint32_t myp_write_header(uint32_t payload_length, uint8_t sequence_id, uint8_t *out, size_t size, size_t *written);
 
 enum myp_reply {
@@ -368,11 +368,10 @@ uint32_t myp_read_binary_row(const uint8_t *packet, size_t len, const myp_column
 
 /* ---- what a client says */
 
-/* Writes COM_STMT_CLOSE, of 5 bytes. MYP_BUFFER_TOO_SMALL; MYP_NO_MEMORY, and *written is 0. */
+/* Writes COM_STMT_CLOSE, of 5 bytes. MYP_BUFFER_TOO_SMALL. */
 uint32_t myp_write_close(uint32_t statement_id, uint8_t *out, size_t size, size_t *written);
 
-/* Writes COM_STMT_SEND_LONG_DATA: seven bytes, and some bytes of one parameter, the first being 0. MYP_BUFFER_TOO_SMALL;
- * MYP_NO_MEMORY, and *written is 0. */
+/* Writes COM_STMT_SEND_LONG_DATA: seven bytes, and some bytes of one parameter, the first being 0. MYP_BUFFER_TOO_SMALL. */
 uint32_t myp_write_long_data(uint32_t statement_id, uint16_t param_index, const uint8_t *content, size_t len, uint8_t *out,
                              size_t size, size_t *written);
 
@@ -423,7 +422,7 @@ typedef struct myp_ssl_request {
 } myp_ssl_request;
 #define MYP_SSL_REQUEST_INIT { 0, 0, 0, 0 }
 
-/* Writes Protocol::SSLRequest, of 32 bytes. MYP_BUFFER_TOO_SMALL; MYP_NO_MEMORY, and *written is 0. */
+/* Writes Protocol::SSLRequest, of 32 bytes. MYP_BUFFER_TOO_SMALL. */
 uint32_t myp_write_ssl_request(const myp_ssl_request *request, uint8_t *out, size_t size, size_t *written);
 
 /* An attribute of a connection. Of two with one name the later one counts. Initializer: MYP_ATTRIBUTE_INIT. */
@@ -477,8 +476,7 @@ typedef struct myp_change_user {
  * *written is 0; MYP_BUFFER_TOO_SMALL; MYP_NO_MEMORY, and *written is 0. */
 uint32_t myp_write_change_user(const myp_change_user *change, uint8_t *out, size_t size, size_t *written);
 
-/* Writes the request for the server's RSA key of caching_sha2_password, of one byte. MYP_BUFFER_TOO_SMALL; MYP_NO_MEMORY, and
- * *written is 0. */
+/* Writes the request for the server's RSA key of caching_sha2_password, of one byte. MYP_BUFFER_TOO_SMALL. */
 uint32_t myp_write_public_key_request(uint8_t *out, size_t size, size_t *written);
 
 /* Writes what mysql_native_password answers to a nonce, of 20 bytes, or of none for an empty password: no packet, but what one
@@ -501,21 +499,19 @@ typedef struct myp_replica {
 } myp_replica;
 #define MYP_REPLICA_INIT { MYP_BYTES_INIT, MYP_BYTES_INIT, MYP_BYTES_INIT, 0, 0, 0, 0, 0 }
 
-/* Writes COM_REGISTER_SLAVE. Of hostname, user and password the first 255 bytes are written. MYP_BUFFER_TOO_SMALL;
- * MYP_NO_MEMORY, and *written is 0. */
+/* Writes COM_REGISTER_SLAVE. Of hostname, user and password the first 255 bytes are written. MYP_BUFFER_TOO_SMALL. */
 uint32_t myp_write_register_replica(const myp_replica *replica, uint8_t *out, size_t size, size_t *written);
 
-/* Writes COM_BINLOG_DUMP, with flags of enum myp_dump_flag. MYP_BUFFER_TOO_SMALL; MYP_NO_MEMORY, and *written is 0. */
+/* Writes COM_BINLOG_DUMP, with flags of enum myp_dump_flag. MYP_BUFFER_TOO_SMALL. */
 uint32_t myp_write_dump(uint32_t server_id, uint16_t flags, const uint8_t *file_name, size_t file_name_len, uint32_t position,
                         uint8_t *out, size_t size, size_t *written);
 
-/* Writes COM_TABLE_DUMP. Of each name the first 255 bytes are written. MYP_BUFFER_TOO_SMALL; MYP_NO_MEMORY, and *written
- * is 0. */
+/* Writes COM_TABLE_DUMP. Of each name the first 255 bytes are written. MYP_BUFFER_TOO_SMALL. */
 uint32_t myp_write_table_dump(const uint8_t *database, size_t database_len, const uint8_t *table, size_t table_len,
                               uint8_t *out, size_t size, size_t *written);
 
 /* Writes the acknowledgement of semi-synchronous replication: the position after the event, in the binary log of that name.
- * MYP_BUFFER_TOO_SMALL; MYP_NO_MEMORY, and *written is 0. */
+ * MYP_BUFFER_TOO_SMALL. */
 uint32_t myp_write_semi_sync_ack(uint64_t position, const uint8_t *file_name, size_t file_name_len, uint8_t *out, size_t size,
                                  size_t *written);
 
@@ -654,7 +650,8 @@ uint32_t myp_read_execution(const uint8_t *packet, size_t len, const myp_param *
 /* ---- what a server writes
  *
  * A struct that a reader filled can be written again: used is not looked at. Of each call: MYP_BUFFER_TOO_SMALL, and *written
- * is how many bytes it takes; MYP_NO_MEMORY, and *written is 0. After MYP_INVALID_INPUT *written is 0. */
+ * is how many bytes it takes. After MYP_INVALID_INPUT *written is 0. The writers of rows alone take memory: MYP_NO_MEMORY, and *written
+ * is 0. */
 
 /* Writes OK_Packet or EOF_Packet of a kind of enum myp_ok_kind. An empty info or session state is absent, and what the kind or the
  * capabilities leave no place for is not written. MYP_INVALID_INPUT of a kind that is none. */

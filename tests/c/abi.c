@@ -66,7 +66,7 @@ static void answers(void)
     CHECK(myp_read_ok(eof, sizeof eof, MYP_OK_STREAM_END, 0, &o) == MYP_OK && o.warnings == 1 && o.used == 5);
     static const uint8_t err[] = "\xff\x48\x04#HY000No tables used";
     myp_error e = MYP_ERROR_INIT;
-    CHECK(myp_read_error(err, sizeof err - 1, MYP_CLIENT_PROTOCOL_41, &e) == MYP_OK && e.code == 1096 && !e.is_progress && IS(e.sql_state, "HY000") && IS(e.message, "No tables used") && e.message.data == err + 9);
+    CHECK(myp_read_error(err, sizeof err - 1, MYP_CLIENT_PROTOCOL_41, &e) == MYP_OK && e.code == 1096 && !e.is_progress && IS(e.sql_state, "HY000") && IS(e.message, "No tables used") && e.message.data == err + 9 && e.sql_state.data == err + 4);
     static const uint8_t progress[] = "\xff\xff\xff\x01\x02\x03\x10\x27\x00\x04text";
     CHECK(myp_read_error(progress, sizeof progress - 1, MYP_CLIENT_PROGRESS, &e) == MYP_OK && e.is_progress == 1 && e.stage == 2 && e.max_stage == 3 && e.progress == 10000 && IS(e.message, "text") && e.code == 0xffff);
     myp_bytes file = MYP_BYTES_INIT;

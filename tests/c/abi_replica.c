@@ -41,6 +41,8 @@ static void sids(void)
     CHECK(myp_sid_from_text((const uint8_t *)one, sizeof one - 1, s, places, 1, &count) == MYP_OK && count == 1 && s[0].uuid[0] == 0x3e && s[0].uuid[15] == 0x62);
     CHECK(s[0].tag_length == 3 && !memcmp(s[0].tag, "app", 3) && s[0].n_intervals == 1 && s[0].intervals == places && places[0].start == 1 && places[0].end == 100);
     CHECK(myp_sid_from_text((const uint8_t *)two, sizeof two - 1, s + 1, places + 1, 3, &count) == MYP_OK && count == 2 && s[1].tag_length == 0 && s[1].n_intervals == 2);
+    CHECK(myp_sid_from_text((const uint8_t *)two, sizeof two - 1, s, places, 1, &count) == MYP_BUFFER_TOO_SMALL && count == 2 && s[0].tag_length == 3);
+    CHECK(places[0].start == 1 && places[0].end == 100); /* a place that does not serve stays */
     CHECK(places[1].start == 1 && places[1].end == 50 && places[2].start == 60 && places[2].end == 61 && places[3].end == 0);
     CHECK(myp_sid_from_text((const uint8_t *)one, 36, s, places, 4, &count) == MYP_INVALID_DATA && count == 0 && s[0].tag_length == 3);
     CHECK(myp_sid_from_text((const uint8_t *)"3E11FA47-71CA-11E1-9E33-C80AA9429562:4-3", 40, s, places, 4, &count) == MYP_INVALID_DATA && count == 0);

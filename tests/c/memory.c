@@ -1,5 +1,5 @@
 /* Refuses each block of memory in turn, in every call that takes memory: MYP_NO_MEMORY each time, no block kept, the buffer as it
- * was and *written 0. Link with -Wl,--wrap=malloc,--wrap=realloc,--wrap=calloc,--wrap=free. */
+ * was and *written 0. A call that writes a packet from its fields takes none. Link with -Wl,--wrap=malloc,--wrap=realloc,--wrap=calloc,--wrap=free. */
 #include "mysql_packets.h"
 #include <stdio.h>
 #include <stdlib.h>
@@ -67,11 +67,11 @@ static void replies(void)
     static const myp_ok o = { 3, 10000, TEXT("info"), TEXT("\1\5\4name"), 0, 0x4002, 1 };
     static const myp_error e = { TEXT("HY000"), TEXT("No tables used"), 0, 23500, 1096, 0, 1, 10 };
     for (uint32_t kind = 0; kind < 4; kind++)
-        EACH(1, myp_write_ok(&o, kind, MYP_CLIENT_SESSION_TRACK, out, sizeof out, &n));
-    EACH(1, myp_write_change(1, (const uint8_t *)"\4name", 5, out, sizeof out, &n));
-    EACH(1, myp_write_error(&e, out, sizeof out, &n));
-    EACH(1, myp_write_progress(&e, out, sizeof out, &n));
-    EACH(1, myp_write_local_infile((const uint8_t *)"/tmp/x", 6, out, sizeof out, &n));
+        EACH(0, myp_write_ok(&o, kind, MYP_CLIENT_SESSION_TRACK, out, sizeof out, &n));
+    EACH(0, myp_write_change(1, (const uint8_t *)"\4name", 5, out, sizeof out, &n));
+    EACH(0, myp_write_error(&e, out, sizeof out, &n));
+    EACH(0, myp_write_progress(&e, out, sizeof out, &n));
+    EACH(0, myp_write_local_infile((const uint8_t *)"/tmp/x", 6, out, sizeof out, &n));
 }
 
 static void results(void)
@@ -84,9 +84,9 @@ static void results(void)
     static const myp_bytes text = TEXT("some bytes");
     myp_value v[2] = { none, none };
     v[0].kind = MYP_BYTES, v[0].bytes = text;
-    EACH(1, myp_write_statement(&s, out, sizeof out, &n));
-    EACH(1, myp_write_column_count(&c, MYP_MARIADB_CLIENT_CACHE_METADATA, out, sizeof out, &n));
-    EACH(1, myp_write_column(&d, out, sizeof out, &n));
+    EACH(0, myp_write_statement(&s, out, sizeof out, &n));
+    EACH(0, myp_write_column_count(&c, MYP_MARIADB_CLIENT_CACHE_METADATA, out, sizeof out, &n));
+    EACH(0, myp_write_column(&d, out, sizeof out, &n));
     EACH(2, myp_write_text_row(v, 2, out, sizeof out, &n));
     EACH(2, myp_write_binary_row(types, 2, v, 2, out, sizeof out, &n));
 }
@@ -95,17 +95,17 @@ static void connection(void)
 {
     static const myp_handshake h = { TEXT("5.5.5-10.11.19-MariaDB"), TEXT("abcdefgh"), TEXT("ijklmnopqrst\0"), TEXT("mysql_native_password"), 0, 1, 0x81fff7fe, 0x1d, 2, 10, 0x2d };
     static const myp_auth_switch s = { TEXT("mysql_native_password"), TEXT("zQg4i6oNy6=rHN/>-b)A\0") };
-    EACH(1, myp_write_handshake(&h, out, sizeof out, &n));
-    EACH(1, myp_write_auth_switch(&s, out, sizeof out, &n));
-    EACH(1, myp_write_auth_more_data((const uint8_t *)"\4", 1, out, sizeof out, &n));
-    EACH(1, myp_write_public_key((const uint8_t *)"-----BEGIN", 10, out, sizeof out, &n));
+    EACH(0, myp_write_handshake(&h, out, sizeof out, &n));
+    EACH(0, myp_write_auth_switch(&s, out, sizeof out, &n));
+    EACH(0, myp_write_auth_more_data((const uint8_t *)"\4", 1, out, sizeof out, &n));
+    EACH(0, myp_write_public_key((const uint8_t *)"-----BEGIN", 10, out, sizeof out, &n));
 }
 
 static void commands(void)
 {
-    EACH(1, myp_write_header(5, 1, out, sizeof out, &n));
-    EACH(1, myp_write_close(1, out, sizeof out, &n));
-    EACH(1, myp_write_long_data(5, 2, (const uint8_t *)"abc", 3, out, sizeof out, &n));
+    EACH(0, myp_write_header(5, 1, out, sizeof out, &n));
+    EACH(0, myp_write_close(1, out, sizeof out, &n));
+    EACH(0, myp_write_long_data(5, 2, (const uint8_t *)"abc", 3, out, sizeof out, &n));
 }
 
 /* what a client and a replica say, and what a server reads with memory */
@@ -131,12 +131,12 @@ static void requests(void)
     SOME(myp_write_bulk(1, 0, 1 << 20, types, 2, v, 4, out, sizeof out, &n, &rows));
     SOME(myp_write_login(&l, out, sizeof out, &n));
     SOME(myp_write_change_user(&c, out, sizeof out, &n));
-    SOME(myp_write_ssl_request(&r, out, sizeof out, &n));
-    SOME(myp_write_public_key_request(out, sizeof out, &n));
-    SOME(myp_write_register_replica(&replica, out, sizeof out, &n));
-    SOME(myp_write_dump(1, 0, text.data, text.len, 4, out, sizeof out, &n));
-    SOME(myp_write_table_dump(text.data, text.len, text.data, text.len, out, sizeof out, &n));
-    SOME(myp_write_semi_sync_ack(4, text.data, text.len, out, sizeof out, &n));
+    EACH(0, myp_write_ssl_request(&r, out, sizeof out, &n));
+    EACH(0, myp_write_public_key_request(out, sizeof out, &n));
+    EACH(0, myp_write_register_replica(&replica, out, sizeof out, &n));
+    EACH(0, myp_write_dump(1, 0, text.data, text.len, 4, out, sizeof out, &n));
+    EACH(0, myp_write_table_dump(text.data, text.len, text.data, text.len, out, sizeof out, &n));
+    EACH(0, myp_write_semi_sync_ack(4, text.data, text.len, out, sizeof out, &n));
     SOME(myp_write_gtid_dump(1, 0, text.data, text.len, 4, &sid, 1, out, sizeof out, &n));
     myp_interval places[4] = { MYP_INTERVAL_INIT, MYP_INTERVAL_INIT, MYP_INTERVAL_INIT, MYP_INTERVAL_INIT };
     SOME(myp_sid_from_text((const uint8_t *)"3e11fa47-71ca-11e1-9e33-c80aa9429562:1-5:7", 42, &sid, places, 4, &n));

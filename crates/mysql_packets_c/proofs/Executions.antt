@@ -1,6 +1,6 @@
 -- What filling places gives of an execution.
-use Rattle.std.proofs.Common.{◌≡◌, ◌≢◌, ◌<◌, ◌-◌, ◌++◌, ◌∷◌, ◌+◌, ℕ, List, [], slice_set, Result, Ok, Err, Bool, length, map, take, get_or, false, refl, sym, subst, ap, ◌∙◌, arith, if◌then◌else◌}
-use Rattle.std.proofs.lemmas.List.{append-nil, append_assoc, map-append, take_more, take_more_set}
+use Rattle.std.proofs.Common.{◌≡◌, ◌≢◌, ◌<◌, ◌≤◌, ◌-◌, ◌++◌, ◌∷◌, ◌+◌, ℕ, List, [], slice_set, Result, Ok, Err, Bool, length, drop, map, take, get_or, false, refl, sym, subst, ap, ◌∙◌, arith, if◌then◌else◌}
+use Rattle.std.proofs.lemmas.List.{append-nil, append_assoc, map-append, drop-drop, take_more, take_more_set}
 use Rattle.mysql_wire.specs.declared.fault.FaultKind.{FaultKind}
 use Rattle.mysql_wire.specs.declared.fault.FaultKind.TheVariants as kind
 use Rattle.mysql_wire.specs.declared.fault.FaultOf.{FaultOf}
@@ -16,7 +16,8 @@ use Rattle.mysql_packets_c.specs.declared.execution.CExecution.{CExecution}
 use Rattle.mysql_packets_c.specs.declared.execution.CParam.{CParam}
 use Rattle.mysql_packets_c.specs.declared.rows.CColumnType.{CColumnType}
 use Rattle.mysql_packets_c.specs.declared.value.CValue.{CValue}
-use Rattle.mysql_packets_c.proofs.FilledRows.{one-more}
+use Rattle.mysql_packets_c.specs.Rows.{FillsPlaces}
+use Rattle.mysql_packets_c.proofs.FilledRows.{none-filled, one-more, one-set}
 
 -- ---- one parameter more
 
@@ -36,9 +37,9 @@ one-type types place x read left more p before first is fits =
 
 -- ---- all of them
 
-all-held : (old new : ParamsLeft) (values : List CValue) (types : List CColumnType) → FillsParams old new values types → HasNoParam new
+all-held : (old new : ParamsLeft) (values_before values : List CValue) (types_before types : List CColumnType) → FillsParams old new values_before values types_before types → HasNoParam new
     → HoldsParams old.params (take old.left values) (take old.left types)
-all-held old new values types fills none =
+all-held old new values_before values types_before types fills none =
     let whole : old.left - 0 ≡ old.left = omega arith in
     let contents : contents_of old.params ≡ map value_content (take (old.left - 0) values) = rw (none.0, none.1, append-nil) at fills.contents in
     let held : types_of old.params ≡ take (old.left - 0) types = rw (none.0, none.1, append-nil) at fills.types in
@@ -50,13 +51,13 @@ all-held old new values types fills none =
 front-sends : (params : List BoundParam) (bytes : List ℕ) (view : ParamsLeft) → IsExecution params bytes view → sends_types ((front params).reads bytes) ≡ (if view.sends_types then 1 else 0)
 front-sends params bytes view (f, after, reads, is) = rw (reads, is) refl
 
-pub all-taken : (params : List BoundParam) (bytes rest : List ℕ) (sends : Bool) (old new : ParamsLeft) (values : List CValue) (types : List CColumnType)
+pub all-taken : (params : List BoundParam) (bytes rest : List ℕ) (sends : Bool) (old new : ParamsLeft) (values_before values : List CValue) (types_before types : List CColumnType)
     → old.left ≡ length params → params_of old ≡ (execute_params params).reads bytes → IsExecution params bytes old → sends ≡ old.sends_types
-    → FillsParams old new values types → HasNoParam new → (new.left ≡ 0 → new.end ≡ Ok rest)
+    → FillsParams old new values_before values types_before types → HasNoParam new → (new.left ≡ 0 → new.end ≡ Ok rest)
     → TakesParams params (Ok (sends, rest)) (take (length params) values) (take (length params) types) bytes
-all-taken params bytes rest sends old new values types left read execution is fills none end =
+all-taken params bytes rest sends old new values_before values types_before types left read execution is fills none end =
     let ended : old.end ≡ Ok rest = sym fills.end ∙ end none.0 in
-    let held = all-held old new values types fills none in (
+    let held = all-held old new values_before values types_before types fills none in (
       old.params,
       sym read ∙ ap (params_to old.params) ended,
       subst (λ (n : ℕ). HoldsParams old.params (take n values) (take n types)) left held,
@@ -71,11 +72,32 @@ fault-after ps (Ok rest) (fault.InvalidData text) h = absurd cc
 fault-after ps (Ok rest) (fault.InvalidInput text) h = absurd cc
 fault-after ps (Ok rest) fault.Memory h = absurd cc
 
-pub one-refused : (read : Reading (List TypedParam)) (old new : ParamsLeft) (values : List CValue) (types : List CColumnType) (e : FaultOf)
-    → params_of old ≡ read → FillsParams old new values types → RefusesParam e new → Faults false e read
-one-refused read old new values types e is fills refused =
+pub one-refused : (read : Reading (List TypedParam)) (old new : ParamsLeft) (values_before values : List CValue) (types_before types : List CColumnType) (e : FaultOf)
+    → params_of old ≡ read → FillsParams old new values_before values types_before types → RefusesParam e new → Faults false e read
+one-refused read old new values_before values types_before types e is fills refused =
     let at_end : Faults false e (params_to [] old.end) = rw (refused.0, fills.end) at refused.1 in
     subst (λ (r : _). Faults false e r) is (fault-after old.params old.end e at_end)
+
+-- ---- places
+
+pub some-filled : (count : ℕ) (is_read : Type 0) (old new : ParamsLeft) (values_before values : List CValue) (types_before types : List CColumnType)
+    → old.left ≡ count → FillsParams old new values_before values types_before types → (is_read → HasNoParam new) → FillsPlaces count is_read values_before values
+some-filled count is_read old new values_before values types_before types left fills done = record {
+  count = old.left - new.left;
+  few = omega (arith, left);
+  all = λ h. let none : new.left ≡ 0 = (done h).0 in omega (arith, left, none);
+  places = record { set = fills.set; others = fills.other_values };
+}
+
+-- further places are as they were too
+dropped : {X : Type 0} (i n : ℕ) (before after : List X) → i ≤ n → drop i after ≡ drop i before → drop n after ≡ drop n before
+dropped i n before after le same =
+    let whole : i + (n - i) ≡ n = omega arith in
+    ap (λ k. drop k after) (sym whole) ∙ sym (drop-drop (n - i) i after) ∙ ap (drop (n - i)) same ∙ drop-drop (n - i) i before ∙ ap (λ k. drop k before) whole
+
+pub types-kept : (count : ℕ) (old new : ParamsLeft) (values_before values : List CValue) (types_before types : List CColumnType)
+    → old.left ≡ count → FillsParams old new values_before values types_before types → drop count types ≡ drop count types_before
+types-kept count old new values_before values types_before types left fills = dropped (old.left - new.left) count types_before types (omega (arith, left)) fills.other_types
 
 -- ---- codes
 
@@ -130,6 +152,6 @@ one-bound list i x d y items lt is bound so_far =
 
 pub ruleset bound = (one-bound)
 
-pub ruleset fills = (one-content, one-type)
+pub ruleset fills = (one-content, one-type, one-set)
 
-pub ruleset executions = (all-taken, one-refused, not-memory, into-execution, fault-of-head, fault-of-params)
+pub ruleset executions = (all-taken, one-refused, not-memory, into-execution, fault-of-head, fault-of-params, none-filled, some-filled, types-kept)

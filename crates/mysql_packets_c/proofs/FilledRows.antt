@@ -1,14 +1,16 @@
 -- What filling places gives of a row.
-use Rattle.std.proofs.Common.{◌≡◌, ◌-◌, ◌++◌, ◌∷◌, ◌+◌, ◌<◌, ℕ, List, [], slice_set, Option, Result, Ok, Err, length, map, take, drop, false, sym, subst, ap, ◌∙◌, arith}
-use Rattle.std.proofs.lemmas.List.{append-nil, append_assoc, map-append, take_more_set}
+use Rattle.std.proofs.Common.{◌≡◌, ◌-◌, ◌++◌, ◌∷◌, ◌+◌, ◌<◌, ℕ, List, [], get_or, refl, slice_set, Option, Result, Ok, Err, length, map, take, drop, false, sym, subst, ap, ◌∙◌, arith}
+use Rattle.std.proofs.lemmas.List.{append-nil, append_assoc, drop-drop, drop-set-lt, get_or-drop, map-append, take_more, take_more_set}
+use Rattle.std.proofs.lemmas.List.Elements.{AllZip-push}
+use Rattle.std.specs.List.{AllZip}
 use Rattle.mysql_wire.specs.declared.fault.FaultKind.{FaultKind}
 use Rattle.mysql_wire.specs.declared.fault.FaultOf.{FaultOf}
 use Rattle.mysql_wire.specs.declared.fault.FaultOf.TheVariants as fault
 use Rattle.mysql_wire.specs.Reading.{Reading, Faults}
 use Rattle.mysql_values.specs.Value.{Content}
 use Rattle.mysql_prepared.specs.RowView.{RowLeft, IsDone, RefusesNext, read_to, read_of}
-use Rattle.mysql_packets_c.specs.Rows.{Fills, values_held}
-use Rattle.mysql_packets_c.specs.Value.{value_content}
+use Rattle.mysql_packets_c.specs.Rows.{Fills, FillsPlaces, values_held}
+use Rattle.mysql_packets_c.specs.Value.{IsSet, Sets, value_content}
 use Rattle.mysql_packets_c.specs.declared.value.CValue.{CValue}
 
 -- what stands in the places so far
@@ -17,6 +19,7 @@ SoFar first row before values place = record {
   count : place + row.left ≡ first.left;
   good : first.values ≡ map value_content (take place values) ++ row.values;
   end : row.end ≡ first.end;
+  set : AllZip IsSet (take place before) (take place values);
   others : drop place values ≡ drop place before;
   len : length values ≡ length before;
 }
@@ -28,6 +31,46 @@ one-more values place x read left more c before first is fits =
     let stored = ap (map value_content) (take_more_set values place x fits) ∙ map-append value_content (take place values) (x ∷ []) in
     before ∙ ap (λ vs. map value_content (take place values) ++ vs) (first ∙ ap (λ v. v ∷ more) (sym is))
     ∙ sym (ap (λ vs. vs ++ more) stored ∙ append_assoc (map value_content (take place values)) (value_content x ∷ []) more)
+
+-- one place more is set
+pub one-set : (before values : List CValue) (place : ℕ) (x z : CValue) (c : Content) → AllZip IsSet (take place before) (take place values) → drop place values ≡ drop place before
+    → length values ≡ length before → place < length values → value_content x ≡ c → Sets c (get_or values place z) x
+    → AllZip IsSet (take (place + 1) before) (take (place + 1) (slice_set values place x))
+one-set before values place x z c set others len fits content sets =
+    let whole : place + 0 ≡ place = omega arith in
+    let here : get_or values place z ≡ get_or before place z =
+    ap (λ n. get_or values n z) (sym whole) ∙ sym (get_or-drop place values 0 z) ∙ ap (λ xs. get_or xs 0 z) others ∙ get_or-drop place before 0 z ∙ ap (λ n. get_or before n z) whole in
+    let fits_before : place < length before = omega arith in
+    let own : IsSet (get_or values place z) x = subst (λ (v : Content). Sets v (get_or values place z) x) (sym content) sets in
+    let is_set : IsSet (get_or before place z) x = subst (λ (d : CValue). IsSet d x) here own in
+    let pushed : AllZip IsSet (take place before ++ get_or before place z ∷ []) (take place values ++ x ∷ []) = AllZip-push IsSet (take place before) (take place values) (get_or before place z) x set is_set in
+    subst (λ xs. AllZip IsSet (take (place + 1) before) xs) (sym (take_more_set values place x fits))
+    (subst (λ ys. AllZip IsSet ys (take place values ++ x ∷ [])) (sym (take_more before place z fits_before)) pushed)
+
+-- the places after it are as they were
+pub others-kept : {X : Type 0} (before values : List X) (place : ℕ) (x : X) → drop place values ≡ drop place before → drop (place + 1) (slice_set values place x) ≡ drop (place + 1) before
+others-kept before values place x others =
+    let past : place < place + 1 = omega arith in
+    drop-set-lt (place + 1) values place x past ∙ sym (drop-drop 1 place values) ∙ ap (drop 1) others ∙ drop-drop 1 place before
+
+-- no place is set
+pub none-filled : (columns : ℕ) (is_read : Type 0) (values : List CValue) → (is_read → ⊥) → FillsPlaces columns is_read values values
+none-filled columns is_read values none = record {
+  count = 0;
+  few = omega arith;
+  all = λ h. absurd (none h);
+  places = record { set = tt; others = refl };
+}
+
+-- the places of the values that were read are set
+pub some-filled : (columns : ℕ) (is_read : Type 0) (old new : RowLeft) (before after : List CValue) → old.left ≡ columns → Fills old new before after → (is_read → IsDone new)
+    → FillsPlaces columns is_read before after
+some-filled columns is_read old new before after left fills done = record {
+  count = old.left - new.left;
+  few = omega (arith, left);
+  all = λ h. let none : new.left ≡ 0 = (done h).0 in omega (arith, left, none);
+  places = record { set = fills.set; others = fills.others };
+}
 
 -- all values were read, and these bytes are left
 pub all-read : (read : Reading (List (Option Content))) (old new : RowLeft) (before after : List CValue) (rest : List ℕ)
@@ -52,4 +95,4 @@ one-refused read old new before after e is fills refused =
     let at_end : Faults false e (read_to [] old.end) = rw (refused.0, fills.end) at refused.1 in
     subst (λ (r : _). Faults false e r) is (fault-after old.values old.end e at_end)
 
-pub ruleset rows = (one-more, all-read, one-refused)
+pub ruleset rows = (one-more, one-set, all-read, one-refused, none-filled, some-filled)

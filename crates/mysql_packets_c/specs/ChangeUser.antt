@@ -1,11 +1,11 @@
 -- The change of a session's user, as C has it.
-use Rattle.std.specs.Prelude.{Some, ◌≡◌, ℕ, ◌==◌, List, Option, None, if◌then◌else◌, option_map}
+use Rattle.std.specs.Prelude.{Some, ◌≡◌, ◌<◌, ℕ, ◌==◌, List, Option, None, if◌then◌else◌, option_map}
 use Rattle.mysql_auth.specs.AuthPlugin.{plugin_of}
 use Rattle.mysql_auth.specs.ComChangeUser as change
 use Rattle.mysql_auth.specs.declared.com_change_user.ComChangeUser.{ComChangeUser}
 use Rattle.mysql_auth.specs.declared.com_change_user_more_data.ComChangeUserMoreData.{ComChangeUserMoreData}
 use Rattle.mysql_packets_c.specs.Attributes.{attributes_in, merged_pairs}
-use Rattle.mysql_packets_c.specs.Given.{if_set}
+use Rattle.mysql_packets_c.specs.Given.{SaysSent, if_set}
 use Rattle.mysql_packets_c.specs.Input.{used_of}
 use Rattle.mysql_packets_c.specs.declared.change_user.CChangeUser.{CChangeUser}
 use Rattle.mysql_packets_c.specs.declared.change_user.CUserChange.{CUserChange}
@@ -24,6 +24,13 @@ more_held out =
     if out.has_character_set == 0 then None
     else Some (change.more_data_of out.character_set (option_map plugin_of (if_set out.has_auth_plugin_name out.auth_plugin_name.now)) (option_map attributes_in (if_set out.has_attributes out.attributes.now)))
 
+-- 1 beside what was sent; or 0, beside nothing
+pub record SaysMore (out : CUserChange) : Type 0 where
+  pub flag : out.has_character_set < 2
+  pub none : out.has_character_set ≡ 0 → (out.character_set ≡ 0) × (out.has_auth_plugin_name ≡ 0) × (out.has_attributes ≡ 0)
+  pub auth_plugin_name : SaysSent out.has_auth_plugin_name out.auth_plugin_name.now
+  pub attributes : SaysSent out.has_attributes out.attributes.now
+
 -- but for these the struct is as it was
 pub record KeepsOthers (old new : CUserChange) : Type 0 where
   pub user : new.user.now ≡ old.user.now
@@ -36,4 +43,5 @@ pub record IsUserChange (packet : List ℕ) (p : ComChangeUser) (rest : List ℕ
   pub auth_response : out.auth_response.now ≡ change.auth_plugin_data p
   pub database : out.database.now ≡ change.database p
   pub more_data : more_held out ≡ change.more_data_in p
+  pub has_more_data : SaysMore out
   pub used : out.used ≡ used_of packet rest

@@ -1,6 +1,7 @@
 -- An execution, as C has it.
+use Rattle.std.specs.List.{AllZip}
 use Rattle.std.specs.Option.{unwrap_or}
-use Rattle.std.specs.Prelude.{◌≡◌, ℕ, ◌-◌, ◌==◌, ◌++◌, Bool, false, not, if◌then◌else◌, List, map, take, Result, Ok, Err, ◌<◌, ◌↔◌, IsTrue}
+use Rattle.std.specs.Prelude.{◌≡◌, ℕ, ◌-◌, ◌==◌, ◌++◌, Bool, false, not, if◌then◌else◌, List, drop, map, take, Result, Ok, Err, ◌<◌, ◌↔◌, IsTrue}
 use Rattle.mysql_prepared.specs.ExecuteHead as head
 use Rattle.mysql_prepared.specs.ExecuteParam.{Param, Sent, SentAhead}
 use Rattle.mysql_prepared.specs.Payload.{max_payload}
@@ -20,7 +21,7 @@ use Rattle.mysql_wire.specs.declared.fault.FaultOf.{FaultOf}
 use Rattle.mysql_packets_c.specs.Code.{kind_code}
 use Rattle.mysql_packets_c.specs.Input.{used_of}
 use Rattle.mysql_packets_c.specs.Output.{Puts}
-use Rattle.mysql_packets_c.specs.Value.{value_content, is_value}
+use Rattle.mysql_packets_c.specs.Value.{IsSet, value_content, is_value}
 use Rattle.mysql_packets_c.specs.declared.execution.CExecution.{CExecution}
 use Rattle.mysql_packets_c.specs.declared.execution.CExecutionHead.{CExecutionHead}
 use Rattle.mysql_packets_c.specs.declared.execution.CParam.{CParam}
@@ -65,11 +66,14 @@ contents_of params = map (λ p. content_of p.1) params
 abbrev pub types_of : List TypedParam → List CColumnType
 types_of params = map (λ p. type_held p.0) params
 
--- the parameters that were read stand in the first places, and the types that they have
-pub record FillsParams (old new : ParamsLeft) (value_places : List CValue) (type_places : List CColumnType) : Type 0 where
+-- the parameters that were read stand in the first places, and the types that they have; the other places are as they were
+pub record FillsParams (old new : ParamsLeft) (values_before value_places : List CValue) (types_before type_places : List CColumnType) : Type 0 where
   pub contents : contents_of old.params ≡ map value_content (take (old.left - new.left) value_places) ++ contents_of new.params
   pub types : types_of old.params ≡ take (old.left - new.left) type_places ++ types_of new.params
   pub end : new.end ≡ old.end
+  pub set : AllZip IsSet (take (old.left - new.left) values_before) (take (old.left - new.left) value_places)
+  pub other_values : drop (old.left - new.left) value_places ≡ drop (old.left - new.left) values_before
+  pub other_types : drop (old.left - new.left) type_places ≡ drop (old.left - new.left) types_before
 
 -- whether the bytes say that types are sent
 abbrev pub sends_types : Reading Front → ℕ

@@ -1,6 +1,6 @@
 -- The request for a binary log without the transactions of a GTID set, as C has it.
 use Rattle.std.specs.Global.{Vec}
-use Rattle.std.specs.Prelude.{◌≡◌, ℕ, List, [], Option, Some, None, Result, Ok, Err, ◌⊎◌}
+use Rattle.std.specs.Prelude.{◌≡◌, ◌<◌, ℕ, List, [], Option, Some, None, Result, Ok, Err, ◌⊎◌}
 use Rattle.mysql_repl.specs.BinlogDumpGtid as dump
 use Rattle.mysql_repl.specs.BinlogDumpGtid.{gtid_dump}
 use Rattle.mysql_repl.specs.InPlace.{StandIn}
@@ -49,4 +49,5 @@ pub record IsGtidDump (packet : List ℕ) (p : ComBinlogDumpGtid) (rest : List �
   pub server_id : out.server_id ≡ dump.server_id p
   pub flags : out.flags ≡ dump.flag_bits p
   pub sids : SidsStand (dump.sids p) out
+  pub flag : out.is_tagged < 2
   pub used : out.used ≡ used_of packet rest

@@ -5,7 +5,7 @@ use Rattle.mysql_auth.specs.Handshake as handshake
 use Rattle.mysql_auth.specs.PluginName.{has_zero}
 use Rattle.mysql_auth.specs.declared.handshake.HandshakePacket.{HandshakePacket}
 use Rattle.mysql_packets_c.specs.Input.{used_of}
-use Rattle.mysql_packets_c.specs.Output.{Puts}
+use Rattle.mysql_packets_c.specs.Output.{PutsUnlessTooLong}
 use Rattle.mysql_packets_c.specs.declared.handshake.CHandshake.{CHandshake}
 
 -- what is absent is empty
@@ -67,4 +67,4 @@ pub record IsSent (c : CHandshake) (p : HandshakePacket) : Type 0 where
 -- the handshake of these fields is put, and is read again
 abbrev pub PutsHandshake : CHandshake → ℕ → (old new : List ℕ) → ℕ → Type 0
 PutsHandshake c code old new written =
-    (p : HandshakePacket) × IsSent c p × handshake.HandshakePartsFit p [] × Puts (handshake.handshake.bytes p) code old new written
+    (p : HandshakePacket) × IsSent c p × handshake.HandshakePartsFit p [] × PutsUnlessTooLong (handshake.handshake.bytes p) code old new written

@@ -7,7 +7,7 @@ use Rattle.mysql_auth.specs.declared.handshake_response.HandshakeResponse.{Hands
 use Rattle.mysql_wire.specs.FlagMasks.{CLIENT_CONNECT_WITH_DB, CLIENT_PLUGIN_AUTH, CLIENT_CONNECT_ATTRS}
 use Rattle.mysql_wire.specs.Flags.{has}
 use Rattle.mysql_packets_c.specs.Attributes.{attributes_in, are_texts, merged_pairs}
-use Rattle.mysql_packets_c.specs.Given.{if_set, is_set}
+use Rattle.mysql_packets_c.specs.Given.{SaysSent, if_set, is_set}
 use Rattle.mysql_packets_c.specs.Input.{used_of}
 use Rattle.mysql_packets_c.specs.declared.login.CLogin.{CLogin}
 use Rattle.mysql_packets_c.specs.declared.login.CLoginRequest.{CLoginRequest}
@@ -36,8 +36,11 @@ pub record IsLoginRequest (packet : List ℕ) (p : HandshakeResponse) (rest : Li
   pub user : out.user.now ≡ response.user p
   pub auth_response : out.auth_response.now ≡ response.scramble_buf p
   pub database : if_set out.has_database out.database.now ≡ response.db_name p
+  pub has_database : SaysSent out.has_database out.database.now
   pub auth_plugin_name : option_map plugin_of (if_set out.has_auth_plugin_name out.auth_plugin_name.now) ≡ response.auth_plugin p
+  pub has_auth_plugin_name : SaysSent out.has_auth_plugin_name out.auth_plugin_name.now
   pub attributes : option_map attributes_in (if_set out.has_attributes out.attributes.now) ≡ response.connect_attributes p
+  pub has_attributes : SaysSent out.has_attributes out.attributes.now
   pub capabilities : out.capabilities ≡ (response.capabilities p).0
   pub mariadb_capabilities : out.mariadb_capabilities ≡ (response.mariadb_ext_capabilities p).0
   pub max_packet_size : out.max_packet_size ≡ response.max_packet_size p

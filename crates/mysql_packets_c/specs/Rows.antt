@@ -1,5 +1,5 @@
 -- Rows, as C has them.
-use Rattle.std.specs.List.{list_all}
+use Rattle.std.specs.List.{AllZip, list_all}
 use Rattle.std.specs.Prelude.{◌≡◌, ◌≤◌, ◌-◌, ◌++◌, ℕ, List, length, take, drop, map, Option, Some, Result, Ok, Err, false, None, Bool, if◌then◌else◌, ◌==◌, ◌&&◌, nat_lt}
 use Rattle.mysql_prepared.specs.BinaryRow.{IsRowBytes, takes_row}
 use Rattle.mysql_prepared.specs.RowView.{RowLeft}
@@ -10,7 +10,7 @@ use Rattle.mysql_packets_c.specs.Code.{kind_code}
 use Rattle.mysql_packets_c.specs.ColumnType.{type_of, unsigned_of}
 use Rattle.mysql_packets_c.specs.Input.{used_of}
 use Rattle.mysql_packets_c.specs.Output.{Puts}
-use Rattle.mysql_packets_c.specs.Value.{value_content, is_value, values_contents}
+use Rattle.mysql_packets_c.specs.Value.{IsSet, SetsFirst, value_content, is_value, values_contents}
 use Rattle.mysql_packets_c.specs.declared.rows.CColumnType.{CColumnType}
 use Rattle.mysql_packets_c.specs.declared.value.CValue.{CValue}
 
@@ -22,8 +22,16 @@ pub record Fills (old new : RowLeft) (before after : List CValue) : Type 0 where
   pub fewer : new.left ≤ old.left
   pub values : old.values ≡ map value_content (take (old.left - new.left) after) ++ new.values
   pub end : new.end ≡ old.end
+  pub set : AllZip IsSet (take (old.left - new.left) before) (take (old.left - new.left) after)
   pub others : drop (old.left - new.left) after ≡ drop (old.left - new.left) before
   pub len : length after ≡ length before
+
+-- All places of the columns are set where the row is read, and after a fault some of the first ones. The others are as they were.
+pub record FillsPlaces (columns : ℕ) (is_read : Type 0) (before after : List CValue) : Type 0 where
+  pub count : ℕ
+  pub few : count ≤ columns
+  pub all : is_read → count ≡ columns
+  pub places : SetsFirst count before after
 
 -- the values are what reading gives, and so many bytes are used; or reading gives the fault
 abbrev pub TakesRow : List ℕ → Result ℕ FaultOf → List CValue → Reading (List (Option Content)) → Type 0

@@ -1,5 +1,6 @@
 -- Values as C has them.
-use Rattle.std.specs.Prelude.{◌^◌, Bool, ◌==◌, not, nat_lt, List, map, if◌then◌else◌}
+use Rattle.std.specs.Prelude.{◌≡◌, ◌<◌, ◌≤◌, ◌^◌, ℕ, Bool, ◌==◌, not, nat_lt, List, [], map, take, drop, if◌then◌else◌}
+use Rattle.std.specs.List.{AllZip}
 use Rattle.std.specs.Int.{w64, cast_signed}
 use Rattle.mysql_values.specs.Value.{Content, NULL, Bytes, Int, UInt, Float, Double, Date, Time, date_of, time_of}
 use Rattle.mysql_packets_c.specs.declared.value.CValue.{CValue}
@@ -25,3 +26,56 @@ is_value v =
 
 abbrev pub values_contents : List CValue → List Content
 values_contents values = map value_content values
+
+-- ---- what a place of the caller's holds once a value is put into it
+
+abbrev pub kind_of : Content → ℕ
+kind_of NULL = 0
+kind_of (Bytes bytes) = 1
+kind_of (Int n) = 2
+kind_of (UInt n) = 3
+kind_of (Float bits) = 4
+kind_of (Double bits) = 5
+kind_of (Date fields) = 6
+kind_of (Time fields) = 7
+
+abbrev pub bytes_of : Content → List ℕ
+bytes_of (Bytes bytes) = bytes
+bytes_of content = []
+
+-- the fields of dates and of spans of time are as they were
+pub record KeepsDate (old new : CValue) : Type 0 where
+  pub is_negative : new.is_negative ≡ old.is_negative
+  pub month : new.month ≡ old.month
+  pub day : new.day ≡ old.day
+  pub hour : new.hour ≡ old.hour
+  pub minute : new.minute ≡ old.minute
+  pub second : new.second ≡ old.second
+  pub micros : new.micros ≡ old.micros
+  pub days : new.days ≡ old.days
+
+-- the fields that the value does not need: those of its kind that are 0, and the others as they were
+abbrev pub KeepsOthers : Content → (old new : CValue) → Type 0
+KeepsOthers NULL old new = (new.number ≡ 0) × KeepsDate old new
+KeepsOthers (Bytes bytes) old new = (new.number ≡ old.number) × KeepsDate old new
+KeepsOthers (Int n) old new = KeepsDate old new
+KeepsOthers (UInt n) old new = KeepsDate old new
+KeepsOthers (Float bits) old new = KeepsDate old new
+KeepsOthers (Double bits) old new = KeepsDate old new
+KeepsOthers (Date fields) old new = (new.number ≡ 0) × (new.is_negative ≡ 0)
+KeepsOthers (Time fields) old new = (new.number ≡ 0) × (new.month ≡ 0) × (new.day ≡ 0) × (new.is_negative < 2)
+
+-- its fields are those of a value of this content, as the header's table has them
+pub record Sets (content : Content) (old new : CValue) : Type 0 where
+  pub kind : new.kind ≡ kind_of content
+  pub bytes : new.bytes.now ≡ bytes_of content
+  pub others : KeepsOthers content old new
+  pub reserved : new.reserved ≡ old.reserved
+
+abbrev pub IsSet : (old new : CValue) → Type 0
+IsSet old new = Sets (value_content new) old new
+
+-- the first places are set, and the others are as they were
+pub record SetsFirst (count : ℕ) (before after : List CValue) : Type 0 where
+  pub set : AllZip IsSet (take count before) (take count after)
+  pub others : drop count after ≡ drop count before

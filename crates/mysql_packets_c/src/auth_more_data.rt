@@ -5,7 +5,7 @@ ghost use Rattle.std.specs.Prelude.{◌≡◌, ◌≢◌};
 ghost use Rattle.mysql_auth.specs.AuthMoreData.{auth_more_data, more_data_of};
 ghost use Rattle.mysql_packets_c.specs.AuthMoreData.{IsMoreData};
 ghost use Rattle.mysql_packets_c.specs.Code.{ReadsInto};
-ghost use Rattle.mysql_packets_c.specs.Output.{Puts};
+ghost use Rattle.mysql_packets_c.specs.Output.{PutsUnlessTooLong};
 
 use crate::code::{OK, code_of};
 use crate::input::read;
@@ -33,17 +33,15 @@ pub extern "C" fn myp_read_auth_more_data<'a>(
     }
 }
 
-/// Writes `Protocol::AuthMoreData`: 0; 5, and how many bytes it takes; or 4.
+/// Writes `Protocol::AuthMoreData`: 0; 5, and how many bytes it takes.
 #[unsafe(no_mangle)]
 pub extern "C" fn myp_write_auth_more_data(
-    alloc: Global,
     plugin_data: &[u8],
     out: &mut [u8],
     written: &mut usize,
 ) -> u32
-    ensures memory { result ≡ 4 → (out.new ≡ out.old) × (written.new ≡ 0) }
-    ensures value { result ≢ 4 → Puts (auth_more_data.bytes (more_data_of plugin_data.now)) result out.old out.new written.new }
+    ensures { PutsUnlessTooLong (auth_more_data.bytes (more_data_of plugin_data.now)) result out.old out.new written.new }
 {
     let packet = AuthMoreData::new(CowSlice::Borrowed(plugin_data));
-    put_packet(alloc, &packet, out, written)
+    put_packet(&packet, out, written)
 }

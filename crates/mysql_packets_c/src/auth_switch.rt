@@ -6,7 +6,7 @@ ghost use Rattle.mysql_auth.specs.AuthSwitchRequest.{auth_switch_request, switch
 ghost use Rattle.mysql_auth.specs.PluginName.{has_zero};
 ghost use Rattle.mysql_packets_c.specs.AuthSwitch.{IsSwitch};
 ghost use Rattle.mysql_packets_c.specs.Code.{ReadsInto};
-ghost use Rattle.mysql_packets_c.specs.Output.{Puts};
+ghost use Rattle.mysql_packets_c.specs.Output.{PutsUnlessTooLong};
 
 use crate::code::{INVALID_INPUT, OK, code_of};
 use crate::handshake::has_zero;
@@ -46,14 +46,12 @@ pub extern "C" fn myp_read_auth_switch<'a>(
 /// Writes `Protocol::AuthSwitchRequest`: 0; 5, and how many bytes it takes; 4; or 3 of a name with a zero.
 #[unsafe(no_mangle)]
 pub extern "C" fn myp_write_auth_switch(
-    alloc: Global,
     request: &CAuthSwitch<'_>,
     out: &mut [u8],
     written: &mut usize,
 ) -> u32
     ensures refused { IsTrue (has_zero request.now.plugin_name.now) → (result ≡ 3) × (out.new ≡ out.old) × (written.new ≡ 0) }
-    ensures memory { result ≡ 4 → (out.new ≡ out.old) × (written.new ≡ 0) }
-    ensures value { IsFalse (has_zero request.now.plugin_name.now) → result ≢ 4 → Puts (auth_switch_request.bytes (switch_to request.now.plugin_name.now request.now.plugin_data.now)) result out.old out.new written.new }
+    ensures value { IsFalse (has_zero request.now.plugin_name.now) → PutsUnlessTooLong (auth_switch_request.bytes (switch_to request.now.plugin_name.now request.now.plugin_data.now)) result out.old out.new written.new }
 {
     if has_zero(request.plugin_name) {
         *written = 0;
@@ -63,5 +61,5 @@ pub extern "C" fn myp_write_auth_switch(
         CowSlice::Borrowed(request.plugin_name),
         CowSlice::Borrowed(request.plugin_data),
     );
-    put_packet(alloc, &packet, out, written)
+    put_packet(&packet, out, written)
 }

@@ -42,6 +42,7 @@ pub struct CUserChange<'a> {
 /// Puts more data, or that there is none.
 fn put_more_data<'a>(more: Option<&ComChangeUserMoreDataRef<'a>>, out: &mut CUserChange<'a>)
     ensures value { spec.more_held out.new ≡ option_map (λ more. more.now) more.entry }
+    ensures says { spec.SaysMore out.new }
     ensures others { spec.KeepsOthers out.old out.new }
 {
     let Some(more) = more else {
@@ -142,7 +143,7 @@ pub extern "C" fn myp_write_change_user(
         return INVALID_INPUT;
     }
     match more_data(alloc, change) {
-        Ok(more) => put_packet(alloc, &packet_of(change, more), out, written),
+        Ok(more) => put_packet(&packet_of(change, more), out, written),
         Err(_) => NO_MEMORY,
     }
 }

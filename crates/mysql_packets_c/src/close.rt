@@ -5,7 +5,7 @@ ghost use Rattle.std.specs.Prelude.{◌≡◌, ◌≢◌};
 ghost use Rattle.mysql_prepared.specs.Close.{close};
 ghost use Rattle.mysql_packets_c.specs.Close.{IsClosed};
 ghost use Rattle.mysql_packets_c.specs.Code.{ReadsInto};
-ghost use Rattle.mysql_packets_c.specs.Output.{Puts};
+ghost use Rattle.mysql_packets_c.specs.Output.{PutsUnlessTooLong};
 
 use crate::code::{OK, code_of};
 use crate::input::read;
@@ -27,16 +27,14 @@ pub extern "C" fn myp_read_close(alloc: Global, packet: &[u8], statement_id: &mu
     }
 }
 
-/// Writes `COM_STMT_CLOSE`: 0; 5, and how many bytes it takes; or 4.
+/// Writes `COM_STMT_CLOSE`: 0; 5, and how many bytes it takes.
 #[unsafe(no_mangle)]
 pub extern "C" fn myp_write_close(
-    alloc: Global,
     statement_id: u32,
     out: &mut [u8],
     written: &mut usize,
 ) -> u32
-    ensures memory { result ≡ 4 → (out.new ≡ out.old) × (written.new ≡ 0) }
-    ensures value { result ≢ 4 → Puts (close.bytes (record { stmt_id = statement_id })) result out.old out.new written.new }
+    ensures { PutsUnlessTooLong (close.bytes (record { stmt_id = statement_id })) result out.old out.new written.new }
 {
-    put_packet(alloc, &ComStmtClose::new(statement_id), out, written)
+    put_packet(&ComStmtClose::new(statement_id), out, written)
 }

@@ -9,7 +9,7 @@ ghost use Rattle.mysql_wire.specs.declared.codes.column_type.ColumnType.{ColumnT
 ghost use Rattle.mysql_packets_c.specs.Code.{ReadsInto};
 ghost use Rattle.mysql_packets_c.specs.Column as spec;
 ghost use Rattle.mysql_packets_c.specs.Column.{IsColumn};
-ghost use Rattle.mysql_packets_c.specs.Output.{Puts};
+ghost use Rattle.mysql_packets_c.specs.Output.{PutsUnlessTooLong};
 
 use crate::code::{INVALID_INPUT, OK, code_of};
 use crate::flags::column_flags_of;
@@ -138,18 +138,16 @@ fn sent_column<'a>(column_type: ColumnType, fields: &CColumn<'a>) -> SentColumn<
 /// Writes `Protocol::ColumnDefinition41`: 0; 5, and how many bytes it takes; 4; or 3 of a type that is none.
 #[unsafe(no_mangle)]
 pub extern "C" fn myp_write_column(
-    alloc: Global,
     column: &CColumn<'_>,
     out: &mut [u8],
     written: &mut usize,
 ) -> u32
     ensures unknown { column_type_of column.now.column_type ≡ None → (result ≡ 3) × (out.new ≡ out.old) × (written.new ≡ 0) }
-    ensures memory { result ≡ 4 → (out.new ≡ out.old) × (written.new ≡ 0) }
-    ensures value { (t : ColumnType) → column_type_of column.now.column_type ≡ Some t → result ≢ 4 → Puts (definition.column.bytes (spec.column_given t column.now)) result out.old out.new written.new }
+    ensures value { (t : ColumnType) → column_type_of column.now.column_type ≡ Some t → PutsUnlessTooLong (definition.column.bytes (spec.column_given t column.now)) result out.old out.new written.new }
 {
     let Some(column_type) = ColumnType::from_code(column.column_type) else {
         *written = 0;
         return INVALID_INPUT;
     };
-    put_packet(alloc, &sent_column(column_type, column), out, written)
+    put_packet(&sent_column(column_type, column), out, written)
 }

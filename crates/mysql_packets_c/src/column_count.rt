@@ -5,7 +5,7 @@ ghost use Rattle.std.specs.Prelude.{◌≡◌, ◌≢◌, ◌<◌, false, true};
 ghost use Rattle.mysql_replies.specs.ColumnCount.{column_count, says_follow};
 ghost use Rattle.mysql_packets_c.specs.Code.{ReadsInto};
 ghost use Rattle.mysql_packets_c.specs.ColumnCount.{IsCount, count_given};
-ghost use Rattle.mysql_packets_c.specs.Output.{Puts};
+ghost use Rattle.mysql_packets_c.specs.Output.{PutsUnlessTooLong};
 
 use crate::code::{INVALID_INPUT, OK, code_of};
 use crate::flags::mariadb_of;
@@ -66,25 +66,23 @@ fn count_of(capabilities: MariadbCapabilities, columns: &CColumnCount) -> Column
     }
 }
 
-/// Writes how many columns a result has: 0; 5, and how many bytes it takes; 4; or 3, where no definitions follow and no byte
+/// Writes how many columns a result has: 0; 5, and how many bytes it takes; or 3, where no definitions follow and no byte
 /// says so.
 #[unsafe(no_mangle)]
 pub extern "C" fn myp_write_column_count(
-    alloc: Global,
     columns: &CColumnCount,
     mariadb_capabilities: u32,
     out: &mut [u8],
     written: &mut usize,
 ) -> u32
     ensures refused { columns.now.metadata_follows ≡ 0 → says_follow (record { 0 = mariadb_capabilities; 1 = record {} }) ≡ false → (result ≡ 3) × (out.new ≡ out.old) × (written.new ≡ 0) }
-    ensures memory { result ≡ 4 → (out.new ≡ out.old) × (written.new ≡ 0) }
-    ensures follow { columns.now.metadata_follows ≢ 0 → result ≢ 4 → Puts (column_count.bytes (count_given (record { 0 = mariadb_capabilities; 1 = record {} }) columns.now)) result out.old out.new written.new }
-    ensures said { says_follow (record { 0 = mariadb_capabilities; 1 = record {} }) ≡ true → result ≢ 4 → Puts (column_count.bytes (count_given (record { 0 = mariadb_capabilities; 1 = record {} }) columns.now)) result out.old out.new written.new }
+    ensures follow { columns.now.metadata_follows ≢ 0 → PutsUnlessTooLong (column_count.bytes (count_given (record { 0 = mariadb_capabilities; 1 = record {} }) columns.now)) result out.old out.new written.new }
+    ensures said { says_follow (record { 0 = mariadb_capabilities; 1 = record {} }) ≡ true → PutsUnlessTooLong (column_count.bytes (count_given (record { 0 = mariadb_capabilities; 1 = record {} }) columns.now)) result out.old out.new written.new }
 {
     let capabilities = mariadb_of(mariadb_capabilities);
     if columns.metadata_follows == 0 && !says_follow(capabilities) {
         *written = 0;
         return INVALID_INPUT;
     }
-    put_packet(alloc, &count_of(capabilities, columns), out, written)
+    put_packet(&count_of(capabilities, columns), out, written)
 }

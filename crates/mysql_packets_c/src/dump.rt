@@ -6,7 +6,7 @@ ghost use Rattle.mysql_repl.specs.BinlogDump as dump;
 ghost use Rattle.mysql_repl.specs.TableDump as table_dump;
 ghost use Rattle.mysql_packets_c.specs.Code.{ReadsInto};
 ghost use Rattle.mysql_packets_c.specs.Dump.{IsDump};
-ghost use Rattle.mysql_packets_c.specs.Output.{Puts};
+ghost use Rattle.mysql_packets_c.specs.Output.{PutsUnlessTooLong};
 
 use crate::code::{OK, code_of};
 use crate::input::read;
@@ -43,10 +43,9 @@ pub extern "C" fn myp_read_dump<'a>(alloc: Global, packet: &'a [u8], out: &mut C
     }
 }
 
-/// Writes `COM_BINLOG_DUMP`: 0; 5, and how many bytes it takes; or 4.
+/// Writes `COM_BINLOG_DUMP`: 0; 5, and how many bytes it takes.
 #[unsafe(no_mangle)]
 pub extern "C" fn myp_write_dump(
-    alloc: Global,
     server_id: u32,
     flags: u16,
     file_name: &[u8],
@@ -54,28 +53,25 @@ pub extern "C" fn myp_write_dump(
     out: &mut [u8],
     written: &mut usize,
 ) -> u32
-    ensures memory { result ≡ 4 → (out.new ≡ out.old) × (written.new ≡ 0) }
-    ensures value { result ≢ 4 → Puts (dump.binlog_dump.bytes (dump.dump_of server_id position flags file_name.now)) result out.old out.new written.new }
+    ensures { PutsUnlessTooLong (dump.binlog_dump.bytes (dump.dump_of server_id position flags file_name.now)) result out.old out.new written.new }
 {
     let packet = ComBinlogDump::new(server_id)
         .with_pos(position)
         .with_flags(BinlogDumpFlags::from_bits_retain(flags))
         .with_filename(CowSlice::Borrowed(file_name));
-    put_packet(alloc, &packet, out, written)
+    put_packet(&packet, out, written)
 }
 
-/// Writes `COM_TABLE_DUMP`: 0; 5, and how many bytes it takes; or 4. Of a longer name the first 255 bytes are written.
+/// Writes `COM_TABLE_DUMP`: 0; 5, and how many bytes it takes. Of a longer name the first 255 bytes are written.
 #[unsafe(no_mangle)]
 pub extern "C" fn myp_write_table_dump(
-    alloc: Global,
     database: &[u8],
     table: &[u8],
     out: &mut [u8],
     written: &mut usize,
 ) -> u32
-    ensures memory { result ≡ 4 → (out.new ≡ out.old) × (written.new ≡ 0) }
-    ensures value { result ≢ 4 → Puts (table_dump.table_dump.bytes (table_dump.dump_of database.now table.now)) result out.old out.new written.new }
+    ensures { PutsUnlessTooLong (table_dump.table_dump.bytes (table_dump.dump_of database.now table.now)) result out.old out.new written.new }
 {
     let packet = ComTableDump::new(CowSlice::Borrowed(database), CowSlice::Borrowed(table));
-    put_packet(alloc, &packet, out, written)
+    put_packet(&packet, out, written)
 }

@@ -2,14 +2,15 @@
 #![tactic(auto, using(crate::proofs::Codes::codes, crate::proofs::Executions::executions))]
 
 ghost use Rattle.std.specs.List.{list_all};
-ghost use Rattle.std.specs.Prelude.{◌≡◌, ◌≢◌, ◌<◌, ◌≤◌, ◌⊎◌, Ok, Err, IfErr, IfOk, OnOk, length, take, false, true};
+ghost use Rattle.std.specs.Prelude.{◌≡◌, ◌≢◌, ◌<◌, ◌≤◌, ◌⊎◌, Ok, Err, IfErr, IfOk, IsOk, OnOk, drop, length, take, false, true};
 ghost use Rattle.mysql_prepared.specs.ExecuteHead.{execute_head};
 ghost use Rattle.mysql_prepared.specs.ExecuteParam.{param_of};
 ghost use Rattle.mysql_prepared.specs.ExecuteRead.{HasNoParam, RefusesParam};
 ghost use Rattle.mysql_packets_c.specs.Code.{ReadsInto};
 ghost use Rattle.mysql_packets_c.specs.Execution as spec;
 ghost use Rattle.mysql_packets_c.specs.Execution.{Executes};
-ghost use Rattle.mysql_packets_c.specs.Value.{value_content, is_value};
+ghost use Rattle.mysql_packets_c.specs.Rows.{FillsPlaces};
+ghost use Rattle.mysql_packets_c.specs.Value.{Sets, value_content, is_value};
 
 use crate::code::{BUFFER_TOO_SMALL, INVALID_INPUT, NO_MEMORY, OK, code_of};
 use crate::input::read;
@@ -104,7 +105,8 @@ fn bound_list(alloc: Global, params: &[CParam]) -> Result<Vec<BoundParam>, Alloc
 
 /// Puts a parameter into a value of the caller's. What was sent ahead is NULL.
 fn put_param<'a>(place: &mut CValue<'a>, param: ExecuteParam<'a>)
-    ensures value { value_content place.new ≡ spec.content_of (param_of param.entry) }
+    ensures content { value_content place.new ≡ spec.content_of (param_of param.entry) }
+    ensures set { Sets (spec.content_of (param_of param.entry)) place.old place.new }
 {
     match param {
         ExecuteParam::Value(value) => put_ref(place, value),
@@ -131,7 +133,7 @@ fn fill_params<'a>(
 ) -> Result<(), Fault>
     requires values { view.old.left ≤ length values.old }
     requires types { view.old.left ≤ length types.old }
-    ensures good { spec.FillsParams view.old view.new values.new types.new }
+    ensures good { spec.FillsParams view.old view.new values.old values.new types.old types.new }
     ensures all { OnOk result (HasNoParam view.new) }
     ensures refused { IfErr result (λ e. RefusesParam e view.new) }
 {
@@ -154,6 +156,8 @@ fn params_into<'a>(
     requires values { length params.now ≤ length values.old }
     requires types { length params.now ≤ length types.old }
     ensures value { spec.TakesParams params.now result (take (length params.now) values.new) (take (length params.now) types.new) buf.entry }
+    ensures places { FillsPlaces (length params.now) (IsOk result) values.old values.new }
+    ensures other_types { drop (length params.now) types.new ≡ drop (length params.now) types.old }
 {
     let mut view = ExecuteParamsView::new(params, buf)?;
     let sends_types = view.sends_types();
@@ -173,6 +177,8 @@ fn execution_into<'a>(
     requires types { length params.now ≤ length types.old }
     ensures code { result ≢ 4 }
     ensures value { spec.ExecutionInto buf.old params.now ((execute_head.form tt).reads buf.old) (take (length params.now) values.new) (take (length params.now) types.new) result out.old out.new }
+    ensures places { FillsPlaces (length params.now) (result ≡ 0) values.old values.new }
+    ensures other_types { drop (length params.now) types.new ≡ drop (length params.now) types.old }
 {
     let len = buf.len();
     let head: ComStmtExecuteHead = match buf.parse(()) {
@@ -193,7 +199,8 @@ fn execution_into<'a>(
 
 /// Reads `COM_STMT_EXECUTE` into values and types, one of each parameter.
 ///
-/// 0; 5 where there are fewer places than parameters; 4; or 1 or 2, and the values and types before the faulty one are set.
+/// 0; 5 where there are fewer places than parameters; 4; or 1 or 2, and the values and types before the faulty one are set. Places
+/// after those of the parameters are as they were.
 #[unsafe(no_mangle)]
 pub extern "C" fn myp_read_execution<'a>(
     alloc: Global,
@@ -206,6 +213,8 @@ pub extern "C" fn myp_read_execution<'a>(
     ensures memory { result ≡ 4 → (values.new ≡ values.old) × (types.new ≡ types.old) × (out.new ≡ out.old) }
     ensures small { (length values.old < length params.now) ⊎ (length types.old < length params.now) → (result ≡ 5) × (values.new ≡ values.old) × (types.new ≡ types.old) × (out.new ≡ out.old) }
     ensures value { length params.now ≤ length values.old → length params.now ≤ length types.old → result ≢ 4 → spec.ExecutionInto packet.now (spec.bound_list params.now) ((execute_head.form tt).reads packet.now) (take (length params.now) values.new) (take (length params.now) types.new) result out.old out.new }
+    ensures places { length params.now ≤ length values.old → length params.now ≤ length types.old → result ≢ 4 → FillsPlaces (length params.now) (result ≡ 0) values.old values.new }
+    ensures other_types { length params.now ≤ length values.old → length params.now ≤ length types.old → drop (length params.now) types.new ≡ drop (length params.now) types.old }
 {
     if values.len() < params.len() || types.len() < params.len() {
         return BUFFER_TOO_SMALL;

@@ -1,7 +1,7 @@
 //! The request for a binary log without the transactions of a GTID set.
 #![tactic(auto, using(crate::proofs::Codes::codes))]
 
-ghost use Rattle.std.specs.Prelude.{false, ◌≡◌, ◌≢◌, IfOk};
+ghost use Rattle.std.specs.Prelude.{false, ◌≡◌, ◌≢◌, ◌<◌, IfOk};
 ghost use Rattle.mysql_repl.specs.BinlogDumpGtid as dump;
 ghost use Rattle.mysql_repl.specs.TagString.{tag_of};
 ghost use Rattle.mysql_packets_c.specs.Code.{ReadsInto};
@@ -38,6 +38,7 @@ pub struct CGtidDump<'a> {
 /// 1 where the sids are in the form with tags, else 0.
 fn as_number(tagged: bool) -> u8
     ensures value { is_set result ≡ tagged }
+    ensures flag { result < 2 }
 {
     if tagged { 1 } else { 0 }
 }
@@ -45,6 +46,7 @@ fn as_number(tagged: bool) -> u8
 /// Puts the sids of a request into places of the caller's.
 fn put_sids<'a>(found: SidsRef<'a>, out: &mut CGtidDump<'a>)
     ensures value { SidsStand found.entry out.new }
+    ensures flag { out.new.is_tagged < 2 }
     ensures others { KeepsOthers out.old out.new }
 {
     let (sids, is_tagged) = found.as_bytes();
@@ -167,7 +169,7 @@ pub extern "C" fn myp_write_gtid_dump(
                 .with_filename(CowSlice::Borrowed(file_name))
                 .with_pos(position)
                 .with_sids(CowSlice::Owned(sids));
-            put_packet(alloc, &packet, out, written)
+            put_packet(&packet, out, written)
         }
         Err(code) => {
             *written = 0;

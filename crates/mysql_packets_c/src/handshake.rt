@@ -158,18 +158,16 @@ fn handshake_of<'a>(fields: &CHandshake<'a>) -> HandshakePacket<'a>
 /// Writes `Protocol::HandshakeV10`: 0; 5, and how many bytes it takes; 4; or 3 of fields that no handshake has.
 #[unsafe(no_mangle)]
 pub extern "C" fn myp_write_handshake(
-    alloc: Global,
     fields: &CHandshake<'_>,
     out: &mut [u8],
     written: &mut usize,
 ) -> u32
     ensures refused { IsFalse (spec.handshake_fits fields.now) → (result ≡ 3) × (out.new ≡ out.old) × (written.new ≡ 0) }
-    ensures memory { result ≡ 4 → (out.new ≡ out.old) × (written.new ≡ 0) }
-    ensures value { IsTrue (spec.handshake_fits fields.now) → result ≢ 4 → spec.PutsHandshake fields.now result out.old out.new written.new }
+    ensures value { IsTrue (spec.handshake_fits fields.now) → spec.PutsHandshake fields.now result out.old out.new written.new }
 {
     if !handshake_fits(fields) {
         *written = 0;
         return INVALID_INPUT;
     }
-    put_packet(alloc, &handshake_of(fields), out, written)
+    put_packet(&handshake_of(fields), out, written)
 }

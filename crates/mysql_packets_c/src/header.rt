@@ -5,7 +5,7 @@ ghost use Rattle.std.specs.Prelude.{◌≡◌, ◌≢◌, ◌<◌, ◌≤◌, So
 ghost use Rattle.mysql_wire.specs.Form.{size-block};
 ghost use Rattle.mysql_packets_c.specs.Code.{ReadsInto};
 ghost use Rattle.mysql_packets_c.specs.Header as spec;
-ghost use Rattle.mysql_packets_c.specs.Output.{Puts};
+ghost use Rattle.mysql_packets_c.specs.Output.{PutsUnlessTooLong};
 
 use crate::code::{INVALID_INPUT, OK, code_of};
 use crate::input::read;
@@ -77,15 +77,13 @@ pub extern "C" fn myp_read_header(alloc: Global, bytes: &[u8], out: &mut CHeader
 /// Writes the four bytes before a payload. More than 16,777,215 are of no packet: 3, and the buffer is as it was.
 #[unsafe(no_mangle)]
 pub extern "C" fn myp_write_header(
-    alloc: Global,
     payload_length: u32,
     sequence_id: u8,
     out: &mut [u8],
     written: &mut usize,
 ) -> u32
     ensures long { 0xffffff < payload_length → (result ≡ 3) × (out.new ≡ out.old) × (written.new ≡ 0) }
-    ensures memory { result ≡ 4 → (out.new ≡ out.old) × (written.new ≡ 0) }
-    ensures value { payload_length ≤ 0xffffff → result ≢ 4 → Puts (spec.packet_header.bytes (spec.header_of payload_length sequence_id)) result out.old out.new written.new }
+    ensures value { payload_length ≤ 0xffffff → PutsUnlessTooLong (spec.packet_header.bytes (spec.header_of payload_length sequence_id)) result out.old out.new written.new }
 {
     if payload_length > MAX_PAYLOAD_LEN {
         *written = 0;
@@ -95,5 +93,5 @@ pub extern "C" fn myp_write_header(
         payload_length: RawInt::new(payload_length),
         sequence_id: RawInt::new(sequence_id),
     };
-    put_packet(alloc, &header, out, written)
+    put_packet(&header, out, written)
 }

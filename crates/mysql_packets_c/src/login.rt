@@ -9,7 +9,7 @@ ghost use Rattle.mysql_auth.specs.HandshakeResponse.{handshake_response};
 ghost use Rattle.mysql_auth.specs.declared.handshake_response.HandshakeResponse.{HandshakeResponse};
 ghost use Rattle.mysql_packets_c.specs.Attributes.{merged_pairs, attributes_in};
 ghost use Rattle.mysql_packets_c.specs.Code.{ReadsInto};
-ghost use Rattle.mysql_packets_c.specs.Given.{if_set};
+ghost use Rattle.mysql_packets_c.specs.Given.{SaysSent, if_set};
 ghost use Rattle.mysql_packets_c.specs.Login.{IsLogin, login_texts, IsLoginRequest};
 ghost use Rattle.mysql_packets_c.specs.Output.{Puts};
 
@@ -46,6 +46,7 @@ pub struct CLoginRequest<'a> {
 /// Whether it was sent, and its bytes.
 pub(crate) fn sent<'a>(bytes: Option<&'a [u8]>) -> (u8, &'a [u8])
     ensures value { if_set result.0 result.1.now ≡ option_map (λ s. s.now) bytes.entry }
+    ensures says { SaysSent result.0 result.1.now }
 {
     match bytes {
         Some(bytes) => (1, bytes),
@@ -56,6 +57,7 @@ pub(crate) fn sent<'a>(bytes: Option<&'a [u8]>) -> (u8, &'a [u8])
 /// Whether attributes were sent, and their bytes.
 pub(crate) fn sent_attributes<'a>(attributes: Option<ConnectAttributesRef<'a>>) -> (u8, &'a [u8])
     ensures value { option_map attributes_in (if_set result.0 result.1.now) ≡ option_map merged attributes.entry }
+    ensures says { SaysSent result.0 result.1.now }
 {
     match attributes {
         Some(attributes) => (1, attributes.as_bytes()),
@@ -199,7 +201,7 @@ pub extern "C" fn myp_write_login(
         return INVALID_INPUT;
     }
     match response_of(alloc, login) {
-        Ok(response) => put_packet(alloc, &response, out, written),
+        Ok(response) => put_packet(&response, out, written),
         Err(_) => NO_MEMORY,
     }
 }

@@ -5,7 +5,7 @@ ghost use Rattle.std.specs.Prelude.{◌≡◌, ◌≢◌};
 ghost use Rattle.mysql_prepared.specs.LongData.{long_data, long_data_of};
 ghost use Rattle.mysql_packets_c.specs.Code.{ReadsInto};
 ghost use Rattle.mysql_packets_c.specs.LongData.{IsLongData};
-ghost use Rattle.mysql_packets_c.specs.Output.{Puts};
+ghost use Rattle.mysql_packets_c.specs.Output.{PutsUnlessTooLong};
 
 use crate::code::{OK, code_of};
 use crate::input::read;
@@ -43,19 +43,17 @@ pub extern "C" fn myp_read_long_data<'a>(
     }
 }
 
-/// Writes `COM_STMT_SEND_LONG_DATA`: 0; 5, and how many bytes it takes; or 4.
+/// Writes `COM_STMT_SEND_LONG_DATA`: 0; 5, and how many bytes it takes.
 #[unsafe(no_mangle)]
 pub extern "C" fn myp_write_long_data(
-    alloc: Global,
     statement_id: u32,
     param_index: u16,
     content: &[u8],
     out: &mut [u8],
     written: &mut usize,
 ) -> u32
-    ensures memory { result ≡ 4 → (out.new ≡ out.old) × (written.new ≡ 0) }
-    ensures value { result ≢ 4 → Puts (long_data.bytes (long_data_of statement_id param_index content.now)) result out.old out.new written.new }
+    ensures { PutsUnlessTooLong (long_data.bytes (long_data_of statement_id param_index content.now)) result out.old out.new written.new }
 {
     let packet = ComStmtSendLongData::new(statement_id, param_index, CowSlice::Borrowed(content));
-    put_packet(alloc, &packet, out, written)
+    put_packet(&packet, out, written)
 }

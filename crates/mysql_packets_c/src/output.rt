@@ -1,11 +1,9 @@
 //! What is written to a buffer of the caller's.
 
-ghost use Rattle.std.specs.Prelude.{◌≡◌, ◌≢◌};
-ghost use Rattle.mysql_packets_c.specs.Output.{Puts};
+ghost use Rattle.mysql_packets_c.specs.Output.{Puts, PutsUnlessTooLong};
 
 use crate::code::{BUFFER_TOO_SMALL, NO_MEMORY, OK};
 use mysql_wire::MySerialize;
-use std::alloc::Global;
 
 /// Writes bytes to the front of a buffer. One that is too small is as it was, and `written` is what it takes.
 pub(crate) fn put(bytes: &[u8], out: &mut [u8], written: &mut usize) -> u32
@@ -20,20 +18,23 @@ pub(crate) fn put(bytes: &[u8], out: &mut [u8], written: &mut usize) -> u32
     OK
 }
 
-/// Writes a packet to the front of a buffer.
-pub(crate) fn put_packet<P: MySerialize>(
-    alloc: Global,
-    packet: &P,
-    out: &mut [u8],
-    written: &mut usize,
-) -> u32
-    ensures memory { result ≡ 4 → (out.new ≡ out.old) × (written.new ≡ 0) }
-    ensures value { result ≢ 4 → Puts (P.bytes packet.now) result out.old out.new written.new }
+/// Writes a packet to the front of a buffer, without memory of its own.
+///
+/// A length that no `usize` holds is that of no packet in memory. Where strings of the caller's have it together, the code is that
+/// of memory.
+#[inline(always)]
+#[tactic(auto, unfolding(mysql_wire::specs::Writing::saturated))]
+pub(crate) fn put_packet<P: MySerialize>(packet: &P, out: &mut [u8], written: &mut usize) -> u32
+    ensures { PutsUnlessTooLong (P.bytes packet.now) result out.old out.new written.new }
 {
-    let mut bytes = Vec::new(alloc);
-    if packet.serialize(&mut bytes).is_err() {
+    let len = packet.defined_len();
+    if len == usize::MAX {
         *written = 0;
         return NO_MEMORY;
     }
-    put(bytes.as_slice(), out, written)
+    *written = len;
+    match packet.write_to_slice(out) {
+        Some(_) => OK,
+        None => BUFFER_TOO_SMALL,
+    }
 }

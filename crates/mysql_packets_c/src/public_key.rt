@@ -5,7 +5,7 @@ ghost use Rattle.std.specs.Prelude.{◌≡◌, ◌≢◌};
 ghost use Rattle.mysql_auth.specs.PublicKeyRequest.{public_key_request, the_request};
 ghost use Rattle.mysql_auth.specs.PublicKeyResponse.{public_key_response, response_of};
 ghost use Rattle.mysql_packets_c.specs.Code.{ReadsInto};
-ghost use Rattle.mysql_packets_c.specs.Output.{Puts};
+ghost use Rattle.mysql_packets_c.specs.Output.{PutsUnlessTooLong};
 ghost use Rattle.mysql_packets_c.specs.PublicKey.{IsKey};
 
 use crate::code::{OK, code_of};
@@ -34,30 +34,26 @@ pub extern "C" fn myp_read_public_key<'a>(
     }
 }
 
-/// Writes the answer to a request for the server's public key: 0; 5, and how many bytes it takes; or 4.
+/// Writes the answer to a request for the server's public key: 0; 5, and how many bytes it takes.
 #[unsafe(no_mangle)]
 pub extern "C" fn myp_write_public_key(
-    alloc: Global,
     rsa_key: &[u8],
     out: &mut [u8],
     written: &mut usize,
 ) -> u32
-    ensures memory { result ≡ 4 → (out.new ≡ out.old) × (written.new ≡ 0) }
-    ensures value { result ≢ 4 → Puts (public_key_response.bytes (response_of rsa_key.now)) result out.old out.new written.new }
+    ensures { PutsUnlessTooLong (public_key_response.bytes (response_of rsa_key.now)) result out.old out.new written.new }
 {
     let packet = PublicKeyResponse::new(CowSlice::Borrowed(rsa_key));
-    put_packet(alloc, &packet, out, written)
+    put_packet(&packet, out, written)
 }
 
-/// Writes the request for a public key, of one byte: 0; 5, and how many bytes it takes; or 4.
+/// Writes the request for a public key, of one byte: 0; 5, and how many bytes it takes.
 #[unsafe(no_mangle)]
 pub extern "C" fn myp_write_public_key_request(
-    alloc: Global,
     out: &mut [u8],
     written: &mut usize,
 ) -> u32
-    ensures memory { result ≡ 4 → (out.new ≡ out.old) × (written.new ≡ 0) }
-    ensures value { result ≢ 4 → Puts (public_key_request.bytes the_request) result out.old out.new written.new }
+    ensures { PutsUnlessTooLong (public_key_request.bytes the_request) result out.old out.new written.new }
 {
-    put_packet(alloc, &PublicKeyRequest::new(), out, written)
+    put_packet(&PublicKeyRequest::new(), out, written)
 }

@@ -4,7 +4,7 @@
 ghost use Rattle.std.specs.Prelude.{◌≡◌, ◌≢◌};
 ghost use Rattle.mysql_repl.specs.RegisterSlave.{register_slave};
 ghost use Rattle.mysql_packets_c.specs.Code.{ReadsInto};
-ghost use Rattle.mysql_packets_c.specs.Output.{Puts};
+ghost use Rattle.mysql_packets_c.specs.Output.{PutsUnlessTooLong};
 ghost use Rattle.mysql_packets_c.specs.RegisterReplica.{registration_of, IsReplica};
 
 use crate::code::{OK, code_of};
@@ -53,16 +53,14 @@ pub extern "C" fn myp_read_register_replica<'a>(
     }
 }
 
-/// Writes `COM_REGISTER_SLAVE`: 0; 5, and how many bytes it takes; or 4. Of a longer string the first 255 bytes are written.
+/// Writes `COM_REGISTER_SLAVE`: 0; 5, and how many bytes it takes. Of a longer string the first 255 bytes are written.
 #[unsafe(no_mangle)]
 pub extern "C" fn myp_write_register_replica(
-    alloc: Global,
     replica: &CReplica<'_>,
     out: &mut [u8],
     written: &mut usize,
 ) -> u32
-    ensures memory { result ≡ 4 → (out.new ≡ out.old) × (written.new ≡ 0) }
-    ensures value { result ≢ 4 → Puts (register_slave.bytes (registration_of replica.now)) result out.old out.new written.new }
+    ensures { PutsUnlessTooLong (register_slave.bytes (registration_of replica.now)) result out.old out.new written.new }
 {
     let packet = ComRegisterSlave::new(replica.server_id)
         .with_hostname(CowSlice::Borrowed(replica.hostname))
@@ -71,5 +69,5 @@ pub extern "C" fn myp_write_register_replica(
         .with_port(replica.port)
         .with_replication_rank(replica.replication_rank)
         .with_master_id(replica.master_id);
-    put_packet(alloc, &packet, out, written)
+    put_packet(&packet, out, written)
 }

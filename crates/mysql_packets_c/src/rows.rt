@@ -3,14 +3,14 @@
 
 ghost use Rattle.std.specs.List.{list_all};
 ghost use Rattle.std.specs.Option.{option_copied};
-ghost use Rattle.std.specs.Prelude.{◌≡◌, ◌≢◌, ◌<◌, ◌≤◌, ◌+◌, Ok, Err, Result, OnOk, IfErr, take, length, false, IfOk, IsFalse, IsTrue, map, true};
+ghost use Rattle.std.specs.Prelude.{IsOk, ◌≡◌, ◌≢◌, ◌<◌, ◌≤◌, ◌+◌, Ok, Err, Result, OnOk, IfErr, take, length, false, IfOk, IsFalse, IsTrue, map, true};
 ghost use Rattle.mysql_prepared.specs.BinaryRow.{IsRowBytes, takes_row};
 ghost use Rattle.mysql_prepared.specs.RowView.{IsDone, RefusesNext, bin_row_of, text_row_of, refs_held};
 ghost use Rattle.mysql_prepared.specs.TextRow.{text_row_bytes};
 ghost use Rattle.mysql_packets_c.specs.ColumnType.{type_of, unsigned_of};
 ghost use Rattle.mysql_packets_c.specs.Output.{Puts};
 ghost use Rattle.mysql_packets_c.specs.Rows as spec;
-ghost use Rattle.mysql_packets_c.specs.Rows.{Fills, RowInto, TakesRow};
+ghost use Rattle.mysql_packets_c.specs.Rows.{Fills, FillsPlaces, RowInto, TakesRow};
 ghost use Rattle.mysql_packets_c.specs.Value.{is_value, values_contents};
 
 use crate::code::{BUFFER_TOO_SMALL, INVALID_INPUT, NO_MEMORY, OK, code_of};
@@ -87,6 +87,7 @@ fn read_binary<'a>(
 ) -> Result<usize, Fault>
     requires { length columns.now ≤ length values.old }
     ensures value { TakesRow packet.now result (take (length columns.now) values.new) ((bin_row_of type_of unsigned_of 2 columns.now).reads packet.now) }
+    ensures places { FillsPlaces (length columns.now) (IsOk result) values.old values.new }
 {
     let mut row = BinaryRowView::<ServerSide, CColumnType>::new(
         columns,
@@ -99,7 +100,7 @@ fn read_binary<'a>(
 /// Reads `ProtocolBinary::ResultsetRow` into values, one of each column.
 ///
 /// 0; 5 where there are fewer places than columns, and nothing is changed; or 1 or 2, and the values before the faulty one
-/// are set.
+/// are set. Places after those of the columns are as they were.
 #[unsafe(no_mangle)]
 pub extern "C" fn myp_read_binary_row<'a>(
     alloc: Global,
@@ -110,6 +111,7 @@ pub extern "C" fn myp_read_binary_row<'a>(
 ) -> u32
     ensures small { length values.old < length columns.now → (result ≡ 5) × (values.new ≡ values.old) × (used.new ≡ used.old) }
     ensures value { length columns.now ≤ length values.old → RowInto packet.now (take (length columns.now) values.new) ((bin_row_of type_of unsigned_of 2 columns.now).reads packet.now) result used.old used.new }
+    ensures places { length columns.now ≤ length values.old → FillsPlaces (length columns.now) (result ≡ 0) values.old values.new }
 {
     if values.len() < columns.len() {
         return BUFFER_TOO_SMALL;
@@ -138,6 +140,7 @@ fn fill_text<'a>(row: &mut TextRowView<'a>, values: &mut [CValue<'a>]) -> Result
 #[inline(always)]
 fn read_text<'a>(alloc: Global, packet: &'a [u8], values: &mut [CValue<'a>]) -> Result<usize, Fault>
     ensures value { TakesRow packet.now result values.new ((text_row_of (length values.old)).reads packet.now) }
+    ensures places { FillsPlaces (length values.old) (IsOk result) values.old values.new }
 {
     let mut row = TextRowView::new(values.len(), ParseBuf::new(alloc, packet));
     fill_text(&mut row, values)?;
@@ -154,6 +157,7 @@ pub extern "C" fn myp_read_text_row<'a>(
     used: &mut usize,
 ) -> u32
     ensures value { RowInto packet.now values.new ((text_row_of (length values.old)).reads packet.now) result used.old used.new }
+    ensures places { FillsPlaces (length values.old) (result ≡ 0) values.old values.new }
 {
     match read_text(alloc, packet, values) {
         Ok(taken) => {

@@ -2,25 +2,23 @@
 
 ghost use Rattle.std.specs.Prelude.{◌≡◌, ◌≢◌};
 ghost use Rattle.mysql_repl.specs.SemiSyncAck.{ack_of, semi_sync_ack};
-ghost use Rattle.mysql_packets_c.specs.Output.{Puts};
+ghost use Rattle.mysql_packets_c.specs.Output.{PutsUnlessTooLong};
 
 use crate::output::put_packet;
 use mysql_repl::SemiSyncAckPacket;
 use std::alloc::Global;
 use std::borrow::CowSlice;
 
-/// Writes the acknowledgement of semi-synchronous replication: 0; 5, and how many bytes it takes; or 4.
+/// Writes the acknowledgement of semi-synchronous replication: 0; 5, and how many bytes it takes.
 #[unsafe(no_mangle)]
 pub extern "C" fn myp_write_semi_sync_ack(
-    alloc: Global,
     position: u64,
     file_name: &[u8],
     out: &mut [u8],
     written: &mut usize,
 ) -> u32
-    ensures memory { result ≡ 4 → (out.new ≡ out.old) × (written.new ≡ 0) }
-    ensures value { result ≢ 4 → Puts (semi_sync_ack.bytes (ack_of position file_name.now)) result out.old out.new written.new }
+    ensures { PutsUnlessTooLong (semi_sync_ack.bytes (ack_of position file_name.now)) result out.old out.new written.new }
 {
     let packet = SemiSyncAckPacket::new(position, CowSlice::Borrowed(file_name));
-    put_packet(alloc, &packet, out, written)
+    put_packet(&packet, out, written)
 }

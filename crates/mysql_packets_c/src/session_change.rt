@@ -8,7 +8,7 @@ ghost use Rattle.mysql_session.specs.SystemVariable.{system_variable};
 ghost use Rattle.mysql_wire.specs.Reading.{Faults};
 ghost use Rattle.mysql_wire.specs.SessionStateType.{session_state_type_of};
 ghost use Rattle.mysql_wire.specs.declared.codes.session_state_type.SessionStateType.{SessionStateType};
-ghost use Rattle.mysql_packets_c.specs.Output.{Puts};
+ghost use Rattle.mysql_packets_c.specs.Output.{PutsUnlessTooLong};
 ghost use Rattle.mysql_packets_c.specs.SessionChange.{Entry, IsChange, IsVariable, NextInto, change_text, entry_in, tracked, variables_of};
 
 use crate::code::{END, INVALID_INPUT, OK, code_of};
@@ -140,24 +140,22 @@ pub extern "C" fn myp_next_variable<'a>(
     }
 }
 
-/// Writes one change of the session, a byte with its type and the data, length-encoded: 0; 5, and how many bytes it takes; 4;
-/// or 3 of a type that is none.
+/// Writes one change of the session, a byte with its type and the data, length-encoded: 0; 5, and how many bytes it takes; or 3 of a
+/// type that is none.
 #[unsafe(no_mangle)]
 pub extern "C" fn myp_write_change(
-    alloc: Global,
     change_type: u8,
     content: &[u8],
     out: &mut [u8],
     written: &mut usize,
 ) -> u32
     ensures unknown { session_state_type_of change_type ≡ None → (result ≡ 3) × (out.new ≡ out.old) × (written.new ≡ 0) }
-    ensures memory { result ≡ 4 → (out.new ≡ out.old) × (written.new ≡ 0) }
-    ensures value { (t : SessionStateType) → session_state_type_of change_type ≡ Some t → result ≢ 4 → Puts (session_state_info.bytes (info_of t content.now)) result out.old out.new written.new }
+    ensures value { (t : SessionStateType) → session_state_type_of change_type ≡ Some t → PutsUnlessTooLong (session_state_info.bytes (info_of t content.now)) result out.old out.new written.new }
 {
     let Some(data_type) = SessionStateType::from_code(change_type) else {
         *written = 0;
         return INVALID_INPUT;
     };
     let change = SessionStateInfo::new(data_type, CowSlice::Borrowed(content));
-    put_packet(alloc, &change, out, written)
+    put_packet(&change, out, written)
 }

@@ -4,7 +4,7 @@
 ghost use Rattle.std.specs.Prelude.{◌≡◌, ◌≢◌};
 ghost use Rattle.mysql_prepared.specs.Stmt.{stmt, stmt_packet_of};
 ghost use Rattle.mysql_packets_c.specs.Code.{ReadsInto};
-ghost use Rattle.mysql_packets_c.specs.Output.{Puts};
+ghost use Rattle.mysql_packets_c.specs.Output.{PutsUnlessTooLong};
 ghost use Rattle.mysql_packets_c.specs.Statement.{IsStatement};
 
 use crate::code::{OK, code_of};
@@ -42,16 +42,14 @@ pub extern "C" fn myp_read_statement(alloc: Global, packet: &[u8], out: &mut CSt
     }
 }
 
-/// Writes `COM_STMT_PREPARE_OK`: 0; 5, and how many bytes it takes; or 4.
+/// Writes `COM_STMT_PREPARE_OK`: 0; 5, and how many bytes it takes.
 #[unsafe(no_mangle)]
 pub extern "C" fn myp_write_statement(
-    alloc: Global,
     statement: &CStatement,
     out: &mut [u8],
     written: &mut usize,
 ) -> u32
-    ensures memory { result ≡ 4 → (out.new ≡ out.old) × (written.new ≡ 0) }
-    ensures value { result ≢ 4 → Puts (stmt.bytes (stmt_packet_of statement.now.statement_id statement.now.num_columns statement.now.num_params statement.now.warning_count)) result out.old out.new written.new }
+    ensures { PutsUnlessTooLong (stmt.bytes (stmt_packet_of statement.now.statement_id statement.now.num_columns statement.now.num_params statement.now.warning_count)) result out.old out.new written.new }
 {
     let packet = StmtPacket::new(
         statement.statement_id,
@@ -59,5 +57,5 @@ pub extern "C" fn myp_write_statement(
         statement.num_params,
         statement.warning_count,
     );
-    put_packet(alloc, &packet, out, written)
+    put_packet(&packet, out, written)
 }

@@ -4,7 +4,7 @@
 ghost use Rattle.std.specs.List.{list_all};
 ghost use Rattle.std.specs.Prelude.{◌≡◌, [], IfSome, is_some};
 ghost use Rattle.mysql_values.specs.ValueRef.{ref_content};
-ghost use Rattle.mysql_packets_c.specs.Value.{is_value, value_content};
+ghost use Rattle.mysql_packets_c.specs.Value.{KeepsDate, Sets, is_value, value_content};
 
 use mysql_values::ValueRef;
 
@@ -34,6 +34,8 @@ fn put_number(place: &mut CValue<'_>, kind: u8, number: u64)
     ensures kind { place.new.kind ≡ kind }
     ensures number { place.new.number ≡ number }
     ensures bytes { place.new.bytes.now ≡ [] }
+    ensures date { KeepsDate place.old place.new }
+    ensures reserved { place.new.reserved ≡ place.old.reserved }
 {
     place.kind = kind;
     place.number = number;
@@ -43,7 +45,8 @@ fn put_number(place: &mut CValue<'_>, kind: u8, number: u64)
 /// Puts a value into one of the caller's. The fields of dates are set for dates and spans of time alone.
 #[inline(always)]
 pub(crate) fn put_ref<'a>(place: &mut CValue<'a>, value: ValueRef<'a>)
-    ensures { value_content place.new ≡ ref_content value.entry }
+    ensures content { value_content place.new ≡ ref_content value.entry }
+    ensures set { Sets (ref_content value.entry) place.old place.new }
 {
     match value {
         ValueRef::NULL => put_number(place, 0, 0),

@@ -1,5 +1,6 @@
-use Rattle.std.proofs.Common.{◌≡◌, ◌+◌, ◌++◌, length, map, take}
-use Rattle.mysql_packets_c.specs.Value.{value_content}
+use Rattle.std.proofs.Common.{◌≡◌, ◌+◌, ◌++◌, length, drop, map, take}
+use Rattle.std.specs.List.{AllZip}
+use Rattle.mysql_packets_c.specs.Value.{IsSet, value_content}
 use Rattle.mysql_packets_c.specs.Execution.{contents_of, types_of}
 use Rattle.mysql_packets_c.proofs.execution.fill_params.Given as goal
 
@@ -11,6 +12,9 @@ invariant-loop-pair l = record {
   end : l.view.end ≡ l.fn.view.end;
   value_places : length l.values ≡ length l.fn.values;
   type_places : length l.types ≡ length l.fn.types;
+  set : AllZip IsSet (take l.place l.fn.values) (take l.place l.values);
+  other_values : drop l.place l.values ≡ drop l.place l.fn.values;
+  other_types : drop l.place l.types ≡ drop l.place l.fn.types;
 }
 
 abbrev pub decreases-loop-pair : goal.decreases-loop-pair

@@ -1,0 +1,101 @@
+#!/usr/bin/env python3
+"""Lists each public call that can answer that memory was refused, and the clause that says when it can't. It fails where one has none.
+
+A call can answer so where its result names AllocError, a fault, or an error with a variant for memory. Its clause is named no_memory, or
+is one whose words say it, as WORDS has them. The readers of a trait have the trait's clause, over what each says by takes_memory. A copy
+that clone makes follows the contract of the standard library, which says nothing of memory. The last line is 'N passed, N failed'."""
+import re
+import sys
+
+from lines import TOP, summary
+
+# what a clause says by these words
+WORDS = {
+    r"\bAnswers\b": "memory is an answer only where the reader takes some",
+    r"\bFaults false\b|\bRefuses(Next|Param)\b|\bGives(One|Param)\b": "a fault is the grammar's, which is never that of memory",
+    r"\bNext(Change|ChangeRef|Variable|Pair|Sid|Interval)\b": "an entry is read without memory, or as its grammar has it",
+    r"\bGivesText\b|\bBorrowsUtf8\b": "what is UTF-8 is borrowed",
+    r"→ IsOk result": "memory is no answer there",
+}
+FUNCTION = re.compile(r"( *)pub (?:const )?fn (\w+)|( {4})(?:final )?fn (\w+)")
+OWNER = re.compile(r"(?:pub )?(?:unsafe )?(impl|trait)(?:<[^{]*?>)? (?:.* for )?(\w+)")
+
+
+def libraries():
+    return sorted(it.parent.parent for it in (TOP / "crates").glob("mysql_*/src/lib.rt") if it.parent.parent.name not in ("mysql_packets", "mysql_packets_c"))
+
+
+def refusals():
+    """The types of a refusal that memory is one of."""
+    found = {"AllocError", "Fault", "FaultOf"}
+    sources = [it.read_text() for library in libraries() for it in (library / "src").rglob("*.rt")]
+    enums = [it for source in sources for it in re.findall(r"^pub enum (\w+)(?:<[^>]*>)? \{(.*?)^\}", source, re.M | re.S)]
+    # (an error may be made of another)
+    while more := {name for name, body in enums if re.search(rf"^ {{4}}Memory\b|\b(?:{'|'.join(found)})\b", body, re.M)} - found:
+        found |= more
+    return found
+
+
+def signatures(source):
+    """The public functions of a file, and those of its public traits: the owner, the name, the result, and the clauses with their names."""
+    owner, public, lines = None, False, source.splitlines()
+    for number, line in enumerate(lines):
+        if head := OWNER.match(line):
+            owner, public = head[2], line.startswith("pub trait")
+        elif line.startswith("}"):
+            owner, public = None, False
+        found = FUNCTION.match(line)
+        if not found or found[4] and not public:
+            continue
+        head = []
+        for more in lines[number:]:
+            head.append(more)
+            if re.match(r" *\{$", more) or more.endswith((";", " {")) and not more.lstrip().startswith(("ensures", "requires")):
+                break
+        text = "\n".join(head)
+        result = re.search(r"->\s*(.*?)(?:\n *(?:requires|ensures|where|\{)|;|\{\s*$)", text, re.S)
+        clauses = re.findall(r"ensures(?:\*)? ?(\w*) ?\{(.*?)\}(?=\n|;|$)", text, re.S)
+        yield owner, found[2] or found[4], result[1] if result else "", clauses
+
+
+def clause_of(clauses):
+    """The name of the clause that says when memory is no answer, and what it says."""
+    for name, text in clauses:
+        if name == "no_memory":
+            return name, "memory is no answer there"
+    for name, text in clauses:
+        for words, meaning in WORDS.items():
+            if re.search(words, text):
+                return name or "ensures", meaning
+    return None
+
+
+def answers(exported):
+    """Each public call that can answer for memory: its library, its name, and its clause or none."""
+    kinds = refusals()
+    for library in libraries():
+        given = exported(library)
+        for file in sorted((library / "src").rglob("*.rt")):
+            if "laws" in file.relative_to(library).as_posix():
+                continue
+            for owner, name, result, clauses in signatures(file.read_text()):
+                if (owner or name) in given and kinds & set(re.findall(r"\w+", result)):
+                    yield library.name, f"{owner}::{name}" if owner else name, clause_of(clauses)
+
+
+def calls_without_clauses(exported):
+    return [f"{library}: {call} can answer for memory, and no clause says when it can't" for library, call, clause in answers(exported) if not clause]
+
+
+def main():
+    from surface import exported
+
+    listed = list(answers(exported))
+    for library, call, clause in listed:
+        print(f"{library}: {call}: {f'{clause[0]}: {clause[1]}' if clause else 'NO CLAUSE'}")
+    failures = calls_without_clauses(exported)
+    return summary("calls that can answer for memory", len(listed) - len(failures), failures, 100)
+
+
+if __name__ == "__main__":
+    sys.exit(main())
