@@ -5,7 +5,7 @@ ghost use Rattle.std.specs.Prelude.{◌≡◌, ◌≢◌};
 ghost use Rattle.mysql_auth.specs.AuthMoreData.{auth_more_data, more_data_of};
 ghost use Rattle.mysql_packets_c.specs.AuthMoreData.{IsMoreData};
 ghost use Rattle.mysql_packets_c.specs.Code.{ReadsInto};
-ghost use Rattle.mysql_packets_c.specs.Output.{PutsUnlessTooLong};
+ghost use Rattle.mysql_packets_c.specs.Output.{Puts};
 
 use crate::code::{OK, code_of};
 use crate::input::read;
@@ -34,13 +34,14 @@ pub extern "C" fn myp_read_auth_more_data<'a>(
 }
 
 /// Writes `Protocol::AuthMoreData`: 0; 5, and how many bytes it takes.
+#[tactic(auto, using(crate::proofs::Codes::codes), unfolding(mysql_auth::specs::AuthMoreData::auth_more_data, mysql_wire::specs::Writing::le_bytes))]
 #[unsafe(no_mangle)]
 pub extern "C" fn myp_write_auth_more_data(
     plugin_data: &[u8],
     out: &mut [u8],
     written: &mut usize,
 ) -> u32
-    ensures { PutsUnlessTooLong (auth_more_data.bytes (more_data_of plugin_data.now)) result out.old out.new written.new }
+    ensures { Puts (auth_more_data.bytes (more_data_of plugin_data.now)) result out.old out.new written.new }
 {
     let packet = AuthMoreData::new(CowSlice::Borrowed(plugin_data));
     put_packet(&packet, out, written)

@@ -5,7 +5,7 @@ ghost use Rattle.std.specs.Prelude.{◌≡◌, ◌≢◌};
 ghost use Rattle.mysql_prepared.specs.Close.{close};
 ghost use Rattle.mysql_packets_c.specs.Close.{IsClosed};
 ghost use Rattle.mysql_packets_c.specs.Code.{ReadsInto};
-ghost use Rattle.mysql_packets_c.specs.Output.{PutsUnlessTooLong};
+ghost use Rattle.mysql_packets_c.specs.Output.{Puts};
 
 use crate::code::{OK, code_of};
 use crate::input::read;
@@ -28,13 +28,10 @@ pub extern "C" fn myp_read_close(alloc: Global, packet: &[u8], statement_id: &mu
 }
 
 /// Writes `COM_STMT_CLOSE`: 0; 5, and how many bytes it takes.
+#[tactic(auto, using(crate::proofs::Codes::codes), unfolding(mysql_prepared::specs::Close::close, mysql_wire::specs::Writing::le_bytes))]
 #[unsafe(no_mangle)]
-pub extern "C" fn myp_write_close(
-    statement_id: u32,
-    out: &mut [u8],
-    written: &mut usize,
-) -> u32
-    ensures { PutsUnlessTooLong (close.bytes (record { stmt_id = statement_id })) result out.old out.new written.new }
+pub extern "C" fn myp_write_close(statement_id: u32, out: &mut [u8], written: &mut usize) -> u32
+    ensures { Puts (close.bytes (record { stmt_id = statement_id })) result out.old out.new written.new }
 {
     put_packet(&ComStmtClose::new(statement_id), out, written)
 }

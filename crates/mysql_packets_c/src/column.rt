@@ -137,11 +137,7 @@ fn sent_column<'a>(column_type: ColumnType, fields: &CColumn<'a>) -> SentColumn<
 
 /// Writes `Protocol::ColumnDefinition41`: 0; 5, and how many bytes it takes; 4; or 3 of a type that is none.
 #[unsafe(no_mangle)]
-pub extern "C" fn myp_write_column(
-    column: &CColumn<'_>,
-    out: &mut [u8],
-    written: &mut usize,
-) -> u32
+pub extern "C" fn myp_write_column(column: &CColumn<'_>, out: &mut [u8], written: &mut usize) -> u32
     ensures unknown { column_type_of column.now.column_type ≡ None → (result ≡ 3) × (out.new ≡ out.old) × (written.new ≡ 0) }
     ensures value { (t : ColumnType) → column_type_of column.now.column_type ≡ Some t → PutsUnlessTooLong (definition.column.bytes (spec.column_given t column.now)) result out.old out.new written.new }
 {

@@ -6,7 +6,7 @@ ghost use Rattle.mysql_repl.specs.BinlogDump as dump;
 ghost use Rattle.mysql_repl.specs.TableDump as table_dump;
 ghost use Rattle.mysql_packets_c.specs.Code.{ReadsInto};
 ghost use Rattle.mysql_packets_c.specs.Dump.{IsDump};
-ghost use Rattle.mysql_packets_c.specs.Output.{PutsUnlessTooLong};
+ghost use Rattle.mysql_packets_c.specs.Output.{Puts, PutsUnlessTooLong};
 
 use crate::code::{OK, code_of};
 use crate::input::read;
@@ -44,6 +44,7 @@ pub extern "C" fn myp_read_dump<'a>(alloc: Global, packet: &'a [u8], out: &mut C
 }
 
 /// Writes `COM_BINLOG_DUMP`: 0; 5, and how many bytes it takes.
+#[tactic(auto, using(crate::proofs::Codes::codes), unfolding(mysql_repl::specs::BinlogDump::binlog_dump, mysql_wire::specs::Writing::le_bytes))]
 #[unsafe(no_mangle)]
 pub extern "C" fn myp_write_dump(
     server_id: u32,
@@ -53,7 +54,7 @@ pub extern "C" fn myp_write_dump(
     out: &mut [u8],
     written: &mut usize,
 ) -> u32
-    ensures { PutsUnlessTooLong (dump.binlog_dump.bytes (dump.dump_of server_id position flags file_name.now)) result out.old out.new written.new }
+    ensures { Puts (dump.binlog_dump.bytes (dump.dump_of server_id position flags file_name.now)) result out.old out.new written.new }
 {
     let packet = ComBinlogDump::new(server_id)
         .with_pos(position)

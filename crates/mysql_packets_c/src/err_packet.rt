@@ -6,7 +6,7 @@ ghost use Rattle.mysql_replies.specs.ErrPacket.{err_packet};
 ghost use Rattle.mysql_replies.specs.SqlState.{state_of};
 ghost use Rattle.mysql_packets_c.specs.Code.{ReadsInto};
 ghost use Rattle.mysql_packets_c.specs.ErrPacket.{HoldsAnswer, HoldsError, HoldsReport, IsAnswer, error_given, report_given};
-ghost use Rattle.mysql_packets_c.specs.Output.{PutsUnlessTooLong};
+ghost use Rattle.mysql_packets_c.specs.Output.{Puts, PutsUnlessTooLong};
 
 use crate::code::{INVALID_INPUT, OK, code_of};
 use crate::input::read;
@@ -100,15 +100,12 @@ pub extern "C" fn myp_read_error<'a>(
 const MAX_PROGRESS: u32 = 0xff_ffff;
 
 /// Writes `ERR_Packet`: 0; 5, and how many bytes it takes; or 3 of an SQL state that has neither five bytes nor none.
+#[tactic(auto, using(crate::proofs::Codes::codes), unfolding(mysql_replies::specs::ErrPacket::err_packet, mysql_replies::specs::ServerError::server_error, mysql_replies::specs::SqlState::sql_state, mysql_wire::specs::Writing::le_bytes))]
 #[unsafe(no_mangle)]
-pub extern "C" fn myp_write_error(
-    error: &CError<'_>,
-    out: &mut [u8],
-    written: &mut usize,
-) -> u32
+pub extern "C" fn myp_write_error(error: &CError<'_>, out: &mut [u8], written: &mut usize) -> u32
     ensures refused { length error.now.sql_state.now ≢ 0 → length error.now.sql_state.now ≢ 5 → (result ≡ 3) × (out.new ≡ out.old) × (written.new ≡ 0) }
-    ensures no_state { length error.now.sql_state.now ≡ 0 → PutsUnlessTooLong (err_packet.bytes (error_given None error.now)) result out.old out.new written.new }
-    ensures with_state { length error.now.sql_state.now ≡ 5 → PutsUnlessTooLong (err_packet.bytes (error_given (Some (state_of error.now.sql_state.now)) error.now)) result out.old out.new written.new }
+    ensures no_state { length error.now.sql_state.now ≡ 0 → Puts (err_packet.bytes (error_given None error.now)) result out.old out.new written.new }
+    ensures with_state { length error.now.sql_state.now ≡ 5 → Puts (err_packet.bytes (error_given (Some (state_of error.now.sql_state.now)) error.now)) result out.old out.new written.new }
 {
     let state = match error.sql_state.len() {
         0 => None,

@@ -5,7 +5,7 @@ ghost use Rattle.std.specs.Prelude.{◌≡◌, ◌≢◌, ◌<◌, ◌≤◌, So
 ghost use Rattle.mysql_wire.specs.Form.{size-block};
 ghost use Rattle.mysql_packets_c.specs.Code.{ReadsInto};
 ghost use Rattle.mysql_packets_c.specs.Header as spec;
-ghost use Rattle.mysql_packets_c.specs.Output.{PutsUnlessTooLong};
+ghost use Rattle.mysql_packets_c.specs.Output.{Puts};
 
 use crate::code::{INVALID_INPUT, OK, code_of};
 use crate::input::read;
@@ -75,6 +75,7 @@ pub extern "C" fn myp_read_header(alloc: Global, bytes: &[u8], out: &mut CHeader
 }
 
 /// Writes the four bytes before a payload. More than 16,777,215 are of no packet: 3, and the buffer is as it was.
+#[tactic(auto, using(crate::proofs::Codes::codes), unfolding(crate::specs::Header::packet_header, mysql_wire::specs::Writing::le_bytes))]
 #[unsafe(no_mangle)]
 pub extern "C" fn myp_write_header(
     payload_length: u32,
@@ -83,7 +84,7 @@ pub extern "C" fn myp_write_header(
     written: &mut usize,
 ) -> u32
     ensures long { 0xffffff < payload_length → (result ≡ 3) × (out.new ≡ out.old) × (written.new ≡ 0) }
-    ensures value { payload_length ≤ 0xffffff → PutsUnlessTooLong (spec.packet_header.bytes (spec.header_of payload_length sequence_id)) result out.old out.new written.new }
+    ensures value { payload_length ≤ 0xffffff → Puts (spec.packet_header.bytes (spec.header_of payload_length sequence_id)) result out.old out.new written.new }
 {
     if payload_length > MAX_PAYLOAD_LEN {
         *written = 0;

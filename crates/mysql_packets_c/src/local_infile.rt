@@ -5,7 +5,7 @@ ghost use Rattle.std.specs.Prelude.{◌≡◌, ◌≢◌};
 ghost use Rattle.mysql_replies.specs.LocalInfile.{local_infile, request_for};
 ghost use Rattle.mysql_packets_c.specs.Code.{ReadsInto};
 ghost use Rattle.mysql_packets_c.specs.LocalInfile.{IsInfile};
-ghost use Rattle.mysql_packets_c.specs.Output.{PutsUnlessTooLong};
+ghost use Rattle.mysql_packets_c.specs.Output.{Puts};
 
 use crate::code::{OK, code_of};
 use crate::input::read;
@@ -34,13 +34,14 @@ pub extern "C" fn myp_read_local_infile<'a>(
 }
 
 /// Writes a `LOCAL INFILE` request: 0; 5, and how many bytes it takes.
+#[tactic(auto, using(crate::proofs::Codes::codes), unfolding(mysql_replies::specs::LocalInfile::local_infile, mysql_wire::specs::Writing::le_bytes))]
 #[unsafe(no_mangle)]
 pub extern "C" fn myp_write_local_infile(
     file_name: &[u8],
     out: &mut [u8],
     written: &mut usize,
 ) -> u32
-    ensures { PutsUnlessTooLong (local_infile.bytes (request_for file_name.now)) result out.old out.new written.new }
+    ensures { Puts (local_infile.bytes (request_for file_name.now)) result out.old out.new written.new }
 {
     let packet = LocalInfilePacket::new(CowSlice::Borrowed(file_name));
     put_packet(&packet, out, written)

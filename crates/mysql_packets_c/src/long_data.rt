@@ -5,7 +5,7 @@ ghost use Rattle.std.specs.Prelude.{◌≡◌, ◌≢◌};
 ghost use Rattle.mysql_prepared.specs.LongData.{long_data, long_data_of};
 ghost use Rattle.mysql_packets_c.specs.Code.{ReadsInto};
 ghost use Rattle.mysql_packets_c.specs.LongData.{IsLongData};
-ghost use Rattle.mysql_packets_c.specs.Output.{PutsUnlessTooLong};
+ghost use Rattle.mysql_packets_c.specs.Output.{Puts};
 
 use crate::code::{OK, code_of};
 use crate::input::read;
@@ -44,6 +44,7 @@ pub extern "C" fn myp_read_long_data<'a>(
 }
 
 /// Writes `COM_STMT_SEND_LONG_DATA`: 0; 5, and how many bytes it takes.
+#[tactic(auto, using(crate::proofs::Codes::codes), unfolding(mysql_prepared::specs::LongData::long_data, mysql_wire::specs::Writing::le_bytes))]
 #[unsafe(no_mangle)]
 pub extern "C" fn myp_write_long_data(
     statement_id: u32,
@@ -52,7 +53,7 @@ pub extern "C" fn myp_write_long_data(
     out: &mut [u8],
     written: &mut usize,
 ) -> u32
-    ensures { PutsUnlessTooLong (long_data.bytes (long_data_of statement_id param_index content.now)) result out.old out.new written.new }
+    ensures { Puts (long_data.bytes (long_data_of statement_id param_index content.now)) result out.old out.new written.new }
 {
     let packet = ComStmtSendLongData::new(statement_id, param_index, CowSlice::Borrowed(content));
     put_packet(&packet, out, written)

@@ -5,7 +5,7 @@ ghost use Rattle.std.specs.Prelude.{◌≡◌, ◌≢◌};
 ghost use Rattle.mysql_auth.specs.PublicKeyRequest.{public_key_request, the_request};
 ghost use Rattle.mysql_auth.specs.PublicKeyResponse.{public_key_response, response_of};
 ghost use Rattle.mysql_packets_c.specs.Code.{ReadsInto};
-ghost use Rattle.mysql_packets_c.specs.Output.{PutsUnlessTooLong};
+ghost use Rattle.mysql_packets_c.specs.Output.{Puts};
 ghost use Rattle.mysql_packets_c.specs.PublicKey.{IsKey};
 
 use crate::code::{OK, code_of};
@@ -35,25 +35,20 @@ pub extern "C" fn myp_read_public_key<'a>(
 }
 
 /// Writes the answer to a request for the server's public key: 0; 5, and how many bytes it takes.
+#[tactic(auto, using(crate::proofs::Codes::codes), unfolding(mysql_auth::specs::PublicKeyResponse::public_key_response, mysql_wire::specs::Writing::le_bytes))]
 #[unsafe(no_mangle)]
-pub extern "C" fn myp_write_public_key(
-    rsa_key: &[u8],
-    out: &mut [u8],
-    written: &mut usize,
-) -> u32
-    ensures { PutsUnlessTooLong (public_key_response.bytes (response_of rsa_key.now)) result out.old out.new written.new }
+pub extern "C" fn myp_write_public_key(rsa_key: &[u8], out: &mut [u8], written: &mut usize) -> u32
+    ensures { Puts (public_key_response.bytes (response_of rsa_key.now)) result out.old out.new written.new }
 {
     let packet = PublicKeyResponse::new(CowSlice::Borrowed(rsa_key));
     put_packet(&packet, out, written)
 }
 
 /// Writes the request for a public key, of one byte: 0; 5, and how many bytes it takes.
+#[tactic(auto, using(crate::proofs::Codes::codes), unfolding(mysql_auth::specs::PublicKeyRequest::public_key_request, mysql_wire::specs::Writing::le_bytes))]
 #[unsafe(no_mangle)]
-pub extern "C" fn myp_write_public_key_request(
-    out: &mut [u8],
-    written: &mut usize,
-) -> u32
-    ensures { PutsUnlessTooLong (public_key_request.bytes the_request) result out.old out.new written.new }
+pub extern "C" fn myp_write_public_key_request(out: &mut [u8], written: &mut usize) -> u32
+    ensures { Puts (public_key_request.bytes the_request) result out.old out.new written.new }
 {
     put_packet(&PublicKeyRequest::new(), out, written)
 }

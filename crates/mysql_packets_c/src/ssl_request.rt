@@ -5,7 +5,7 @@ ghost use Rattle.std.specs.Prelude.{◌≡◌, ◌≢◌, []};
 ghost use Rattle.mysql_auth.specs.SslRequest.{ssl_request};
 ghost use Rattle.mysql_auth.specs.declared.ssl_request.SslRequest.{SslRequest};
 ghost use Rattle.mysql_packets_c.specs.Code.{ReadsInto};
-ghost use Rattle.mysql_packets_c.specs.Output.{PutsUnlessTooLong};
+ghost use Rattle.mysql_packets_c.specs.Output.{Puts};
 ghost use Rattle.mysql_packets_c.specs.SslRequest.{IsSslRequest};
 
 use crate::code::{OK, code_of};
@@ -44,13 +44,14 @@ pub extern "C" fn myp_read_ssl_request(alloc: Global, packet: &[u8], out: &mut C
 }
 
 /// Writes `Protocol::SSLRequest`, of 32 bytes: 0; 5, and how many bytes it takes.
+#[tactic(auto, using(crate::proofs::Codes::codes), unfolding(mysql_auth::specs::SslRequest::ssl_request, mysql_wire::specs::Writing::le_bytes))]
 #[unsafe(no_mangle)]
 pub extern "C" fn myp_write_ssl_request(
     request: &CSslRequest,
     out: &mut [u8],
     written: &mut usize,
 ) -> u32
-    ensures { (p : SslRequest) × IsSslRequest p [] request.now × PutsUnlessTooLong (ssl_request.bytes p) result out.old out.new written.new }
+    ensures { (p : SslRequest) × IsSslRequest p [] request.now × Puts (ssl_request.bytes p) result out.old out.new written.new }
 {
     let packet = SslRequest::new(
         CapabilityFlags::from_bits_retain(request.capabilities),

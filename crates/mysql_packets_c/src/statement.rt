@@ -4,7 +4,7 @@
 ghost use Rattle.std.specs.Prelude.{◌≡◌, ◌≢◌};
 ghost use Rattle.mysql_prepared.specs.Stmt.{stmt, stmt_packet_of};
 ghost use Rattle.mysql_packets_c.specs.Code.{ReadsInto};
-ghost use Rattle.mysql_packets_c.specs.Output.{PutsUnlessTooLong};
+ghost use Rattle.mysql_packets_c.specs.Output.{Puts};
 ghost use Rattle.mysql_packets_c.specs.Statement.{IsStatement};
 
 use crate::code::{OK, code_of};
@@ -43,13 +43,14 @@ pub extern "C" fn myp_read_statement(alloc: Global, packet: &[u8], out: &mut CSt
 }
 
 /// Writes `COM_STMT_PREPARE_OK`: 0; 5, and how many bytes it takes.
+#[tactic(auto, using(crate::proofs::Codes::codes), unfolding(mysql_prepared::specs::Stmt::stmt, mysql_wire::specs::Writing::le_bytes))]
 #[unsafe(no_mangle)]
 pub extern "C" fn myp_write_statement(
     statement: &CStatement,
     out: &mut [u8],
     written: &mut usize,
 ) -> u32
-    ensures { PutsUnlessTooLong (stmt.bytes (stmt_packet_of statement.now.statement_id statement.now.num_columns statement.now.num_params statement.now.warning_count)) result out.old out.new written.new }
+    ensures { Puts (stmt.bytes (stmt_packet_of statement.now.statement_id statement.now.num_columns statement.now.num_params statement.now.warning_count)) result out.old out.new written.new }
 {
     let packet = StmtPacket::new(
         statement.statement_id,
