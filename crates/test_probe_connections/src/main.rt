@@ -7,6 +7,7 @@ mod client;
 mod commands;
 mod dumps;
 mod forms;
+mod frames;
 mod handshake;
 mod plugins;
 mod prelude;
@@ -51,14 +52,16 @@ fn of_replication(out: &mut Out, request: &Request<'_>) -> bool {
             "sid": sids::of_text, "make_sid": sids::make, "merge_sid": sids::merge, "check_interval": sids::check_interval, "tag": sids::tag,)
 }
 
-/// The requests of wire forms, of buffers, and of texts.
+/// The requests of wire forms, of buffers, of frames, and of texts.
 fn of_wire_forms(out: &mut Out, request: &Request<'_>) -> bool {
     match request.word(0) {
         "form" => forms::form(out, request),
         "text" => texts::text(out, request.word(1)),
         word => answers!(Connections, out, request, word;
             call "buf": buffers::calls, "content": buffers::content, "varlen": buffers::varlen, "code": forms::code,
-                "names": forms::names, "debug": forms::debug, "push_seq": forms::push, "sizes": forms::sizes,),
+                "names": forms::names, "debug": forms::debug, "push_seq": forms::push, "sizes": forms::sizes,
+                "frames": frames::read, "write_frames": frames::write, "long_frames": frames::long,
+                "sequence_id": frames::sequence_id,),
     }
 }
 

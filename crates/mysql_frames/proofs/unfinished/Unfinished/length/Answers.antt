@@ -1,0 +1,29 @@
+use Rattle.std.proofs.Common.{◌≡◌, ℕ, arith, ap, subst, sym, ◌∙◌, length, List, ◌<◌, ◌+◌, ◌*◌, get_or}
+use Rattle.mysql_frames.specs.Frames.{most, header}
+use Rattle.mysql_frames.specs.FrameHeader.{length_in}
+use Rattle.mysql_frames.specs.Unfinished.{number_of}
+use Rattle.mysql_frames.proofs.Held.{out_of_order, longer}
+use Rattle.mysql_frames.proofs.unfinished.Unfinished.length.Goals as goal
+use Rattle.mysql_frames.proofs.unfinished.Unfinished.length.Goals.{then-self-start-via-then-self-start, then-self-start-via-else-self-start+then-self-start-2}
+
+pub returns-then-head-number-clause-order : goal.returns-then-head-number-clause-order
+returns-then-head-number-clause-order c =
+    let r = c.args.self.now in
+    λ _ more payload after rest h. out_of_order most r.full h.0 r.first payload after r.head.items r.payload.items more rest c.requires.reading.first c.requires.reading.start c.requires.whole
+    (λ e. c.if-head-number.true (ap (λ (xs : List ℕ). get_or xs 3 0) c.as_slice-head.ensures.value ∙ e ∙ sym c.number.ensures)) h.1
+
+pub returns-then-self-start-clause-limit : goal.returns-then-self-start-clause-limit
+returns-then-self-start-clause-limit c =
+    let r = c.args.self.now in
+    let says : c.length_in-len.result ≡ length_in r.head.items = c.length_in-len.ensures.value ∙ ap length_in c.as_slice-head.ensures.value in
+    let past : r.limit < r.full * most + c.length_in-len.result = elim c.then-self-start.branch [ then-self-start-via-then-self-start w ↦ omega arith | then-self-start-via-else-self-start+then-self-start-2 w ↦ omega arith ] in
+    λ _ more payload after rest h. longer most r.full h.0 r.first r.limit payload after r.head.items r.payload.items more rest c.requires.reading.first c.requires.reading.start c.requires.whole
+    (subst (λ l. r.limit < r.full * most + l) says past) h.1
+
+pub returns-clause-ok : goal.returns-clause-ok
+returns-clause-ok c =
+    let r = c.args.self.now in
+    let head = c.as_slice-head.result.now in
+    let four : length head ≡ 4 = ap length c.as_slice-head.ensures.value ∙ c.requires.whole in
+    let is : head ≡ header c.length_in-len.result (number_of r.full r.first) = c.length_in-len.ensures.header four ∙ ap (header c.length_in-len.result) (c.if-head-number.false ∙ c.number.ensures) in
+    record { head = sym c.as_slice-head.ensures.value ∙ is; below = omega arith; no_longer = omega arith }

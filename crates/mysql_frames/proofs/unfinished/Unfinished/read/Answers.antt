@@ -1,0 +1,16 @@
+use Rattle.std.proofs.lemmas.Result.{err_from_is_err_and}
+use Rattle.mysql_frames.specs.declared.error.FrameError.TheVariants.{OutOfOrder, TooLong}
+use Rattle.std.proofs.Common.{◌≡◌, ap, Err}
+use Rattle.mysql_frames.proofs.unfinished.Unfinished.read.Goals as goal
+
+pub returns-in_err-payload-clause-order : goal.returns-in_err-payload-clause-order
+returns-in_err-payload-clause-order c e =
+    let p = err_from_is_err_and c.from_residual.result c.from_residual.ensures.1 in
+    let same : c.in_err-payload.field-0.0 ≡ OutOfOrder = cc in
+    c.in_err-payload.ensures.order (ap Err same)
+
+pub returns-in_err-payload-clause-long : goal.returns-in_err-payload-clause-long
+returns-in_err-payload-clause-long c e =
+    let p = err_from_is_err_and c.from_residual.result c.from_residual.ensures.1 in
+    let same : c.in_err-payload.field-0.0 ≡ TooLong = cc in
+    c.in_err-payload.ensures.limit (ap Err same)

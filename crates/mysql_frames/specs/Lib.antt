@@ -1,0 +1,4 @@
+pub mod FrameHeader
+pub mod FrameReader
+pub mod Frames
+pub mod Unfinished

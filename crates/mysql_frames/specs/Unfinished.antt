@@ -1,0 +1,42 @@
+-- A payload that is not whole yet.
+use Rattle.std.specs.Prelude.{◌≡◌, ℕ, ◌+◌, ◌*◌, ◌%◌, ◌<◌, ◌≤◌, zero, suc, List, ◌++◌, length, take, drop}
+use Rattle.mysql_frames.specs.FrameHeader.{length_in}
+use Rattle.mysql_frames.specs.FrameReader.{ReaderState}
+use Rattle.mysql_frames.specs.Frames.{most, header, next}
+use Rattle.mysql_frames.specs.declared.unfinished.Unfinished.{Unfinished}
+
+-- the bytes of so many full frames of a payload, of the next frame's header, and of what is there of that frame
+abbrev pub raw : ℕ → ℕ → ℕ → List ℕ → List ℕ → List ℕ
+raw size zero number payload head = head ++ payload
+raw size (suc full) number payload head = header size number ++ (take size payload ++ raw size full (next number) (drop size payload) head)
+
+-- the bytes that were taken of a payload that isn't whole yet
+abbrev pub held : Unfinished → List ℕ
+held r = raw most r.full r.first r.payload.items r.head.items
+
+-- what a reader holds
+abbrev pub state_of : Unfinished → ReaderState
+state_of u = record { held = held u; number = u.first; limit = u.limit }
+
+-- the number of the frame after so many
+abbrev pub number_of : ℕ → ℕ → ℕ
+number_of full first = (first + full) % 256
+
+-- the parts of a reader belong together
+pub record IsReading (r : Unfinished) : Type 0 where
+  pub first : r.first < 256
+  pub head : length r.head.items ≤ 4
+  pub start : r.full * most ≤ length r.payload.items
+  pub nothing_yet : length r.head.items < 4 → length r.payload.items ≡ r.full * most
+  pub within : length r.head.items ≡ 4 → length r.payload.items ≤ r.full * most + length_in r.head.items
+
+-- a whole header of a frame of so many bytes is there, which is the one that comes
+pub record IsHeader (r : Unfinished) (len : ℕ) : Type 0 where
+  pub head : r.head.items ≡ header len (number_of r.full r.first)
+  pub below : r.full * most + len ≤ r.limit
+  pub no_longer : len ≤ most
+
+-- a whole frame of so many bytes is there
+pub record HasFrame (r : Unfinished) (len : ℕ) : Type 0 where
+  pub header : IsHeader r len
+  pub body : length r.payload.items ≡ r.full * most + len

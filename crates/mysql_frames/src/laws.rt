@@ -1,0 +1,21 @@
+//! Laws over streams of frames.
+
+ghost use Rattle.std.specs.Prelude.{◌≡◌, ℕ, List, [], ◌∷◌, ◌++◌};
+ghost use Rattle.mysql_frames.specs.Frames.{Framed, Stream};
+ghost use Rattle.mysql_frames.specs.FrameReader.{NoneWhole};
+
+/// Up to a rest in which there is no payload, bytes are the frames of one list of payloads: so it doesn't matter in which
+/// pieces they come.
+#[tactic(auto, using(crate::proofs::Streams::stream_once))]
+pub fn a_stream_is_one_list_of_payloads()
+    ensures { (number : ℕ) (ps qs : List (List ℕ)) (a b : ℕ) (bytes r s : List ℕ)
+        → Stream number ps a bytes r → Stream number qs b bytes s → NoneWhole a r → NoneWhole b s → (ps ≡ qs) × (a ≡ b) × (r ≡ s) }
+{}
+
+/// A payload whose frames follow, as more bytes come, is one more of the stream.
+#[tactic(auto, using(crate::proofs::Streams::stream_more, crate::proofs::Streams::stream_then))]
+pub fn a_stream_goes_on()
+    ensures bytes { (number : ℕ) (payloads : List (List ℕ)) (after : ℕ) (bytes rest more : List ℕ) → Stream number payloads after bytes rest → Stream number payloads after (bytes ++ more) (rest ++ more) }
+    ensures payload { (number : ℕ) (payloads : List (List ℕ)) (mid : ℕ) (bytes rest payload : List ℕ) (after : ℕ) (left : List ℕ)
+        → Stream number payloads mid bytes rest → Framed mid payload after rest left → Stream number (payloads ++ payload ∷ []) after bytes left }
+{}

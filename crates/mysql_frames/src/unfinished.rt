@@ -1,0 +1,283 @@
+//! A payload that is not whole yet.
+
+ghost use Rattle.std.specs.Prelude.{◌≡◌, ◌↔◌, ◌+◌, ◌*◌, ◌<◌, ◌≤◌, [], ◌++◌, length, IfOk, OnErr, IfSome, IfNone, IsTrue, IsErrOf, IsOk, List, ℕ, true, false};
+ghost use Rattle.std.specs.Cow.{cow_slice_items};
+ghost use Rattle.mysql_frames.specs.Frames as spec;
+
+use crate::error::FrameError;
+use crate::header::{HEADER_LEN, MAX_FRAME_LEN, length_in};
+use std::alloc::{AllocError, Global};
+use std::borrow::CowSlice;
+use std::mem;
+
+/// How many bytes memory is taken for before they come, at most.
+const AT_ONCE: usize = 65536;
+
+/// Moves what is missing from the input's front to the end of `into`, as far as it is there.
+fn fill(into: &mut Vec<u8>, input: &mut &[u8], missing: usize) -> Result<bool, AllocError>
+    ensures moved { (moved : List ℕ) × (into.new.items ≡ into.old.items ++ moved) × (input.old.now ≡ moved ++ input.new.now) }
+    ensures done { IfOk result (λ done. (IsTrue done → length into.new.items ≡ length into.old.items + missing)
+        × (done ≡ false → (length into.new.items < length into.old.items + missing) × (input.new.now ≡ []))) }
+    ensures err { OnErr result (into.new.items ≡ into.old.items) }
+{
+    // (one block for all that comes, but not much on the word of a header alone)
+    into.reserve(missing.min(AT_ONCE))?;
+    let (front, rest) = input.split_at(missing.min(input.len()));
+    into.extend_from_slice(front)?;
+    *input = rest;
+    Ok(front.len() == missing)
+}
+
+/// A payload that lies whole in one frame at the front of the input, and what follows it.
+#[inline(always)]
+fn whole_at(limit: usize, number: u8, input: &[u8]) -> Option<(&[u8], &[u8])>
+    ensures framed { IfSome result (λ found. spec.Framed number found.0.now (spec.next number) input.now found.1.now) }
+    ensures limit { IfSome result (λ found. length found.0.now ≤ limit) }
+    // Where one lies there, no longer than the limit, it is found.
+    ensures found { IfNone result ((payload rest : List ℕ) → spec.FramedIn 0xffffff 0 number payload (spec.next number) input.now rest → limit < length payload) }
+{
+    if input.len() < HEADER_LEN || input[3] != number {
+        return None;
+    }
+    let len = length_in(input);
+    if len > limit || len == MAX_FRAME_LEN || input.len() - HEADER_LEN < len {
+        return None;
+    }
+    Some(input[HEADER_LEN..].split_at(len))
+}
+
+/// The frames of a payload, as far as they came. No header is kept but that of the frame that is not whole.
+#[derive(Drop)]
+pub struct Unfinished {
+    alloc: Global,
+    pub(crate) limit: usize,
+    /// The number of the payload's first frame.
+    pub(crate) first: u8,
+    /// How many full frames of the payload were read.
+    full: usize,
+    /// What is there of the next frame's header.
+    head: Vec<u8>,
+    /// What is there of the payload.
+    payload: Vec<u8>,
+}
+
+impl Unfinished {
+    ghost use Rattle.mysql_frames.specs.FrameReader.{AllLonger, HandsOut, HoldsAll, Keeps, NoneWhole};
+    ghost use Rattle.mysql_frames.specs.Unfinished.{HasFrame, IsHeader, IsReading, held, number_of, state_of};
+
+    /// Nothing has come. The first frame has the number 0.
+    pub(crate) fn new(alloc: Global, limit: usize) -> Self
+        ensures reading { IsReading result }
+        ensures held { held result ≡ [] }
+        ensures first { result.first ≡ 0 }
+        ensures limit { result.limit ≡ limit }
+    {
+        Unfinished {
+            alloc,
+            limit,
+            first: 0,
+            full: 0,
+            head: Vec::new(alloc),
+            payload: Vec::new(alloc),
+        }
+    }
+
+    /// Lets go of what came. The next frame has this number.
+    pub(crate) fn expect(&mut self, number: u8)
+        ensures reading { IsReading self.new }
+        ensures held { held self.new ≡ [] }
+        ensures first { self.new.first ≡ number }
+        ensures limit { self.new.limit ≡ self.old.limit }
+    {
+        self.first = number;
+        self.full = 0;
+        self.head.clear();
+        self.payload.clear();
+    }
+
+    /// The number of the next frame.
+    fn number(&self) -> u8
+        ensures { result ≡ number_of self.now.full self.now.first }
+    {
+        self.first.wrapping_add((self.full % 256) as u8)
+    }
+
+    /// Whether no byte has come.
+    #[inline(always)]
+    #[tactic(auto, using(crate::proofs::Held::nothing_held, crate::proofs::Held::held_nothing))]
+    pub(crate) fn is_between(&self) -> bool
+        requires { IsReading self.now }
+        ensures { IsTrue result ↔ (held self.now ≡ []) }
+    {
+        self.full == 0 && self.head.is_empty()
+    }
+
+    /// Goes on with a header as far as the input has it. Whether it is whole.
+    fn fill_head(&mut self, input: &mut &[u8]) -> Result<bool, AllocError>
+        requires { IsReading self.old }
+        ensures reading { IsReading self.new }
+        ensures same { (self.new.first ≡ self.old.first) × (self.new.full ≡ self.old.full) × (self.new.limit ≡ self.old.limit) }
+        ensures kept { held self.new ++ input.new.now ≡ held self.old ++ input.old.now }
+        ensures used { length input.new.now + length self.new.head.items ≡ length input.old.now + length self.old.head.items }
+        ensures done { IfOk result (λ done. (IsTrue done → length self.new.head.items ≡ 4) × (done ≡ false → (length self.new.head.items < 4) × (input.new.now ≡ []))) }
+    {
+        if self.head.len() == HEADER_LEN {
+            return Ok(true);
+        }
+        let missing = HEADER_LEN - self.head.len();
+        fill(&mut self.head, input, missing)
+    }
+
+    /// The length of the frame with this header, which is the one that comes.
+    fn length(&self) -> Result<usize, FrameError>
+        requires reading { IsReading self.now }
+        requires whole { length self.now.head.items ≡ 4 }
+        ensures ok { IfOk result (λ len. IsHeader self.now len) }
+        ensures order { IsErrOf result FrameError.OutOfOrder → (more : List ℕ) → NoneWhole self.now.first (held self.now ++ more) }
+        ensures limit { IsErrOf result FrameError.TooLong → (more : List ℕ) → AllLonger self.now.limit self.now.first (held self.now ++ more) }
+        ensures memory { IsErrOf result FrameError.Memory → ⊥ }
+    {
+        let head = self.head.as_slice();
+        if head[3] != self.number() {
+            return Err(FrameError::OutOfOrder);
+        }
+        let len = length_in(head);
+        let start = self.full * MAX_FRAME_LEN;
+        if self.limit < start || self.limit - start < len {
+            return Err(FrameError::TooLong);
+        }
+        Ok(len)
+    }
+
+    /// Goes on with a frame of so many bytes as far as the input has it. Whether it is whole.
+    fn fill_body(&mut self, input: &mut &[u8], len: usize) -> Result<bool, AllocError>
+        requires reading { IsReading self.old }
+        requires header { IsHeader self.old len }
+        ensures reading { IsReading self.new }
+        ensures header { IsHeader self.new len }
+        ensures same { (self.new.first ≡ self.old.first) × (self.new.full ≡ self.old.full) × (self.new.limit ≡ self.old.limit) }
+        ensures kept { held self.new ++ input.new.now ≡ held self.old ++ input.old.now }
+        ensures used { length input.new.now + length self.new.head.items ≤ length input.old.now + length self.old.head.items }
+        ensures done { IfOk result (λ done. (IsTrue done → HasFrame self.new len)
+            × (done ≡ false → (length self.new.payload.items < self.new.full * 0xffffff + len) × (input.new.now ≡ []))) }
+    {
+        let missing = len - (self.payload.len() - self.full * MAX_FRAME_LEN);
+        fill(&mut self.payload, input, missing)
+    }
+
+    /// Goes on with a frame as far as the input has it. `Some` of its length: the frame is whole.
+    fn frame(&mut self, input: &mut &[u8]) -> Result<Option<usize>, FrameError>
+        requires { IsReading self.old }
+        ensures reading { IsReading self.new }
+        ensures same { (self.new.first ≡ self.old.first) × (self.new.full ≡ self.old.full) × (self.new.limit ≡ self.old.limit) }
+        ensures kept { held self.new ++ input.new.now ≡ held self.old ++ input.old.now }
+        ensures used { length input.new.now + length self.new.head.items ≤ length input.old.now + length self.old.head.items }
+        ensures whole { IfOk result (λ found. IfSome found (HasFrame self.new)) }
+        ensures part { IfOk result (λ found. IfNone found ((input.new.now ≡ []) × NoneWhole self.new.first (held self.new))) }
+        ensures order { IsErrOf result FrameError.OutOfOrder → (more : List ℕ) → NoneWhole self.new.first (held self.new ++ more) }
+        ensures limit { IsErrOf result FrameError.TooLong → (more : List ℕ) → AllLonger self.new.limit self.new.first (held self.new ++ more) }
+    {
+        if !self.fill_head(input)? {
+            return Ok(None);
+        }
+        let len = self.length()?;
+        if !self.fill_body(input, len)? {
+            return Ok(None);
+        }
+        Ok(Some(len))
+    }
+
+    /// Goes on to the payload's next frame, behind a full one.
+    fn next_frame(&mut self)
+        requires reading { IsReading self.old }
+        requires full { HasFrame self.old 0xffffff }
+        ensures reading { IsReading self.new }
+        ensures same { (self.new.first ≡ self.old.first) × (self.new.limit ≡ self.old.limit) }
+        ensures kept { held self.new ≡ held self.old }
+        ensures head { self.new.head.items ≡ [] }
+    {
+        self.full += 1;
+        self.head.clear();
+    }
+
+    /// Hands out the payload, behind its last frame.
+    fn finish(&mut self, len: usize) -> Vec<u8>
+        requires reading { IsReading self.old }
+        requires last { HasFrame self.old len }
+        requires short { len < 0xffffff }
+        ensures reading { IsReading self.new }
+        ensures framed { (rest : List ℕ) → spec.Framed self.old.first result.items self.new.first (held self.old ++ rest) rest }
+        ensures within { length result.items ≤ self.old.limit }
+        ensures held { held self.new ≡ [] }
+        ensures limit { self.new.limit ≡ self.old.limit }
+    {
+        self.first = self.number().wrapping_add(1);
+        self.full = 0;
+        self.head.clear();
+        mem::replace(&mut self.payload, Vec::new(self.alloc))
+    }
+
+    /// Takes the input up to the end of a payload, and hands that out; or all of it.
+    #[inline(never)]
+    fn read_on(&mut self, input: &mut &[u8]) -> Result<Option<Vec<u8>>, FrameError>
+        requires { IsReading self.old }
+        ensures reading { IsReading self.new }
+        ensures payload { IfOk result (λ found. IfSome found (λ payload. HandsOut (state_of self.old) input.old.now payload.items (state_of self.new) input.new.now)) }
+        ensures more { IfOk result (λ found. IfNone found (HoldsAll (state_of self.old) input.old.now (state_of self.new) input.new.now)) }
+        ensures err { OnErr result (Keeps (state_of self.old) input.old.now (state_of self.new) input.new.now) }
+        ensures order { IsErrOf result FrameError.OutOfOrder → (more : List ℕ) → NoneWhole self.old.first (held self.old ++ input.old.now ++ more) }
+        ensures limit { IsErrOf result FrameError.TooLong → (more : List ℕ) → AllLonger self.old.limit self.old.first (held self.old ++ input.old.now ++ more) }
+    {
+        'frames: loop {
+            match self.frame(input)? {
+                None => return Ok(None),
+                Some(len) if len == MAX_FRAME_LEN => self.next_frame(),
+                Some(len) => return Ok(Some(self.finish(len))),
+            }
+        }
+    }
+
+    /// The same, and a payload that lies whole in one frame of the input is handed out there.
+    #[inline]
+    pub(crate) fn read<'a>(
+        &mut self,
+        input: &mut &'a [u8],
+    ) -> Result<Option<CowSlice<'a, u8>>, FrameError>
+        requires { IsReading self.old }
+        ensures reading { IsReading self.new }
+        ensures payload { IfOk result (λ found. IfSome found (λ payload. HandsOut (state_of self.old) input.old.now (cow_slice_items payload) (state_of self.new) input.new.now)) }
+        ensures more { IfOk result (λ found. IfNone found (HoldsAll (state_of self.old) input.old.now (state_of self.new) input.new.now)) }
+        ensures err { OnErr result (Keeps (state_of self.old) input.old.now (state_of self.new) input.new.now) }
+        ensures no_memory { held self.old ≡ [] → (payload rest : List ℕ) → spec.FramedIn 0xffffff 0 self.old.first payload (spec.next self.old.first) input.old.now rest
+            → length payload ≤ self.old.limit → IsOk result }
+        ensures order { IsErrOf result FrameError.OutOfOrder → (more : List ℕ) → NoneWhole self.old.first (held self.old ++ input.old.now ++ more) }
+        ensures long { IsErrOf result FrameError.TooLong → (more : List ℕ) → AllLonger self.old.limit self.old.first (held self.old ++ input.old.now ++ more) }
+    {
+        if self.is_between() {
+            if let Some((payload, rest)) = whole_at(self.limit, self.first, input) {
+                self.first = self.first.wrapping_add(1);
+                *input = rest;
+                return Ok(Some(CowSlice::Borrowed(payload)));
+            }
+        }
+        match self.read_on(input)? {
+            Some(payload) => Ok(Some(CowSlice::Owned(payload))),
+            None => Ok(None),
+        }
+    }
+
+    /// Keeps a block of memory for payloads to come, where it has none in use.
+    #[inline(never)]
+    pub(crate) fn keep(&mut self, buffer: Vec<u8>)
+        requires { IsReading self.old }
+        ensures reading { IsReading self.new }
+        ensures held { held self.new ≡ held self.old }
+        ensures same { (self.new.first ≡ self.old.first) × (self.new.limit ≡ self.old.limit) }
+    {
+        if self.payload.is_empty() {
+            let mut buffer = buffer;
+            buffer.clear();
+            self.payload = buffer;
+        }
+    }
+}

@@ -1,0 +1,108 @@
+//! Payloads into frames.
+
+ghost use Rattle.std.specs.Prelude.{◌≡◌, ◌+◌, ◌*◌, ◌/◌, ◌<◌, ◌≤◌, ◌++◌, length, IfOk, IsOk, OnErr, List, ℕ, vec_len, vec_capacity};
+ghost use Rattle.mysql_frames.specs.Frames as spec;
+ghost use Rattle.mysql_frames.specs.Frames.{AppendsFrames};
+
+use crate::header::{HEADER_LEN, MAX_FRAME_LEN, push_header};
+use mysql_wire::MySerialize;
+use std::alloc::AllocError;
+use std::mem;
+
+/// Appends a frame, for which there is capacity.
+///
+/// While the buffer is a variable of its own, the compiler makes one store of the four bytes. That there is capacity for the part is
+/// tested here once more: the compiler then leaves out the buffer's growth.
+#[inline(always)]
+fn push_frame(out: &mut Vec<u8>, number: u8, part: &[u8])
+    requires length { length part.now ≤ 0xffffff }
+    requires capacity { vec_len out.old + 4 + length part.now ≤ vec_capacity out.old }
+    ensures items { out.new.items ≡ out.old.items ++ (spec.header (length part.now) number ++ part.now) }
+    ensures len { vec_len out.new ≡ vec_len out.old + 4 + length part.now }
+    ensures capacity { vec_capacity out.old ≤ vec_capacity out.new }
+{
+    let empty = Vec::new(*out.allocator());
+    let mut taken = mem::replace(out, empty);
+    push_header(&mut taken, part.len(), number);
+    if part.len() <= taken.capacity() - taken.len() {
+        taken.extend_from_slice(part).unwrap();
+    }
+    *out = taken;
+}
+
+/// The same as [`write_frames`], of a payload of any length.
+#[inline(never)]
+fn write_long(out: &mut Vec<u8>, number: u8, payload: &[u8]) -> Result<u8, AllocError>
+    ensures framed { IfOk result (λ after. AppendsFrames number payload.now after out.old.items out.new.items) }
+    ensures err { OnErr result (out.new.items ≡ out.old.items) }
+    ensures no_memory { vec_len out.old + length payload.now + 4 * (length payload.now / 0xffffff + 1) ≤ vec_capacity out.old → IsOk result }
+{
+    out.reserve(payload.len() + HEADER_LEN * (payload.len() / MAX_FRAME_LEN + 1))?;
+    let mut number = number;
+    let mut left = payload;
+    while left.len() >= MAX_FRAME_LEN {
+        let (part, more) = left.split_at(MAX_FRAME_LEN);
+        push_frame(out, number, part);
+        number = number.wrapping_add(1);
+        left = more;
+    }
+    push_frame(out, number, left);
+    Ok(number.wrapping_add(1))
+}
+
+/// Appends the frames of a payload, of which the first has this number, and answers the number after them.
+///
+/// The buffer grows once. A refusal leaves it as it was, and comes only where it lacks capacity.
+#[inline]
+pub fn write_frames(out: &mut Vec<u8>, number: u8, payload: &[u8]) -> Result<u8, AllocError>
+    ensures framed { IfOk result (λ after. AppendsFrames number payload.now after out.old.items out.new.items) }
+    ensures err { OnErr result (out.new.items ≡ out.old.items) }
+    ensures no_memory { vec_len out.old + length payload.now + 4 * (length payload.now / 0xffffff + 1) ≤ vec_capacity out.old → IsOk result }
+{
+    if payload.len() >= MAX_FRAME_LEN {
+        return write_long(out, number, payload);
+    }
+    out.reserve(payload.len() + HEADER_LEN)?;
+    push_frame(out, number, payload);
+    Ok(number.wrapping_add(1))
+}
+
+/// The same as [`write_packet`], of a packet that takes several frames: it is written apart first.
+#[inline(never)]
+fn write_long_packet<P: MySerialize>(
+    out: &mut Vec<u8>,
+    number: u8,
+    packet: &P,
+) -> Result<u8, AllocError>
+    ensures framed { IfOk result (λ after. AppendsFrames number (P.bytes packet.now) after out.old.items out.new.items) }
+    ensures err { OnErr result (out.new.items ≡ out.old.items) }
+{
+    let mut payload = Vec::new(*out.allocator());
+    packet.serialize(&mut payload)?;
+    write_long(out, number, payload.as_slice())
+}
+
+/// Appends a packet in its frames, of which the first has this number, and answers the number after them.
+///
+/// The packet is written behind its header, where it stays: nothing is copied, unless it takes several frames. The buffer grows once.
+/// A refusal leaves it as it was; a packet of one frame is refused only where the buffer lacks capacity.
+#[inline]
+#[tactic(auto, unfolding(mysql_wire::specs::Writing::saturated))]
+pub fn write_packet<P: MySerialize>(
+    out: &mut Vec<u8>,
+    number: u8,
+    packet: &P,
+) -> Result<u8, AllocError>
+    ensures framed { IfOk result (λ after. AppendsFrames number (P.bytes packet.now) after out.old.items out.new.items) }
+    ensures err { OnErr result (out.new.items ≡ out.old.items) }
+    ensures no_memory { length (P.bytes packet.now) < 0xffffff → vec_len out.old + 4 + length (P.bytes packet.now) ≤ vec_capacity out.old → IsOk result }
+{
+    let len = packet.defined_len();
+    if len >= MAX_FRAME_LEN {
+        return write_long_packet(out, number, packet);
+    }
+    out.reserve(HEADER_LEN + len)?;
+    push_header(out, len, number);
+    packet.append(out);
+    Ok(number.wrapping_add(1))
+}
