@@ -1,8 +1,7 @@
 //! A column of a result that stays in its packet.
 #![tactic(auto, using(mysql_wire::proofs::Packets::packets), unfolding(crate::specs::Column::column, crate::specs::ColumnNames::column_meta))]
 
-ghost use Rattle.std.specs.Prelude.{false, ◌≡◌, None, refl, IfOk, IfErr, IsTrue, OnErr};
-ghost use Rattle.mysql_wire.specs.Reading.{Answers, IsTail};
+ghost use Rattle.std.specs.Prelude.{◌≡◌, None, refl, IfOk, IfErr, IsTrue};
 ghost use Rattle.mysql_replies.specs.Column as spec;
 ghost use Rattle.mysql_replies.specs.ColumnNames.{has_a_name};
 
@@ -19,24 +18,15 @@ use std::marker::Model;
 #[derive(Drop)]
 pub struct ColumnRef<'a> {
     names: Names<'a>,
-    character_set: u16,
-    column_length: u32,
-    column_type: ColumnType,
-    flags: ColumnFlags,
-    decimals: u8,
+    fields: ColumnFields,
 }
 
 impl<'a> Model for ColumnRef<'a> {
     ghost use Rattle.mysql_replies.specs.declared.column.Column.{Column};
-    ghost use Rattle.mysql_replies.specs.ColumnFields.{fields_of};
 
     ghost Value = { Column };
 
-    ghost view = { λ c. record {
-      catalog = record { 0 = record {} };
-      meta = c.names;
-      fields = fields_of c.character_set c.column_length c.column_type c.flags c.decimals;
-    } };
+    ghost view = { λ c. record { catalog = record { 0 = record {} }; meta = c.names; fields = c.fields } };
 }
 
 impl<'a> ColumnRef<'a> {
@@ -85,7 +75,7 @@ impl<'a> ColumnRef<'a> {
     pub fn character_set(&self) -> u16
         ensures value { result ≡ spec.character_set self.now }
     {
-        self.character_set
+        self.fields.character_set.0
     }
 
     /// As [`Column::column_length`].
@@ -93,7 +83,7 @@ impl<'a> ColumnRef<'a> {
     pub fn column_length(&self) -> u32
         ensures value { result ≡ spec.column_length self.now }
     {
-        self.column_length
+        self.fields.column_length.0
     }
 
     /// As [`Column::column_type`].
@@ -101,7 +91,7 @@ impl<'a> ColumnRef<'a> {
     pub fn column_type(&self) -> ColumnType
         ensures value { result ≡ spec.column_type self.now }
     {
-        self.column_type
+        self.fields.column_type.0
     }
 
     /// As [`Column::flags`].
@@ -109,7 +99,7 @@ impl<'a> ColumnRef<'a> {
     pub fn flags(&self) -> ColumnFlags
         ensures value { result ≡ spec.flags self.now }
     {
-        self.flags
+        self.fields.flags.0
     }
 
     /// As [`Column::decimals`].
@@ -117,7 +107,7 @@ impl<'a> ColumnRef<'a> {
     pub fn decimals(&self) -> u8
         ensures value { result ≡ spec.decimals self.now }
     {
-        self.decimals
+        self.fields.decimals.0
     }
 
     /// The column with names of its own. It takes memory where a name has any byte.
@@ -126,40 +116,14 @@ impl<'a> ColumnRef<'a> {
         ensures memory { IfErr result (λ _. IsTrue (has_a_name (spec.names_of self.now))) }
     {
         let fields = fields_of(
-            self.character_set,
-            self.column_length,
-            self.column_type,
-            self.flags,
-            self.decimals,
+            self.fields.character_set.0,
+            self.fields.column_length.0,
+            self.fields.column_type.0,
+            self.fields.flags.0,
+            self.fields.decimals.0,
         );
         named(alloc, &self.names, fields)
     }
-}
-
-/// Reads a column.
-///
-/// Either reader of columns has an instance of its own, so that it stands there in line, and what nobody asks for costs nothing.
-#[inline(always)]
-#[tactic(auto, using(mysql_wire::proofs::Tails::tails), unfolding(crate::specs::Column::column, crate::specs::ColumnNames::column_meta))]
-pub(crate) fn read_column<'s, 'de, const COPIED: bool>(
-    buf: &mut ParseBuf<'de>,
-) -> Result<ColumnRef<'de>, FaultOf<'s>>
-    ensures value { Answers false result buf.new ((spec.column.form tt).reads buf.old) }
-    ensures tail { OnErr result (IsTail buf.new buf.old) }
-{
-    let mut rest = buf.rest();
-    let _catalog: ColumnDefinitionCatalog = rest.parse(())?;
-    let names = read_names(&mut rest)?;
-    let fields: ColumnFields = rest.parse(())?;
-    *buf = rest;
-    Ok(ColumnRef {
-        names,
-        character_set: fields.character_set.0,
-        column_length: fields.column_length.0,
-        column_type: fields.column_type.0,
-        flags: fields.flags.0,
-        decimals: fields.decimals.0,
-    })
 }
 
 /// As a [`Column`], but for `Memory`: none is taken.
@@ -173,8 +137,14 @@ impl<'de> MyDeserialize<'de> for ColumnRef<'de> {
     ghost form = { spec.column.form };
 
     #[inline]
+    #[tactic(auto, using(mysql_wire::proofs::Tails::tails), unfolding(crate::specs::Column::column, crate::specs::ColumnNames::column_meta))]
     fn deserialize<'s>(_ctx: (), buf: &mut ParseBuf<'de>) -> Result<Self, FaultOf<'s>> {
-        read_column::<false>(buf)
+        let mut rest = buf.rest();
+        let _catalog: ColumnDefinitionCatalog = rest.parse(())?;
+        let names = read_names::<false>(&mut rest)?;
+        let fields: ColumnFields = rest.parse(())?;
+        *buf = rest;
+        Ok(ColumnRef { names, fields })
     }
 
     ghost size_is = { λ _. unfold spec.column in refl };
