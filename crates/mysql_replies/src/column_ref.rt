@@ -18,15 +18,24 @@ use std::marker::Model;
 #[derive(Drop)]
 pub struct ColumnRef<'a> {
     names: Names<'a>,
-    fields: ColumnFields,
+    character_set: u16,
+    column_length: u32,
+    column_type: ColumnType,
+    flags: ColumnFlags,
+    decimals: u8,
 }
 
 impl<'a> Model for ColumnRef<'a> {
     ghost use Rattle.mysql_replies.specs.declared.column.Column.{Column};
+    ghost use Rattle.mysql_replies.specs.ColumnFields.{fields_of};
 
     ghost Value = { Column };
 
-    ghost view = { λ c. record { catalog = record { 0 = record {} }; meta = c.names; fields = c.fields } };
+    ghost view = { λ c. record {
+      catalog = record { 0 = record {} };
+      meta = c.names;
+      fields = fields_of c.character_set c.column_length c.column_type c.flags c.decimals;
+    } };
 }
 
 impl<'a> ColumnRef<'a> {
@@ -75,7 +84,7 @@ impl<'a> ColumnRef<'a> {
     pub fn character_set(&self) -> u16
         ensures value { result ≡ spec.character_set self.now }
     {
-        self.fields.character_set.0
+        self.character_set
     }
 
     /// As [`Column::column_length`].
@@ -83,7 +92,7 @@ impl<'a> ColumnRef<'a> {
     pub fn column_length(&self) -> u32
         ensures value { result ≡ spec.column_length self.now }
     {
-        self.fields.column_length.0
+        self.column_length
     }
 
     /// As [`Column::column_type`].
@@ -91,7 +100,7 @@ impl<'a> ColumnRef<'a> {
     pub fn column_type(&self) -> ColumnType
         ensures value { result ≡ spec.column_type self.now }
     {
-        self.fields.column_type.0
+        self.column_type
     }
 
     /// As [`Column::flags`].
@@ -99,7 +108,7 @@ impl<'a> ColumnRef<'a> {
     pub fn flags(&self) -> ColumnFlags
         ensures value { result ≡ spec.flags self.now }
     {
-        self.fields.flags.0
+        self.flags
     }
 
     /// As [`Column::decimals`].
@@ -107,7 +116,7 @@ impl<'a> ColumnRef<'a> {
     pub fn decimals(&self) -> u8
         ensures value { result ≡ spec.decimals self.now }
     {
-        self.fields.decimals.0
+        self.decimals
     }
 
     /// The column with names of its own. It takes memory where a name has any byte.
@@ -116,11 +125,11 @@ impl<'a> ColumnRef<'a> {
         ensures memory { IfErr result (λ _. IsTrue (has_a_name (spec.names_of self.now))) }
     {
         let fields = fields_of(
-            self.fields.character_set.0,
-            self.fields.column_length.0,
-            self.fields.column_type.0,
-            self.fields.flags.0,
-            self.fields.decimals.0,
+            self.character_set,
+            self.column_length,
+            self.column_type,
+            self.flags,
+            self.decimals,
         );
         named(alloc, &self.names, fields)
     }
@@ -144,7 +153,14 @@ impl<'de> MyDeserialize<'de> for ColumnRef<'de> {
         let names = read_names::<false>(&mut rest)?;
         let fields: ColumnFields = rest.parse(())?;
         *buf = rest;
-        Ok(ColumnRef { names, fields })
+        Ok(ColumnRef {
+            names,
+            character_set: fields.character_set.0,
+            column_length: fields.column_length.0,
+            column_type: fields.column_type.0,
+            flags: fields.flags.0,
+            decimals: fields.decimals.0,
+        })
     }
 
     ghost size_is = { λ _. unfold spec.column in refl };

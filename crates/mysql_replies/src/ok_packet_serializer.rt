@@ -22,8 +22,8 @@ use std::marker::{Model, PhantomData};
 /// impl OkPacketLayout for Mine {
 ///     ghost bytes = { common_bytes_with };
 ///
-///     fn put<S: Sink>(header: u8, capabilities: CapabilityFlags, packet: &OkPacket<'_>, sink: &mut S) {
-///         CommonOkPacket::put(header, capabilities, packet, sink);
+///     fn put<S: Sink>(header: u8, flags: CapabilityFlags, packet: &OkPacket<'_>, sink: &mut S) {
+///         CommonOkPacket::put(header, flags, packet, sink);
 ///     }
 /// }
 /// ```
@@ -152,39 +152,15 @@ fn put_all<S: Sink>(
     }
 }
 
-/// A header, the warnings and the status.
-#[inline(always)]
-#[tactic(auto, unfolding(crate::specs::OkPacketSent::eof_bytes_with))]
-fn put_old_eof<S: Sink>(header: u8, packet: &OkPacket<'_>, sink: &mut S)
-    requires { S.capacity sink.old (length (sent.eof_bytes_with header packet.now)) }
-    ensures value { S.took sink.old (sent.eof_bytes_with header packet.now) sink.new }
-{
-    let header = [header];
-    let warnings: RawInt<LeU16> = RawInt::new(packet.warnings());
-    let status: Const<StatusFlags, LeU16> = Const::new(packet.status_flags());
-    sink.part(&parts!(header, warnings, status));
-}
-
 impl OkPacketLayout for CommonOkPacket {
     ghost bytes = { sent.common_bytes_with };
 
     #[inline(always)]
     #[tactic(auto, unfolding(crate::specs::OkPacketSent::common_bytes_with))]
-    fn put<S: Sink>(
-        header: u8,
-        capabilities: CapabilityFlags,
-        packet: &OkPacket<'_>,
-        sink: &mut S,
-    ) {
+    fn put<S: Sink>(header: u8, flags: CapabilityFlags, packet: &OkPacket<'_>, sink: &mut S) {
+        let rows = packet.affected_rows();
         let id = id_or_zero(packet.last_insert_id());
-        put_all(
-            header,
-            capabilities,
-            packet.affected_rows(),
-            id,
-            packet,
-            sink,
-        );
+        put_all(header, flags, rows, id, packet, sink);
     }
 }
 
@@ -193,40 +169,30 @@ impl OkPacketLayout for ResultSetTerminator {
 
     #[inline(always)]
     #[tactic(auto, unfolding(crate::specs::OkPacketSent::terminator_bytes_with))]
-    fn put<S: Sink>(
-        header: u8,
-        capabilities: CapabilityFlags,
-        packet: &OkPacket<'_>,
-        sink: &mut S,
-    ) {
-        put_all(header, capabilities, 0, 0, packet, sink);
+    fn put<S: Sink>(header: u8, flags: CapabilityFlags, packet: &OkPacket<'_>, sink: &mut S) {
+        put_all(header, flags, 0, 0, packet, sink);
     }
 }
 
 impl OkPacketLayout for OldEofPacket {
-    ghost bytes = { λ header capabilities p. sent.eof_bytes_with header p };
+    ghost bytes = { λ header _ packet. sent.eof_bytes_with header packet };
 
     #[inline(always)]
-    fn put<S: Sink>(
-        header: u8,
-        _capabilities: CapabilityFlags,
-        packet: &OkPacket<'_>,
-        sink: &mut S,
-    ) {
-        put_old_eof(header, packet, sink);
+    #[tactic(auto, unfolding(crate::specs::OkPacketSent::eof_bytes_with))]
+    fn put<S: Sink>(header: u8, _flags: CapabilityFlags, packet: &OkPacket<'_>, sink: &mut S) {
+        let header = [header];
+        let warnings: RawInt<LeU16> = RawInt::new(packet.warnings());
+        let status: Const<StatusFlags, LeU16> = Const::new(packet.status_flags());
+        sink.part(&parts!(header, warnings, status));
     }
 }
 
+/// As an [`OldEofPacket`].
 impl OkPacketLayout for NetworkStreamTerminator {
-    ghost bytes = { λ header capabilities p. sent.eof_bytes_with header p };
+    ghost bytes = { λ header _ packet. sent.eof_bytes_with header packet };
 
     #[inline(always)]
-    fn put<S: Sink>(
-        header: u8,
-        _capabilities: CapabilityFlags,
-        packet: &OkPacket<'_>,
-        sink: &mut S,
-    ) {
-        put_old_eof(header, packet, sink);
+    fn put<S: Sink>(header: u8, flags: CapabilityFlags, packet: &OkPacket<'_>, sink: &mut S) {
+        OldEofPacket::put(header, flags, packet, sink);
     }
 }
