@@ -1,6 +1,6 @@
 //! Lists of values.
 
-ghost use Rattle.std.specs.Prelude.{true, false, ◌≡◌, ◌≤◌, ◌+◌, ◌++◌, ◌∷◌, [], ◌↔◌, length, drop, List, ℕ, OnOk, OnErr, IfOk, IsTrue, refl};
+ghost use Rattle.std.specs.Prelude.{true, false, ◌≡◌, ◌≤◌, ◌+◌, ◌++◌, ◌∷◌, [], ◌↔◌, length, drop, List, ℕ, OnOk, OnErr, IfOk, IsOk, IsTrue, refl};
 ghost use Rattle.std.specs.Cow.{cow_slice_items};
 ghost use Rattle.mysql_wire.specs.Reading.{Answers, IsTail};
 ghost use Rattle.mysql_wire.specs.Form.{Form, give};
@@ -198,7 +198,7 @@ impl<'a, T, L> Seq<'a, T, L> {
         values
     }
 
-    /// A list of the same values, each cloned where this list owns them.
+    /// A list of the same values, each cloned where this list owns them. For no value no memory is taken.
     ///
     /// The caller knows that clones of the values equal them.
     pub fn clone(&self) -> Result<Seq<'a, T, L>, AllocError>
@@ -206,7 +206,11 @@ impl<'a, T, L> Seq<'a, T, L> {
         T: Clone,
         requires clones { (x y : T) → T.is_clone x y → y ≡ x }
         ensures value { IfOk result (λ copy. copy ≡ self.now) }
+        ensures no_memory { self.now ≡ [] → IsOk result }
     {
+        if self.is_empty() {
+            return Ok(Seq::default());
+        }
         Ok(Seq(self.0.clone()?, PhantomData))
     }
 
