@@ -151,6 +151,7 @@ pub fn this_sql_state_round_trips(state: &SqlState)
 #[inline]
 #[tactic(auto, using(crate::proofs::OkPacketRead::read_again))]
 pub fn this_ok_packet_round_trips(packet: &OkPacket<'_>)
+    ensures widths { HasOkWidths packet.now }
     ensures common { (c : CapabilityFlags) (bytes rest : List ℕ) → (ok_packet {T = CommonOkPacket} 0 (common_ok_body c)).Spells (deserializer_of packet.now) bytes rest
         → (ok_packet {T = CommonOkPacket} 0 (common_ok_body c)).Spells (deserializer_of packet.now) (common_bytes c packet.now) [] }
     ensures terminator { (c : CapabilityFlags) (bytes rest : List ℕ) → (ok_packet {T = ResultSetTerminator} 0xfe (terminator_body c)).Spells (deserializer_of packet.now) bytes rest
@@ -160,13 +161,13 @@ pub fn this_ok_packet_round_trips(packet: &OkPacket<'_>)
     ensures stream_end { (c : CapabilityFlags) (bytes rest : List ℕ) → (ok_packet {T = NetworkStreamTerminator} 0xfe (old_eof_body c)).Spells (deserializer_of packet.now) bytes rest
         → (ok_packet {T = NetworkStreamTerminator} 0xfe (old_eof_body c)).Spells (deserializer_of packet.now) (eof_bytes packet.now) [] }
 {
-    this_ok_packet_has_widths(packet);
+    has_ok_widths(packet);
 }
 
-/// The numbers and lengths of this OK packet have their widths.
+/// The numbers and lengths of an OK packet have their widths.
 #[inline]
-pub fn this_ok_packet_has_widths(packet: &OkPacket<'_>)
-    ensures widths { HasOkWidths packet.now }
+fn has_ok_widths(packet: &OkPacket<'_>)
+    ensures value { HasOkWidths packet.now }
 {
     let _affected_rows = packet.affected_rows();
     let _last_insert_id = packet.last_insert_id();
