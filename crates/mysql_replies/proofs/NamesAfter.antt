@@ -1,21 +1,11 @@
 -- Names that were put after one another lie where their ends say.
-use Rattle.std.proofs.Common.{◌≡◌, IsTrue, Ok, ap, ℕ, zero, suc, ◌<◌, true, ◌+◌, ◌-◌, List, [], ◌++◌, length, take, refl, arith, append_assoc, length-append}
+use Rattle.std.proofs.Common.{◌≡◌, ℕ, zero, suc, ◌<◌, true, ◌+◌, ◌-◌, List, [], ◌++◌, length, take, refl, arith, append_assoc, length-append}
 use Rattle.std.proofs.lemmas.List.{append-nil}
 use Rattle.std.proofs.Math.Seq.{drop-append_seam, take-append_seam}
 use Rattle.std.specs.Prelude.{slice_range}
 use Rattle.mysql_wire.proofs.Packets.{packets}
 use Rattle.mysql_wire.specs.Seq.{is_any}
-use Rattle.mysql_wire.specs.Codecs.{const_bytes}
-use Rattle.mysql_wire.specs.Form.{Form}
-use Rattle.mysql_wire.specs.Reading.{then_read, then_read-ok, done-value}
-use Rattle.mysql_wire.specs.declared.const_bytes.ConstBytes.{ConstBytes}
-use Rattle.mysql_replies.specs.declared.column.Catalog.{Catalog}
-use Rattle.mysql_replies.specs.declared.column.Column.{Column}
-use Rattle.mysql_replies.specs.declared.column_fields.ColumnFields.{ColumnFields}
-use Rattle.mysql_replies.specs.declared.column_names.ColumnMeta.{ColumnMeta}
-use Rattle.mysql_replies.specs.Column.{column, catalog_bytes, names_of, begins_with_names}
-use Rattle.mysql_replies.specs.ColumnFields.{column_fields}
-use Rattle.mysql_replies.specs.ColumnNames.{column_meta, has_a_name, meta_of, names_at}
+use Rattle.mysql_replies.specs.ColumnNames.{meta_of, names_at}
 
 -- what stands after some bytes, up to where it ends
 between : (p x y w : List ℕ) (a b : ℕ) → w ≡ p ++ (x ++ y) → a ≡ length p → b ≡ a + length x → slice_range w a b ≡ x
@@ -45,23 +35,3 @@ some-any zero lt = absurd (omega (arith, lt))
 some-any (suc n) lt = refl
 
 pub ruleset names = (packets, names_after, some-any)
-
--- ---- a column begins with its names
-
-abbrev catalog : Form (ConstBytes Catalog 4)
-catalog = (const_bytes {T = Catalog} 4 catalog_bytes).form (tt {0})
-
-abbrev made : ConstBytes Catalog 4 → ColumnMeta → ColumnFields → Column
-made c m f = record { catalog = c; meta = m; fields = f }
-
-pub column-begins : (bytes rest : List ℕ) (c : Column) → (column.form tt).reads bytes ≡ Ok (c, rest) → IsTrue (has_a_name (names_of c)) → IsTrue (begins_with_names bytes)
-unfolding column
-column-begins bytes rest c e some =
-    let r = then_read-ok (catalog.reads bytes) (λ cat mid. then_read ((column_meta.form tt).reads mid) (λ m left. then_read ((column_fields.form tt).reads left) (λ f end. Ok (made cat m f, end)))) (c, rest) e in
-    let s = then_read-ok ((column_meta.form tt).reads r.1) (λ m left. then_read ((column_fields.form tt).reads left) (λ f end. Ok (made r.0 m f, end))) (c, rest) r.3 in
-    let t = then_read-ok ((column_fields.form tt).reads s.1) (λ f end. Ok (made r.0 s.0 f, end)) (c, rest) s.3 in
-    let same : made r.0 s.0 t.0 ≡ c = done-value (made r.0 s.0 t.0) c t.1 rest t.3 in
-    let names : s.0 ≡ names_of c = ap names_of same in
-    rw (r.2, s.2, names) some
-
-pub ruleset columns_begin = (packets, column-begins)

@@ -16,7 +16,7 @@ use Rattle.mysql_replies.specs.declared.ok_kind.OkPacketBody.{OkPacketBody}
 use Rattle.mysql_replies.specs.declared.ok_packet.OkPacket.{OkPacket}
 use Rattle.mysql_replies.specs.OkKind.{common_ok_body, terminator_body, old_eof_body, ok_end, body_of}
 use Rattle.mysql_replies.specs.OkPacket.{ok_header, ok_packet, deserialized, unless_zero, unless_empty, bytes_or_none}
-use Rattle.mysql_replies.specs.OkPacketSent.{id_or_zero, deserializer_of, flag_word_of, sent_body, common_bytes, terminator_bytes, eof_bytes, IdFits, OkPacketFits, TerminatorFits, OldEofFits}
+use Rattle.mysql_replies.specs.OkPacketSent.{id_or_zero, deserializer_of, flag_word_of, sent_body, common_bytes, common_bytes_with, terminator_bytes, terminator_bytes_with, eof_bytes, eof_bytes_with, IdFits, OkPacketFits, TerminatorFits, OldEofFits}
 use Rattle.mysql_replies.specs.OkTailSent.{ContentFits}
 
 -- an insert id, an info and a state are read as they were
@@ -64,7 +64,7 @@ header-fe rest = byte-again 0xfe (omega arith) rest
 
 pub common-again : (T : Type 0) (c : CapabilityFlags) (p : OkPacket) → OkPacketFits c p
     → (ok_packet {T = T} 0 (common_ok_body c)).Spells (deserializer_of p) (common_bytes c p) []
-unfolding common_bytes ok_end
+unfolding common_bytes_with ok_end
 common-again T c p h =
     let f = sent_body (λ s. s.0.affected_rows) (λ s. id_or_zero s.0.last_insert_id) (λ n. n) in
     let fits : f.fits c (p, c) [] = (h.affected_rows, (id-width p.last_insert_id h.last_insert_id, ((h.status_flags, (h.warnings, tt)), ((refl, refl, refl, h.tail), tt)))) in
@@ -74,7 +74,7 @@ common-again T c p h =
 
 pub terminator-again : (T : Type 0) (c : CapabilityFlags) (p : OkPacket) → TerminatorFits c p
     → (ok_packet {T = T} 0xfe (terminator_body c)).Spells (deserializer_of p) (terminator_bytes c p) []
-unfolding terminator_bytes ok_end
+unfolding terminator_bytes_with ok_end
 terminator-again T c p h =
     let f = sent_body (λ s. 0) (λ s. 0) (λ n. 0) in
     let fits : f.fits c (p, c) [] = (omega arith, (omega arith, ((h.status_flags, (h.warnings, tt)), ((refl, refl, refl, h.tail), tt)))) in
@@ -98,7 +98,7 @@ sent_old_eof = do
 
 pub old_eof-again : (T : Type 0) (c : CapabilityFlags) (p : OkPacket) → OldEofFits p
     → (ok_packet {T = T} 0xfe (old_eof_body c)).Spells (deserializer_of p) (eof_bytes p) []
-unfolding sent_numbers sent_old_eof
+unfolding sent_numbers sent_old_eof eof_bytes_with
 old_eof-again T c p h =
     let fits : sent_old_eof.fits c p [] = ((h.warnings, (h.status_flags, tt)), tt) in
     let body : (old_eof_body c).Spells (sent_old_eof.value p) (sent_old_eof.bytes p) [] = rw append-nil at (sent_old_eof.again c p [] fits) in

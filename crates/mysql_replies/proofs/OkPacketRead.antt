@@ -5,14 +5,16 @@ use Rattle.mysql_wire.specs.Flags.{CapabilityFlags, StatusFlags}
 use Rattle.mysql_wire.specs.Form.{Form, ◌>>=◌, give, either}
 use Rattle.mysql_wire.specs.LenEnc.{lenenc_string}
 use Rattle.mysql_replies.specs.declared.ok_kind.CommonOkPacket.{CommonOkPacket}
+use Rattle.mysql_replies.specs.declared.ok_kind.NetworkStreamTerminator.{NetworkStreamTerminator}
+use Rattle.mysql_replies.specs.declared.ok_kind.OldEofPacket.{OldEofPacket}
 use Rattle.mysql_replies.specs.declared.ok_kind.ResultSetTerminator.{ResultSetTerminator}
 use Rattle.mysql_replies.specs.declared.ok_kind.OkPacketBody.{OkPacketBody}
 use Rattle.mysql_replies.specs.declared.ok_packet.OkPacket.{OkPacket}
 use Rattle.mysql_replies.specs.declared.ok_packet.OkPacketDeserializer.{OkPacketDeserializer}
-use Rattle.mysql_replies.specs.OkKind.{OkTail, begins_with_no_zero, common_ok_body, terminator_body, ok_end, ok_tail, state_changed, tail_of, tracks}
+use Rattle.mysql_replies.specs.OkKind.{OkTail, begins_with_no_zero, body_of, common_ok_body, terminator_body, old_eof_body, ok_end, ok_tail, state_changed, tail_of, tracks}
 use Rattle.mysql_replies.specs.OkPacket.{ok_packet, packet_of, unless_empty, unless_zero}
-use Rattle.mysql_replies.specs.OkPacketSent.{IdFits, IdIsShort, OkPacketFits, TerminatorFits, HasOkWidths, common_bytes, deserializer_of, terminator_bytes}
-use Rattle.mysql_replies.proofs.OkPacketAgain.{common-again, terminator-again}
+use Rattle.mysql_replies.specs.OkPacketSent.{IdFits, IdIsShort, OkPacketFits, TerminatorFits, OldEofFits, HasOkWidths, common_bytes, deserializer_of, eof_bytes, terminator_bytes}
+use Rattle.mysql_replies.proofs.OkPacketAgain.{common-again, terminator-again, old_eof-again}
 use Rattle.mysql_replies.specs.OkTailSent.{ContentFits, ContentIsShort, StateIsSent}
 
 none-sent : (t u : OkTail) → t ≡ u → StateIsSent false (unless_empty u.session_state_info) → StateIsSent false (unless_empty t.session_state_info)
@@ -102,6 +104,20 @@ terminator-fits c p w b =
       tail = fits.tail;
     }
 
+-- an old end has neither numbers nor texts
+old_eof-fits : (c : CapabilityFlags) (p : OkPacket) → HasOkWidths p → HasBody (old_eof_body c) p → OldEofFits p
+unfolding HasBody
+old_eof-fits c p w b =
+    let is : b.0 ≡ body_of 0 0 b.3.0.1.0 b.3.0.0.0 [] [] = b.3.3.0 in
+    record {
+      affected_rows = ap (λ (q : OkPacket). q.affected_rows) b.4 ∙ ap (λ (x : OkPacketBody). x.affected_rows) is;
+      last_insert_id = ap (λ (q : OkPacket). q.last_insert_id) b.4 ∙ ap (λ (x : OkPacketBody). unless_zero x.last_insert_id) is;
+      status_flags = w.status_flags;
+      warnings = w.warnings;
+      info = ap (λ (q : OkPacket). q.info) b.4 ∙ ap (λ (x : OkPacketBody). unless_empty x.info) is;
+      session_state = ap (λ (q : OkPacket). q.session_state_info) b.4 ∙ ap (λ (x : OkPacketBody). unless_empty x.session_state_info) is;
+    }
+
 pub common-sent : (c : CapabilityFlags) (p : OkPacket) (bytes rest : List ℕ) → HasOkWidths p
     → (ok_packet {T = CommonOkPacket} 0 (common_ok_body c)).Spells (deserializer_of p) bytes rest
     → (ok_packet {T = CommonOkPacket} 0 (common_ok_body c)).Spells (deserializer_of p) (common_bytes c p) []
@@ -112,5 +128,20 @@ pub terminator-sent : (c : CapabilityFlags) (p : OkPacket) (bytes rest : List �
     → (ok_packet {T = ResultSetTerminator} 0xfe (terminator_body c)).Spells (deserializer_of p) (terminator_bytes c p) []
 terminator-sent c p bytes rest w s =
     terminator-again ResultSetTerminator c p (terminator-fits c p w (body-of-packet ResultSetTerminator 0xfe (terminator_body c) p bytes rest s))
+
+end-sent : (T : Type 0) (c : CapabilityFlags) (p : OkPacket) (bytes rest : List ℕ) → HasOkWidths p
+    → (ok_packet {T = T} 0xfe (old_eof_body c)).Spells (deserializer_of p) bytes rest
+    → (ok_packet {T = T} 0xfe (old_eof_body c)).Spells (deserializer_of p) (eof_bytes p) []
+end-sent T c p bytes rest w s = old_eof-again T c p (old_eof-fits c p w (body-of-packet T 0xfe (old_eof_body c) p bytes rest s))
+
+pub old_eof-sent : (c : CapabilityFlags) (p : OkPacket) (bytes rest : List ℕ) → HasOkWidths p
+    → (ok_packet {T = OldEofPacket} 0xfe (old_eof_body c)).Spells (deserializer_of p) bytes rest
+    → (ok_packet {T = OldEofPacket} 0xfe (old_eof_body c)).Spells (deserializer_of p) (eof_bytes p) []
+old_eof-sent = end-sent OldEofPacket
+
+pub stream_end-sent : (c : CapabilityFlags) (p : OkPacket) (bytes rest : List ℕ) → HasOkWidths p
+    → (ok_packet {T = NetworkStreamTerminator} 0xfe (old_eof_body c)).Spells (deserializer_of p) bytes rest
+    → (ok_packet {T = NetworkStreamTerminator} 0xfe (old_eof_body c)).Spells (deserializer_of p) (eof_bytes p) []
+stream_end-sent = end-sent NetworkStreamTerminator
 
 pub ruleset read_again = (common-sent, terminator-sent)

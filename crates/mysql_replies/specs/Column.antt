@@ -1,5 +1,5 @@
 -- A column of a result.
-use Rattle.std.specs.Prelude.{ℕ, ◌<◌, ◌^◌, Bool, List, [], ◌∷◌, length, codes, refl}
+use Rattle.std.specs.Prelude.{◌≡◌, ℕ, ◌<◌, ◌^◌, Bool, false, List, [], ◌∷◌, length, codes, refl}
 use Rattle.mysql_wire.specs.declared.codes.column_type.ColumnType.{ColumnType}
 use Rattle.mysql_wire.specs.Codec.{Codec, Fields}
 use Rattle.mysql_wire.specs.Codecs.{◌>>=◌, give, field, packet, const_bytes}
@@ -9,7 +9,7 @@ use Rattle.mysql_replies.specs.declared.column.Catalog.{Catalog}
 use Rattle.mysql_replies.specs.declared.column.Column.{Column}
 use Rattle.mysql_replies.specs.declared.column_names.ColumnMeta.{ColumnMeta}
 use Rattle.mysql_replies.specs.ColumnFields.{column_fields, fields_of}
-use Rattle.mysql_replies.specs.ColumnNames.{column_meta, meta_of, reads_a_name}
+use Rattle.mysql_replies.specs.ColumnNames.{column_meta, has_a_name, meta_of, reads_a_name}
 
 -- `def`, length-encoded
 abbrev pub catalog_bytes : List ℕ
@@ -33,6 +33,10 @@ org_name c = c.meta.org_name
 
 abbrev pub names_of : Column → ColumnMeta
 names_of c = c.meta
+
+-- no name has any byte
+abbrev pub HasNoName : Column → Type 0
+HasNoName c = has_a_name (names_of c) ≡ false
 
 -- the type, the flags and the numbers
 abbrev pub column_type : Column → ColumnType

@@ -26,13 +26,16 @@ info p = p.info
 abbrev pub session_state : OkPacket → Option (List ℕ)
 session_state p = p.session_state_info
 
--- the state string, empty where there is none
+-- the state string and the info, empty where there is none
 abbrev pub bytes_or_none : Option (List ℕ) → List ℕ
 bytes_or_none None = []
 bytes_or_none (Some bytes) = bytes
 
 abbrev pub state_bytes : OkPacket → List ℕ
 state_bytes p = bytes_or_none (session_state p)
+
+abbrev pub info_bytes : OkPacket → List ℕ
+info_bytes p = bytes_or_none (info p)
 
 abbrev pub unless_zero : ℕ → Option ℕ
 unless_zero zero = None

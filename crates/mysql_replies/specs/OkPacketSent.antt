@@ -53,27 +53,29 @@ sent_body rows insert_id kept = do
   tail ← sent_tail numbers.0.0
   give (body_of (kept affected.0) (kept id.0) numbers.0.0 numbers.1.0 tail.info tail.session_state_info)
 
--- an OK packet that ends no result set
-abbrev pub sent_common : Fields CapabilityFlags Sent OkPacketBody
-sent_common = sent_body (λ s. affected_rows s.0) (λ s. id_or_zero (last_insert_id s.0)) (λ n. n)
-
--- one that ends a result set: both numbers are 0
-abbrev pub sent_terminator : Fields CapabilityFlags Sent OkPacketBody
-sent_terminator = sent_body (λ s. 0) (λ s. 0) (λ n. 0)
-
 -- a header, these rows and this insert id, and all else of the packet
 abbrev pub sent_bytes : (header rows insert_id : ℕ) → CapabilityFlags → OkPacket → List ℕ
 sent_bytes header rows insert_id capabilities p = header ∷ (sent_body (λ s. rows) (λ s. insert_id) (λ n. n)).bytes (p, capabilities)
 
--- the bytes of a kind
-unfoldable pub common_bytes : CapabilityFlags → OkPacket → List ℕ
-common_bytes capabilities p = sent_bytes 0 (affected_rows p) (id_or_zero (last_insert_id p)) capabilities p
+-- the bytes of a kind, with this header
+unfoldable pub common_bytes_with : ℕ → CapabilityFlags → OkPacket → List ℕ
+common_bytes_with header capabilities p = sent_bytes header (affected_rows p) (id_or_zero (last_insert_id p)) capabilities p
 
-unfoldable pub terminator_bytes : CapabilityFlags → OkPacket → List ℕ
-terminator_bytes capabilities p = sent_bytes 0xfe 0 0 capabilities p
+unfoldable pub terminator_bytes_with : ℕ → CapabilityFlags → OkPacket → List ℕ
+terminator_bytes_with header capabilities p = sent_bytes header 0 0 capabilities p
+
+unfoldable pub eof_bytes_with : ℕ → OkPacket → List ℕ
+eof_bytes_with header p = header ∷ (le_bytes 2 (warnings p) ++ le_bytes 2 (status_flags p).0)
+
+-- with the header of its own
+abbrev pub common_bytes : CapabilityFlags → OkPacket → List ℕ
+common_bytes = common_bytes_with 0
+
+abbrev pub terminator_bytes : CapabilityFlags → OkPacket → List ℕ
+terminator_bytes = terminator_bytes_with 0xfe
 
 abbrev pub eof_bytes : OkPacket → List ℕ
-eof_bytes p = 0xfe ∷ (le_bytes 2 (warnings p) ++ le_bytes 2 (status_flags p).0)
+eof_bytes = eof_bytes_with 0xfe
 
 -- the packet, read as its kind
 abbrev pub deserializer_of : {T : Type 0} → OkPacket → OkPacketDeserializer T

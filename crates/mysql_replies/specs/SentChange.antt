@@ -1,9 +1,10 @@
 -- The entry of a change, as servers send it.
-use Rattle.std.specs.Prelude.{ℕ, List, [], ◌∷◌, Option, Some, None, true, false}
+use Rattle.std.specs.Prelude.{◌≡◌, ℕ, List, [], ◌∷◌, Option, Some, None, true, false}
 use Rattle.std.specs.Option.{option_map}
 use Rattle.mysql_wire.specs.declared.codes.session_state_type.SessionStateType.{SessionStateType}
 use Rattle.mysql_wire.specs.declared.codes.session_state_type.SessionStateType.TheVariants as kind
 use Rattle.mysql_session.specs.SessionStateChange.{session_state_change_bytes}
+use Rattle.mysql_session.specs.SessionText.{text_bytes}
 use Rattle.mysql_session.specs.declared.session_state_change.SessionStateChange.{SessionStateChange}
 use Rattle.mysql_session.specs.declared.session_state_change.SessionStateChange.TheVariants as change
 use Rattle.mysql_replies.specs.declared.session_state_info.SessionStateInfo.{SessionStateInfo}
@@ -36,3 +37,14 @@ info_of type content = record { data_type = record { 0 = type; 1 = record {} }; 
 -- the entry of a change, none of one of another kind
 abbrev pub sent_info : SessionStateChange → Option SessionStateInfo
 sent_info c = option_map (λ type. info_of type (sent_data c)) (type_of c)
+
+-- The entry of such a change takes no memory: it is one byte that lies in the program, or no byte, or there is none. A
+-- length-encoded text has at least the byte of its length.
+abbrev pub TakesNoMemory : SessionStateChange → Type 0
+TakesNoMemory (change.IsTracked b) = Unit {0}
+TakesNoMemory (change.Schema s) = ⊥
+TakesNoMemory (change.SystemVariables vs) = vs ≡ []
+TakesNoMemory (change.Gtids g) = text_bytes g ≡ []
+TakesNoMemory (change.TransactionCharacteristics c) = ⊥
+TakesNoMemory (change.TransactionState s) = ⊥
+TakesNoMemory (change.Unsupported u) = Unit {0}

@@ -1,9 +1,9 @@
 -- The entries of a state string.
-use Rattle.std.specs.Prelude.{ℕ, List, [], Ok, Err, refl}
+use Rattle.std.specs.Prelude.{ℕ, List, [], Ok, Err, Bool, false, refl}
 use Rattle.mysql_wire.specs.declared.codes.session_state_type.SessionStateType.{SessionStateType}
 use Rattle.mysql_wire.specs.Codecs.{Codec, Fields, ◌>>=◌, give, field, packet, coded, string_lenenc}
 use Rattle.mysql_wire.specs.Form.{Form}
-use Rattle.mysql_wire.specs.Many.{many}
+use Rattle.mysql_wire.specs.Many.{many, many_asks}
 use Rattle.mysql_wire.specs.Reading.{Reading}
 use Rattle.mysql_wire.specs.SessionStateType.{session_state_type_code, session_state_type_of, session_state_type-again}
 use Rattle.mysql_session.specs.SessionStateChange.{session_state_change}
@@ -30,6 +30,10 @@ session_state_info = packet session_state_info_fields (λ i. refl)
 -- a state string: entries, one after another to the end
 abbrev pub state_string : Form (List SessionStateInfo)
 state_string = many (session_state_info.form tt)
+
+-- whether a state string begins with an entry: before one is read, no list is made
+abbrev pub begins_with_entry : List ℕ → Bool
+begins_with_entry = many_asks (λ _. false) (session_state_info.form tt)
 
 -- a reading of a front, the bytes after it dropped
 abbrev pub front_of : {A : Type 0} → Reading A → Reading A

@@ -1,14 +1,13 @@
 //! A column of a result.
 #![tactic(auto, using(mysql_wire::proofs::Packets::packets), unfolding(crate::specs::Column::column))]
 
-ghost use Rattle.std.specs.Prelude.{◌≡◌, true, length, None, refl, IfOk, OnErr, IsTrue, ◌∷◌};
+ghost use Rattle.std.specs.Prelude.{◌≡◌, true, length, None, refl, IfOk, IsOk, OnErr, IsTrue, ◌∷◌};
 ghost use Rattle.mysql_wire.specs.Text.{GivesText};
 ghost use Rattle.mysql_replies.specs.Column as spec;
 ghost use Rattle.mysql_replies.specs.ColumnNames.{has_a_name};
 
 use crate::column_fields::{ColumnFields, fields_of};
 use crate::column_names::{ColumnNames, Names};
-use crate::column_ref::read_column;
 use bstr::ByteSlice;
 use mysql_wire::{
     AnyWidth, ColumnFlags, ColumnType, Const, ConstBytes, ConstBytesValue, ConstFault, ConstU8,
@@ -89,9 +88,10 @@ impl Column {
         }
     }
 
-    /// The column with this name of the schema. Where the copy is refused, the column is given up.
+    /// The column with this name of the schema. Where the copy is refused, the column is given up; without any name none is made.
     pub fn with_schema(self, alloc: Global, schema: &[u8]) -> Result<Column, AllocError>
         ensures value { IfOk result (λ column. column ≡ spec.with_schema self schema.now) }
+        ensures no_memory { spec.HasNoName (spec.with_schema self schema.now) → IsOk result }
     {
         let names = Names {
             schema,
@@ -100,9 +100,10 @@ impl Column {
         named(alloc, &names, self.fields)
     }
 
-    /// The column with this name of the table, or of its alias. Where the copy is refused, the column is given up.
+    /// The column with this name of the table, or of its alias. Where the copy is refused, the column is given up; without any name none is made.
     pub fn with_table(self, alloc: Global, table: &[u8]) -> Result<Column, AllocError>
         ensures value { IfOk result (λ column. column ≡ spec.with_table self table.now) }
+        ensures no_memory { spec.HasNoName (spec.with_table self table.now) → IsOk result }
     {
         let names = Names {
             table,
@@ -111,9 +112,10 @@ impl Column {
         named(alloc, &names, self.fields)
     }
 
-    /// The column with this name of the table itself. Where the copy is refused, the column is given up.
+    /// The column with this name of the table itself. Where the copy is refused, the column is given up; without any name none is made.
     pub fn with_org_table(self, alloc: Global, org_table: &[u8]) -> Result<Column, AllocError>
         ensures value { IfOk result (λ column. column ≡ spec.with_org_table self org_table.now) }
+        ensures no_memory { spec.HasNoName (spec.with_org_table self org_table.now) → IsOk result }
     {
         let names = Names {
             org_table,
@@ -122,9 +124,10 @@ impl Column {
         named(alloc, &names, self.fields)
     }
 
-    /// The column with this name of the column, or of its alias. Where the copy is refused, the column is given up.
+    /// The column with this name of the column, or of its alias. Where the copy is refused, the column is given up; without any name none is made.
     pub fn with_name(self, alloc: Global, name: &[u8]) -> Result<Column, AllocError>
         ensures value { IfOk result (λ column. column ≡ spec.with_name self name.now) }
+        ensures no_memory { spec.HasNoName (spec.with_name self name.now) → IsOk result }
     {
         let names = Names {
             name,
@@ -133,9 +136,10 @@ impl Column {
         named(alloc, &names, self.fields)
     }
 
-    /// The column with this name of the column itself. Where the copy is refused, the column is given up.
+    /// The column with this name of the column itself. Where the copy is refused, the column is given up; without any name none is made.
     pub fn with_org_name(self, alloc: Global, org_name: &[u8]) -> Result<Column, AllocError>
         ensures value { IfOk result (λ column. column ≡ spec.with_org_name self org_name.now) }
+        ensures no_memory { spec.HasNoName (spec.with_org_name self org_name.now) → IsOk result }
     {
         let names = Names {
             org_name,
@@ -312,10 +316,13 @@ impl<'de> MyDeserialize<'de> for Column {
 
     ghost form = { spec.column.form };
 
-    #[tactic(auto, using(crate::proofs::NamesAfter::columns_begin))]
+    #[tactic(auto, using(mysql_wire::proofs::Tails::tails), unfolding(crate::specs::Column::column))]
     fn deserialize<'s>(_ctx: (), buf: &mut ParseBuf<'de>) -> Result<Self, FaultOf<'s>> {
-        let column = read_column::<true>(buf)?;
-        Ok(column.to_column(buf.alloc())?)
+        Ok(Column {
+            catalog: buf.parse(())?,
+            meta: buf.parse(())?,
+            fields: buf.parse(())?,
+        })
     }
 
     ghost size_is = { λ _. unfold spec.column in refl };

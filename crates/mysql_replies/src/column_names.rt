@@ -101,9 +101,11 @@ fn read_name<'s, 'de>(buf: &mut ParseBuf<'de>) -> Result<&'de [u8], FaultOf<'s>>
 
 /// Reads five length-encoded strings. After a fault the bytes are as they were.
 ///
-/// It stands in line, so that names that nobody asks for cost nothing.
+/// Either reader of columns has an instance of its own, so that it stands there in line, and names that nobody asks for cost nothing.
 #[inline(always)]
-pub(crate) fn read_names<'s, 'de>(buf: &mut ParseBuf<'de>) -> Result<Names<'de>, FaultOf<'s>>
+pub(crate) fn read_names<'s, 'de, const COPIED: bool>(
+    buf: &mut ParseBuf<'de>,
+) -> Result<Names<'de>, FaultOf<'s>>
     ensures value { Answers false result buf.new ((spec.column_meta.form tt).reads buf.old) }
     ensures err { OnErr result (buf.new ≡ buf.old) }
 {
@@ -282,4 +284,26 @@ impl Debug for ColumnNames {
     fn fmt<W: fmt::Write>(&self, f: &mut fmt::Formatter<W>) -> fmt::Result {
         self.meta().fmt(f)
     }
+}
+
+impl<'de> MyDeserialize<'de> for ColumnNames {
+    const SIZE: Option<usize> = None;
+
+    type Size = AnyWidth;
+
+    ghost takes_memory = { λ _ bytes. spec.reads_a_name ((spec.column_meta.form tt).reads bytes) };
+
+    type Ctx = ();
+
+    ghost form = { spec.column_meta.form };
+
+    fn deserialize<'s>(_ctx: (), buf: &mut ParseBuf<'de>) -> Result<Self, FaultOf<'s>> {
+        let mut rest = buf.rest();
+        let names = read_names::<true>(&mut rest)?;
+        let copied = ColumnNames::of(buf.alloc(), &names)?;
+        *buf = rest;
+        Ok(copied)
+    }
+
+    ghost size_is = { λ _. unfold spec.column_meta in refl };
 }

@@ -1,8 +1,7 @@
 //! A column of a result that stays in its packet.
 #![tactic(auto, using(mysql_wire::proofs::Packets::packets), unfolding(crate::specs::Column::column, crate::specs::ColumnNames::column_meta))]
 
-ghost use Rattle.std.specs.Prelude.{false, ◌≡◌, None, refl, IfOk, IfErr, IsTrue, OnErr};
-ghost use Rattle.mysql_wire.specs.Reading.{Answers, IsTail};
+ghost use Rattle.std.specs.Prelude.{◌≡◌, None, refl, IfOk, IfErr, IsTrue};
 ghost use Rattle.mysql_replies.specs.Column as spec;
 ghost use Rattle.mysql_replies.specs.ColumnNames.{has_a_name};
 
@@ -136,32 +135,6 @@ impl<'a> ColumnRef<'a> {
     }
 }
 
-/// Reads a column.
-///
-/// Either reader of columns has an instance of its own, so that it stands there in line, and what nobody asks for costs nothing.
-#[inline(always)]
-#[tactic(auto, using(mysql_wire::proofs::Tails::tails), unfolding(crate::specs::Column::column, crate::specs::ColumnNames::column_meta))]
-pub(crate) fn read_column<'s, 'de, const COPIED: bool>(
-    buf: &mut ParseBuf<'de>,
-) -> Result<ColumnRef<'de>, FaultOf<'s>>
-    ensures value { Answers false result buf.new ((spec.column.form tt).reads buf.old) }
-    ensures tail { OnErr result (IsTail buf.new buf.old) }
-{
-    let mut rest = buf.rest();
-    let _catalog: ColumnDefinitionCatalog = rest.parse(())?;
-    let names = read_names(&mut rest)?;
-    let fields: ColumnFields = rest.parse(())?;
-    *buf = rest;
-    Ok(ColumnRef {
-        names,
-        character_set: fields.character_set.0,
-        column_length: fields.column_length.0,
-        column_type: fields.column_type.0,
-        flags: fields.flags.0,
-        decimals: fields.decimals.0,
-    })
-}
-
 /// As a [`Column`], but for `Memory`: none is taken.
 impl<'de> MyDeserialize<'de> for ColumnRef<'de> {
     const SIZE: Option<usize> = None;
@@ -173,8 +146,21 @@ impl<'de> MyDeserialize<'de> for ColumnRef<'de> {
     ghost form = { spec.column.form };
 
     #[inline]
+    #[tactic(auto, using(mysql_wire::proofs::Tails::tails), unfolding(crate::specs::Column::column, crate::specs::ColumnNames::column_meta))]
     fn deserialize<'s>(_ctx: (), buf: &mut ParseBuf<'de>) -> Result<Self, FaultOf<'s>> {
-        read_column::<false>(buf)
+        let mut rest = buf.rest();
+        let _catalog: ColumnDefinitionCatalog = rest.parse(())?;
+        let names = read_names::<false>(&mut rest)?;
+        let fields: ColumnFields = rest.parse(())?;
+        *buf = rest;
+        Ok(ColumnRef {
+            names,
+            character_set: fields.character_set.0,
+            column_length: fields.column_length.0,
+            column_type: fields.column_type.0,
+            flags: fields.flags.0,
+            decimals: fields.decimals.0,
+        })
     }
 
     ghost size_is = { λ _. unfold spec.column in refl };

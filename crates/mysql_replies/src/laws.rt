@@ -24,6 +24,7 @@ ghost use Rattle.mysql_replies.specs.OkPacketSent.{common_bytes, terminator_byte
 ghost use Rattle.mysql_replies.specs.declared.ok_kind.CommonOkPacket.{CommonOkPacket};
 ghost use Rattle.mysql_replies.specs.declared.ok_kind.ResultSetTerminator.{ResultSetTerminator};
 ghost use Rattle.mysql_replies.specs.declared.ok_kind.OldEofPacket.{OldEofPacket};
+ghost use Rattle.mysql_replies.specs.declared.ok_kind.NetworkStreamTerminator.{NetworkStreamTerminator};
 ghost use Rattle.mysql_replies.specs.ProgressReport.{progress_report, ProgressReportFits};
 ghost use Rattle.mysql_replies.specs.ServerError.{server_error, error_code, sql_state_of, StateFits};
 ghost use Rattle.mysql_replies.specs.SessionStateInfo.{session_state_info, data_bytes, decoded, state_string};
@@ -110,6 +111,7 @@ pub fn ok_packet_round_trips()
     ensures common { (c : CapabilityFlags) (p : OkPacket) → OkPacketFits c p → (ok_packet {T = CommonOkPacket} 0 (common_ok_body c)).Spells (deserializer_of p) (common_bytes c p) [] }
     ensures terminator { (c : CapabilityFlags) (p : OkPacket) → TerminatorFits c p → (ok_packet {T = ResultSetTerminator} 0xfe (terminator_body c)).Spells (deserializer_of p) (terminator_bytes c p) [] }
     ensures old_eof { (c : CapabilityFlags) (p : OkPacket) → OldEofFits p → (ok_packet {T = OldEofPacket} 0xfe (old_eof_body c)).Spells (deserializer_of p) (eof_bytes p) [] }
+    ensures stream_end { (c : CapabilityFlags) (p : OkPacket) → OldEofFits p → (ok_packet {T = NetworkStreamTerminator} 0xfe (old_eof_body c)).Spells (deserializer_of p) (eof_bytes p) [] }
 {}
 
 /// What is sent of a change is decoded again.

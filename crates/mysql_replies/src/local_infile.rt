@@ -1,7 +1,7 @@
 //! The request for a file of the client's.
 #![tactic(auto, using(mysql_wire::proofs::Packets::packets), unfolding(crate::specs::LocalInfile::local_infile))]
 
-ghost use Rattle.std.specs.Prelude.{◌≡◌, None, refl, IfOk};
+ghost use Rattle.std.specs.Prelude.{◌≡◌, [], None, refl, IfOk, IsOk};
 ghost use Rattle.std.specs.Cow.{cow_slice_items};
 ghost use Rattle.mysql_wire.specs.Text.{GivesText};
 ghost use Rattle.mysql_replies.specs.LocalInfile as infile;
@@ -64,9 +64,10 @@ impl<'a> LocalInfilePacket<'a> {
         self.file_name.as_str(alloc)
     }
 
-    /// The same request, on memory of its own.
+    /// The same request, on memory of its own. An empty name takes none.
     pub fn into_owned(self, alloc: Global) -> Result<LocalInfilePacket<'static>, AllocError>
         ensures value { IfOk result (λ owned. owned ≡ self.entry) }
+        ensures no_memory { infile.file_name self.entry ≡ [] → IsOk result }
     {
         Ok(LocalInfilePacket {
             header: self.header,

@@ -1,13 +1,13 @@
 //! OK packets, of each kind.
 
-ghost use Rattle.std.specs.Prelude.{true, false, ◌≡◌, ℕ, List, [], Option, Some, None, Ok, IfOk, option_map};
+ghost use Rattle.std.specs.Prelude.{true, false, ◌≡◌, ℕ, List, [], Option, Some, None, Ok, IfOk, IsOk, option_map};
 ghost use Rattle.std.specs.Cow.{cow_slice_items, cow_str_bytes};
 ghost use Rattle.mysql_wire.specs.Reading.{Answers};
 ghost use Rattle.mysql_wire.specs.Seq.{items_of};
 ghost use Rattle.mysql_wire.specs.Text.{lossy_text, OptionBorrowsUtf8};
 ghost use Rattle.mysql_replies.specs.OkKind.{body_of};
 ghost use Rattle.mysql_replies.specs.OkPacket as spec;
-ghost use Rattle.mysql_replies.specs.SessionStateInfo.{state_string};
+ghost use Rattle.mysql_replies.specs.SessionStateInfo.{begins_with_entry, state_string};
 
 use crate::ok_kind::{OkPacketBody, OkPacketKind};
 use crate::session_state_changes::SessionStateChanges;
@@ -64,6 +64,7 @@ fn owned<'a>(
     alloc: Global,
 ) -> Result<Option<RawBytes<'static, LenEnc>>, AllocError>
     ensures value { IfOk result (λ owned. owned ≡ content.entry) }
+    ensures no_memory { spec.bytes_or_none content.entry ≡ [] → IsOk result }
 {
     match content {
         Some(content) => Ok(Some(content.into_owned(alloc)?)),
@@ -200,10 +201,10 @@ impl<'a> OkPacket<'a> {
 
     /// The entries that the whole state string spells, none where there is no state.
     ///
-    /// The fault is the first one of an entry. Without a state it takes no memory.
+    /// The fault is the first one of an entry. Without a state, or before a first entry is read, no memory is taken.
     #[tactic(auto, using(crate::proofs::StateString::no_entries))]
     pub fn session_state_info(&self, alloc: Global) -> Result<Vec<SessionStateInfo<'_>>, Fault>
-        ensures value { Answers true (items_of result) [] (state_string.reads (spec.state_bytes self.now)) }
+        ensures value { Answers (begins_with_entry (spec.state_bytes self.now)) (items_of result) [] (state_string.reads (spec.state_bytes self.now)) }
         ensures absent { spec.session_state self.now ≡ None → items_of result ≡ Ok [] }
         ensures spelled { IfOk result (λ infos. state_string.Spells infos.items (spec.state_bytes self.now) []) }
     {
@@ -231,9 +232,10 @@ impl<'a> OkPacket<'a> {
         SessionStateChanges::new(ParseBuf::new(alloc, bytes))
     }
 
-    /// The same packet, on memory of its own.
+    /// The same packet, on memory of its own. Without info and state it takes none.
     pub fn into_owned(self, alloc: Global) -> Result<OkPacket<'static>, AllocError>
         ensures value { IfOk result (λ owned. owned ≡ self.entry) }
+        ensures no_memory { spec.info_bytes self.entry ≡ [] → spec.state_bytes self.entry ≡ [] → IsOk result }
     {
         let OkPacket {
             affected_rows,

@@ -4,29 +4,41 @@ ghost use Rattle.std.specs.Prelude.{◌≡◌, length, option_map};
 ghost use Rattle.mysql_replies.specs.OkPacket.{bytes_or_none};
 ghost use Rattle.mysql_replies.specs.OkPacketSent as sent;
 
-use crate::ok_kind::{CommonOkPacket, NetworkStreamTerminator, OldEofPacket, ResultSetTerminator};
+use crate::ok_kind::{
+    CommonOkPacket, NetworkStreamTerminator, OkPacketKind, OldEofPacket, ResultSetTerminator,
+};
 use crate::ok_packet::OkPacket;
 use bitflags::Flags;
 use mysql_wire::{
-    CapabilityFlags, Const, ConstU8, LeU16, LenEnc, Parts, RawBytes, RawInt, Sink, StatusFlags,
-    parts,
+    CapabilityFlags, Const, LeU16, LenEnc, Parts, RawBytes, RawInt, Sink, StatusFlags, parts,
 };
 use std::borrow::CowSlice;
 use std::marker::{Model, PhantomData};
 
-/// How a kind of OK packet is written. It is open, as [`OkPacketKind`](crate::OkPacketKind) is.
-pub trait OkPacketLayout {
+/// How a kind of OK packet is written. It is open, as [`OkPacketKind`] is: a kind of your own, with a header of its own, is
+/// written by `put` of the kind whose body it has.
+///
+/// ```
+/// impl OkPacketLayout for Mine {
+///     ghost bytes = { common_bytes_with };
+///
+///     fn put<S: Sink>(header: u8, flags: CapabilityFlags, packet: &OkPacket<'_>, sink: &mut S) {
+///         CommonOkPacket::put(header, flags, packet, sink);
+///     }
+/// }
+/// ```
+pub trait OkPacketLayout: OkPacketKind {
     ghost use Rattle.std.specs.Prelude.{◌≡◌, length, List, ℕ};
     ghost use Rattle.mysql_wire.specs.Flags as flags;
     ghost use Rattle.mysql_replies.specs.declared.ok_packet.OkPacket as declared;
 
-    /// The defined bytes, by what both sides can do.
-    ghost bytes: { flags.CapabilityFlags → declared.OkPacket → List ℕ };
+    /// The defined bytes, by the header and what both sides can do.
+    ghost bytes: { ℕ → flags.CapabilityFlags → declared.OkPacket → List ℕ };
 
-    /// Hands the parts over.
-    fn put<S: Sink>(capabilities: CapabilityFlags, packet: &OkPacket<'_>, sink: &mut S)
-        requires { S.capacity sink.old (length (bytes capabilities packet.now)) }
-        ensures value { S.took sink.old (bytes capabilities packet.now) sink.new };
+    /// Hands the parts over, behind this header.
+    fn put<S: Sink>(header: u8, capabilities: CapabilityFlags, packet: &OkPacket<'_>, sink: &mut S)
+        requires { S.capacity sink.old (length (bytes header capabilities packet.now)) }
+        ensures value { S.took sink.old (bytes header capabilities packet.now) sink.new };
 }
 
 /// An OK packet that is written as a packet of the kind `T`, for what both sides can do: the other direction of
@@ -79,11 +91,11 @@ impl<'p, 'a, T> OkPacketSerializer<'p, 'a, T> {
 }
 
 impl<T: OkPacketLayout> Parts for OkPacketSerializer<'_, '_, T> {
-    ghost bytes = { λ s. T.bytes s.1 s.0 };
+    ghost bytes = { λ s. T.bytes T.HEADER s.1 s.0 };
 
     #[inline(always)]
     fn put<S: Sink>(&self, sink: &mut S) {
-        T::put(self.capabilities, self.packet, sink);
+        T::put(T::HEADER, self.capabilities, self.packet, sink);
     }
 }
 
@@ -111,17 +123,18 @@ fn id_or_zero(id: Option<u64>) -> u64
 
 /// A header, these rows and this insert id, and all else of the packet.
 #[inline(always)]
-fn put_all<S: Sink, const HEADER: u8>(
+fn put_all<S: Sink>(
+    header: u8,
     capabilities: CapabilityFlags,
     affected_rows: u64,
     last_insert_id: u64,
     packet: &OkPacket<'_>,
     sink: &mut S,
 )
-    requires { S.capacity sink.old (length (sent.sent_bytes HEADER affected_rows last_insert_id capabilities packet.now)) }
-    ensures value { S.took sink.old (sent.sent_bytes HEADER affected_rows last_insert_id capabilities packet.now) sink.new }
+    requires { S.capacity sink.old (length (sent.sent_bytes header affected_rows last_insert_id capabilities packet.now)) }
+    ensures value { S.took sink.old (sent.sent_bytes header affected_rows last_insert_id capabilities packet.now) sink.new }
 {
-    let header: ConstU8<(), HEADER> = ConstU8::new();
+    let header = [header];
     let affected_rows: RawInt<LenEnc> = RawInt::new(affected_rows);
     let last_insert_id: RawInt<LenEnc> = RawInt::new(last_insert_id);
     let status: Const<StatusFlags, LeU16> = Const::new(packet.status_flags());
@@ -139,53 +152,47 @@ fn put_all<S: Sink, const HEADER: u8>(
     }
 }
 
-/// The warnings and the status after the header.
-#[inline(always)]
-fn put_old_eof<S: Sink>(packet: &OkPacket<'_>, sink: &mut S)
-    requires { S.capacity sink.old (length (sent.eof_bytes packet.now)) }
-    ensures value { S.took sink.old (sent.eof_bytes packet.now) sink.new }
-{
-    let header: ConstU8<(), 0xfe> = ConstU8::new();
-    let warnings: RawInt<LeU16> = RawInt::new(packet.warnings());
-    let status: Const<StatusFlags, LeU16> = Const::new(packet.status_flags());
-    sink.part(&parts!(header, warnings, status));
-}
-
 impl OkPacketLayout for CommonOkPacket {
-    ghost bytes = { sent.common_bytes };
+    ghost bytes = { sent.common_bytes_with };
 
     #[inline(always)]
-    #[tactic(auto, unfolding(crate::specs::OkPacketSent::common_bytes))]
-    fn put<S: Sink>(capabilities: CapabilityFlags, packet: &OkPacket<'_>, sink: &mut S) {
+    #[tactic(auto, unfolding(crate::specs::OkPacketSent::common_bytes_with))]
+    fn put<S: Sink>(header: u8, flags: CapabilityFlags, packet: &OkPacket<'_>, sink: &mut S) {
+        let rows = packet.affected_rows();
         let id = id_or_zero(packet.last_insert_id());
-        put_all::<S, 0>(capabilities, packet.affected_rows(), id, packet, sink);
+        put_all(header, flags, rows, id, packet, sink);
     }
 }
 
 impl OkPacketLayout for ResultSetTerminator {
-    ghost bytes = { sent.terminator_bytes };
+    ghost bytes = { sent.terminator_bytes_with };
 
     #[inline(always)]
-    #[tactic(auto, unfolding(crate::specs::OkPacketSent::terminator_bytes))]
-    fn put<S: Sink>(capabilities: CapabilityFlags, packet: &OkPacket<'_>, sink: &mut S) {
-        put_all::<S, 0xfe>(capabilities, 0, 0, packet, sink);
+    #[tactic(auto, unfolding(crate::specs::OkPacketSent::terminator_bytes_with))]
+    fn put<S: Sink>(header: u8, flags: CapabilityFlags, packet: &OkPacket<'_>, sink: &mut S) {
+        put_all(header, flags, 0, 0, packet, sink);
     }
 }
 
 impl OkPacketLayout for OldEofPacket {
-    ghost bytes = { λ capabilities p. sent.eof_bytes p };
+    ghost bytes = { λ header _ packet. sent.eof_bytes_with header packet };
 
     #[inline(always)]
-    fn put<S: Sink>(_capabilities: CapabilityFlags, packet: &OkPacket<'_>, sink: &mut S) {
-        put_old_eof(packet, sink);
+    #[tactic(auto, unfolding(crate::specs::OkPacketSent::eof_bytes_with))]
+    fn put<S: Sink>(header: u8, _flags: CapabilityFlags, packet: &OkPacket<'_>, sink: &mut S) {
+        let header = [header];
+        let warnings: RawInt<LeU16> = RawInt::new(packet.warnings());
+        let status: Const<StatusFlags, LeU16> = Const::new(packet.status_flags());
+        sink.part(&parts!(header, warnings, status));
     }
 }
 
+/// As an [`OldEofPacket`].
 impl OkPacketLayout for NetworkStreamTerminator {
-    ghost bytes = { λ capabilities p. sent.eof_bytes p };
+    ghost bytes = { λ header _ packet. sent.eof_bytes_with header packet };
 
     #[inline(always)]
-    fn put<S: Sink>(_capabilities: CapabilityFlags, packet: &OkPacket<'_>, sink: &mut S) {
-        put_old_eof(packet, sink);
+    fn put<S: Sink>(header: u8, flags: CapabilityFlags, packet: &OkPacket<'_>, sink: &mut S) {
+        OldEofPacket::put(header, flags, packet, sink);
     }
 }

@@ -1,7 +1,7 @@
 //! How far a server is with a long statement.
 #![tactic(auto, using(mysql_wire::proofs::Packets::packets), unfolding(crate::specs::ProgressReport::progress_report))]
 
-ghost use Rattle.std.specs.Prelude.{◌≡◌, None, Some, refl, IfOk};
+ghost use Rattle.std.specs.Prelude.{◌≡◌, [], None, Some, refl, IfOk, IsOk};
 ghost use Rattle.std.specs.Cow.{cow_slice_items};
 ghost use Rattle.mysql_wire.specs.Text.{GivesText};
 ghost use Rattle.mysql_replies.specs.ProgressReport as spec;
@@ -81,9 +81,10 @@ impl<'a> ProgressReport<'a> {
         self.stage_info.as_str(alloc)
     }
 
-    /// The same report, on memory of its own.
+    /// The same report, on memory of its own. An empty text takes none.
     pub fn into_owned(self, alloc: Global) -> Result<ProgressReport<'static>, AllocError>
         ensures value { IfOk result (λ owned. owned ≡ self.entry) }
+        ensures no_memory { spec.stage_info self.entry ≡ [] → IsOk result }
     {
         Ok(ProgressReport {
             stage: self.stage,

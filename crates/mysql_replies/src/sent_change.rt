@@ -1,7 +1,7 @@
 //! Entries of a state string that are put together of changes, as a server sends them.
-#![tactic(auto, unfolding(mysql_session::specs::SessionStateChange::session_state_change_bytes))]
+#![tactic(auto, unfolding(mysql_session::specs::SessionStateChange::session_state_change_bytes, mysql_session::specs::SessionText::gtids, mysql_session::specs::SystemVariables::system_variables))]
 
-ghost use Rattle.std.specs.Prelude.{◌≡◌, IfOk};
+ghost use Rattle.std.specs.Prelude.{◌≡◌, IfOk, IsOk, IsSome};
 ghost use Rattle.std.specs.Cow.{cow_slice_items};
 ghost use Rattle.mysql_replies.specs.SentChange as spec;
 
@@ -38,6 +38,7 @@ fn data_of(
     change: &SessionStateChange<'_>,
 ) -> Result<CowSlice<'static, u8>, AllocError>
     ensures value { IfOk result (λ content. cow_slice_items content ≡ spec.sent_data change.now) }
+    ensures no_memory { spec.TakesNoMemory change.now → IsSome (spec.type_of change.now) → IsOk result }
 {
     match change {
         SessionStateChange::IsTracked(true) => Ok(CowSlice::Borrowed(b"1")),
@@ -55,12 +56,13 @@ impl SessionStateInfo<'static> {
     /// type.
     ///
     /// Whether changes are tracked is sent as one byte, `1` or `0`, as servers do;
-    /// [`decode_as_sent`](Self::decode_as_sent) reads it.
+    /// [`decode_as_sent`](Self::decode_as_sent) reads it. That byte, and what has no bytes, takes no memory.
     pub fn from_change(
         alloc: Global,
         change: &SessionStateChange<'_>,
     ) -> Result<Option<SessionStateInfo<'static>>, AllocError>
         ensures value { IfOk result (λ info. info ≡ spec.sent_info change.now) }
+        ensures no_memory { spec.TakesNoMemory change.now → IsOk result }
     {
         let Some(data_type) = type_of(change) else {
             return Ok(None);

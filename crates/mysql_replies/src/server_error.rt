@@ -1,7 +1,7 @@
 //! An error that a server reports.
 #![tactic(auto, using(mysql_wire::proofs::Packets::packets), unfolding(crate::specs::ServerError::server_error))]
 
-ghost use Rattle.std.specs.Prelude.{◌≡◌, None, Some, refl, IfOk, option_map};
+ghost use Rattle.std.specs.Prelude.{◌≡◌, [], None, Some, refl, IfOk, IsOk, option_map};
 ghost use Rattle.std.specs.Cow.{cow_slice_items};
 ghost use Rattle.mysql_wire.specs.Text.{GivesText};
 ghost use Rattle.mysql_replies.specs.ServerError as spec;
@@ -71,9 +71,10 @@ impl<'a> ServerError<'a> {
         self.message.as_str(alloc)
     }
 
-    /// The same error, on memory of its own.
+    /// The same error, on memory of its own. An empty message takes none.
     pub fn into_owned(self, alloc: Global) -> Result<ServerError<'static>, AllocError>
         ensures value { IfOk result (λ owned. owned ≡ self.entry) }
+        ensures no_memory { spec.message self.entry ≡ [] → IsOk result }
     {
         Ok(ServerError {
             code: self.code,

@@ -1,7 +1,7 @@
 //! An entry of the state string of an OK packet.
 #![tactic(auto, using(mysql_wire::proofs::Packets::packets), unfolding(crate::specs::SessionStateInfo::session_state_info))]
 
-ghost use Rattle.std.specs.Prelude.{true, ◌≡◌, [], List, ℕ, None, refl, IfOk};
+ghost use Rattle.std.specs.Prelude.{true, ◌≡◌, [], List, ℕ, None, refl, IfOk, IsOk};
 ghost use Rattle.std.specs.Cow.{cow_slice_items};
 ghost use Rattle.mysql_wire.specs.Reading.{Answers};
 ghost use Rattle.mysql_session.specs.SessionStateChange.{session_state_change, lists_variables};
@@ -80,9 +80,10 @@ impl<'a> SessionStateInfo<'a> {
         )
     }
 
-    /// The same, on memory of its own.
+    /// The same, on memory of its own. Empty data take none.
     pub fn into_owned(self, alloc: Global) -> Result<SessionStateInfo<'static>, AllocError>
         ensures value { IfOk result (λ owned. owned ≡ self.entry) }
+        ensures no_memory { spec.data_bytes self.entry ≡ [] → IsOk result }
     {
         Ok(SessionStateInfo {
             data_type: self.data_type,

@@ -3,7 +3,6 @@ use Rattle.std.specs.Prelude.{refl, ◌≡◌, ℕ, ◌<◌, ◌^◌, length, Al
 use Rattle.std.specs.Cmp.Lexicographic.{pointwise}
 use Rattle.mysql_wire.specs.declared.codes.session_state_type.SessionStateType.{SessionStateType}
 use Rattle.mysql_wire.specs.declared.codes.session_state_type.SessionStateType.TheVariants as kind
-use Rattle.mysql_wire.specs.CodecFits.{is_there}
 use Rattle.mysql_wire.specs.Form.{Form, map}
 use Rattle.mysql_wire.specs.LenEnc.{lenenc_string, size-lenenc_string}
 use Rattle.mysql_wire.specs.Many.{size-many}
@@ -11,7 +10,7 @@ use Rattle.mysql_session.specs.declared.session_state_change.SessionStateChange.
 use Rattle.mysql_session.specs.declared.session_state_change.SessionStateChange.TheVariants as change
 use Rattle.mysql_session.specs.SessionText.{lenenc_text, gtids, text_bytes}
 use Rattle.mysql_session.specs.SystemVariable.{SystemVariableFits}
-use Rattle.mysql_session.specs.SystemVariables.{system_variables}
+use Rattle.mysql_session.specs.SystemVariables.{system_variables, begins_with_variable}
 
 -- whether the content is `1`
 abbrev pub is_tracked : List ℕ → SessionStateChange
@@ -35,9 +34,9 @@ size-session_state_change kind.SESSION_TRACK_GTIDS = refl
 size-session_state_change kind.SESSION_TRACK_TRANSACTION_CHARACTERISTICS = refl
 size-session_state_change kind.SESSION_TRACK_TRANSACTION_STATE = refl
 
--- whether the data lists any system variable
+-- whether the data begins with a system variable
 abbrev pub lists_variables : SessionStateType → List ℕ → Bool
-lists_variables kind.SESSION_TRACK_SYSTEM_VARIABLES bytes = is_there bytes
+lists_variables kind.SESSION_TRACK_SYSTEM_VARIABLES bytes = begins_with_variable bytes
 lists_variables kind.SESSION_TRACK_SCHEMA bytes = false
 lists_variables kind.SESSION_TRACK_STATE_CHANGE bytes = false
 lists_variables kind.SESSION_TRACK_GTIDS bytes = false
@@ -86,3 +85,13 @@ ChangeIsShort (change.Gtids g) = Unit {0}
 ChangeIsShort (change.TransactionCharacteristics c) = length (text_bytes c) < 2 ^ 64
 ChangeIsShort (change.TransactionState s) = length (text_bytes s) < 2 ^ 64
 ChangeIsShort (change.Unsupported u) = length (text_bytes u) < 2 ^ 64
+
+-- nothing of the change lies in memory: no byte of a text, and no variable
+abbrev pub OwnsNothing : SessionStateChange → Type 0
+OwnsNothing (change.IsTracked b) = Unit {0}
+OwnsNothing (change.Schema s) = text_bytes s ≡ []
+OwnsNothing (change.SystemVariables vs) = vs ≡ []
+OwnsNothing (change.Gtids g) = text_bytes g ≡ []
+OwnsNothing (change.TransactionCharacteristics c) = text_bytes c ≡ []
+OwnsNothing (change.TransactionState s) = text_bytes s ≡ []
+OwnsNothing (change.Unsupported u) = text_bytes u ≡ []

@@ -1,7 +1,7 @@
 //! A change of a session's state.
 #![tactic(auto, using(mysql_wire::proofs::Packets::packets), unfolding(crate::specs::SessionStateChange::session_state_change, crate::specs::SessionStateChange::session_state_change_bytes, crate::specs::SessionText::lenenc_text, crate::specs::SessionText::gtids))]
 
-ghost use Rattle.std.specs.Prelude.{true, ◌≡◌, None, refl, IfOk};
+ghost use Rattle.std.specs.Prelude.{true, ◌≡◌, None, refl, IfOk, IsOk};
 ghost use Rattle.mysql_session.specs.SessionStateChange as spec;
 
 use crate::session_text::{
@@ -37,9 +37,10 @@ pub enum SessionStateChange<'a> {
 }
 
 impl<'a> SessionStateChange<'a> {
-    /// The same change, on memory of its own.
+    /// The same change, on memory of its own. A change without text and without variables takes none.
     pub fn into_owned(self, alloc: Global) -> Result<SessionStateChange<'static>, AllocError>
         ensures value { IfOk result (λ owned. owned ≡ self.entry) }
+        ensures no_memory { spec.OwnsNothing self.entry → IsOk result }
     {
         match self {
             Self::IsTracked(is_tracked) => Ok(SessionStateChange::IsTracked(is_tracked)),

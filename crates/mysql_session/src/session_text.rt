@@ -1,6 +1,6 @@
 //! The parts of session changes that are one byte string each.
 
-ghost use Rattle.std.specs.Prelude.{◌≡◌, None, IfOk, refl};
+ghost use Rattle.std.specs.Prelude.{◌≡◌, [], None, IfOk, IsOk, refl};
 ghost use Rattle.std.specs.Cow.{cow_slice_items};
 ghost use Rattle.mysql_wire.specs.Text.{GivesText};
 ghost use Rattle.mysql_session.specs.SessionText.{session_text, text_bytes, text_of};
@@ -79,9 +79,10 @@ impl<'a, N, R> SessionText<'a, N, R> {
         self.0.as_str(alloc)
     }
 
-    /// The same, on memory of its own.
+    /// The same, on memory of its own. An empty text takes none.
     pub fn into_owned(self, alloc: Global) -> Result<SessionText<'static, N, R>, AllocError>
         ensures value { IfOk result (λ owned. owned ≡ self.entry) }
+        ensures no_memory { text_bytes self.entry ≡ [] → IsOk result }
     {
         Ok(SessionText(self.0.into_owned(alloc)?, PhantomData))
     }

@@ -1,7 +1,7 @@
 //! A system variable and its value.
 #![tactic(auto, using(mysql_wire::proofs::Packets::packets), unfolding(crate::specs::SystemVariable::system_variable))]
 
-ghost use Rattle.std.specs.Prelude.{◌≡◌, None, refl, IfOk};
+ghost use Rattle.std.specs.Prelude.{◌≡◌, [], None, refl, IfOk, IsOk};
 ghost use Rattle.std.specs.Cow.{cow_slice_items};
 ghost use Rattle.mysql_wire.specs.Text.{GivesText};
 ghost use Rattle.mysql_session.specs.SystemVariable as spec;
@@ -70,9 +70,10 @@ impl<'a> SystemVariable<'a> {
         self.value.as_str(alloc)
     }
 
-    /// The same, on memory of its own.
+    /// The same, on memory of its own. Without name and value it takes none.
     pub fn into_owned(self, alloc: Global) -> Result<SystemVariable<'static>, AllocError>
         ensures value { IfOk result (λ owned. owned ≡ self.entry) }
+        ensures no_memory { spec.variable_name self.entry ≡ [] → spec.variable_value self.entry ≡ [] → IsOk result }
     {
         let SystemVariable { name, value } = self;
         Ok(SystemVariable {

@@ -1,8 +1,7 @@
 //! System variables and their values.
 #![tactic(auto, using(mysql_wire::proofs::Packets::packets), unfolding(crate::specs::SystemVariables::system_variables))]
 
-ghost use Rattle.std.specs.Prelude.{true, ◌≡◌, None, refl, IfOk};
-ghost use Rattle.mysql_wire.specs.CodecFits.{is_there};
+ghost use Rattle.std.specs.Prelude.{◌≡◌, [], None, refl, IfOk, IsOk};
 ghost use Rattle.mysql_wire.specs.Many.{size-many};
 ghost use Rattle.mysql_session.specs.SystemVariables as spec;
 
@@ -54,9 +53,10 @@ impl<'a> SystemVariables<'a> {
         self.0
     }
 
-    /// The same, on memory of its own.
+    /// The same, on memory of its own. For no variable it takes none.
     pub fn into_owned(self, alloc: Global) -> Result<SystemVariables<'static>, AllocError>
         ensures value { IfOk result (λ owned. owned ≡ self.entry) }
+        ensures no_memory { self.entry ≡ [] → IsOk result }
     {
         let mut owned = Vec::with_capacity(alloc, self.0.len())?;
         for variable in self.0 {
@@ -105,7 +105,7 @@ impl<'de> MyDeserialize<'de> for SystemVariables<'de> {
 
     type Size = AnyWidth;
 
-    ghost takes_memory = { λ _ bytes. is_there bytes };
+    ghost takes_memory = { λ _ bytes. spec.begins_with_variable bytes };
 
     type Ctx = ();
 

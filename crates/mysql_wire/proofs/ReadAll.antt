@@ -1,5 +1,5 @@
 -- A loop that reads values until the bytes end.
-use Rattle.std.proofs.Common.{◌≡◌, ◌≢◌, ℕ, ◌+◌, ◌<◌, List, [], ◌∷◌, ◌++◌, length, Ok, Err, Bool, true, refl, sym, ap, ◌∙◌, arith}
+use Rattle.std.proofs.Common.{◌≡◌, ◌≢◌, ℕ, ◌+◌, ◌<◌, List, [], ◌∷◌, ◌++◌, length, Ok, Err, Bool, true, IsTrue, refl, sym, ap, ◌∙◌, arith}
 use Rattle.std.proofs.lemmas.Bool.{lt-ltb, le-ltb}
 use Rattle.std.proofs.lemmas.List.{append-nil, length-append}
 use Rattle.mysql_wire.specs.declared.fault.FaultOf.{FaultOf}
@@ -7,9 +7,9 @@ use Rattle.mysql_wire.specs.declared.fault.FaultOf.TheVariants as fault
 use Rattle.mysql_wire.specs.declared.fault.FaultKind.TheVariants as kind
 use Rattle.mysql_wire.specs.Reading.{Reading, IsTail, then_read, Faults}
 use Rattle.mysql_wire.specs.Form.{Form}
-use Rattle.mysql_wire.specs.Many.{many, value_and_more}
+use Rattle.mysql_wire.specs.Many.{many, many_asks, value_and_more}
 use Rattle.mysql_wire.specs.Many.Laws.{many-next}
-use Rattle.mysql_wire.proofs.Counted.{with_front, regroup}
+use Rattle.mysql_wire.proofs.Counted.{with_front, regroup, asks-more}
 
 pub tail-shorter : (tail bytes : List ℕ) → IsTail tail bytes → length tail ≢ length bytes → length tail < length bytes
 tail-shorter tail bytes t ne = let e : length bytes ≡ length t.front + length tail = ap length t.parts ∙ length-append t.front tail in omega (arith, e, ne)
@@ -47,8 +47,21 @@ module _ {A : Type 0} (f : Form A) (front : List A) (bytes : List ℕ) (total : 
       let one : with_front front ((many f).reads bytes) ≡ Err e = rw (opened f bytes ne, h) refl in
       sym so_far ∙ one
 
+  -- the fault of a value, where the list may take memory if the value may
+  pub one-fails-as : (b asks : Bool) (e : FaultOf) → bytes ≢ [] → (IsTrue b → IsTrue asks) → Faults b e (f.reads bytes) → Faults asks e total
+  one-fails-as b asks fault.Memory ne may h = may h
+  one-fails-as b asks fault.UnexpectedEof ne may h = fails-with _ ne h
+  one-fails-as b asks (fault.InvalidData text) ne may h = fails-with _ ne h
+  one-fails-as b asks (fault.InvalidInput text) ne may h = fails-with _ ne h
+
   pub one-fails : (b : Bool) (e : FaultOf) → bytes ≢ [] → Faults b e (f.reads bytes) → Faults true e total
-  one-fails b fault.Memory ne h = refl
-  one-fails b fault.UnexpectedEof ne h = fails-with _ ne h
-  one-fails b (fault.InvalidData text) ne h = fails-with _ ne h
-  one-fails b (fault.InvalidInput text) ne h = fails-with _ ne h
+  one-fails b e ne h = one-fails-as b true e ne (λ _. refl) h
+
+-- a value that is read, and takes a byte, asks for memory, and so does one that may take some
+pub many-asks-read : {A : Type 0} (takes : List ℕ → Bool) (f : Form A) (x : A) (bytes after : List ℕ) → length after < length bytes → f.reads bytes ≡ Ok (x, after) → IsTrue (many_asks takes f bytes)
+many-asks-read takes f x [] after lt h = absurd (omega (arith, lt))
+many-asks-read takes f x (b ∷ bs) after lt h = rw (h, lt-ltb _ _ lt) refl
+
+pub many-asks-more : {A : Type 0} (takes : List ℕ → Bool) (f : Form A) (bytes : List ℕ) → bytes ≢ [] → IsTrue (takes bytes) → IsTrue (many_asks takes f bytes)
+many-asks-more takes f [] ne h = absurd (ne refl)
+many-asks-more takes f (b ∷ bs) ne h = asks-more (takes (b ∷ bs)) (then_read (f.reads (b ∷ bs)) (value_and_more (length (b ∷ bs)) (λ mid. Ok ([], mid)))) h

@@ -4,7 +4,7 @@ pub mod Laws
 use Rattle.std.specs.Prelude.{◌≡◌, List, None, refl}
 use Rattle.mysql_wire.specs.Form.{Form}
 use Rattle.mysql_wire.specs.Many.Laws as law
-pub use Rattle.mysql_wire.specs.Many.Grammar.{many_Spells, many_reads, value_and_more}
+pub use Rattle.mysql_wire.specs.Many.Grammar.{many_Spells, many_reads, many_asks, value_and_more}
 
 -- each value takes at least one byte, and the last one ends the bytes
 unfoldable pub many : {A : Type 0} → Form A → Form (List A)

@@ -2,7 +2,7 @@
 
 ghost use Rattle.std.specs.Prelude.{true, ◌≡◌, OnErr};
 ghost use Rattle.mysql_wire.specs.Reading.{Answers};
-ghost use Rattle.mysql_wire.specs.Many.{many};
+ghost use Rattle.mysql_wire.specs.Many.{many, many_asks};
 ghost use Rattle.mysql_wire.specs.Seq.{items_of};
 
 use crate::buf::ParseBuf;
@@ -13,11 +13,11 @@ use std::alloc::AllocError;
 /// Reads values one after another until the buffer is empty.
 ///
 /// The fault is that of the first value that has one. A value that takes no bytes is `InvalidData`, since it would be
-/// read again without end. After a refusal the buffer is as it was.
+/// read again without end. No memory is taken before a first value is read. After a refusal the buffer is as it was.
 pub fn read_all<'s, 'a, T: MyDeserialize<'a, Ctx = ()> + Drop>(
     buf: &mut ParseBuf<'a>,
 ) -> Result<Vec<T>, FaultOf<'s>>
-    ensures value { Answers true (items_of result) buf.new ((many (T.form tt)).reads buf.old) }
+    ensures value { Answers (many_asks (T.takes_memory tt) (T.form tt) buf.old) (items_of result) buf.new ((many (T.form tt)).reads buf.old) }
     ensures err { OnErr result (buf.new ≡ buf.old) }
 {
     let mut rest = buf.rest();
@@ -28,21 +28,21 @@ pub fn read_all<'s, 'a, T: MyDeserialize<'a, Ctx = ()> + Drop>(
         if rest.len() == before {
             return Err(FaultOf::InvalidData("Empty value in a list"));
         }
-        take_first_capacity(&mut items)?;
+        take_first_capacity(&mut items, 4)?;
         items.push(item)?;
     }
     *buf = rest;
     Ok(items)
 }
 
-/// Takes the capacity that the first push would take. The compiler puts it where it is called, and the push after it seldom
-/// grows.
+/// Takes the capacity that is wanted before the first push. The compiler puts it where it is called, and the push after it
+/// seldom grows.
 #[inline(always)]
-fn take_first_capacity<T>(items: &mut Vec<T>) -> Result<(), AllocError>
+pub(crate) fn take_first_capacity<T>(items: &mut Vec<T>, capacity: usize) -> Result<(), AllocError>
     ensures items { items.new.items ≡ items.old.items }
 {
     if items.capacity() == 0 {
-        items.reserve_exact(4)?;
+        items.reserve_exact(capacity)?;
     }
     Ok(())
 }

@@ -1,10 +1,10 @@
 //! Lists of values.
 
-ghost use Rattle.std.specs.Prelude.{true, false, ◌≡◌, ◌≤◌, ◌+◌, ◌++◌, ◌∷◌, [], ◌↔◌, length, drop, List, ℕ, OnOk, OnErr, IfOk, IsTrue, refl};
+ghost use Rattle.std.specs.Prelude.{true, false, ◌≡◌, ◌≤◌, ◌+◌, ◌++◌, ◌∷◌, [], ◌↔◌, length, drop, List, ℕ, OnOk, OnErr, IfOk, IsOk, IsTrue, refl};
 ghost use Rattle.std.specs.Cow.{cow_slice_items};
 ghost use Rattle.mysql_wire.specs.Reading.{Answers, IsTail};
 ghost use Rattle.mysql_wire.specs.Form.{Form, give};
-ghost use Rattle.mysql_wire.specs.Seq.{counted, counts_any, items_of, seq, seq_bytes, IsHeld};
+ghost use Rattle.mysql_wire.specs.Seq.{counted, counts_first, asks_memory, items_of, seq, seq_bytes, IsHeld};
 
 use crate::buf::ParseBuf;
 use crate::buffer::Buffer;
@@ -12,6 +12,7 @@ use crate::fault::FaultOf;
 use crate::int::{IntRepr, RawInt};
 use crate::items::{append_items, items_len};
 use crate::little_endian::LeU64;
+use crate::many::take_first_capacity;
 use crate::proto::{AnyWidth, MyDeserialize, MySerialize, Width};
 use std::alloc::{AllocError, Global};
 use std::borrow::CowSlice;
@@ -33,17 +34,18 @@ fn capacity_for(count: u64, size: Option<usize>, unread: usize) -> usize
     }
 }
 
-/// Reads so many values, one after another.
+/// Reads so many values, one after another. A fault of the first one comes before any memory.
 fn read_items<'s, 'a, T: MyDeserialize<'a, Ctx = ()> + Drop>(
     count: u64,
     buf: &mut ParseBuf<'a>,
 ) -> Result<Vec<T>, FaultOf<'s>>
-    ensures value { Answers true (items_of result) buf.new ((counted count (T.form tt)).reads buf.old) }
+    ensures value { Answers (asks_memory (T.takes_memory tt buf.old) ((T.form tt).reads buf.old)) (items_of result) buf.new ((counted count (T.form tt)).reads buf.old) }
 {
     let capacity = capacity_for(count, <T::Size as Width>::SIZE, buf.len());
-    let mut items = Vec::with_capacity(buf.alloc(), capacity)?;
+    let mut items = Vec::new(buf.alloc());
     for _ in 0..count {
         let item = buf.parse(())?;
+        take_first_capacity(&mut items, capacity)?;
         items.push(item)?;
     }
     Ok(items)
@@ -196,7 +198,7 @@ impl<'a, T, L> Seq<'a, T, L> {
         values
     }
 
-    /// A list of the same values, each cloned where this list owns them.
+    /// A list of the same values, each cloned where this list owns them. For no value no memory is taken.
     ///
     /// The caller knows that clones of the values equal them.
     pub fn clone(&self) -> Result<Seq<'a, T, L>, AllocError>
@@ -204,7 +206,11 @@ impl<'a, T, L> Seq<'a, T, L> {
         T: Clone,
         requires clones { (x y : T) → T.is_clone x y → y ≡ x }
         ensures value { IfOk result (λ copy. copy ≡ self.now) }
+        ensures no_memory { self.now ≡ [] → IsOk result }
     {
+        if self.is_empty() {
+            return Ok(Seq::default());
+        }
         Ok(Seq(self.0.clone()?, PhantomData))
     }
 
@@ -283,7 +289,7 @@ impl<'de, T: MyDeserialize<'de, Ctx = ()> + Drop, L: SeqRepr> MyDeserialize<'de>
 
     type Size = AnyWidth;
 
-    ghost takes_memory = { λ ctx bytes. counts_any ((L.form ctx).reads bytes) };
+    ghost takes_memory = { λ ctx bytes. counts_first (T.takes_memory tt) (T.form tt) ((L.form ctx).reads bytes) };
 
     type Ctx = L::Ctx;
 

@@ -1,6 +1,6 @@
 //! Numbers of varying length, and byte strings after such a length.
 
-ghost use Rattle.std.specs.Prelude.{false, ◌≡◌, ◌+◌, ◌-◌, ◌*◌, ◌^◌, ◌++◌, ◌<◌, ◌≤◌, length, None, OnOk, OnErr};
+ghost use Rattle.std.specs.Prelude.{false, ◌≡◌, ◌+◌, ◌-◌, ◌*◌, ◌^◌, ◌++◌, ◌<◌, ◌≤◌, length, None, OnOk, OnErr, IsOk, vec_len, vec_capacity};
 ghost use Rattle.mysql_wire.specs.Reading.{Answers};
 ghost use Rattle.mysql_wire.specs.Varlen.{varlen, varlen_bytes, varlen_size, size-varlen, varlen_string, varlen_string_bytes, size-varlen_string};
 
@@ -134,10 +134,11 @@ pub fn read_varlen_uint<'s>(buf: &mut ParseBuf<'_>) -> Result<u64, FaultOf<'s>>
 /// Writes a number in the fewest bytes that hold it at seven bits each, at most eight of them; or else as `ff` and
 /// eight bytes. The buffer grows once at the most.
 ///
-/// Where that allocation fails, the buffer is as it was.
+/// Where that allocation fails, the buffer is as it was. It takes no memory where the buffer has capacity, and is not refused then.
 pub fn write_varlen_uint(out: &mut Vec<u8>, value: u64) -> Result<(), AllocError>
     ensures ok { OnOk result (out.new.items ≡ out.old.items ++ varlen_bytes value) }
     ensures err { OnErr result (out.new.items ≡ out.old.items) }
+    ensures no_memory { vec_len out.old + length (varlen_bytes value) ≤ vec_capacity out.old → IsOk result }
 {
     RawInt::<VarLen>::new(value).serialize(out)
 }

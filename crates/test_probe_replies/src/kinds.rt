@@ -1,10 +1,11 @@
 //! Kinds of OK packets that a user makes, odd ones among them.
 
 ghost use Rattle.mysql_replies.specs.OkKind.{common_ok_body};
+ghost use Rattle.mysql_replies.specs.OkPacketSent.{common_bytes_with};
 ghost use Rattle.test_probe_replies.specs.Bodies.{after_a_byte, never, nothing};
 
 use crate::prelude::*;
-use mysql_wire::{CapabilityFlags, FaultOf, RawInt};
+use mysql_wire::{CapabilityFlags, FaultOf, RawInt, Sink};
 
 /// The body of a kind, or the fault.
 type Body<'s, 'a> = Result<OkPacketBody<'a>, FaultOf<'s>>;
@@ -74,5 +75,13 @@ impl OkPacketKind for Seventh {
 
     fn parse_body<'s, 'a>(capabilities: CapabilityFlags, buf: &mut ParseBuf<'a>) -> Body<'s, 'a> {
         CommonOkPacket::parse_body(capabilities, buf)
+    }
+}
+
+impl OkPacketLayout for Seventh {
+    ghost bytes = { common_bytes_with };
+
+    fn put<S: Sink>(header: u8, flags: CapabilityFlags, packet: &OkPacket<'_>, sink: &mut S) {
+        CommonOkPacket::put(header, flags, packet, sink);
     }
 }

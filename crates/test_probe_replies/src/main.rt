@@ -33,7 +33,7 @@ fn of_replies(out: &mut Out, request: &Request<'_>) -> bool {
             "ok_sent": sent::sent::<CommonOkPacket>, "ok_end_sent": sent::sent::<ResultSetTerminator>,
             "ok_eof_sent": sent::sent::<OldEofPacket>, "ok_stream_sent": sent::sent::<NetworkStreamTerminator>,
             "ok_body": ok::body, "own_versioned": ok::own::<Versioned>, "own_refusing": ok::own::<Refusing>,
-            "own_empty": ok::own::<Empty>, "own_seventh": ok::own::<Seventh>,)
+            "own_empty": ok::own::<Empty>, "own_seventh": ok::own::<Seventh>, "own_seventh_sent": sent::sent::<Seventh>,)
 }
 
 fn of_session(out: &mut Out, request: &Request<'_>) -> bool {

@@ -1,4 +1,4 @@
-//! OK packets as a server sends them: `ok_sent FLAGS BYTES`, and `ok_end_sent`, `ok_eof_sent`, `ok_stream_sent`.
+//! OK packets as a server sends them: `ok_sent FLAGS BYTES`, and `ok_end_sent`, `ok_eof_sent`, `ok_stream_sent`, `own_seventh_sent`.
 //!
 //! The packet that the bytes are read as is put together anew, and written as its kind under the same flags. The state
 //! string is put together of the changes that its entries are decoded as.

@@ -1,21 +1,26 @@
 //! Laws on a value at hand: what a caller can use of a packet that was made or read.
 //!
-//! Each function reads the numbers and lengths of its value, which shows that they have their widths.
+//! Each function reads the numbers and lengths of its value, which shows that they have their widths. It answers nothing and
+//! changes nothing: in line it costs no instruction.
 #![tactic(auto, using(crate::proofs::PlainFits::plain))]
 
-ghost use Rattle.std.specs.Prelude.{◌++◌, ◌<◌, ◌^◌, [], ℕ, List, is_some};
+ghost use Rattle.std.specs.Prelude.{◌≡◌, ◌++◌, ◌<◌, ◌^◌, [], ℕ, List, Ok, IfSome, is_some};
 ghost use Rattle.mysql_replies.specs.Column as spec;
 ghost use Rattle.mysql_wire.specs.Flags.{CapabilityFlags, MariadbCapabilities};
 ghost use Rattle.mysql_replies.specs.ColumnCount.{column_count, says_follow, IsSaid};
 ghost use Rattle.mysql_replies.specs.ErrPacket.{err_packet, HasWidths, SuitsFlags};
 ghost use Rattle.mysql_replies.specs.LocalInfile.{local_infile};
 ghost use Rattle.mysql_replies.specs.declared.ok_kind.CommonOkPacket.{CommonOkPacket};
+ghost use Rattle.mysql_replies.specs.declared.ok_kind.NetworkStreamTerminator.{NetworkStreamTerminator};
+ghost use Rattle.mysql_replies.specs.declared.ok_kind.OldEofPacket.{OldEofPacket};
 ghost use Rattle.mysql_replies.specs.declared.ok_kind.ResultSetTerminator.{ResultSetTerminator};
-ghost use Rattle.mysql_replies.specs.OkKind.{common_ok_body, terminator_body};
+ghost use Rattle.mysql_replies.specs.OkKind.{common_ok_body, old_eof_body, terminator_body};
 ghost use Rattle.mysql_replies.specs.OkPacket.{ok_packet};
-ghost use Rattle.mysql_replies.specs.OkPacketSent.{HasOkWidths, common_bytes, deserializer_of, terminator_bytes};
+ghost use Rattle.mysql_replies.specs.OkPacketSent.{HasOkWidths, common_bytes, deserializer_of, eof_bytes, terminator_bytes};
 ghost use Rattle.mysql_replies.specs.ProgressReport.{progress_report, progress};
 ghost use Rattle.mysql_replies.specs.ServerError.{server_error, error_code, sql_state_of};
+ghost use Rattle.mysql_replies.specs.SentChange.{sent_info};
+ghost use Rattle.mysql_replies.specs.SessionStateChanges.{decoded_as_sent};
 ghost use Rattle.mysql_replies.specs.SessionStateInfo.{session_state_info};
 ghost use Rattle.mysql_replies.specs.SqlState.{sql_state};
 
@@ -28,8 +33,11 @@ use crate::progress_report::ProgressReport;
 use crate::server_error::ServerError;
 use crate::session_state_info::SessionStateInfo;
 use crate::sql_state::SqlState;
+use mysql_session::SessionStateChange;
+use mysql_session::laws::values::this_session_state_change_round_trips;
 
 /// What is written of this column is read again, whatever follows.
+#[inline]
 pub fn this_column_round_trips(column: &Column)
     ensures spelled { (rest : List ℕ) → (spec.column.form tt).Spells column.now (spec.column.bytes column.now ++ rest) rest }
 {
@@ -46,6 +54,7 @@ pub fn this_column_round_trips(column: &Column)
 
 /// What is written of this count of columns is read again, whatever follows, where a byte says whether definitions follow
 /// just where the flags ask for it.
+#[inline]
 pub fn this_column_count_round_trips(columns: &ColumnCount)
     ensures spelled { (capabilities : MariadbCapabilities) (rest : List ℕ) → IsSaid (says_follow capabilities) columns.now.metadata_follows
         → (column_count.form capabilities).Spells columns.now (column_count.bytes columns.now ++ rest) rest }
@@ -57,11 +66,13 @@ pub fn this_column_count_round_trips(columns: &ColumnCount)
 }
 
 /// What is written of this request for a local file is read again, where nothing follows.
+#[inline]
 pub fn this_local_infile_round_trips(request: &LocalInfilePacket<'_>)
     ensures spelled { (local_infile.form tt).Spells request.now (local_infile.bytes request.now) [] }
 {}
 
 /// What is written of this progress report is read again, whatever follows, where its progress has three bytes.
+#[inline]
 pub fn this_progress_report_round_trips(report: &ProgressReport<'_>)
     ensures spelled { (rest : List ℕ) → progress report.now < 2 ^ 24 → (progress_report.form tt).Spells report.now (progress_report.bytes report.now ++ rest) rest }
 {
@@ -72,6 +83,7 @@ pub fn this_progress_report_round_trips(report: &ProgressReport<'_>)
 
 /// What is written of this error is read again, where nothing follows and the reader is passed its code, and whether it has
 /// a state.
+#[inline]
 pub fn this_server_error_round_trips(error: &ServerError<'_>)
     ensures spelled { (server_error.form (error_code error.now, is_some (sql_state_of error.now))).Spells error.now (server_error.bytes error.now) [] }
 {
@@ -82,6 +94,7 @@ pub fn this_server_error_round_trips(error: &ServerError<'_>)
 
 /// What is written of this error packet is read again, where nothing follows and the flags of both sides suit it: a report
 /// is taken, and its progress has three bytes; an error has a state just under protocol 4.1, and is no report by its code.
+#[inline]
 #[tactic(auto, using(crate::proofs::PlainFits::plain, crate::proofs::ErrPacketFits::err_packets))]
 pub fn this_err_packet_round_trips(packet: &ErrPacket<'_>)
     ensures spelled { (capabilities : CapabilityFlags) → SuitsFlags capabilities packet.now → (err_packet.form capabilities).Spells packet.now (err_packet.bytes packet.now) [] }
@@ -90,6 +103,7 @@ pub fn this_err_packet_round_trips(packet: &ErrPacket<'_>)
 }
 
 /// The numbers of an error packet have their widths, but for a report's progress.
+#[inline]
 fn has_widths(packet: &ErrPacket<'_>)
     ensures value { HasWidths packet.now }
 {
@@ -109,13 +123,24 @@ fn has_widths(packet: &ErrPacket<'_>)
 }
 
 /// What is written of this entry of a state string is read again, whatever follows.
+#[inline]
 pub fn this_session_state_info_round_trips(info: &SessionStateInfo<'_>)
     ensures spelled { (rest : List ℕ) → (session_state_info.form tt).Spells info.now (session_state_info.bytes info.now ++ rest) rest }
 {
     let _data = info.data_ref().len();
 }
 
+/// What is sent of this change is decoded as the same.
+#[inline]
+#[tactic(auto, using(crate::proofs::SentChangeAgain::sent_changes))]
+pub fn this_sent_change_round_trips(change: &SessionStateChange<'_>)
+    ensures decoded { IfSome (sent_info change.now) (λ i. decoded_as_sent i ≡ Ok (change.now, [])) }
+{
+    this_session_state_change_round_trips(change);
+}
+
 /// What is written of this SQL state is read again, whatever follows.
+#[inline]
 pub fn this_sql_state_round_trips(state: &SqlState)
     ensures spelled { (rest : List ℕ) → (sql_state.form tt).Spells state.now (sql_state.bytes state.now ++ rest) rest }
 {
@@ -123,17 +148,24 @@ pub fn this_sql_state_round_trips(state: &SqlState)
 }
 
 /// An OK packet that was read as its kind under these flags is sent as the same.
+#[inline]
 #[tactic(auto, using(crate::proofs::OkPacketRead::read_again))]
 pub fn this_ok_packet_round_trips(packet: &OkPacket<'_>)
+    ensures widths { HasOkWidths packet.now }
     ensures common { (c : CapabilityFlags) (bytes rest : List ℕ) → (ok_packet {T = CommonOkPacket} 0 (common_ok_body c)).Spells (deserializer_of packet.now) bytes rest
         → (ok_packet {T = CommonOkPacket} 0 (common_ok_body c)).Spells (deserializer_of packet.now) (common_bytes c packet.now) [] }
     ensures terminator { (c : CapabilityFlags) (bytes rest : List ℕ) → (ok_packet {T = ResultSetTerminator} 0xfe (terminator_body c)).Spells (deserializer_of packet.now) bytes rest
         → (ok_packet {T = ResultSetTerminator} 0xfe (terminator_body c)).Spells (deserializer_of packet.now) (terminator_bytes c packet.now) [] }
+    ensures old_eof { (c : CapabilityFlags) (bytes rest : List ℕ) → (ok_packet {T = OldEofPacket} 0xfe (old_eof_body c)).Spells (deserializer_of packet.now) bytes rest
+        → (ok_packet {T = OldEofPacket} 0xfe (old_eof_body c)).Spells (deserializer_of packet.now) (eof_bytes packet.now) [] }
+    ensures stream_end { (c : CapabilityFlags) (bytes rest : List ℕ) → (ok_packet {T = NetworkStreamTerminator} 0xfe (old_eof_body c)).Spells (deserializer_of packet.now) bytes rest
+        → (ok_packet {T = NetworkStreamTerminator} 0xfe (old_eof_body c)).Spells (deserializer_of packet.now) (eof_bytes packet.now) [] }
 {
     has_ok_widths(packet);
 }
 
 /// The numbers and lengths of an OK packet have their widths.
+#[inline]
 fn has_ok_widths(packet: &OkPacket<'_>)
     ensures value { HasOkWidths packet.now }
 {

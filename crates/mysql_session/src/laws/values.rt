@@ -1,6 +1,7 @@
 //! Laws on a value at hand: what a caller can use of a change that was made or read.
 //!
-//! Each function reads the lengths of its value, which shows that eight bytes can tell them.
+//! Each function reads the lengths of its value, which shows that eight bytes can tell them. It answers nothing and changes
+//! nothing: in line it costs no instruction.
 #![tactic(auto, using(crate::proofs::PlainFits::plain))]
 
 ghost use Rattle.std.specs.Prelude.{◌++◌, [], ℕ, List};
@@ -18,6 +19,7 @@ use crate::system_variables::SystemVariables;
 use mysql_wire::LenEnc;
 
 /// What is written of this part of a change is read again, whatever follows.
+#[inline]
 pub fn this_session_text_round_trips<N>(text: &SessionText<'_, N, LenEnc>)
     ensures spelled { (rest : List ℕ) → (lenenc_text.form tt).Spells text.now (lenenc_text.bytes text.now ++ rest) rest }
 {
@@ -25,11 +27,13 @@ pub fn this_session_text_round_trips<N>(text: &SessionText<'_, N, LenEnc>)
 }
 
 /// What is written of these GTIDs is read again, where nothing follows.
+#[inline]
 pub fn these_gtids_round_trips(set: &Gtids<'_>)
     ensures spelled { (gtids.form tt).Spells set.now (gtids.bytes set.now) [] }
 {}
 
 /// What is written of this system variable is read again, whatever follows.
+#[inline]
 pub fn this_system_variable_round_trips(variable: &SystemVariable<'_>)
     ensures fits { SystemVariableFits variable.now }
     ensures spelled { (rest : List ℕ) → (system_variable.form tt).Spells variable.now (system_variable.bytes variable.now ++ rest) rest }
@@ -39,6 +43,7 @@ pub fn this_system_variable_round_trips(variable: &SystemVariable<'_>)
 }
 
 /// What is written of these system variables is read again, where nothing follows.
+#[inline]
 pub fn these_system_variables_round_trips(variables: &SystemVariables<'_>)
     ensures fits { All SystemVariableFits variables.now }
     ensures spelled { (system_variables.form tt).Spells variables.now (system_variables.bytes variables.now) [] }
@@ -47,6 +52,7 @@ pub fn these_system_variables_round_trips(variables: &SystemVariables<'_>)
 }
 
 /// The lengths of system variables are such that eight bytes can tell them.
+#[inline]
 fn are_short(variables: &[SystemVariable<'_>])
     ensures value { All SystemVariableFits variables.now }
 {
@@ -56,15 +62,10 @@ fn are_short(variables: &[SystemVariable<'_>])
 }
 
 /// What is written of this change is read again, where nothing follows and the reader is passed its type.
+#[inline]
 pub fn this_session_state_change_round_trips(change: &SessionStateChange<'_>)
+    ensures fits { ChangeIsShort change.now }
     ensures spelled { (kind : SessionStateType) → IsOfKind kind change.now → (session_state_change kind).Spells change.now (session_state_change_bytes change.now) [] }
-{
-    is_short(change);
-}
-
-/// The lengths of a change are such that eight bytes can tell them.
-fn is_short(change: &SessionStateChange<'_>)
-    ensures value { ChangeIsShort change.now }
 {
     match change {
         SessionStateChange::IsTracked(_) | SessionStateChange::Gtids(_) => {}

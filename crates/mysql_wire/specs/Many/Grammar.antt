@@ -1,12 +1,18 @@
 -- Values one after another, until the bytes end: what they spell, and what reading them gives.
-use Rattle.std.specs.Prelude.{◌≡◌, ℕ, zero, suc, ◌<◌, List, [], ◌∷◌, length, Ok, Err, nat_lt, if◌then◌else◌}
+use Rattle.std.specs.Prelude.{◌≡◌, ℕ, zero, suc, ◌<◌, List, [], ◌∷◌, length, Ok, Err, Bool, false, nat_lt, if◌then◌else◌}
 use Rattle.mysql_wire.specs.declared.fault.FaultKind.TheVariants as kind
 use Rattle.mysql_wire.specs.Reading.{Reading, then_read}
 use Rattle.mysql_wire.specs.Form.{Form}
+use Rattle.mysql_wire.specs.Seq.{asks_memory}
 
 -- the value, and what is read after it; it took at least one of so many bytes
 abbrev pub value_and_more : {A : Type 0} → ℕ → (List ℕ → Reading (List A)) → A → List ℕ → Reading (List A)
 value_and_more before next x mid = if nat_lt (length mid) before then then_read (next mid) (λ xs rest. Ok (x ∷ xs, rest)) else Err kind.InvalidData
+
+-- whether the reader of the values may take memory: where the first one is read, and takes a byte, or may take memory itself
+abbrev pub many_asks : {A : Type 0} → (List ℕ → Bool) → Form A → List ℕ → Bool
+many_asks takes_memory f [] = false
+many_asks takes_memory f (b ∷ bs) = asks_memory (takes_memory (b ∷ bs)) (then_read (f.reads (b ∷ bs)) (value_and_more (length (b ∷ bs)) (λ mid. Ok ([], mid))))
 
 module _ {A : Type 0} (f : Form A) where
   -- each value takes at least one byte, and the last one ends the bytes

@@ -9,3 +9,6 @@ returns-clause-terminator c = terminator-again _
 
 pub returns-clause-old_eof : goal.returns-clause-old_eof
 returns-clause-old_eof c = old_eof-again _
+
+pub returns-clause-stream_end : goal.returns-clause-stream_end
+returns-clause-stream_end c = old_eof-again _
