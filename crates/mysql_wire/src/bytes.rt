@@ -1,7 +1,7 @@
 //! Byte strings in their wire forms.
 
-ghost use Rattle.std.specs.Prelude.{false, ◌≡◌, ◌+◌, ◌++◌, ◌≤◌, ◌↔◌, length, drop, List, [], ℕ, None, OnErr, IfOk, IsTrue};
-ghost use Rattle.std.specs.Cow.{cow_slice_items, cow_str_bytes};
+ghost use Rattle.std.specs.Prelude.{false, ◌≡◌, ◌+◌, ◌++◌, ◌≤◌, ◌↔◌, length, drop, List, [], ℕ, None, OnErr, IfOk, IsOk, IsTrue};
+ghost use Rattle.std.specs.Cow.{cow_slice_items, cow_str_bytes, IsOwnedSlice};
 ghost use Rattle.mysql_wire.specs.Text.{lossy_text, BorrowsUtf8};
 ghost use Rattle.mysql_wire.specs.Writing.{saturated};
 ghost use Rattle.mysql_wire.specs.Form.{Form};
@@ -118,12 +118,30 @@ impl<'a, R> RawBytes<'a, R> {
 
     /// The same content, on memory of its own.
     ///
-    /// Where memory is refused, the string is given up.
+    /// An owned content is kept as it is, and takes no memory, nor does an empty one. Where memory is refused, the string is
+    /// given up.
     pub fn into_owned(self, alloc: Global) -> Result<RawBytes<'static, R>, AllocError>
-        ensures { IfOk result (λ owned. owned ≡ self.entry) }
+        ensures value { IfOk result (λ owned. owned ≡ self.entry) }
+        ensures no_memory { self.entry ≡ [] → IsOk result }
     {
-        let content = self.into_inner().into_owned(alloc)?;
+        let content = owned_content(self.into_inner(), alloc)?;
         Ok(RawBytes(CowSlice::Owned(content), PhantomData))
+    }
+}
+
+/// The content in a `Vec`: an owned one as it is, and a copy of a borrowed one.
+fn owned_content(content: CowSlice<'_, u8>, alloc: Global) -> Result<Vec<u8>, AllocError>
+    ensures value { IfOk result (λ owned. owned.items ≡ cow_slice_items content.entry) }
+    ensures owned_no_memory { IsOwnedSlice content.entry → IsOk result }
+    ensures empty_no_memory { cow_slice_items content.entry ≡ [] → IsOk result }
+{
+    match content {
+        CowSlice::Owned(owned) => Ok(owned),
+        CowSlice::Borrowed(borrowed) => {
+            let mut copy = Vec::with_capacity(alloc, borrowed.len())?;
+            copy.extend_from_slice(borrowed)?;
+            Ok(copy)
+        }
     }
 }
 
