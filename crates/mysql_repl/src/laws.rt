@@ -21,7 +21,7 @@ ghost use Rattle.mysql_repl.specs.BinlogRequest as request_spec;
 ghost use Rattle.mysql_repl.specs.GnoInterval.{interval};
 ghost use Rattle.mysql_repl.specs.RegisterSlave.{register_slave, RegisterSlaveFits};
 ghost use Rattle.mysql_repl.specs.SemiSyncAck.{semi_sync_ack, SemiSyncAckFits};
-ghost use Rattle.mysql_repl.specs.Sid.{sid, tagged_sid, intervals, IsSid};
+ghost use Rattle.mysql_repl.specs.Sid.{sid, tagged_sid, intervals, IsSid, AreSids};
 ghost use Rattle.mysql_repl.specs.MergedIntervals.{any_has, are_apart, NumbersFit};
 ghost use Rattle.mysql_repl.specs.ProperSid.{ProperSid};
 ghost use Rattle.mysql_repl.specs.ServerSids.{is_as_servers_write};
@@ -43,8 +43,9 @@ mod values;
 
 pub use values::{
     this_binlog_dump_gtid_round_trips, this_binlog_dump_round_trips,
-    this_register_slave_round_trips, this_semi_sync_ack_round_trips, this_sid_round_trips,
-    this_sid_text_round_trips, this_table_dump_round_trips,
+    this_gtid_set_text_round_trips, this_register_slave_round_trips,
+    this_semi_sync_ack_round_trips, this_sid_round_trips, this_sid_text_round_trips,
+    this_table_dump_round_trips,
 };
 
 /// What is written of a registration is read again, whatever follows.
@@ -136,6 +137,12 @@ pub fn merged_intervals_are_as_servers_write()
 /// proper and ends below 2^63.
 pub fn gtid_set_text_round_trips()
     ensures read { (sids : List Sid) → SidsInSet sids → read_sids (set_text sids) ≡ Ok sids }
+{}
+
+/// The text that is written of sids that were read is read as these sids.
+#[tactic(auto, using(crate::proofs::GtidSetReadAgain::sets_read_again))]
+pub fn read_gtid_set_text_round_trips()
+    ensures read { (text : List ℕ) (sids : List Sid) → AreSids sids → read_sids text ≡ Ok sids → read_sids (set_text sids) ≡ Ok sids }
 {}
 
 /// A text is a tag exactly where it has no fault of one.
