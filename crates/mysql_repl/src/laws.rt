@@ -4,7 +4,7 @@
 //! that begin with `this` speak of the value at hand, and `request_written` makes two calls.
 #![tactic(auto, using(mysql_wire::proofs::Packets::packets, crate::proofs::Fits::plain_fits, crate::proofs::SidFits::sid_fits))]
 
-ghost use Rattle.std.specs.Prelude.{◌≡◌, ◌++◌, ℕ, List, None, Some, Ok, OnErr, OnOk, IsUtf8, true, false};
+ghost use Rattle.std.specs.Prelude.{◌≡◌, ◌++◌, ℕ, List, None, Some, Ok, OnErr, OnOk, IsTrue, IsUtf8, ◌↔◌, true, false};
 ghost use Rattle.mysql_wire.specs.Int.{le_u64, number_of};
 ghost use Rattle.mysql_wire.specs.Seq.{seq};
 ghost use Rattle.mysql_repl.specs.declared.binlog_dump.ComBinlogDump.{ComBinlogDump};
@@ -163,6 +163,25 @@ pub fn request_written(request: &BinlogRequest<'_>, out: &mut Vec<u8>) -> Result
 {
     request.as_cmd().serialize(out)
 }
+
+/// Tags, intervals and sids are equal exactly where they are the same, whether they borrow or own what they are made of.
+#[tactic(auto, using(crate::proofs::EqualRequests::equal_requests))]
+pub fn equal_sids_are_the_same()
+    ensures tag { (x y : List ℕ) → IsTrue (⟦<Tag<'static> as PartialEq>⟧.eq x y) ↔ (x ≡ y) }
+    ensures interval { (x y : GnoInterval) → IsTrue (⟦<crate::gno_interval::GnoInterval as PartialEq>⟧.eq x y) ↔ (x ≡ y) }
+    ensures sid { (x y : Sid) → IsTrue (⟦<crate::sid::Sid<'static> as PartialEq>⟧.eq x y) ↔ (x ≡ y) }
+{}
+
+/// Requests are equal exactly where they are the same.
+#[tactic(auto, using(crate::proofs::EqualRequests::equal_requests))]
+pub fn equal_requests_are_the_same()
+    ensures registration { (x y : ComRegisterSlave) → IsTrue (⟦<crate::register_slave::ComRegisterSlave<'static> as PartialEq>⟧.eq x y) ↔ (x ≡ y) }
+    ensures table_dump { (x y : ComTableDump) → IsTrue (⟦<crate::table_dump::ComTableDump<'static> as PartialEq>⟧.eq x y) ↔ (x ≡ y) }
+    ensures binlog_dump { (x y : ComBinlogDump) → IsTrue (⟦<crate::binlog_dump::ComBinlogDump<'static> as PartialEq>⟧.eq x y) ↔ (x ≡ y) }
+    ensures gtid_dump { (x y : ComBinlogDumpGtid) → IsTrue (⟦<crate::binlog_dump_gtid::ComBinlogDumpGtid<'static> as PartialEq>⟧.eq x y) ↔ (x ≡ y) }
+    ensures request { (x y : BinlogRequest) → IsTrue (⟦<BinlogRequest<'static> as PartialEq>⟧.eq x y) ↔ (x ≡ y) }
+    ensures ack { (x y : SemiSyncAckPacket) → IsTrue (⟦<crate::semi_sync_ack::SemiSyncAckPacket<'static> as PartialEq>⟧.eq x y) ↔ (x ≡ y) }
+{}
 
 /// Equal tags hash equally, borrowed or owned.
 pub fn equal_tags_hash_equally()
