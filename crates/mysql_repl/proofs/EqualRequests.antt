@@ -1,10 +1,11 @@
 -- Requests, and what they are made of, are equal exactly where they are the same.
 use Rattle.std.proofs.Common.{◌≡◌, ◌&&◌, ℕ, List, Option, Some, None, Bool, true, false, nat_eq, Decides, refl, ap, subst}
-use Rattle.std.proofs.lemmas.Bool.Decides.{Decides-and, Decides-eqb}
+use Rattle.std.proofs.lemmas.Bool.Decides.{Decides-and}
 use Rattle.std.proofs.lemmas.Slice.Eq.{slice_eq-Decides}
 use Rattle.std.specs.Cmp.{booleans_Decides}
 use Rattle.std.specs.Cmp.Lexicographic.{pointwise}
 use Rattle.std.specs.Option.{option_eq}
+use Rattle.mysql_wire.proofs.Same.{and-true, numbers-same, bytes-same, options-same, parts-same}
 use Rattle.mysql_repl.specs.contracts.binlog_dump.ComBinlogDumpPartialEq.TheImpl as derived_dump
 use Rattle.mysql_repl.specs.contracts.binlog_dump_gtid.ComBinlogDumpGtidPartialEq.TheImpl as derived_gtid_dump
 use Rattle.mysql_repl.specs.contracts.binlog_request.BinlogRequestPartialEq.TheImpl as derived_request
@@ -31,39 +32,14 @@ use Rattle.mysql_repl.specs.TableDump as table_dump
 
 -- a number that a field's type wraps
 number : (m n : ℕ) → Decides (nat_eq m n && true) (m ≡ n)
-number m n = by (nat_eq m n) (Decides-eqb m n)
-  where
-    by : (t : Bool) → Decides t (m ≡ n) → Decides (t && true) (m ≡ n)
-    by true d = d
-    by false d = d
-
-flag_bits : (m n : ℕ) → Decides ((nat_eq m n && true) && true) (m ≡ n)
-flag_bits m n = by (nat_eq m n && true) (number m n)
-  where
-    by : (t : Bool) → Decides t (m ≡ n) → Decides (t && true) (m ≡ n)
-    by true d = d
-    by false d = d
-
-pub texts-same : (xs ys : List ℕ) → Decides (pointwise nat_eq xs ys) (xs ≡ ys)
-texts-same xs ys = slice_eq-Decides Decides-eqb xs ys _ refl
-
-tag : (x y : Option (List ℕ)) → Decides (option_eq (pointwise nat_eq) x y) (x ≡ y)
-tag None None = (λ e. refl, λ e. refl)
-tag None (Some b) = (λ e. absurd cc, λ e. absurd cc)
-tag (Some a) None = (λ e. absurd cc, λ e. absurd cc)
-tag (Some a) (Some b) = (λ e. ap Some ((texts-same a b).0 e), λ e. (texts-same a b).1 (let h : a ≡ b = cc in h))
-
--- what is equal field by field is the same
-module _ {P : Type 0} (eq : P → P → Bool) (Same : P → P → Type 0) where
-  of-fields : (each : (a b : P) → Decides (eq a b) (Same a b)) → ((a b : P) → Same a b → a ≡ b) → ((a : P) → Same a a) → (a b : P) → Decides (eq a b) (a ≡ b)
-  of-fields each join self a b = (λ e. join a b ((each a b).0 e), λ e. subst (λ (c : P). eq a c ≡ true) e ((each a a).1 (self a)))
+number m n = and-true _ (numbers-same m n)
 
 -- ---- sets of transactions
 
 pub intervals-same : (a b : GnoInterval) → Decides (derived_interval.ghosts.eq a b) (a ≡ b)
 intervals-same =
-    of-fields derived_interval.ghosts.eq (λ a b. (a.start ≡ b.start) × (a.end ≡ b.end))
-    (λ a b. Decides-and _ _ (Decides-eqb a.start b.start) (Decides-eqb a.end b.end))
+    parts-same derived_interval.ghosts.eq (λ a b. (a.start ≡ b.start) × (a.end ≡ b.end))
+    (λ a b. Decides-and _ _ (numbers-same a.start b.start) (numbers-same a.end b.end))
     (λ a b s i. interval_of (s.0 i) (s.1 i))
     (λ a. (refl, refl))
 
@@ -72,8 +48,8 @@ interval_lists xs ys = slice_eq-Decides intervals-same xs ys _ refl
 
 pub sids-same : (a b : Sid) → Decides (derived_sid.ghosts.eq a b) (a ≡ b)
 sids-same =
-    of-fields derived_sid.ghosts.eq (λ a b. (a.uuid ≡ b.uuid) × ((a.tag ≡ b.tag) × (a.intervals ≡ b.intervals)))
-    (λ a b. Decides-and _ _ (texts-same a.uuid b.uuid) (Decides-and _ _ (tag a.tag b.tag) (interval_lists a.intervals b.intervals)))
+    parts-same derived_sid.ghosts.eq (λ a b. (a.uuid ≡ b.uuid) × ((a.tag ≡ b.tag) × (a.intervals ≡ b.intervals)))
+    (λ a b. Decides-and _ _ (bytes-same a.uuid b.uuid) (Decides-and _ _ (options-same bytes-same a.tag b.tag) (interval_lists a.intervals b.intervals)))
     (λ a b s i. record { uuid = s.0 i; tag = s.1.0 i; intervals = s.1.1 i })
     (λ a. (refl, (refl, refl)))
 
@@ -84,42 +60,42 @@ sid_lists xs ys = slice_eq-Decides sids-same xs ys _ refl
 
 pub table_dumps-same : (a b : ComTableDump) → Decides (derived_table.ghosts.eq a b) (a ≡ b)
 table_dumps-same =
-    of-fields derived_table.ghosts.eq (λ a b. (a.database ≡ b.database) × (a.table ≡ b.table))
-    (λ a b. Decides-and _ _ (texts-same a.database b.database) (texts-same a.table b.table))
+    parts-same derived_table.ghosts.eq (λ a b. (a.database ≡ b.database) × (a.table ≡ b.table))
+    (λ a b. Decides-and _ _ (bytes-same a.database b.database) (bytes-same a.table b.table))
     (λ a b s i. table_dump.dump_of (s.0 i) (s.1 i))
     (λ a. (refl, refl))
 
 pub acks-same : (a b : SemiSyncAckPacket) → Decides (derived_ack.ghosts.eq a b) (a ≡ b)
 acks-same =
-    of-fields derived_ack.ghosts.eq (λ a b. (a.position.0 ≡ b.position.0) × (a.filename ≡ b.filename))
-    (λ a b. Decides-and _ _ (number a.position.0 b.position.0) (texts-same a.filename b.filename))
+    parts-same derived_ack.ghosts.eq (λ a b. (a.position.0 ≡ b.position.0) × (a.filename ≡ b.filename))
+    (λ a b. Decides-and _ _ (number a.position.0 b.position.0) (bytes-same a.filename b.filename))
     (λ a b s i. ack_of (s.0 i) (s.1 i))
     (λ a. (refl, refl))
 
 pub dumps-same : (a b : ComBinlogDump) → Decides (derived_dump.ghosts.eq a b) (a ≡ b)
 dumps-same =
-    of-fields derived_dump.ghosts.eq (λ a b. (a.pos.0 ≡ b.pos.0) × ((a.flags.0.0 ≡ b.flags.0.0) × ((a.server_id.0 ≡ b.server_id.0) × (a.filename ≡ b.filename))))
-    (λ a b. Decides-and _ _ (number a.pos.0 b.pos.0) (Decides-and _ _ (flag_bits a.flags.0.0 b.flags.0.0)
-    (Decides-and _ _ (number a.server_id.0 b.server_id.0) (texts-same a.filename b.filename))))
+    parts-same derived_dump.ghosts.eq (λ a b. (a.pos.0 ≡ b.pos.0) × ((a.flags.0.0 ≡ b.flags.0.0) × ((a.server_id.0 ≡ b.server_id.0) × (a.filename ≡ b.filename))))
+    (λ a b. Decides-and _ _ (number a.pos.0 b.pos.0) (Decides-and _ _ (and-true _ (number a.flags.0.0 b.flags.0.0))
+    (Decides-and _ _ (number a.server_id.0 b.server_id.0) (bytes-same a.filename b.filename))))
     (λ a b s i. dump.dump_of (s.1.1.0 i) (s.0 i) (s.1.0 i) (s.1.1.1 i))
     (λ a. (refl, (refl, (refl, refl))))
 
 pub gtid_dumps-same : (a b : ComBinlogDumpGtid) → Decides (derived_gtid_dump.ghosts.eq a b) (a ≡ b)
 gtid_dumps-same =
-    of-fields derived_gtid_dump.ghosts.eq
+    parts-same derived_gtid_dump.ghosts.eq
     (λ a b. (a.flags.0.0 ≡ b.flags.0.0) × ((a.server_id.0 ≡ b.server_id.0) × ((a.filename ≡ b.filename) × ((a.pos.0 ≡ b.pos.0) × (a.sid_block ≡ b.sid_block)))))
-    (λ a b. Decides-and _ _ (flag_bits a.flags.0.0 b.flags.0.0) (Decides-and _ _ (number a.server_id.0 b.server_id.0)
-    (Decides-and _ _ (texts-same a.filename b.filename) (Decides-and _ _ (number a.pos.0 b.pos.0) (sid_lists a.sid_block b.sid_block)))))
+    (λ a b. Decides-and _ _ (and-true _ (number a.flags.0.0 b.flags.0.0)) (Decides-and _ _ (number a.server_id.0 b.server_id.0)
+    (Decides-and _ _ (bytes-same a.filename b.filename) (Decides-and _ _ (number a.pos.0 b.pos.0) (sid_lists a.sid_block b.sid_block)))))
     (λ a b s i. gtid_dump.dump_of (s.1.0 i) (s.1.1.1.0 i) (s.0 i) (s.1.1.0 i) (s.1.1.1.1 i))
     (λ a. (refl, (refl, (refl, (refl, refl)))))
 
 pub requests-same : (a b : BinlogRequest) → Decides (derived_request.ghosts.eq a b) (a ≡ b)
 requests-same =
-    of-fields derived_request.ghosts.eq
+    parts-same derived_request.ghosts.eq
     (λ a b. (a.server_id ≡ b.server_id) × ((a.use_gtid ≡ b.use_gtid) × ((a.flags.0 ≡ b.flags.0) × ((a.filename ≡ b.filename) × ((a.pos ≡ b.pos) × (a.sids ≡ b.sids))))))
-    (λ a b. Decides-and _ _ (Decides-eqb a.server_id b.server_id) (Decides-and _ _ (booleans_Decides a.use_gtid b.use_gtid)
-    (Decides-and _ _ (number a.flags.0 b.flags.0) (Decides-and _ _ (texts-same a.filename b.filename)
-    (Decides-and _ _ (Decides-eqb a.pos b.pos) (sid_lists a.sids b.sids))))))
+    (λ a b. Decides-and _ _ (numbers-same a.server_id b.server_id) (Decides-and _ _ (booleans_Decides a.use_gtid b.use_gtid)
+    (Decides-and _ _ (number a.flags.0 b.flags.0) (Decides-and _ _ (bytes-same a.filename b.filename)
+    (Decides-and _ _ (numbers-same a.pos b.pos) (sid_lists a.sids b.sids))))))
     (λ a b s i. record {
       server_id = s.0 i;
       use_gtid = s.1.0 i;
@@ -132,11 +108,11 @@ requests-same =
 
 pub registrations-same : (a b : ComRegisterSlave) → Decides (derived_registration.ghosts.eq a b) (a ≡ b)
 registrations-same =
-    of-fields derived_registration.ghosts.eq
+    parts-same derived_registration.ghosts.eq
     (λ a b. (a.server_id.0 ≡ b.server_id.0) × ((a.hostname ≡ b.hostname) × ((a.user ≡ b.user) × ((a.password ≡ b.password)
     × ((a.port.0 ≡ b.port.0) × ((a.replication_rank.0 ≡ b.replication_rank.0) × (a.master_id.0 ≡ b.master_id.0)))))))
-    (λ a b. Decides-and _ _ (number a.server_id.0 b.server_id.0) (Decides-and _ _ (texts-same a.hostname b.hostname)
-    (Decides-and _ _ (texts-same a.user b.user) (Decides-and _ _ (texts-same a.password b.password) (Decides-and _ _ (number a.port.0 b.port.0)
+    (λ a b. Decides-and _ _ (number a.server_id.0 b.server_id.0) (Decides-and _ _ (bytes-same a.hostname b.hostname)
+    (Decides-and _ _ (bytes-same a.user b.user) (Decides-and _ _ (bytes-same a.password b.password) (Decides-and _ _ (number a.port.0 b.port.0)
     (Decides-and _ _ (number a.replication_rank.0 b.replication_rank.0) (number a.master_id.0 b.master_id.0)))))))
     (λ a b s i. record {
       header = record { 0 = record {} };
@@ -150,4 +126,4 @@ registrations-same =
     })
     (λ a. (refl, (refl, (refl, (refl, (refl, (refl, refl)))))))
 
-pub ruleset equal_requests = (texts-same, intervals-same, sids-same, table_dumps-same, acks-same, dumps-same, gtid_dumps-same, requests-same, registrations-same)
+pub ruleset equal_requests = (bytes-same, intervals-same, sids-same, table_dumps-same, acks-same, dumps-same, gtid_dumps-same, requests-same, registrations-same)
