@@ -1,12 +1,15 @@
 //! A replica: its sets of GTIDs, as servers write them.
 
-ghost use Rattle.std.specs.Prelude.{◌≡◌, true, IfOk};
+ghost use Rattle.std.specs.Prelude.{◌≡◌, true, IfOk, string_bytes};
+ghost use Rattle.mysql_packets.specs.GtidSetText.{read_sids};
 ghost use Rattle.mysql_packets.specs.Sid.{intervals};
 ghost use Rattle.mysql_packets.specs.MergedIntervals.{NumbersFit};
 ghost use Rattle.mysql_packets.specs.ServerSids.{is_as_servers_write};
 
-use mysql_packets::laws::repl::merged_intervals_are_as_servers_write;
-use mysql_packets::packets::Sid;
+use mysql_packets::laws::repl::{
+    merged_intervals_are_as_servers_write, this_gtid_set_text_round_trips,
+};
+use mysql_packets::packets::{GtidSetText, InvalidSid, Sid, sids_from_text};
 use std::alloc::{AllocError, Global};
 
 /// The transactions of a server in the form that servers write, where their numbers are from 1 to 2^63 - 2.
@@ -17,4 +20,14 @@ pub fn merged<'a>(alloc: Global, sid: Sid<'a>) -> Result<Sid<'a>, AllocError>
     let merged = sid.with_merged_intervals(alloc)?;
     merged_intervals_are_as_servers_write();
     Ok(merged)
+}
+
+/// The text of a set of GTIDs as it is kept: it spells the transactions that the given text spells.
+pub fn kept(alloc: Global, text: &str) -> Result<String, InvalidSid>
+    ensures same { IfOk result (λ kept. read_sids (string_bytes kept) ≡ read_sids text.now) }
+{
+    let sids = sids_from_text(alloc, text)?;
+    this_gtid_set_text_round_trips(&sids);
+    let set = GtidSetText(&sids);
+    Ok(format!(in alloc; "{set}")?)
 }

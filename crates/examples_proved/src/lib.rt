@@ -9,7 +9,7 @@ mod report;
 mod server;
 
 pub use client::execution;
-pub use gtids::merged;
+pub use gtids::{kept, merged};
 pub use load::stream;
 pub use proxy::{forward, statement};
 pub use report::{sum_of_column, value_at};

@@ -8,7 +8,7 @@ use Rattle.mysql_wire.specs.Null.{null_string}
 use Rattle.mysql_wire.specs.Reading.{Reading, Faults, then_read}
 use Rattle.mysql_wire.specs.Seq.{counts_any}
 use Rattle.mysql_auth.specs.Attributes.{Attribute}
-use Rattle.mysql_auth.specs.AttributeBytes.{in_change_user, in_last_part, in_more_data, sent_len}
+use Rattle.mysql_auth.specs.AttributeBytes.{in_change_user, in_last_part, in_more_data, sent_room}
 use Rattle.mysql_auth.specs.ComChangeUser.{change_user, last_part, more_data, named_plugin, sends_attributes, with_connect_attributes, with_more_data, written_attributes}
 use Rattle.mysql_auth.specs.ComChangeUserRef.{before_attributes, before_more_data, change_header}
 use Rattle.mysql_auth.specs.declared.com_change_user.ComChangeUser.{ComChangeUser}
@@ -39,10 +39,10 @@ module _ (c : CapabilityFlags) where
   more-last_fault e p bytes mid same h = rw (more_parts bytes, same) (last-fault false e ((written_attributes.form c).reads mid) _ h)
 
   pub more-attributes_fault : (e : FaultOf) (p : ComChangeUserMoreData) (bytes mid : List ℕ) → (before_attributes c).reads bytes ≡ Ok (p, mid)
-      → Faults (counts_any ((sent_len (sends_attributes c)).reads mid)) e ((written_attributes.form c).reads mid)
+      → Faults (counts_any ((sent_room (sends_attributes c)).reads mid)) e ((written_attributes.form c).reads mid)
       → Faults (counts_any ((in_more_data c).reads bytes)) e ((more_data.form c).reads bytes)
   more-attributes_fault e p bytes mid same h =
-      rw (more_parts bytes, same) (last-fault (counts_any ((sent_len (sends_attributes c)).reads mid)) e ((written_attributes.form c).reads mid) _ h)
+      rw (more_parts bytes, same) (last-fault (counts_any ((sent_room (sends_attributes c)).reads mid)) e ((written_attributes.form c).reads mid) _ h)
 
 pub ruleset more_data_parts = (more-read, more-front_fault, more-last_fault)
 

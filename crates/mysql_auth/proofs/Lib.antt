@@ -19,3 +19,4 @@ mod WholePackets
 mod ValuesFit
 mod ReadParts
 mod ReadPackets
+pub mod EqualPackets

@@ -1,6 +1,9 @@
 -- Pairs are read one after another, and are those that all of the bytes spell.
 use Rattle.std.proofs.Common.{◌≡◌, ◌≢◌, ℕ, List, [], ◌∷◌, ◌++◌, length, Option, None, Result, Ok, Err, Bool, true, false, if◌then◌else◌, nat_lt, refl, sym, ◌∙◌}
+use Rattle.std.specs.Cmp.Lexicographic.{pointwise}
+use Rattle.std.specs.Prelude.{nat_eq}
 use Rattle.std.specs.Result.{result_ok}
+use Rattle.indexmap.specs.IndexMap.{insert_entry, insert_all}
 use Rattle.mysql_wire.proofs.Counted.{with_front}
 use Rattle.mysql_wire.proofs.ReadAll.{one-more, no-more, one-fails}
 use Rattle.mysql_wire.specs.declared.fault.FaultOf.{FaultOf}
@@ -8,7 +11,9 @@ use Rattle.mysql_wire.specs.declared.fault.FaultOf.TheVariants as fault
 use Rattle.mysql_wire.specs.declared.fault.FaultKind.{FaultKind}
 use Rattle.mysql_wire.specs.declared.fault.FaultKind.TheVariants as kind
 use Rattle.mysql_wire.specs.Many.{many}
+use Rattle.mysql_wire.specs.Seq.{is_any}
 use Rattle.mysql_wire.specs.Reading.{Reading, Answers, Faults, then_read, done-value, done-rest}
+use Rattle.mysql_auth.specs.AttributeBytes.{pairs_room}
 use Rattle.mysql_auth.specs.Attributes.{Attribute, merged, pairs}
 use Rattle.mysql_auth.specs.ConnectAttributesRef.{ArePairs, NextPair, pairs_in, pairs_read}
 use Rattle.mysql_auth.proofs.PairsRead.{f, opened, pair-shorter}
@@ -113,5 +118,45 @@ merged-read bytes w = merged-of ((many f).reads bytes) (pairs_in bytes) w
 
 pub merged-found : (bytes : List ℕ) (found : List Attribute) → ArePairs bytes → pairs.reads bytes ≡ Ok (found, []) → found ≡ merged (pairs_in bytes)
 merged-found bytes found w e = done-value found (merged (pairs_in bytes)) [] [] (sym e ∙ merged-read bytes w)
+
+-- where some pair is there, it is so in a map too
+entry-some : (b : Bool) (p q : Attribute) (es fs : List Attribute) → (if b then p ∷ es else q ∷ fs) ≡ [] → ⊥
+entry-some true p q es fs h = cc
+entry-some false p q es fs h = cc
+
+inserted-some : (es : List Attribute) (k v : List ℕ) → insert_entry (pointwise nat_eq) es k v ≡ [] → ⊥
+inserted-some [] k v h = cc
+inserted-some (e ∷ es) k v h = entry-some (pointwise nat_eq k e.0) (e.0, v) e es (insert_entry (pointwise nat_eq) es k v) h
+
+all-some : (es ps : List Attribute) → (es ≡ [] → ⊥) → insert_all (pointwise nat_eq) es ps ≡ [] → ⊥
+all-some es [] some h = some h
+all-some es (p ∷ ps) some h = all-some (insert_entry (pointwise nat_eq) es p.0 p.1) ps (inserted-some es p.0 p.1) h
+
+none-merged : (ps : List Attribute) → merged ps ≡ [] → ps ≡ []
+none-merged [] h = refl
+none-merged (p ∷ ps) h = absurd (all-some (insert_entry (pointwise nat_eq) [] p.0 p.1) ps (inserted-some [] p.0 p.1) h)
+
+-- bytes that spell no pair are none
+no-pairs-by : (bytes : List ℕ) (read : Reading Attribute) → f.reads bytes ≡ read → bytes ≢ [] → ArePairs bytes → pairs_in bytes ≡ [] → ⊥
+no-pairs-by bytes (Ok x) e some w none =
+    let first : pairs_in bytes ≡ x.0 ∷ pairs_in x.1 = (goes-on bytes x.1 x.0 some w e).1 in
+    let h : ◌≡◌ {A = List Attribute} [] (x.0 ∷ pairs_in x.1) = sym none ∙ first in
+    cc
+no-pairs-by bytes (Err k) e some w none = refused bytes k some w e
+
+read-once : (bytes : List ℕ) (k : FaultKind) → ArePairs bytes → pairs.reads bytes ≡ Err k → ⊥
+read-once bytes k w h = let same : ◌≡◌ {A = Reading (List Attribute)} (Ok (merged (pairs_in bytes), [])) (Err k) = sym (merged-read bytes w) ∙ h in cc
+
+-- so no pair is read again without memory
+none-refused_again : (bytes : List ℕ) (e : FaultOf) → ArePairs bytes → pairs_in bytes ≡ [] → Faults (is_any (pairs_room (length bytes))) e (pairs.reads bytes) → ⊥
+none-refused_again [] fault.Memory w none h = cc
+none-refused_again (b ∷ bytes) fault.Memory w none h = no-pairs-by (b ∷ bytes) (f.reads (b ∷ bytes)) refl (λ e. cc) w none
+none-refused_again bytes fault.UnexpectedEof w none h = read-once bytes _ w h
+none-refused_again bytes (fault.InvalidData text) w none h = read-once bytes _ w h
+none-refused_again bytes (fault.InvalidInput text) w none h = read-once bytes _ w h
+
+pub no-pairs : (pairs_left : List Attribute) (bytes : List ℕ) (e : FaultOf) → pairs_in bytes ≡ pairs_left → ArePairs bytes → merged pairs_left ≡ []
+    → Faults (is_any (pairs_room (length bytes))) e (pairs.reads bytes) → ⊥
+no-pairs pairs_left bytes e same w none h = none-refused_again bytes e w (same ∙ none-merged pairs_left none) h
 
 pub ruleset pairs_merged = (merged-read, merged-found)

@@ -1,5 +1,5 @@
 -- A loop that reads pairs into a map.
-use Rattle.std.proofs.Common.{◌≡◌, ◌≢◌, ℕ, ◌+◌, ◌<◌, ◌≤◌, List, [], ◌∷◌, ◌++◌, length, Ok, Err, Bool, true, false, refl, sym, ap, ◌∙◌, arith}
+use Rattle.std.proofs.Common.{◌≡◌, ◌≢◌, ℕ, zero, suc, ◌+◌, ◌/◌, ◌<◌, ◌≤◌, List, [], ◌∷◌, ◌++◌, length, Ok, Err, Bool, true, false, refl, sym, ap, ◌∙◌, arith}
 use Rattle.std.proofs.lemmas.Bool.{lt-ltb}
 use Rattle.std.proofs.lemmas.List.{length-append}
 use Rattle.std.specs.Cmp.Lexicographic.{pointwise}
@@ -16,6 +16,7 @@ use Rattle.mysql_wire.specs.LenEnc.{lenenc, lenenc_from, lenenc_string}
 use Rattle.mysql_wire.specs.Many.{many, value_and_more}
 use Rattle.mysql_wire.specs.Many.Laws.{many-next}
 use Rattle.mysql_wire.specs.Seq.{is_any}
+use Rattle.mysql_auth.specs.AttributeBytes.{pairs_room}
 use Rattle.mysql_auth.specs.Attributes.{Attribute, attribute}
 use Rattle.mysql_auth.proofs.Merging.{new-last}
 
@@ -43,12 +44,15 @@ string-shorter content bytes rest s =
     let content_after : length s.1 ≡ length content + length rest = ap length s.3.1 ∙ length-append content rest in
     omega (arith, number-shorter _ bytes s.1 s.2.2.2, content_after)
 
--- and so does a pair
-pub pair-shorter : (p : Attribute) (bytes rest : List ℕ) → (attribute.form tt).reads bytes ≡ Ok (p, rest) → length rest < length bytes
+-- so a pair takes two
+pub pair-takes-two : (p : Attribute) (bytes rest : List ℕ) → (attribute.form tt).reads bytes ≡ Ok (p, rest) → length rest + 2 ≤ length bytes
 unfolding attribute
-pair-shorter p bytes rest e =
+pair-takes-two p bytes rest e =
     let s = (attribute.form tt).found p bytes rest e in
     omega (arith, string-shorter s.0 bytes s.1 s.2, string-shorter s.3.0 s.1 s.3.1 s.3.2, ap length s.3.3.1)
+
+pub pair-shorter : (p : Attribute) (bytes rest : List ℕ) → (attribute.form tt).reads bytes ≡ Ok (p, rest) → length rest < length bytes
+pair-shorter p bytes rest e = omega (arith, pair-takes-two p bytes rest e)
 
 abbrev pub f : Form Attribute
 f = attribute.form tt
@@ -88,6 +92,14 @@ pub any-left : (bytes whole : List ℕ) → bytes ≢ [] → length bytes ≤ le
 any-left [] whole some le = absurd (some refl)
 any-left (b ∷ bytes) [] some le = absurd (omega (arith, le))
 any-left (b ∷ bytes) (w ∷ whole) some le = refl
+
+-- where a pair was read, the bytes can hold one
+any-above : (n : ℕ) → 0 < n → is_any n ≡ true
+any-above zero lt = absurd (omega (arith, lt))
+any-above (suc n) lt = refl
+
+pub any-held : (p : Attribute) (bytes rest whole : List ℕ) → length bytes ≤ length whole → f.reads bytes ≡ Ok (p, rest) → is_any (pairs_room (length whole)) ≡ true
+any-held p bytes rest whole le e = any-above (length whole / 2) (omega (arith, pair-takes-two p bytes rest e, le))
 
 -- one pair whose key is new, and those after it
 pub new-pair : (entries : List Attribute) (p : Attribute) (bytes after : List ℕ) → bytes ≢ [] → f.reads bytes ≡ Ok (p, after) → list_any (λ e. same p.0 e.0) entries ≡ false

@@ -1,7 +1,8 @@
 -- The parts of what was read: texts up to a zero have none, and a plugin is that of its name.
 use Rattle.std.proofs.Common.{◌≡◌, ℕ, zero, suc, ◌-◌, ◌<◌, ◌==◌, ◌&&◌, nat_lt, nat_eq, List, [], ◌∷◌, length, get_or, codes, Option, Bool, true, false, if◌then◌else◌, refl, sym, subst, ap, ◌∙◌, arith}
-use Rattle.std.proofs.lemmas.Bool.{eqb-true, ne_eqb}
+use Rattle.std.proofs.lemmas.Bool.{ne_eqb}
 use Rattle.std.specs.Cmp.Lexicographic.{pointwise}
+use Rattle.mysql_wire.proofs.Same.{bytes-same}
 use Rattle.mysql_wire.specs.Form.{Form, either, all_left, when}
 use Rattle.mysql_wire.specs.Null.{HasNoZero, null_string}
 use Rattle.mysql_auth.specs.AuthPlugin.{plugin_name, plugin_named, plugin_of}
@@ -44,26 +45,11 @@ stays (b ∷ bytes) h =
 
 -- ---- plugins
 
-both : (a b : Bool) → (a && b) ≡ true → (a ≡ true) × (b ≡ true)
-both true true h = (refl, refl)
-both true false h = absurd cc
-both false b h = absurd cc
-
-same-list : (xs ys : List ℕ) → pointwise nat_eq xs ys ≡ true → xs ≡ ys
-same-list [] [] h = refl
-same-list [] (y ∷ ys) h = absurd cc
-same-list (x ∷ xs) [] h = absurd cc
-same-list (x ∷ xs) (y ∷ ys) h =
-    let p = both (nat_eq x y) (pointwise nat_eq xs ys) h in
-    let first : x ≡ y = eqb-true x y p.0 in
-    let more : xs ≡ ys = same-list xs ys p.1 in
-    cc
-
 step : (name known : List ℕ) (one other : AuthPlugin) → plugin_name one ≡ known → plugin_name other ≡ name → plugin_name (if pointwise nat_eq name known then one else other) ≡ name
 step name known one other h k = by (pointwise nat_eq name known) refl
   where
     by : (t : Bool) → pointwise nat_eq name known ≡ t → plugin_name (if t then one else other) ≡ name
-    by true e = h ∙ sym (same-list name known e)
+    by true e = h ∙ sym ((bytes-same name known).0 e)
     by false e = k
 
 name-kept : (name : List ℕ) → plugin_name (plugin_named name) ≡ name

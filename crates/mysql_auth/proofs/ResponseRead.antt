@@ -10,7 +10,7 @@ use Rattle.mysql_auth.specs.SslRequest.{ssl_request}
 use Rattle.mysql_auth.specs.declared.handshake_response.HandshakeResponse.{HandshakeResponse}
 use Rattle.mysql_auth.specs.HandshakeResponse.{handshake_response, scramble, database, plugin, sent_attributes, sends_attributes}
 use Rattle.mysql_auth.specs.HandshakeResponseRef.{before_attributes, with_attributes}
-use Rattle.mysql_auth.specs.AttributeBytes.{in_response, sent_len}
+use Rattle.mysql_auth.specs.AttributeBytes.{in_response, sent_room}
 use Rattle.mysql_auth.proofs.LastPart.{step, front-fault, last-fault}
 
 -- the attributes, after what stands in front of them
@@ -39,9 +39,9 @@ pub response-last_fault : (e : FaultOf) (p : HandshakeResponse) (bytes mid : Lis
 response-last_fault e p bytes mid same h = rw (parts bytes, same) (last-fault false e (((sent_attributes p.head).form tt).reads mid) _ h)
 
 pub attributes-fault : (e : FaultOf) (p : HandshakeResponse) (bytes mid : List ℕ) → before_attributes.reads bytes ≡ Ok (p, mid)
-    → Faults (counts_any ((sent_len (sends_attributes p.head)).reads mid)) e (((sent_attributes p.head).form tt).reads mid)
+    → Faults (counts_any ((sent_room (sends_attributes p.head)).reads mid)) e (((sent_attributes p.head).form tt).reads mid)
     → Faults (counts_any (in_response.reads bytes)) e ((handshake_response.form tt).reads bytes)
-attributes-fault e p bytes mid same h = rw (parts bytes, same) (last-fault (counts_any ((sent_len (sends_attributes p.head)).reads mid)) e (((sent_attributes p.head).form tt).reads mid) _ h)
+attributes-fault e p bytes mid same h = rw (parts bytes, same) (last-fault (counts_any ((sent_room (sends_attributes p.head)).reads mid)) e (((sent_attributes p.head).form tt).reads mid) _ h)
 
 pub ruleset response_parts = (response-read, response-front_fault, response-last_fault)
 

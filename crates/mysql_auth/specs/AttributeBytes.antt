@@ -1,5 +1,5 @@
--- How many bytes of attributes stand in a packet. Where there are any, reading takes memory.
-use Rattle.std.specs.Prelude.{ℕ, Bool, length}
+-- How many pairs the bytes of a packet's attributes can hold at the most. Where they can hold any, reading takes memory.
+use Rattle.std.specs.Prelude.{ℕ, ◌/◌, Bool, length}
 use Rattle.mysql_wire.specs.CodecFits.{is_there}
 use Rattle.mysql_wire.specs.Flags.{CapabilityFlags}
 use Rattle.mysql_wire.specs.Form.{Form, ◌>>=◌, either, give, looking, map}
@@ -9,25 +9,29 @@ use Rattle.mysql_auth.specs.ComChangeUserRef as change
 use Rattle.mysql_auth.specs.HandshakeResponse as response
 use Rattle.mysql_auth.specs.HandshakeResponseRef.{before_attributes}
 
--- the length of all pairs
-abbrev pub attributes_len : Form ℕ
-attributes_len = map (λ content. length content) lenenc_string
+-- a key and a value take a byte each at least
+abbrev pub pairs_room : (len : ℕ) → ℕ
+pairs_room len = len / 2
+
+-- of the bytes after a length
+abbrev pub attributes_room : Form ℕ
+attributes_room = map (λ content. pairs_room (length content)) lenenc_string
 
 -- the same where they are sent, and else none
-abbrev pub sent_len : (sent : Bool) → Form ℕ
-sent_len sent = either sent attributes_len (give 0)
+abbrev pub sent_room : (sent : Bool) → Form ℕ
+sent_room sent = either sent attributes_room (give 0)
 
 -- in a response
 abbrev pub in_response : Form ℕ
 in_response = do
   p ← before_attributes
-  sent_len (response.sends_attributes p.head)
+  sent_room (response.sends_attributes p.head)
 
 -- in more data
 abbrev pub in_more_data : CapabilityFlags → Form ℕ
 in_more_data capabilities = do
   p ← change.before_attributes capabilities
-  sent_len (sends_attributes capabilities)
+  sent_room (sends_attributes capabilities)
 
 -- in more data, where that is there
 abbrev pub in_last_part : CapabilityFlags → Form ℕ

@@ -71,6 +71,11 @@ abbrev pub IsKnown : AuthPlugin → Type 0
 IsKnown (plugin.Other name) = ⊥
 IsKnown _ = Unit {0}
 
+-- the bytes of a name that it keeps
+abbrev pub kept_name : AuthPlugin → List ℕ
+kept_name (plugin.Other name) = name
+kept_name _ = []
+
 -- parsec takes in its rounds and its salt
 abbrev pub with_salt : AuthPlugin → List ℕ → Option AuthPlugin
 with_salt (plugin.MariadbParsec iterations ext_salt) payload = option_map (λ given. plugin.MariadbParsec given.0 given.1) (parsec_salt payload)

@@ -17,6 +17,11 @@ auth_plugin_data_bytes (answer.Old bytes) = bytes ++ 0 ∷ []
 auth_plugin_data_bytes (answer.Clear password) = password ++ 0 ∷ []
 auth_plugin_data_bytes other = data_bytes other
 
+-- the bytes of a password that it keeps
+abbrev pub kept_password : AuthPluginData → List ℕ
+kept_password (answer.Clear password) = password
+kept_password _ = []
+
 -- bytes of a fixed count
 abbrev pub IsFixed : AuthPluginData → Type 0
 IsFixed (answer.Clear password) = ⊥

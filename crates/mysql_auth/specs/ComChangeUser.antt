@@ -1,5 +1,5 @@
 -- The change of a session's user.
-use Rattle.std.specs.Prelude.{◌≡◌, ℕ, ◌<◌, ◌^◌, List, [], ◌++◌, length, Option, Some, None, Bool, true, false, refl}
+use Rattle.std.specs.Prelude.{◌≡◌, ℕ, ◌<◌, ◌^◌, List, [], ◌++◌, length, Option, Some, None, IfSome, Bool, true, false, refl}
 use Rattle.mysql_wire.specs.Codec.{Codec, Fields}
 use Rattle.mysql_wire.specs.CodecAgain.{some-then}
 use Rattle.mysql_wire.specs.Codecs.{◌>>=◌, give, field, packet, when, without_context, if_bytes_left, const_u8, u16, string_null, string_u8}
@@ -8,9 +8,10 @@ use Rattle.mysql_wire.specs.Flags.{CapabilityFlags, has}
 use Rattle.mysql_wire.specs.Form as form
 use Rattle.mysql_wire.specs.Int.{raw_int}
 use Rattle.mysql_wire.specs.Null.{HasNoZero}
-use Rattle.std.specs.Option.{unwrap_or}
+use Rattle.std.specs.Option.{option_map_or, unwrap_or}
 use Rattle.std.proofs.Common.{arith}
 use Rattle.mysql_auth.specs.Attributes.{Attribute, AreShort, AttributesFit, attributes}
+use Rattle.mysql_auth.specs.AuthPlugin.{kept_name}
 use Rattle.mysql_auth.specs.PluginName.{PluginFits, plugin_null}
 use Rattle.mysql_auth.specs.declared.auth_plugin.AuthPlugin.{AuthPlugin}
 use Rattle.mysql_auth.specs.declared.com_change_user.ComChangeUser.{ComChangeUser}
@@ -32,6 +33,10 @@ auth_plugin p = p.auth_plugin
 
 abbrev pub connect_attributes : ComChangeUserMoreData → Option (List Attribute)
 connect_attributes p = p.connect_attributes
+
+-- neither a plugin's name that it keeps nor attributes: nothing that has bytes
+abbrev pub HasNoTexts : ComChangeUserMoreData → Type 0
+HasNoTexts p = (option_map_or kept_name (auth_plugin p) [] ≡ []) × (unwrap_or (connect_attributes p) [] ≡ [])
 
 abbrev pub with_auth_plugin : Option AuthPlugin → ComChangeUserMoreData → ComChangeUserMoreData
 with_auth_plugin plugin p = record p { auth_plugin = plugin }
@@ -100,6 +105,10 @@ database p = p.database
 
 abbrev pub more_data_in : ComChangeUser → Option ComChangeUserMoreData
 more_data_in p = p.more_data
+
+-- no byte string has a byte, and more data has no texts
+abbrev pub HasNoBytes : ComChangeUser → Type 0
+HasNoBytes p = (p.user ≡ []) × (p.auth_plugin_data ≡ []) × (p.database ≡ []) × IfSome (more_data_in p) HasNoTexts
 
 -- the packet of these
 abbrev pub change_of : List ℕ → List ℕ → List ℕ → Option ComChangeUserMoreData → ComChangeUser

@@ -38,6 +38,10 @@ protocol_version p = p.head.protocol_version.0
 abbrev pub server_version : HandshakePacket → List ℕ
 server_version p = p.head.server_version
 
+-- neither the server's version nor the texts that may be left out have any byte
+abbrev pub HasNoTexts : HandshakePacket → Type 0
+HasNoTexts p = (server_version p ≡ []) × (unwrap_or p.scramble_2 [] ≡ []) × (unwrap_or p.auth_plugin_name [] ≡ [])
+
 abbrev pub connection_id : HandshakePacket → ℕ
 connection_id p = p.head.connection_id.0
 

@@ -1,11 +1,12 @@
 //! Attributes of a connection.
 #![tactic(auto, using(mysql_wire::proofs::Packets::packets), unfolding(crate::specs::Attributes::attributes, crate::specs::Attributes::attribute))]
 
-ghost use Rattle.std.specs.Prelude.{true, drop, ◌≡◌, ◌≢◌, ◌+◌, ◌++◌, ◌≤◌, [], List, ℕ, length, map, option_map, IfOk, is_ok, None, refl};
+ghost use Rattle.std.specs.Prelude.{true, drop, ◌≡◌, ◌≢◌, ◌+◌, ◌++◌, ◌≤◌, [], List, ℕ, length, map, option_map, IfOk, IsOk, refl};
+ghost use Rattle.std.specs.Option.{option_map_or};
 ghost use Rattle.mysql_wire.specs.Reading.{Answers};
 ghost use Rattle.mysql_wire.specs.Seq.{counts_any, is_any};
 ghost use Rattle.mysql_wire.specs.Writing.{saturated};
-ghost use Rattle.mysql_auth.specs.AttributeBytes.{attributes_len};
+ghost use Rattle.mysql_auth.specs.AttributeBytes.{attributes_room, pairs_room};
 ghost use Rattle.mysql_auth.specs.Attributes as spec;
 
 use crate::attribute::{Attribute, has_key};
@@ -51,7 +52,7 @@ const FEW: usize = 16;
 #[tactic(auto, using(crate::proofs::PairsRead::new_pairs, crate::proofs::Merging::distinct))]
 fn read_few<'s, 'a>(inside: ParseBuf<'a>) -> Result<Attributes<'a>, FaultOf<'s>>
     requires some { inside ≢ [] }
-    ensures value { Answers true result [] (spec.pairs.reads inside.entry) }
+    ensures value { Answers (is_any (pairs_room (length inside.entry))) result [] (spec.pairs.reads inside.entry) }
 {
     // (a pair takes two bytes at least)
     let capacity = min(FEW, inside.len() / 2);
@@ -80,7 +81,7 @@ fn read_many<'s, 'a>(inside: ParseBuf<'a>) -> Result<Attributes<'a>, FaultOf<'s>
 /// The attributes that these bytes are the pairs of.
 #[tactic(auto, using(crate::proofs::PairsRead::pair_loops))]
 pub(crate) fn read_pairs<'s, 'a>(inside: ParseBuf<'a>) -> Result<Attributes<'a>, FaultOf<'s>>
-    ensures value { Answers (is_any (length inside.entry)) result [] (spec.pairs.reads inside.entry) }
+    ensures value { Answers (is_any (pairs_room (length inside.entry))) result [] (spec.pairs.reads inside.entry) }
 {
     if inside.is_empty() {
         return Ok(Attributes {
@@ -98,6 +99,7 @@ impl<'a> Attributes<'a> {
         texts: IndexMap<String, String>,
     ) -> Result<Attributes<'static>, AllocError>
         ensures value { IfOk result (λ a. a ≡ map spec.text_pair texts.entries) }
+        ensures no_memory { texts.entries ≡ [] → IsOk result }
     {
         let mut list = Vec::with_capacity(alloc, texts.len())?;
         for (key, value) in texts {
@@ -120,6 +122,7 @@ impl<'a> Attributes<'a> {
     #[tactic(auto, using(crate::proofs::Merging::merges))]
     pub(crate) fn texts(&self, alloc: Global) -> Result<IndexMap<String, String>, AllocError>
         ensures value { IfOk result (λ texts. map spec.text_pair texts.entries ≡ spec.lossy_pairs self.now) }
+        ensures no_memory { self.now ≡ [] → IsOk result }
         ensures once { spec.merged self.now ≡ self.now }
     {
         let mut texts = IndexMap::with_capacity(alloc, self.list.len())?;
@@ -133,6 +136,7 @@ impl<'a> Attributes<'a> {
     /// The same, on memory of their own.
     pub(crate) fn into_owned(self, alloc: Global) -> Result<Attributes<'static>, AllocError>
         ensures value { IfOk result (λ owned. owned ≡ self.entry) }
+        ensures no_memory { self.entry ≡ [] → IsOk result }
     {
         let mut list = Vec::with_capacity(alloc, self.list.len())?;
         for attribute in self.list {
@@ -166,7 +170,7 @@ pub(crate) fn attributes_of(
     texts: Option<IndexMap<String, String>>,
 ) -> Result<Option<Attributes<'static>>, AllocError>
     ensures value { IfOk result (λ a. a ≡ option_map (λ texts. map spec.text_pair texts.entries) texts) }
-    ensures none { texts ≡ None → is_ok result ≡ true }
+    ensures no_memory { option_map_or (λ texts. texts.entries) texts [] ≡ [] → IsOk result }
 {
     match texts {
         Some(texts) => Ok(Some(Attributes::from_texts(alloc, texts)?)),
@@ -220,7 +224,7 @@ impl<'de> MyDeserialize<'de> for Attributes<'de> {
 
     type Size = AnyWidth;
 
-    ghost takes_memory = { λ _ bytes. counts_any (attributes_len.reads bytes) };
+    ghost takes_memory = { λ _ bytes. counts_any (attributes_room.reads bytes) };
 
     type Ctx = ();
 

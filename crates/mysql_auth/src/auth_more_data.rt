@@ -1,7 +1,7 @@
 //! Further data of an authentication.
 #![tactic(auto, using(mysql_wire::proofs::Packets::packets), unfolding(crate::specs::AuthMoreData::auth_more_data))]
 
-ghost use Rattle.std.specs.Prelude.{◌≡◌, IfOk};
+ghost use Rattle.std.specs.Prelude.{[], ◌≡◌, IfOk, IsOk};
 ghost use Rattle.std.specs.Cow.{cow_slice_items};
 ghost use Rattle.mysql_auth.specs.AuthMoreData as spec;
 
@@ -56,9 +56,10 @@ impl<'a> AuthMoreData<'a> {
         self.data.as_bytes()
     }
 
-    /// The same packet, on memory of its own.
+    /// The same packet, on memory of its own. Empty data takes none.
     pub fn into_owned(self, alloc: Global) -> Result<AuthMoreData<'static>, AllocError>
         ensures value { IfOk result (λ owned. owned ≡ self.entry) }
+        ensures no_memory { spec.more_data self.entry ≡ [] → IsOk result }
     {
         Ok(AuthMoreData {
             header: self.header,

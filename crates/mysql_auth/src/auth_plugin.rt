@@ -1,7 +1,7 @@
 //! Authentication plugins.
 #![tactic(auto, using(mysql_wire::proofs::Packets::packets), unfolding(crate::specs::AuthPlugin::auth_plugin))]
 
-ghost use Rattle.std.specs.Prelude.{true, ◌≡◌, None, Some, IfOk, IfSome, IfNone, is_ok};
+ghost use Rattle.std.specs.Prelude.{true, [], ◌≡◌, None, Some, IfOk, IsOk, IfSome, IfNone, is_ok};
 ghost use Rattle.mysql_auth.specs.AuthPlugin as spec;
 
 use crate::eof_name::without_last_zero;
@@ -114,13 +114,14 @@ impl<'a> AuthPlugin<'a> {
         })
     }
 
-    /// The same plugin, on memory of its own. Another name alone takes any.
+    /// The same plugin, on memory of its own. Another name alone takes any, where it has a byte.
     ///
     /// Where the copy is refused, the plugin is given up, and the bytes that it borrowed stay.
     #[tactic(auto, using(crate::proofs::Known::known_plugins))]
     pub fn into_owned(self, alloc: Global) -> Result<AuthPlugin<'static>, AllocError>
         ensures value { IfOk result (λ owned. owned ≡ self.entry) }
         ensures known { spec.IsKnown self.entry → is_ok result ≡ true }
+        ensures no_memory { spec.kept_name self.entry ≡ [] → IsOk result }
     {
         if let Some(known) = self.known() {
             return Ok(known);

@@ -1,7 +1,7 @@
 //! What a client answers to a scramble.
 #![tactic(auto, using(mysql_wire::proofs::Packets::packets))]
 
-ghost use Rattle.std.specs.Prelude.{true, ◌≡◌, IfOk, is_ok};
+ghost use Rattle.std.specs.Prelude.{true, [], ◌≡◌, IfOk, IsOk, is_ok};
 ghost use Rattle.mysql_auth.specs.AuthPluginData as spec;
 
 use mysql_wire::{EofBytes, Parts, RawBytes, Sink, Skip, parts};
@@ -42,12 +42,13 @@ impl AuthPluginData<'_> {
         }
     }
 
-    /// The same data, on memory of its own. A password alone takes any.
+    /// The same data, on memory of its own. A password alone takes any, where it has a byte.
     ///
     /// Where the copy is refused, the data is given up, and the bytes that it borrowed stay.
     pub fn into_owned(self, alloc: Global) -> Result<AuthPluginData<'static>, AllocError>
         ensures value { IfOk result (λ owned. owned ≡ self.entry) }
         ensures fixed { spec.IsFixed self.entry → is_ok result ≡ true }
+        ensures no_memory { spec.kept_password self.entry ≡ [] → IsOk result }
     {
         Ok(match self {
             AuthPluginData::Old(bytes) => AuthPluginData::Old(bytes),

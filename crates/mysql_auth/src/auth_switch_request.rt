@@ -1,7 +1,7 @@
 //! The switch to another plugin.
 #![tactic(auto, using(mysql_wire::proofs::Packets::packets), unfolding(crate::specs::AuthSwitchRequest::auth_switch_request))]
 
-ghost use Rattle.std.specs.Prelude.{◌≡◌, IfOk};
+ghost use Rattle.std.specs.Prelude.{[], ◌≡◌, IfOk, IsOk};
 ghost use Rattle.std.specs.Cow.{cow_slice_items};
 ghost use Rattle.mysql_auth.specs.AuthPlugin.{plugin_of};
 ghost use Rattle.mysql_auth.specs.AuthSwitchRequest as spec;
@@ -98,9 +98,10 @@ impl<'a> AuthSwitchRequest<'a> {
         self.plugin_data.as_bytes()
     }
 
-    /// The same request, on memory of its own.
+    /// The same request, on memory of its own. Empty bytes take none.
     pub fn into_owned(self, alloc: Global) -> Result<AuthSwitchRequest<'static>, AllocError>
         ensures value { IfOk result (λ owned. owned ≡ self.entry) }
+        ensures no_memory { spec.plugin_name self.entry ≡ [] → spec.plugin_data self.entry ≡ [] → IsOk result }
     {
         let AuthSwitchRequest {
             header,

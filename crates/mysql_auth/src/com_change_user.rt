@@ -1,7 +1,7 @@
 //! The change of a session's user.
 #![tactic(auto, using(mysql_wire::proofs::Packets::packets), unfolding(crate::specs::ComChangeUser::change_user))]
 
-ghost use Rattle.std.specs.Prelude.{[], ◌≡◌, ◌<◌, ◌^◌, List, IfOk, None, Some, option_map};
+ghost use Rattle.std.specs.Prelude.{[], ◌≡◌, ◌<◌, ◌^◌, List, IfOk, IsOk, IfSome, None, Some, option_map};
 ghost use Rattle.std.specs.Cow.{cow_slice_items};
 ghost use Rattle.std.specs.Option.{option_map_or};
 ghost use Rattle.mysql_wire.specs.Reading.{Answers};
@@ -140,9 +140,10 @@ impl<'a> ComChangeUser<'a> {
         }
     }
 
-    /// The same, on memory of its own.
+    /// The same, on memory of its own. Empty bytes take none.
     pub fn into_owned(self, alloc: Global) -> Result<ComChangeUser<'static>, AllocError>
         ensures value { IfOk result (λ owned. owned ≡ self.entry) }
+        ensures no_memory { spec.HasNoBytes self.entry → IsOk result }
     {
         let ComChangeUser {
             header,

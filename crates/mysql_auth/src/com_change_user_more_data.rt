@@ -1,10 +1,11 @@
 //! What a change of a session's user tells besides.
 #![tactic(auto, using(mysql_wire::proofs::Packets::packets), unfolding(crate::specs::ComChangeUser::more_data))]
 
-ghost use Rattle.std.specs.Prelude.{true, ◌≡◌, ◌<◌, ◌^◌, List, IfOk, is_ok, None, Some, map, option_map};
+ghost use Rattle.std.specs.Prelude.{◌≡◌, ◌<◌, ◌^◌, [], List, IfOk, IsOk, None, Some, map, option_map};
+ghost use Rattle.std.specs.Option.{option_map_or};
 ghost use Rattle.mysql_wire.specs.Reading.{Answers};
 ghost use Rattle.mysql_wire.specs.Seq.{counts_any};
-ghost use Rattle.mysql_auth.specs.AttributeBytes.{in_more_data, sent_len};
+ghost use Rattle.mysql_auth.specs.AttributeBytes.{in_more_data, sent_room};
 ghost use Rattle.mysql_auth.specs.Attributes.{Attribute, merged, text_pair};
 ghost use Rattle.mysql_auth.specs.ComChangeUser as spec;
 
@@ -71,7 +72,7 @@ impl<'a> ComChangeUserMoreData<'a> {
     ) -> Result<Self, AllocError>
         ensures value { IfOk result (λ p. p ≡ spec.with_connect_attributes (option_map (λ texts. map text_pair texts.entries) connect_attributes) self.entry) }
         // Without attributes it takes no memory.
-        ensures none { connect_attributes ≡ None → is_ok result ≡ true }
+        ensures no_memory { option_map_or (λ texts. texts.entries) connect_attributes [] ≡ [] → IsOk result }
     {
         self.connect_attributes = attributes_of(alloc, connect_attributes)?;
         Ok(self)
@@ -80,8 +81,8 @@ impl<'a> ComChangeUserMoreData<'a> {
     /// The same, on memory of its own.
     pub fn into_owned(self, alloc: Global) -> Result<ComChangeUserMoreData<'static>, AllocError>
         ensures value { IfOk result (λ owned. owned ≡ self.entry) }
-        // Without a plugin and without attributes it takes no memory.
-        ensures none { spec.auth_plugin self.entry ≡ None → spec.connect_attributes self.entry ≡ None → is_ok result ≡ true }
+        // Attributes and the name of a plugin that has no variant of its own alone take memory.
+        ensures no_memory { spec.HasNoTexts self.entry → IsOk result }
     {
         let ComChangeUserMoreData {
             character_set,
@@ -128,7 +129,7 @@ fn read_attributes<'s, 'a>(
     capabilities: CapabilityFlags,
     buf: &mut ParseBuf<'a>,
 ) -> Result<Option<Attributes<'a>>, FaultOf<'s>>
-    ensures value { Answers (counts_any ((sent_len (spec.sends_attributes capabilities)).reads buf.old)) result buf.new ((spec.written_attributes.form capabilities).reads buf.old) }
+    ensures value { Answers (counts_any ((sent_room (spec.sends_attributes capabilities)).reads buf.old)) result buf.new ((spec.written_attributes.form capabilities).reads buf.old) }
 {
     if !capabilities.contains(CapabilityFlags::CLIENT_CONNECT_ATTRS) {
         return Ok(None);

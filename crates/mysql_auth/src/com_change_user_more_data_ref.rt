@@ -1,7 +1,8 @@
 //! What a change of a session's user tells besides, where it lies.
 #![tactic(auto, using(mysql_wire::proofs::Packets::packets))]
 
-ghost use Rattle.std.specs.Prelude.{true, false, ◌≡◌, IfOk, is_ok, None, option_map};
+ghost use Rattle.std.specs.Prelude.{false, [], ◌≡◌, IfOk, IsOk, option_map};
+ghost use Rattle.std.specs.Option.{unwrap_or};
 ghost use Rattle.mysql_wire.specs.Reading.{Answers};
 ghost use Rattle.mysql_auth.specs.Attributes.{merged};
 ghost use Rattle.mysql_auth.specs.AuthPlugin.{plugin_of};
@@ -80,7 +81,7 @@ impl<'a> ComChangeUserMoreDataRef<'a> {
     pub fn to_more_data(&self, alloc: Global) -> Result<ComChangeUserMoreData<'a>, AllocError>
         ensures value { IfOk result (λ more. more ≡ self.now) }
         // Without attributes it takes no memory.
-        ensures no_attributes { spec.connect_attributes self.now ≡ None → is_ok result ≡ true }
+        ensures no_memory { unwrap_or (spec.connect_attributes self.now) [] ≡ [] → IsOk result }
     {
         Ok(self.with_attributes(attributes_given(&self.connect_attributes, alloc)?))
     }

@@ -1,7 +1,8 @@
 //! The change of a session's user, where it lies.
 #![tactic(auto, using(mysql_wire::proofs::Packets::packets))]
 
-ghost use Rattle.std.specs.Prelude.{true, false, ◌≡◌, IfOk, is_ok, None, option_map};
+ghost use Rattle.std.specs.Prelude.{false, [], ◌≡◌, IfOk, IfSome, IsOk, option_map};
+ghost use Rattle.std.specs.Option.{unwrap_or};
 ghost use Rattle.mysql_wire.specs.Reading.{Answers};
 ghost use Rattle.mysql_auth.specs.ComChangeUser as spec;
 ghost use Rattle.mysql_auth.specs.ComChangeUserRef.{before_more_data};
@@ -92,8 +93,8 @@ impl<'a> ComChangeUserRef<'a> {
     /// The change in its other form, which borrows the texts still. It takes memory for the attributes alone.
     pub fn to_change(&self, alloc: Global) -> Result<ComChangeUser<'a>, AllocError>
         ensures value { IfOk result (λ change. change ≡ self.now) }
-        // Without more data it takes no memory.
-        ensures no_more_data { spec.more_data_in self.now ≡ None → is_ok result ≡ true }
+        // Without attributes it takes no memory.
+        ensures no_memory { IfSome (spec.more_data_in self.now) (λ more. unwrap_or (spec.connect_attributes more) [] ≡ []) → IsOk result }
     {
         let more_data = match &self.more_data {
             Some(more) => Some(more.to_more_data(alloc)?),

@@ -1,7 +1,8 @@
 //! Attributes of a connection, where they lie.
 #![tactic(auto, using(crate::proofs::PairsPassed::pairs_passed))]
 
-ghost use Rattle.std.specs.Prelude.{true, false, ◌≡◌, List, None, IfErr, IfOk, OnOk, is_ok, option_map};
+ghost use Rattle.std.specs.Prelude.{false, [], ◌≡◌, List, IfErr, IfOk, IsOk, OnOk, option_map};
+ghost use Rattle.std.specs.Option.{unwrap_or};
 ghost use Rattle.mysql_wire.specs.Reading.{Faults};
 ghost use Rattle.mysql_auth.specs.Attributes as spec;
 ghost use Rattle.mysql_auth.specs.Attributes.{Attribute};
@@ -85,6 +86,7 @@ impl<'a> ConnectAttributesRef<'a> {
     #[inline]
     pub fn as_bytes(&self) -> &'a [u8]
         ensures value { pairs_in result.now ≡ self.now }
+        ensures spelled { ArePairs result.now }
     {
         let mut pairs = self.pairs.rest();
         pairs.eat_all()
@@ -94,6 +96,7 @@ impl<'a> ConnectAttributesRef<'a> {
     #[tactic(auto, using(crate::proofs::PairsPassed::pairs_merged))]
     pub(crate) fn to_attributes(&self, alloc: Global) -> Result<Attributes<'a>, AllocError>
         ensures value { IfOk result (λ attributes. attributes ≡ spec.merged self.now) }
+        ensures no_memory { spec.merged self.now ≡ [] → IsOk result }
     {
         let bytes = self.as_bytes();
         match read_pairs(ParseBuf::new(alloc, bytes)) {
@@ -123,7 +126,7 @@ pub(crate) fn attributes_given<'a>(
     alloc: Global,
 ) -> Result<Option<Attributes<'a>>, AllocError>
     ensures value { IfOk result (λ given. given ≡ option_map spec.merged attributes.now) }
-    ensures none { attributes.now ≡ None → is_ok result ≡ true }
+    ensures no_memory { unwrap_or (option_map spec.merged attributes.now) [] ≡ [] → IsOk result }
 {
     match attributes {
         Some(attributes) => Ok(Some(attributes.to_attributes(alloc)?)),

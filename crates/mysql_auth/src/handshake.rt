@@ -1,7 +1,7 @@
 //! The initial handshake.
 #![tactic(auto, using(mysql_wire::proofs::Packets::packets), unfolding(crate::specs::Handshake::handshake, crate::specs::Handshake::handshake_head, crate::specs::Handshake::handshake_block, crate::specs::Handshake::data_length))]
 
-ghost use Rattle.std.specs.Prelude.{[], ◌≡◌, ◌++◌, ℕ, List, Option, Some, None, IfOk, IfSome, IfNone, length, option_map};
+ghost use Rattle.std.specs.Prelude.{[], ◌≡◌, ◌++◌, ℕ, List, Option, Some, None, IfOk, IsOk, IfSome, IfNone, length, option_map};
 ghost use Rattle.std.specs.Option.{unwrap_or};
 ghost use Rattle.std.specs.Cow.{cow_slice_items, cow_str_bytes};
 ghost use Rattle.mysql_wire.specs.Text.{lossy_text, BorrowsUtf8, OptionBorrowsUtf8};
@@ -217,9 +217,10 @@ impl<'a> HandshakePacket<'a> {
         self.head.mariadb_capabilities.0
     }
 
-    /// The same handshake, on memory of its own.
+    /// The same handshake, on memory of its own. Empty texts take none.
     pub fn into_owned(self, alloc: Global) -> Result<HandshakePacket<'static>, AllocError>
         ensures value { IfOk result (λ owned. owned ≡ self.entry) }
+        ensures no_memory { spec.HasNoTexts self.entry → IsOk result }
     {
         let HandshakePacket {
             head,

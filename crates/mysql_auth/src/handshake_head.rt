@@ -1,6 +1,6 @@
 //! What every handshake has.
 
-ghost use Rattle.std.specs.Prelude.{◌≡◌, IfOk};
+ghost use Rattle.std.specs.Prelude.{[], ◌≡◌, IfOk, IsOk};
 ghost use Rattle.mysql_auth.specs.Handshake as spec;
 
 use bitflags::Flags;
@@ -52,6 +52,7 @@ impl<'a> HandshakeHead<'a> {
     /// The same, on memory of its own.
     pub(crate) fn into_owned(self, alloc: Global) -> Result<HandshakeHead<'static>, AllocError>
         ensures value { IfOk result (λ owned. owned ≡ self.entry) }
+        ensures no_memory { self.entry.server_version ≡ [] → IsOk result }
     {
         Ok(HandshakeHead {
             protocol_version: self.protocol_version,

@@ -1,10 +1,10 @@
 //! The answer to a handshake.
 #![tactic(auto, using(mysql_wire::proofs::Packets::packets), unfolding(crate::specs::HandshakeResponse::handshake_response))]
 
-ghost use Rattle.std.specs.Prelude.{true, [], ◌≡◌, ◌≢◌, ◌<◌, ℕ, List, Ok, Option, Some, None, Bool, IfOk, is_ok, map, option_map, is_some};
+ghost use Rattle.std.specs.Prelude.{[], ◌≡◌, ◌≢◌, ◌<◌, ℕ, List, Ok, Option, Some, None, Bool, IfOk, IsOk, map, option_map, is_some};
 ghost use Rattle.std.specs.Cow.{cow_slice_items};
 ghost use Rattle.std.specs.Int.{bit_at};
-ghost use Rattle.std.specs.Option.{option_map_or};
+ghost use Rattle.std.specs.Option.{option_map_or, unwrap_or};
 ghost use Rattle.mysql_wire.specs.Either.{either_bytes};
 ghost use Rattle.mysql_wire.specs.FlagMasks.{CLIENT_CONNECT_WITH_DB, CLIENT_PLUGIN_AUTH, CLIENT_CONNECT_ATTRS};
 ghost use Rattle.mysql_wire.specs.Flags.{has};
@@ -13,7 +13,7 @@ ghost use Rattle.mysql_wire.specs.LenEnc.{lenenc_string_bytes};
 ghost use Rattle.mysql_wire.specs.Null.{null_bytes};
 ghost use Rattle.mysql_wire.specs.Reading.{Answers};
 ghost use Rattle.mysql_wire.specs.Seq.{counts_any};
-ghost use Rattle.mysql_auth.specs.AttributeBytes.{in_response, sent_len};
+ghost use Rattle.mysql_auth.specs.AttributeBytes.{in_response, sent_room};
 ghost use Rattle.mysql_auth.specs.Attributes.{Attribute, merged, text_pair, lossy_pairs};
 ghost use Rattle.mysql_auth.specs.HandshakeResponse as spec;
 ghost use Rattle.mysql_auth.specs.SslRequest as ssl;
@@ -146,7 +146,7 @@ impl<'a> HandshakeResponse<'a> {
         ensures auth_plugin { IfOk result (λ p. spec.auth_plugin p ≡ auth_plugin.entry) }
         ensures connect_attributes { IfOk result (λ p. spec.connect_attributes p ≡ option_map (λ texts. map text_pair texts.entries) connect_attributes) }
         // Without attributes it takes no memory.
-        ensures no_attributes { connect_attributes ≡ None → is_ok result ≡ true }
+        ensures no_memory { option_map_or (λ texts. texts.entries) connect_attributes [] ≡ [] → IsOk result }
         ensures max_packet_size { IfOk result (λ p. spec.max_packet_size p ≡ max_packet_size) }
         ensures mariadb_ext_capabilities { IfOk result (λ p. (spec.mariadb_ext_capabilities p).0 ≡ 0) }
         ensures database_flag { IfOk result (λ p. has (spec.capabilities p).0 CLIENT_CONNECT_WITH_DB ≡ is_some db_name.entry) }
@@ -269,6 +269,7 @@ impl<'a> HandshakeResponse<'a> {
     ) -> Result<Option<IndexMap<String, String>>, AllocError>
         ensures value { IfOk result (λ texts. option_map (λ texts. map text_pair texts.entries) texts ≡ option_map lossy_pairs (spec.connect_attributes self.now)) }
         ensures none { spec.connect_attributes self.now ≡ None → result ≡ Ok None }
+        ensures no_memory { unwrap_or (spec.connect_attributes self.now) [] ≡ [] → IsOk result }
         // Each key stands once among the attributes, as reading back asks.
         ensures once { (pairs : List Attribute) → spec.connect_attributes self.now ≡ Some pairs → merged pairs ≡ pairs }
     {
@@ -317,7 +318,7 @@ fn read_attributes<'s, 'a>(
     head: &SslRequest,
     buf: &mut ParseBuf<'a>,
 ) -> Result<Option<Attributes<'a>>, FaultOf<'s>>
-    ensures value { Answers (counts_any ((sent_len (spec.sends_attributes head.now)).reads buf.old)) result buf.new (((spec.sent_attributes head.now).form tt).reads buf.old) }
+    ensures value { Answers (counts_any ((sent_room (spec.sends_attributes head.now)).reads buf.old)) result buf.new (((spec.sent_attributes head.now).form tt).reads buf.old) }
 {
     if !head
         .capabilities()

@@ -1,7 +1,8 @@
 //! The answer to a handshake, where it lies.
 #![tactic(auto, using(mysql_wire::proofs::Packets::packets))]
 
-ghost use Rattle.std.specs.Prelude.{true, false, ◌≡◌, IfOk, is_ok, None, Ok, option_map};
+ghost use Rattle.std.specs.Prelude.{false, [], ◌≡◌, IfOk, IsOk, Ok, option_map};
+ghost use Rattle.std.specs.Option.{unwrap_or};
 ghost use Rattle.mysql_wire.specs.Reading.{Answers};
 ghost use Rattle.mysql_auth.specs.Attributes.{merged};
 ghost use Rattle.mysql_auth.specs.AuthPlugin.{plugin_of};
@@ -164,7 +165,7 @@ impl<'a> HandshakeResponseRef<'a> {
     pub fn to_response(&self, alloc: Global) -> Result<HandshakeResponse<'a>, AllocError>
         ensures value { IfOk result (λ response. response ≡ self.now) }
         // Without attributes it takes no memory.
-        ensures no_attributes { spec.connect_attributes self.now ≡ None → is_ok result ≡ true }
+        ensures no_memory { unwrap_or (spec.connect_attributes self.now) [] ≡ [] → IsOk result }
     {
         Ok(self.with_attributes(attributes_given(&self.connect_attributes, alloc)?))
     }

@@ -34,6 +34,7 @@ ghost use Rattle.mysql_wire.specs.Null.{HasNoZero};
 use mysql_wire::MyDeserialize;
 
 mod borrowed;
+mod equal;
 mod values;
 
 pub use borrowed::{
@@ -42,6 +43,10 @@ pub use borrowed::{
     borrowed_changes_of_user_read_changes_of_user, borrowed_connect_attributes_read_attributes,
     borrowed_handshake_responses_read_handshake_responses, borrowed_handshakes_read_handshakes,
     borrowed_more_data_reads_more_data, borrowed_public_keys_read_public_keys,
+};
+pub use equal::{
+    equal_client_packets_are_the_same, equal_plugins_are_the_same,
+    equal_server_packets_are_the_same,
 };
 pub use values::{
     more_data_keys_stand_once, this_change_user_round_trips, this_handshake_response_round_trips,

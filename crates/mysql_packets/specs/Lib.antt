@@ -165,8 +165,8 @@ pub use Rattle.mysql_auth.specs.Version
 pub use Rattle.mysql_repl.specs.BinlogDump
 pub use Rattle.mysql_repl.specs.BinlogDumpGtid
 pub use Rattle.mysql_repl.specs.BinlogRequest
-pub use Rattle.mysql_repl.specs.Counts
 pub use Rattle.mysql_repl.specs.GnoInterval
+pub use Rattle.mysql_repl.specs.GtidSetEarly
 pub use Rattle.mysql_repl.specs.GtidSetText
 pub use Rattle.mysql_repl.specs.GtidSetTextParts
 pub use Rattle.mysql_repl.specs.GtidSetWritten
@@ -175,6 +175,7 @@ pub use Rattle.mysql_repl.specs.MergedIntervals
 pub use Rattle.mysql_repl.specs.ProperSid
 pub use Rattle.mysql_repl.specs.RegisterSlave
 pub use Rattle.mysql_repl.specs.RequestBytes
+pub use Rattle.mysql_repl.specs.Room
 pub use Rattle.mysql_repl.specs.SemiSyncAck
 pub use Rattle.mysql_repl.specs.ServerSids
 pub use Rattle.mysql_repl.specs.Sid

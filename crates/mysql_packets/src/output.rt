@@ -1,8 +1,11 @@
 //! The program's output.
 
+ghost use Rattle.std.specs.Prelude.{◌≡◌, ◌≢◌, ◌==◌, Some, None, IfOk, IfErr, if◌then◌else◌};
+ghost use Rattle.std.specs.IoError.{error_kind};
+ghost use Rattle.std.specs.declared.io.ErrorKind.TheVariants as kind;
 ghost use Rattle.mysql_packets.specs.Output.{IsFront, IsTaken};
 
-use std::io::{ErrorKind, Write};
+use std::io::{ErrorKind, Result, Write};
 
 /// Writes the text, as far as the writer takes it; whether that was all of it.
 ///
@@ -27,7 +30,16 @@ pub fn write_front<W: Write>(writer: &mut W, text: &[u8]) -> bool
 fn write_some<W: Write>(writer: &mut W, text: &[u8]) -> Option<usize>
     ensures taken { IsTaken result text.now (W.contents writer.old) (W.contents writer.new) }
 {
-    match writer.write(text) {
+    count_of(writer.write(text))
+}
+
+/// How many bytes a write took: a write of none and one that failed are `None`, and one that was interrupted is made again.
+fn count_of(written: Result<usize>) -> Option<usize>
+    ensures count { IfOk written (λ count. result ≡ (if count == 0 then None else Some count)) }
+    ensures interrupted { IfErr written (λ e. error_kind e ≡ kind.Interrupted → result ≡ Some 0) }
+    ensures failed { IfErr written (λ e. error_kind e ≢ kind.Interrupted → result ≡ None) }
+{
+    match written {
         Ok(0) => None,
         Ok(count) => Some(count),
         Err(e) if e.kind() == ErrorKind::Interrupted => Some(0),

@@ -4,7 +4,7 @@ use Rattle.std.specs.Cmp.Lexicographic.{pointwise}
 use Rattle.std.specs.Fmt.{decimal}
 use Rattle.std.specs.List.{flat_map}
 use Rattle.std.specs.Str.Parse.{IsNumeral}
-use Rattle.std.proofs.lemmas.Bool.{le-ltb, lt-ltb, eqb-true, ne_eqb}
+use Rattle.std.proofs.lemmas.Bool.{and_parts, le-ltb, lt-ltb, eqb-true, ne_eqb}
 use Rattle.std.proofs.lemmas.Bool.Decides.{nat_tests}
 use Rattle.std.proofs.lemmas.Fmt.{decimal_is_IsNumeral}
 use Rattle.std.proofs.lemmas.Grind.{flat_map-append}
@@ -12,6 +12,7 @@ use Rattle.std.proofs.lemmas.List.{append-nil}
 use Rattle.std.proofs.lemmas.Str.Parse.{digit_from_value}
 use Rattle.uuid.proofs.RoundTrips.{parses_hyphenated}
 use Rattle.uuid.specs.Text.{hyphenated_text, lower}
+use Rattle.mysql_wire.proofs.Same.{bytes-same}
 use Rattle.mysql_repl.specs.declared.gno_interval.GnoInterval.{GnoInterval}
 use Rattle.mysql_repl.specs.declared.sid.Sid.{Sid}
 use Rattle.mysql_repl.specs.declared.sid_text.InvalidSid.{InvalidSid}
@@ -350,25 +351,10 @@ record RestReads (id : List ℕ) (sids : List Sid) (r : Cut) : Type 0 where
   pub plain : AllPlain r.0
   pub pieces : ArePieces r.1
 
-both : (a b : Bool) → (a && b) ≡ true → (a ≡ true) × (b ≡ true)
-both true true h = (refl, refl)
-both true false h = absurd cc
-both false b h = absurd cc
-
-same-uuid : (xs ys : List ℕ) → pointwise nat_eq xs ys ≡ true → xs ≡ ys
-same-uuid [] [] h = refl
-same-uuid [] (y ∷ ys) h = absurd cc
-same-uuid (x ∷ xs) [] h = absurd cc
-same-uuid (x ∷ xs) (y ∷ ys) h =
-    let p = both (nat_eq x y) (pointwise nat_eq xs ys) h in
-    let first : x ≡ y = eqb-true x y p.0 in
-    let more : xs ≡ ys = same-uuid xs ys p.1 in
-    cc
-
 rest-step : (b : Bool) (front s : Sid) (sids : List Sid) (r : Cut) → goes_on front s ≡ b → SidInSet s → RestReads (uuid s) sids r → RestReads (uuid front) (s ∷ sids) (rest_by b s r)
 rest-step true front s sids r g h q =
-    let p = both (is_some (tag s)) (pointwise nat_eq (uuid front) (uuid s)) g in
-    let same : uuid s ≡ uuid front = sym (same-uuid (uuid front) (uuid s) p.1) in
+    let p = and_parts (is_some (tag s)) (pointwise nat_eq (uuid front) (uuid s)) g in
+    let same : uuid s ≡ uuid front = sym ((bytes-same (uuid front) (uuid s)).0 p.1) in
     let found : found_in (uuid s) (sid_words s ++ r.0) ≡ Ok ([], s ∷ q.go) =
     found-next (uuid s) (tag s) (intervals s) r.0 q.go p.0 h.proper.tag h.proper.intervals h.ends q.found in
     record {

@@ -1,6 +1,7 @@
--- What a reader of a server's identifier needs.
-use Rattle.std.proofs.Common.{◌≡◌, ℕ, ◌<◌, List, length, Err, refl}
+-- What a reader and a writer of a server's identifier need.
+use Rattle.std.proofs.Common.{◌≡◌, ℕ, ◌+◌, ◌<◌, List, length, drop, Err, refl, ap, ◌∙◌}
 use Rattle.std.proofs.lemmas.Bool.{lt-ltb}
+use Rattle.std.proofs.lemmas.List.{drop-drop}
 use Rattle.mysql_wire.proofs.Numbers.{bytes-there}
 use Rattle.mysql_wire.specs.Form.{bytes}
 use Rattle.mysql_wire.specs.declared.fault.FaultKind.TheVariants as kind
@@ -11,3 +12,7 @@ unfolding bytes
 id-short old lt = rw (lt-ltb _ _ lt) refl
 
 pub ruleset ids = (id-short, bytes-there)
+
+-- a byte more is written, and lies after the buffer no longer
+pub byte-less : (k : ℕ) (before now next : List ℕ) → next ≡ drop 1 now → now ≡ drop k before → next ≡ drop (k + 1) before
+byte-less k before now next e f = e ∙ ap (drop 1) f ∙ drop-drop 1 k before

@@ -1,9 +1,9 @@
 -- Intervals that are put in order: what they have, and that they are apart.
-use Rattle.std.proofs.Common.{◌≡◌, ℕ, suc, ◌+◌, ◌<◌, ◌≤◌, ◌^◌, List, [], ◌∷◌, length, get_or, filter, sum_by, Bool, true, false, ◌&&◌, ◌||◌, nat_lt, nat_le, if◌then◌else◌, Result, Ok, Err, IfOk, refl, sym, ap, ◌∙◌, arith}
+use Rattle.std.proofs.Common.{◌≡◌, ℕ, zero, suc, ◌+◌, ◌<◌, ◌≤◌, ◌^◌, List, [], ◌∷◌, length, get_or, filter, sum_by, Bool, true, false, ◌&&◌, ◌||◌, nat_lt, nat_le, if◌then◌else◌, Result, Ok, Err, IfOk, refl, sym, ap, ◌∙◌, arith}
 use Rattle.std.specs.List.Sorted.{IsNonDecreasingBy, IsPermutation}
 use Rattle.std.proofs.lemmas.Bool.{lt-ltb, lt-leb, ltb-true, ltb-false, leb-false}
 use Rattle.std.proofs.lemmas.Bool.Decides.{nat_tests}
-use Rattle.std.proofs.lemmas.List.Sorted.{sum_by-IsPermutation}
+use Rattle.std.proofs.lemmas.List.Sorted.{length_permutation, sum_by-IsPermutation}
 use Rattle.std.proofs.lemmas.List.Sums.{sum_by-cons}
 use Rattle.mysql_repl.specs.declared.gno_interval.GnoInterval.{GnoInterval}
 use Rattle.mysql_repl.specs.GnoInterval.{start, end}
@@ -23,6 +23,24 @@ by-any n false i is rest h e = rw (empty-lacks n i h) e
 pub some-same : (n : ℕ) (is : List GnoInterval) → any_has n (filter has_any is) ≡ any_has n is
 some-same n [] = refl
 some-same n (i ∷ is) = by-any n (has_any i) i is (filter has_any is) refl (some-same n is)
+
+-- where none is left, none has a number
+kept-some : (b : Bool) (i : GnoInterval) (rest : List GnoInterval) → b ≡ true → (if b then i ∷ rest else rest) ≡ [] → ⊥
+kept-some true i rest h e = cc
+kept-some false i rest h e = cc
+
+dropped : (b : Bool) (i : GnoInterval) (rest : List GnoInterval) → (if b then i ∷ rest else rest) ≡ [] → rest ≡ []
+dropped true i rest e = absurd cc
+dropped false i rest e = e
+
+pub some-left : (k : ℕ) (is : List GnoInterval) (d : GnoInterval) → k < length is → has_any (get_or is k d) ≡ true → filter has_any is ≡ [] → ⊥
+some-left k [] d lt h none = omega (arith, lt)
+some-left zero (i ∷ is) d lt h none = kept-some (has_any i) i (filter has_any is) h none
+some-left (suc k) (i ∷ is) d lt h none = some-left k is d (omega (arith, lt)) h (dropped (has_any i) i (filter has_any is) none)
+
+pub none-permuted : (xs ys : List GnoInterval) → IsPermutation xs ys → xs ≡ [] → ys ≡ []
+none-permuted xs [] h none = refl
+none-permuted xs (y ∷ ys) h none = absurd (omega (arith, length_permutation xs (y ∷ ys) h, ap length none))
 
 abbrev AllSome : List GnoInterval → Type 0
 AllSome [] = Unit {0}

@@ -28,7 +28,7 @@ use Rattle.mysql_repl.proofs.SidTexts.{which, numeral-from}
 use Rattle.mysql_repl.proofs.Tags.{no_fault-tag}
 use Rattle.mysql_repl.proofs.UuidBytes.{uuid-is}
 
-same-ok : {A : Type 0} (x y : A) → ◌≡◌ {A = Result A InvalidSid} (Ok x) (Ok y) → x ≡ y
+pub same-ok : {A : Type 0} (x y : A) → ◌≡◌ {A = Result A InvalidSid} (Ok x) (Ok y) → x ≡ y
 same-ok x y e = cc
 
 -- ---- numbers
@@ -73,10 +73,10 @@ checked-by false false true first last i e = absurd cc
 checked-by false false false first last i e = (refl, refl, refl, same-ok (interval_of first (last + 1)) i e)
 
 -- an interval from the first number to the last
-abbrev IsFrom : ℕ → ℕ → GnoInterval → Type 0
+abbrev pub IsFrom : ℕ → ℕ → GnoInterval → Type 0
 IsFrom first last i = (start i ≡ first) × (end i ≡ last + 1) × ProperInterval i
 
-checked-from : (first last : ℕ) (i : GnoInterval) → last < 2 ^ 64 → checked first last ≡ Ok i → IsFrom first last i
+pub checked-from : (first last : ℕ) (i : GnoInterval) → last < 2 ^ 64 → checked first last ≡ Ok i → IsFrom first last i
 checked-from first last i small e =
     let c = checked-by (last == 18446744073709551615) (nat_le (last + 1) first) (first == 0) first last i e in
     let below : last ≡ 18446744073709551615 → ⊥ = eqb-false last 18446744073709551615 c.0 in
@@ -119,7 +119,7 @@ two-from text front back i parts e =
     } in
     record { numbers = inr two; proper = f.2 }
 
-interval-by : (two more : Bool) (x : Result GnoInterval InvalidSid) (y : Result GnoInterval InvalidSid) (i : GnoInterval)
+pub interval-by : (two more : Bool) (x : Result GnoInterval InvalidSid) (y : Result GnoInterval InvalidSid) (i : GnoInterval)
     → (if two then (if more then Err fault.Parts else x) else y) ≡ Ok i → ((two ≡ true) × (x ≡ Ok i)) ⊎ (y ≡ Ok i)
 interval-by true true x y i e = absurd cc
 interval-by true false x y i e = inl (refl, e)

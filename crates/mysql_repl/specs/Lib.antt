@@ -10,7 +10,7 @@ pub mod Sid
 pub mod SidBlock
 pub mod SidBlockAgain
 pub mod BinlogDumpGtid
-pub mod Counts
+pub mod Room
 pub mod BinlogRequest
 pub mod SidText
 pub mod SidTextParts
@@ -18,6 +18,7 @@ pub mod ServerSids
 pub mod MergedIntervals
 pub mod GtidSetText
 pub mod GtidSetTextParts
+pub mod GtidSetEarly
 pub mod GtidSetWritten
 pub mod ProperSid
 pub mod SidGrammar

@@ -1,7 +1,7 @@
 //! The request for a binary log without the transactions of a GTID set, where it lies.
 #![tactic(auto, using(mysql_wire::proofs::Packets::packets), unfolding(crate::specs::BinlogDumpGtid::gtid_dump))]
 
-ghost use Rattle.std.specs.Prelude.{false, ◌≡◌, ◌≢◌, [], IfOk, OnErr};
+ghost use Rattle.std.specs.Prelude.{false, ◌≡◌, [], IfOk, IsOk};
 ghost use Rattle.mysql_repl.specs.BinlogDumpGtid as spec;
 
 use crate::binlog_dump_gtid::{ComBinlogDumpGtid, of_parts, read_head};
@@ -79,7 +79,7 @@ impl<'a> ComBinlogDumpGtidRef<'a> {
     /// The request in its other form, which borrows the name and the tags still. For no sid no memory is taken.
     pub fn to_packet(&self, alloc: Global) -> Result<ComBinlogDumpGtid<'a>, AllocError>
         ensures value { IfOk result (λ packet. packet ≡ self.now) }
-        ensures memory { OnErr result (spec.sids self.now ≢ []) }
+        ensures no_memory { spec.sids self.now ≡ [] → IsOk result }
     {
         let sids = self.sids.to_vec(alloc)?;
         Ok(of_parts(self.flags, self.server_id, self.filename, self.pos, sids))

@@ -1,6 +1,8 @@
 //! The text of a GTID set.
 
-ghost use Rattle.std.specs.Prelude.{◌≡◌, ◌++◌, ◌+◌, ◌<◌, ◌∷◌, Option, Some, Ok, option_map};
+ghost use Rattle.std.specs.Prelude.{◌≡◌, ◌++◌, ◌+◌, ◌<◌, ◌∷◌, [], Option, Some, Ok, Err, IfSome, option_map};
+ghost use Rattle.mysql_repl.specs.declared.sid_text.InvalidSid.TheVariants as fault;
+ghost use Rattle.mysql_repl.specs.GtidSetEarly.{early_tag, early_word, early_words, early_piece, early_answer};
 ghost use Rattle.mysql_repl.specs.GtidSetText as spec;
 ghost use Rattle.mysql_repl.specs.GtidSetTextParts.{left_words, sids_read, with_front, Takes};
 ghost use Rattle.mysql_repl.specs.SidText.{Answered, colon, comma};
@@ -132,6 +134,7 @@ fn interval_follows(left: Option<&str>) -> bool
 #[tactic(auto, unfolding(crate::specs::GtidSetText::server_tag))]
 fn server_tag(alloc: Global, word: &str, left: Option<&str>) -> Result<Tag<'static>, InvalidSid>
     ensures value { Answered result (spec.server_tag word.now (left_words colon (option_map (λ t. t.now) left.entry))) }
+    ensures early { IfSome (early_tag word.now) (λ e. result ≡ Err e) }
 {
     if word.is_empty() {
         return Err(InvalidSid::Empty);
@@ -175,6 +178,7 @@ impl Building {
         first: &Word<'_>,
     ) -> Result<Building, InvalidSid>
         ensures value { Takes uuid self.sids.items self.sid result first.now.word.now (left_words colon (option_map (λ t. t.now) first.now.left)) }
+        ensures early { IfSome (early_word first.now.word.now) (λ e. result ≡ Err e) }
     {
         if is_interval(first.word) {
             let interval = server_interval(first.word)?;
@@ -200,6 +204,7 @@ fn with_words(
     text: &str,
 ) -> Result<Vec<Sid<'static>>, InvalidSid>
     ensures value { Answered (sids_read result) (with_front sids.entry.items (spec.sids_found uuid (spec.found_in uuid (spec.words colon text.now)))) }
+    ensures early { IfSome (early_words (spec.words colon text.now)) (λ e. result ≡ Err e) }
 {
     let mut building = Building {
         sids,
@@ -215,13 +220,15 @@ fn with_words(
 }
 
 /// The sids with those that a piece between commas spells.
-#[tactic(auto, unfolding(crate::specs::GtidSetText::read_piece))]
+#[tactic(auto, unfolding(crate::specs::GtidSetText::read_piece, crate::specs::GtidSetEarly::early_piece))]
 fn with_piece(
     alloc: Global,
     sids: Vec<Sid<'static>>,
     piece: &str,
 ) -> Result<Vec<Sid<'static>>, InvalidSid>
     ensures value { Answered (sids_read result) (with_front sids.entry.items (spec.read_piece piece.now)) }
+    ensures early { IfSome (early_piece piece.now) (λ e. result ≡ Err e) }
+    ensures blank { piece.now ≡ [] → result ≡ Ok sids.entry }
 {
     if piece.is_empty() {
         return Ok(sids);
@@ -246,10 +253,12 @@ fn with_piece(
 /// numbers. A piece of white space alone spells no sid, so that an empty text is the empty set.
 ///
 /// Sids and intervals come in the order of the text, as often as they stand there. Another text is refused by its first
-/// fault.
-#[tactic(auto, using(crate::proofs::GtidSetTexts::piece_loops), unfolding(crate::specs::GtidSetText::read_sids))]
+/// fault. No memory is asked for before the first uuid is read, and its first interval or a byte of its first tag: so a text of no
+/// sid, and one with a fault up to there, are never refused for memory.
+#[tactic(auto, using(crate::proofs::GtidSetTexts::piece_loops), unfolding(crate::specs::GtidSetText::read_sids, crate::specs::GtidSetEarly::early_answer))]
 pub fn sids_from_text(alloc: Global, text: &str) -> Result<Vec<Sid<'static>>, InvalidSid>
     ensures value { Answered (sids_read result) (spec.read_sids text.now) }
+    ensures early { IfSome (early_answer text.now) (λ read. sids_read result ≡ read) }
 {
     let mut sids = Vec::new(alloc);
     let mut left = Some(text);
@@ -269,6 +278,8 @@ impl<'a> ComBinlogDumpGtid<'a> {
     #[tactic(auto, using(crate::proofs::GtidSetTexts::dumps))]
     pub fn with_gtid_set(self, alloc: Global, text: &str) -> Result<Self, InvalidSid>
         ensures value { Answered result (spec.with_read_sids (spec.read_sids text.now) self.entry) }
+        // Before any memory is asked for.
+        ensures early { IfSome (early_answer text.now) (λ read. result ≡ spec.with_read_sids read self.entry) }
     {
         let sids = sids_from_text(alloc, text)?;
         Ok(self.with_sids(CowSlice::Owned(sids)))

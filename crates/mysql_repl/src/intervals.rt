@@ -1,12 +1,13 @@
 //! The intervals of a sid: a count of eight bytes, and so many intervals.
 #![tactic(auto, using(mysql_wire::proofs::Packets::packets))]
 
-ghost use Rattle.std.specs.Prelude.{true, ◌≡◌, ◌+◌, ◌++◌, ◌≤◌, length, drop};
+ghost use Rattle.std.specs.Prelude.{◌≡◌, ◌+◌, ◌/◌, ◌++◌, ◌≤◌, length, min, drop};
 ghost use Rattle.std.specs.List.{flat_map};
 ghost use Rattle.mysql_wire.specs.Int.{le_u64, number_of};
 ghost use Rattle.mysql_wire.specs.Reading.{Answers};
-ghost use Rattle.mysql_wire.specs.Seq.{counted, counts_any, items_of, seq};
+ghost use Rattle.mysql_wire.specs.Seq.{counted, counts_any, is_any, items_of, seq};
 ghost use Rattle.mysql_repl.specs.GnoInterval.{interval};
+ghost use Rattle.mysql_repl.specs.Room.{interval_room};
 
 use crate::gno_interval::GnoInterval;
 use mysql_wire::{Buffer, FaultOf, IntRepr, LeU64, MySerialize, ParseBuf, RawInt, Seq};
@@ -18,7 +19,7 @@ const INTERVAL_LEN: usize = 16;
 /// Reads so many intervals. Capacity is taken for no more than the bytes can hold.
 #[inline(always)]
 fn read_counted<'s>(count: u64, buf: &mut ParseBuf<'_>) -> Result<Vec<GnoInterval>, FaultOf<'s>>
-    ensures value { Answers true (items_of result) buf.new ((counted count (interval.form tt)).reads buf.old) }
+    ensures value { Answers (is_any (min count (length buf.old / 16))) (items_of result) buf.new ((counted count (interval.form tt)).reads buf.old) }
 {
     let capacity = min(count as usize, buf.len() / INTERVAL_LEN);
     let mut intervals = Vec::with_capacity(buf.alloc(), capacity)?;
@@ -35,7 +36,7 @@ fn read_counted<'s>(count: u64, buf: &mut ParseBuf<'_>) -> Result<Vec<GnoInterva
 pub(crate) fn read_intervals<'s, 'de>(
     buf: &mut ParseBuf<'de>,
 ) -> Result<Seq<'de, GnoInterval, LeU64>, FaultOf<'s>>
-    ensures value { Answers (counts_any ((number_of le_u64).reads buf.old)) result buf.new ((seq (number_of le_u64) (interval.form tt)).reads buf.old) }
+    ensures value { Answers (counts_any (interval_room.reads buf.old)) result buf.new ((seq (number_of le_u64) (interval.form tt)).reads buf.old) }
 {
     let count: RawInt<LeU64> = buf.parse(())?;
     if count.0 == 0 {

@@ -1,7 +1,7 @@
 //! The intervals of a sid, where they lie.
 #![tactic(auto, using(mysql_wire::proofs::Packets::packets))]
 
-ghost use Rattle.std.specs.Prelude.{false, [], ◌≡◌, ◌≢◌, length, option_map, refl, IfOk, OnErr};
+ghost use Rattle.std.specs.Prelude.{false, [], ◌≡◌, length, option_map, refl, IfOk, IsOk};
 ghost use Rattle.mysql_wire.specs.Int.{le_u64, number_of};
 ghost use Rattle.mysql_wire.specs.Reading.{Answers};
 ghost use Rattle.mysql_wire.specs.Seq.{counted, seq};
@@ -114,7 +114,7 @@ impl<'a> IntervalsRef<'a> {
     /// The intervals, on memory of their own. For no interval no memory is taken.
     pub fn to_vec(&self, alloc: Global) -> Result<Vec<GnoInterval>, AllocError>
         ensures value { IfOk result (λ intervals. intervals.items ≡ self.now) }
-        ensures memory { OnErr result (self.now ≢ []) }
+        ensures no_memory { self.now ≡ [] → IsOk result }
     {
         let mut intervals = Vec::with_capacity(alloc, self.left() as usize)?;
         for interval in self.iter() {

@@ -4,7 +4,7 @@
 //! that begin with `this` speak of the value at hand, and `request_written` makes two calls.
 #![tactic(auto, using(mysql_wire::proofs::Packets::packets, crate::proofs::Fits::plain_fits, crate::proofs::SidFits::sid_fits))]
 
-ghost use Rattle.std.specs.Prelude.{◌≡◌, ◌++◌, ℕ, List, None, Some, Ok, OnErr, OnOk, IsUtf8, true, false};
+ghost use Rattle.std.specs.Prelude.{◌≡◌, ◌++◌, ℕ, List, None, Some, Ok, OnErr, OnOk, IsTrue, IsUtf8, ◌↔◌, true, false};
 ghost use Rattle.mysql_wire.specs.Int.{le_u64, number_of};
 ghost use Rattle.mysql_wire.specs.Seq.{seq};
 ghost use Rattle.mysql_repl.specs.declared.binlog_dump.ComBinlogDump.{ComBinlogDump};
@@ -21,7 +21,7 @@ ghost use Rattle.mysql_repl.specs.BinlogRequest as request_spec;
 ghost use Rattle.mysql_repl.specs.GnoInterval.{interval};
 ghost use Rattle.mysql_repl.specs.RegisterSlave.{register_slave, RegisterSlaveFits};
 ghost use Rattle.mysql_repl.specs.SemiSyncAck.{semi_sync_ack, SemiSyncAckFits};
-ghost use Rattle.mysql_repl.specs.Sid.{sid, tagged_sid, intervals, IsSid};
+ghost use Rattle.mysql_repl.specs.Sid.{sid, tagged_sid, intervals, IsSid, AreSids};
 ghost use Rattle.mysql_repl.specs.MergedIntervals.{any_has, are_apart, NumbersFit};
 ghost use Rattle.mysql_repl.specs.ProperSid.{ProperSid};
 ghost use Rattle.mysql_repl.specs.ServerSids.{is_as_servers_write};
@@ -43,8 +43,9 @@ mod values;
 
 pub use values::{
     this_binlog_dump_gtid_round_trips, this_binlog_dump_round_trips,
-    this_register_slave_round_trips, this_semi_sync_ack_round_trips, this_sid_round_trips,
-    this_sid_text_round_trips, this_table_dump_round_trips,
+    this_gtid_set_text_round_trips, this_register_slave_round_trips,
+    this_semi_sync_ack_round_trips, this_sid_round_trips, this_sid_text_round_trips,
+    this_table_dump_round_trips,
 };
 
 /// What is written of a registration is read again, whatever follows.
@@ -138,6 +139,12 @@ pub fn gtid_set_text_round_trips()
     ensures read { (sids : List Sid) → SidsInSet sids → read_sids (set_text sids) ≡ Ok sids }
 {}
 
+/// The text that is written of sids that were read is read as these sids.
+#[tactic(auto, using(crate::proofs::GtidSetReadAgain::sets_read_again))]
+pub fn read_gtid_set_text_round_trips()
+    ensures read { (text : List ℕ) (sids : List Sid) → AreSids sids → read_sids text ≡ Ok sids → read_sids (set_text sids) ≡ Ok sids }
+{}
+
 /// A text is a tag exactly where it has no fault of one.
 #[tactic(auto, using(crate::proofs::Tags::tag_faults))]
 pub fn tag_has_no_fault()
@@ -156,6 +163,25 @@ pub fn request_written(request: &BinlogRequest<'_>, out: &mut Vec<u8>) -> Result
 {
     request.as_cmd().serialize(out)
 }
+
+/// Tags, intervals and sids are equal exactly where they are the same, whether they borrow or own what they are made of.
+#[tactic(auto, using(crate::proofs::EqualRequests::equal_requests))]
+pub fn equal_sids_are_the_same()
+    ensures tag { (x y : List ℕ) → IsTrue (⟦<Tag<'static> as PartialEq>⟧.eq x y) ↔ (x ≡ y) }
+    ensures interval { (x y : GnoInterval) → IsTrue (⟦<crate::gno_interval::GnoInterval as PartialEq>⟧.eq x y) ↔ (x ≡ y) }
+    ensures sid { (x y : Sid) → IsTrue (⟦<crate::sid::Sid<'static> as PartialEq>⟧.eq x y) ↔ (x ≡ y) }
+{}
+
+/// Requests are equal exactly where they are the same.
+#[tactic(auto, using(crate::proofs::EqualRequests::equal_requests))]
+pub fn equal_requests_are_the_same()
+    ensures registration { (x y : ComRegisterSlave) → IsTrue (⟦<crate::register_slave::ComRegisterSlave<'static> as PartialEq>⟧.eq x y) ↔ (x ≡ y) }
+    ensures table_dump { (x y : ComTableDump) → IsTrue (⟦<crate::table_dump::ComTableDump<'static> as PartialEq>⟧.eq x y) ↔ (x ≡ y) }
+    ensures binlog_dump { (x y : ComBinlogDump) → IsTrue (⟦<crate::binlog_dump::ComBinlogDump<'static> as PartialEq>⟧.eq x y) ↔ (x ≡ y) }
+    ensures gtid_dump { (x y : ComBinlogDumpGtid) → IsTrue (⟦<crate::binlog_dump_gtid::ComBinlogDumpGtid<'static> as PartialEq>⟧.eq x y) ↔ (x ≡ y) }
+    ensures request { (x y : BinlogRequest) → IsTrue (⟦<BinlogRequest<'static> as PartialEq>⟧.eq x y) ↔ (x ≡ y) }
+    ensures ack { (x y : SemiSyncAckPacket) → IsTrue (⟦<crate::semi_sync_ack::SemiSyncAckPacket<'static> as PartialEq>⟧.eq x y) ↔ (x ≡ y) }
+{}
 
 /// Equal tags hash equally, borrowed or owned.
 pub fn equal_tags_hash_equally()

@@ -1,6 +1,6 @@
 //! Intervals that are put in order.
 
-ghost use Rattle.std.specs.Prelude.{true, ◌≡◌, ℕ, IfOk, filter};
+ghost use Rattle.std.specs.Prelude.{true, [], ◌≡◌, ℕ, Ok, IfOk, IsOk, filter};
 ghost use Rattle.std.specs.List.Sorted.{IsNonDecreasingBy, IsPermutation};
 ghost use Rattle.mysql_repl.specs.MergedIntervals as spec;
 ghost use Rattle.mysql_repl.specs.GnoInterval as interval;
@@ -11,13 +11,45 @@ use crate::sid::Sid;
 use std::alloc::{AllocError, Global};
 use std::cmp::max;
 
+/// Whether an interval has a number.
+fn has_any(interval: &GnoInterval) -> bool
+    ensures value { result ≡ spec.has_any interval.now }
+{
+    interval.start() < interval.end()
+}
+
+/// Whether each interval has a number, and begins after this number, or after the end of the one before.
+fn are_apart_after(first: u64, intervals: &[GnoInterval]) -> bool
+    ensures value { result ≡ spec.are_apart_after first intervals.now }
+{
+    let mut last = first;
+    for interval in intervals {
+        if interval.start() <= last || !has_any(interval) {
+            return false;
+        }
+        last = interval.end();
+    }
+    true
+}
+
+/// Whether each interval has a number, and begins after the end of the one before.
+fn are_apart(intervals: &[GnoInterval]) -> bool
+    ensures value { result ≡ spec.are_apart intervals.now }
+{
+    let Some((first, more)) = intervals.split_first() else {
+        return true;
+    };
+    has_any(first) && are_apart_after(first.end(), more)
+}
+
 /// The intervals that have a number.
 fn some_of(alloc: Global, intervals: &[GnoInterval]) -> Result<Vec<GnoInterval>, AllocError>
     ensures value { IfOk result (λ some. some.items ≡ filter spec.has_any intervals.now) }
+    ensures no_memory { filter spec.has_any intervals.now ≡ [] → IsOk result }
 {
     let mut some = Vec::new(alloc);
     for interval in intervals {
-        if interval.start() < interval.end() {
+        if has_any(interval) {
             some.push(*interval)?;
         }
     }
@@ -35,6 +67,7 @@ fn sort(intervals: &mut Vec<GnoInterval>)
 /// Intervals in order, of which those that touch are one.
 fn merged(alloc: Global, sorted: &[GnoInterval]) -> Result<Vec<GnoInterval>, AllocError>
     ensures value { IfOk result (λ merged. merged.items ≡ spec.merged sorted.now) }
+    ensures no_memory { sorted.now ≡ [] → IsOk result }
 {
     let mut merged = Vec::new(alloc);
     let Some((first, more)) = sorted.split_first() else {
@@ -57,6 +90,7 @@ fn merged(alloc: Global, sorted: &[GnoInterval]) -> Result<Vec<GnoInterval>, All
 fn put_in_order(alloc: Global, intervals: &[GnoInterval]) -> Result<Vec<GnoInterval>, AllocError>
     ensures in_order { IfOk result (λ merged. spec.are_apart merged.items ≡ true) }
     ensures same { IfOk result (λ merged. (n : ℕ) → spec.any_has n merged.items ≡ spec.any_has n intervals.now) }
+    ensures no_memory { filter spec.has_any intervals.now ≡ [] → IsOk result }
 {
     let mut sorted = some_of(alloc, intervals)?;
     sort(&mut sorted);
@@ -68,14 +102,21 @@ impl<'a> Sid<'a> {
     /// none overlap. So servers write them: [`is_as_servers_write`](Sid::is_as_servers_write) holds, where the numbers are
     /// from 1 to 2^63 - 2.
     ///
-    /// Any intervals may be handed in: an empty one, whose start is not below its end, is left out. Where memory runs out, the transactions are given up.
+    /// Any intervals may be handed in: an empty one, whose start is not below its end, is left out. Intervals that are so
+    /// already stay as they are, and no memory is taken; nor is it where none has a number. Where memory runs out, the
+    /// transactions are given up.
     pub fn with_merged_intervals(self, alloc: Global) -> Result<Self, AllocError>
         ensures uuid { IfOk result (λ s. uuid s ≡ uuid self.entry) }
         ensures tag { IfOk result (λ s. tag s ≡ tag self.entry) }
         ensures in_order { IfOk result (λ s. spec.are_apart (intervals s) ≡ true) }
         // A number is in an interval exactly where it was in one before.
         ensures same { IfOk result (λ s. (n : ℕ) → spec.any_has n (intervals s) ≡ spec.any_has n (intervals self.entry)) }
+        ensures stays { spec.are_apart (intervals self.entry) ≡ true → result ≡ Ok self.entry }
+        ensures no_memory { filter spec.has_any (intervals self.entry) ≡ [] → IsOk result }
     {
+        if are_apart(self.intervals()) {
+            return Ok(self);
+        }
         let merged = put_in_order(alloc, self.intervals())?;
         Ok(self.with_intervals(merged))
     }

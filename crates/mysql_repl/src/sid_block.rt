@@ -1,12 +1,12 @@
 //! The sids of a dump by GTID set.
 #![tactic(auto, using(mysql_wire::proofs::Packets::packets))]
 
-ghost use Rattle.std.specs.Prelude.{false, true, ◌≡◌, ◌+◌, ◌++◌, ◌<◌, ◌≤◌, length, drop, OnErr, List, ℕ};
+ghost use Rattle.std.specs.Prelude.{false, true, ◌≡◌, ◌+◌, ◌/◌, ◌++◌, ◌<◌, ◌≤◌, length, min, drop, OnErr, List, ℕ};
 ghost use Rattle.std.specs.List.{flat_map};
 ghost use Rattle.mysql_wire.specs.Reading.{Answers, IsTail};
 ghost use Rattle.mysql_wire.specs.Seq.{items_of, counted, counts_any, is_any};
 ghost use Rattle.mysql_wire.specs.Writing.{saturated};
-ghost use Rattle.mysql_repl.specs.Counts.{head_count, block_count};
+ghost use Rattle.mysql_repl.specs.Room.{least_len, room_in_sids, room_in_block};
 ghost use Rattle.mysql_repl.specs.Sid.{sid_as};
 ghost use Rattle.mysql_repl.specs.SidBlock as spec;
 
@@ -36,6 +36,7 @@ pub(crate) fn count_of(head: u64) -> u64
 
 /// How many bytes a sid takes at least: its identifier, the length of its tag where it has one, and its count.
 fn least_len(tagged: bool) -> usize
+    ensures value { result ≡ least_len tagged }
     ensures some { 0 < result }
 {
     if tagged { 25 } else { 24 }
@@ -48,7 +49,7 @@ fn read_counted<'s, 'de>(
     count: u64,
     block: &mut ParseBuf<'de>,
 ) -> Result<Vec<Sid<'de>>, FaultOf<'s>>
-    ensures value { Answers (is_any count) (items_of result) block.new ((counted count ((sid_as tagged).form tt)).reads block.old) }
+    ensures value { Answers (is_any (min count (length block.old / least_len tagged))) (items_of result) block.new ((counted count ((sid_as tagged).form tt)).reads block.old) }
 {
     let capacity = min(count as usize, block.len() / least_len(tagged));
     let mut sids = Vec::with_capacity(block.alloc(), capacity)?;
@@ -62,7 +63,7 @@ fn read_counted<'s, 'de>(
 /// Reads so many sids in the form with tags. It is a call, so that it costs the other form nothing.
 #[inline(never)]
 fn read_tagged<'s, 'de>(count: u64, block: &mut ParseBuf<'de>) -> Result<Vec<Sid<'de>>, FaultOf<'s>>
-    ensures value { Answers (is_any count) (items_of result) block.new ((counted count ((sid_as true).form tt)).reads block.old) }
+    ensures value { Answers (is_any (min count (length block.old / least_len true))) (items_of result) block.new ((counted count ((sid_as true).form tt)).reads block.old) }
 {
     read_counted(true, count, block)
 }
@@ -70,7 +71,7 @@ fn read_tagged<'s, 'de>(count: u64, block: &mut ParseBuf<'de>) -> Result<Vec<Sid
 /// Reads the head, and so many sids. A strict reader knows the layouts 0 and 1 alone.
 #[tactic(auto, using(mysql_wire::proofs::Packets::packets), unfolding(crate::specs::SidBlock::sids_form))]
 fn read_sids<'s, 'de>(strict: bool, block: &mut ParseBuf<'de>) -> Result<Vec<Sid<'de>>, FaultOf<'s>>
-    ensures value { Answers (counts_any ((head_count strict).reads block.old)) (items_of result) block.new ((spec.sids_form strict).reads block.old) }
+    ensures value { Answers (counts_any ((room_in_sids strict).reads block.old)) (items_of result) block.new ((spec.sids_form strict).reads block.old) }
 {
     let head: RawInt<LeU64> = block.parse(())?;
     let head = head.0;
@@ -90,7 +91,7 @@ fn read_sids<'s, 'de>(strict: bool, block: &mut ParseBuf<'de>) -> Result<Vec<Sid
 fn read_whole_block<'s, 'de>(
     buf: &mut ParseBuf<'de>,
 ) -> Result<Seq<'de, Sid<'de>, LeU64>, FaultOf<'s>>
-    ensures value { Answers (counts_any ((block_count true).reads buf.old)) result buf.new ((spec.block_form true).reads buf.old) }
+    ensures value { Answers (counts_any ((room_in_block true).reads buf.old)) result buf.new ((spec.block_form true).reads buf.old) }
 {
     let mut block = <U32Bytes as BytesRepr>::deserialize((), buf)?;
     let sids = read_sids(true, &mut block)?;
@@ -105,7 +106,7 @@ fn read_whole_block<'s, 'de>(
 fn read_lenient_block<'s, 'de>(
     buf: &mut ParseBuf<'de>,
 ) -> Result<Seq<'de, Sid<'de>, LeU64>, FaultOf<'s>>
-    ensures value { Answers (counts_any ((block_count false).reads buf.old)) result buf.new ((spec.block_form false).reads buf.old) }
+    ensures value { Answers (counts_any ((room_in_block false).reads buf.old)) result buf.new ((spec.block_form false).reads buf.old) }
 {
     let mut block = <U32Bytes as BytesRepr>::deserialize((), buf)?;
     let sids = read_sids(false, &mut block)?;
@@ -117,7 +118,7 @@ pub(crate) fn read_block<'s, 'de>(
     strict: bool,
     buf: &mut ParseBuf<'de>,
 ) -> Result<Seq<'de, Sid<'de>, LeU64>, FaultOf<'s>>
-    ensures value { Answers (counts_any ((block_count strict).reads buf.old)) result buf.new ((spec.block_form strict).reads buf.old) }
+    ensures value { Answers (counts_any ((room_in_block strict).reads buf.old)) result buf.new ((spec.block_form strict).reads buf.old) }
 {
     if strict {
         read_whole_block(buf)

@@ -1,7 +1,7 @@
 //! A server's transactions, where they lie.
 #![tactic(auto, using(mysql_wire::proofs::Packets::packets), unfolding(crate::specs::Sid::sid, crate::specs::Sid::tagged_sid))]
 
-ghost use Rattle.std.specs.Prelude.{false, ◌≡◌, ◌≢◌, [], option_map, IfOk, OnErr};
+ghost use Rattle.std.specs.Prelude.{false, ◌≡◌, [], option_map, IfOk, IsOk, OnErr};
 ghost use Rattle.mysql_wire.specs.Reading.{Answers};
 ghost use Rattle.mysql_repl.specs.Sid as spec;
 
@@ -72,7 +72,7 @@ impl<'a> SidRef<'a> {
     /// The sid in its other form, which borrows the tag still, with intervals of its own. For no interval no memory is taken.
     pub fn to_sid(&self, alloc: Global) -> Result<Sid<'a>, AllocError>
         ensures value { IfOk result (λ sid. sid ≡ self.now) }
-        ensures memory { OnErr result (spec.intervals self.now ≢ []) }
+        ensures no_memory { spec.intervals self.now ≡ [] → IsOk result }
     {
         let sid = Sid::new(self.uuid).with_intervals(self.intervals.to_vec(alloc)?);
         match &self.tag {

@@ -1,7 +1,7 @@
 //! The sids of a dump, where they lie.
 #![tactic(auto, using(mysql_wire::proofs::Packets::packets))]
 
-ghost use Rattle.std.specs.Prelude.{false, [], ◌≡◌, ◌≢◌, length, option_map, IfOk, OnErr};
+ghost use Rattle.std.specs.Prelude.{false, [], ◌≡◌, length, option_map, IfOk, IsOk};
 ghost use Rattle.mysql_wire.specs.Reading.{Answers};
 ghost use Rattle.mysql_wire.specs.Seq.{counted};
 ghost use Rattle.mysql_repl.specs.InPlace.{NextItem, StandIn, joined, passed};
@@ -147,7 +147,7 @@ impl<'a> SidsRef<'a> {
     /// The sids in their other form, which borrow their tags still. For no sid no memory is taken.
     pub fn to_vec(&self, alloc: Global) -> Result<Vec<Sid<'a>>, AllocError>
         ensures value { IfOk result (λ sids. sids.items ≡ self.now) }
-        ensures memory { OnErr result (self.now ≢ []) }
+        ensures no_memory { self.now ≡ [] → IsOk result }
     {
         let mut sids = Vec::with_capacity(alloc, self.left() as usize)?;
         for sid in self.iter() {

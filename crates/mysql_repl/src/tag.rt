@@ -1,7 +1,7 @@
 //! Tags of transactions.
 
-ghost use Rattle.std.specs.Prelude.{◌≡◌, ℕ, List, Option, Some, None, IfOk, IfErr, not, slice_get};
-ghost use Rattle.std.specs.Cow.{cow_str_bytes};
+ghost use Rattle.std.specs.Prelude.{◌≡◌, ℕ, List, Option, Some, None, IfOk, IsOk, IfErr, not, slice_get};
+ghost use Rattle.std.specs.Cow.{cow_str_bytes, IsOwnedStr};
 ghost use Rattle.std.specs.List.{find};
 ghost use Rattle.std.specs.Str.{chars};
 ghost use Rattle.std.specs.String.{string_bytes};
@@ -140,14 +140,23 @@ impl<'a> Tag<'a> {
         self.0.as_str()
     }
 
-    /// The same tag, on memory of its own. Where the copy is refused, the tag is given up, and the
-    /// text that it borrowed stays.
+    /// The same tag, on memory of its own: a text that it owns is kept as it is. Where the copy is refused, the tag is given
+    /// up, and the text that it borrowed stays.
     pub fn into_owned(self, alloc: Global) -> Result<Tag<'static>, AllocError>
         ensures value { IfOk result (λ owned. owned ≡ self.entry) }
     {
         let Tag(text) = self;
-        Ok(Tag(CowStr::Owned(text.into_owned(alloc)?)))
+        owned_tag(text, alloc)
     }
+}
+
+/// The tag of this text, which is that of one. An owned text is kept as it is.
+fn owned_tag(text: CowStr<'_>, alloc: Global) -> Result<Tag<'static>, AllocError>
+    requires { IsTag (cow_str_bytes text) }
+    ensures value { IfOk result (λ owned. owned ≡ cow_str_bytes text.entry) }
+    ensures owned_no_memory { IsOwnedStr text.entry → IsOk result }
+{
+    Ok(Tag(CowStr::Owned(text.into_owned(alloc)?)))
 }
 
 impl<'a> TryFrom<&'a str> for Tag<'a> {

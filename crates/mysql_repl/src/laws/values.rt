@@ -6,6 +6,8 @@ ghost use Rattle.std.specs.Prelude.{◌≡◌, ◌++◌, ◌<◌, ◌^◌, [], �
 ghost use Rattle.std.specs.List.{All};
 ghost use Rattle.mysql_repl.specs.BinlogDump.{binlog_dump};
 ghost use Rattle.mysql_repl.specs.BinlogDumpGtid.{gtid_dump};
+ghost use Rattle.mysql_repl.specs.GtidSetText.{read_sids};
+ghost use Rattle.mysql_repl.specs.GtidSetWritten.{set_text};
 ghost use Rattle.mysql_repl.specs.RegisterSlave.{register_slave, hostname, user, password};
 ghost use Rattle.mysql_repl.specs.SemiSyncAck.{semi_sync_ack};
 ghost use Rattle.mysql_repl.specs.ProperSid.{ProperIntervals};
@@ -104,6 +106,15 @@ pub fn this_sid_text_round_trips(sid: &Sid<'_>)
 {
     is_sid(sid);
     has_bytes(sid.uuid());
+}
+
+/// The text that is written of these sids is read as them, where a text was read as them.
+#[inline]
+#[tactic(auto, using(crate::proofs::GtidSetReadAgain::sets_read_again))]
+pub fn this_gtid_set_text_round_trips(sids: &[Sid<'_>])
+    ensures read { (text : List ℕ) → read_sids text ≡ Ok sids.now → read_sids (set_text sids.now) ≡ Ok sids.now }
+{
+    are_sids(sids);
 }
 
 /// An array of bytes has bytes.

@@ -1,4 +1,4 @@
-use Rattle.std.proofs.Common.{◌≡◌, [], length}
+use Rattle.std.proofs.Common.{◌≡◌, ◌≤◌, [], length}
 use Rattle.std.specs.Cmp.Lexicographic.{pointwise}
 use Rattle.std.specs.List.{IsDistinct}
 use Rattle.std.specs.Map.{keys_of}
@@ -12,6 +12,7 @@ abbrev pub invariant-loop-inside : goal.invariant-loop-inside
 invariant-loop-inside l =
     record {
       pairs : put_after l.list.items ((many (attribute.form tt)).reads l.rest) ≡ put_after [] ((many (attribute.form tt)).reads l.inside);
+      left : length l.rest ≤ length l.inside;
       once : IsDistinct (pointwise nat_eq) (keys_of l.list.items);
     }
 

@@ -1,15 +1,13 @@
-use Rattle.std.proofs.Common.{◌∙◌, ap, drop, rules, arith}
-use Rattle.std.proofs.lemmas.List.{drop-drop}
+use Rattle.std.proofs.Common.{rules, arith}
 use Rattle.std.proofs.lemmas.Grind.{common_steps}
+use Rattle.mysql_repl.proofs.Ids.{byte-less}
 use Rattle.mysql_repl.proofs.id.append_bytes.Goals as goal
 
 pub loop-byte-preserved : goal.loop-byte-preserved
 loop-byte-preserved g c =
-    let items = c.push_byte.ensures.items in
-    let before = c.loop-byte.invariant.items in
-    record {
-      items = grind (arith, common_steps);
-      after = c.push_byte.ensures.after ∙ ap (drop 1) c.loop-byte.invariant.after ∙ drop-drop 1 c.loop-byte.byte-index (g.O.Buffer.after c.args.out.now);
-      capacity = search rules;
-      kept = search rules;
-    }
+    let so_far = c.loop-byte.invariant in
+    let before = so_far.items in
+    let pushed = c.push_byte.ensures in
+    let items = pushed.items in
+    let left = byte-less c.loop-byte.byte-index _ _ _ pushed.after so_far.after in
+    record { items = grind (arith, common_steps); after = left; capacity = search rules; kept = search rules }

@@ -2,7 +2,7 @@ use Rattle.std.proofs.Common.{◌≡◌, ℕ, filter, true, sym, ap, ◌∙◌}
 use Rattle.std.specs.List.Sorted.{IsNonDecreasingBy, IsPermutation}
 use Rattle.mysql_repl.specs.GnoInterval.{start}
 use Rattle.mysql_repl.specs.MergedIntervals.{has_any, any_has, are_apart, merged}
-use Rattle.mysql_repl.proofs.Merging.{put-same, put-apart, over-ok}
+use Rattle.mysql_repl.proofs.Merging.{none-permuted, put-same, put-apart, over-ok}
 use Rattle.mysql_repl.proofs.merged_intervals.put_in_order.Goals as goal
 
 pub returns-clause-in_order : goal.returns-clause-in_order
@@ -12,6 +12,14 @@ returns-clause-in_order c =
     let is : c.sort.new.intervals.items ≡ sorted = sym c.as_slice.ensures.value in
     let permuted : IsPermutation (filter has_any c.args.intervals.now) sorted = rw (← some, ← is) c.sort.ensures.permutation in
     over-ok c.merged.result (λ v. v.items ≡ merged sorted) (λ v. are_apart v.items ≡ true) (λ v e. ap are_apart e ∙ put-apart c.args.intervals.now sorted permuted) c.merged.ensures.value
+
+pub returns-clause-no_memory : goal.returns-clause-no_memory
+returns-clause-no_memory c none =
+    let sorted = c.as_slice.result.now in
+    let some : c.in_ok-sorted.sorted.items ≡ filter has_any c.args.intervals.now = c.in_ok-sorted.ensures.value in
+    let is : c.sort.new.intervals.items ≡ sorted = sym c.as_slice.ensures.value in
+    let permuted : IsPermutation (filter has_any c.args.intervals.now) sorted = rw (← some, ← is) c.sort.ensures.permutation in
+    c.merged.ensures.no_memory (none-permuted (filter has_any c.args.intervals.now) sorted permuted none)
 
 pub returns-clause-same : goal.returns-clause-same
 returns-clause-same c =

@@ -1,0 +1,129 @@
+-- Requests, and what they are made of, are equal exactly where they are the same.
+use Rattle.std.proofs.Common.{◌≡◌, ◌&&◌, ℕ, List, Option, Some, None, Bool, true, false, nat_eq, Decides, refl, ap, subst}
+use Rattle.std.proofs.lemmas.Bool.Decides.{Decides-and}
+use Rattle.std.proofs.lemmas.Slice.Eq.{slice_eq-Decides}
+use Rattle.std.specs.Cmp.{booleans_Decides}
+use Rattle.std.specs.Cmp.Lexicographic.{pointwise}
+use Rattle.std.specs.Option.{option_eq}
+use Rattle.mysql_wire.proofs.Same.{and-true, numbers-same, bytes-same, options-same, parts-same}
+use Rattle.mysql_repl.specs.contracts.binlog_dump.ComBinlogDumpPartialEq.TheImpl as derived_dump
+use Rattle.mysql_repl.specs.contracts.binlog_dump_gtid.ComBinlogDumpGtidPartialEq.TheImpl as derived_gtid_dump
+use Rattle.mysql_repl.specs.contracts.binlog_request.BinlogRequestPartialEq.TheImpl as derived_request
+use Rattle.mysql_repl.specs.contracts.gno_interval.GnoIntervalPartialEq.TheImpl as derived_interval
+use Rattle.mysql_repl.specs.contracts.register_slave.ComRegisterSlavePartialEq.TheImpl as derived_registration
+use Rattle.mysql_repl.specs.contracts.semi_sync_ack.SemiSyncAckPacketPartialEq.TheImpl as derived_ack
+use Rattle.mysql_repl.specs.contracts.sid.SidPartialEq.TheImpl as derived_sid
+use Rattle.mysql_repl.specs.contracts.table_dump.ComTableDumpPartialEq.TheImpl as derived_table
+use Rattle.mysql_repl.specs.declared.binlog_dump.ComBinlogDump.{ComBinlogDump}
+use Rattle.mysql_repl.specs.declared.binlog_dump_gtid.ComBinlogDumpGtid.{ComBinlogDumpGtid}
+use Rattle.mysql_repl.specs.declared.binlog_request.BinlogRequest.{BinlogRequest}
+use Rattle.mysql_repl.specs.declared.gno_interval.GnoInterval.{GnoInterval}
+use Rattle.mysql_repl.specs.declared.register_slave.ComRegisterSlave.{ComRegisterSlave}
+use Rattle.mysql_repl.specs.declared.semi_sync_ack.SemiSyncAckPacket.{SemiSyncAckPacket}
+use Rattle.mysql_repl.specs.declared.sid.Sid.{Sid}
+use Rattle.mysql_repl.specs.declared.table_dump.ComTableDump.{ComTableDump}
+use Rattle.mysql_repl.specs.BinlogDump as dump
+use Rattle.mysql_repl.specs.BinlogDumpGtid as gtid_dump
+use Rattle.mysql_repl.specs.GnoInterval.{interval_of}
+use Rattle.mysql_repl.specs.SemiSyncAck.{ack_of}
+use Rattle.mysql_repl.specs.TableDump as table_dump
+
+-- ---- fields
+
+-- a number that a field's type wraps
+number : (m n : ℕ) → Decides (nat_eq m n && true) (m ≡ n)
+number m n = and-true _ (numbers-same m n)
+
+-- ---- sets of transactions
+
+pub intervals-same : (a b : GnoInterval) → Decides (derived_interval.ghosts.eq a b) (a ≡ b)
+intervals-same =
+    parts-same derived_interval.ghosts.eq (λ a b. (a.start ≡ b.start) × (a.end ≡ b.end))
+    (λ a b. Decides-and _ _ (numbers-same a.start b.start) (numbers-same a.end b.end))
+    (λ a b s i. interval_of (s.0 i) (s.1 i))
+    (λ a. (refl, refl))
+
+interval_lists : (xs ys : List GnoInterval) → Decides (pointwise derived_interval.ghosts.eq xs ys) (xs ≡ ys)
+interval_lists xs ys = slice_eq-Decides intervals-same xs ys _ refl
+
+pub sids-same : (a b : Sid) → Decides (derived_sid.ghosts.eq a b) (a ≡ b)
+sids-same =
+    parts-same derived_sid.ghosts.eq (λ a b. (a.uuid ≡ b.uuid) × ((a.tag ≡ b.tag) × (a.intervals ≡ b.intervals)))
+    (λ a b. Decides-and _ _ (bytes-same a.uuid b.uuid) (Decides-and _ _ (options-same bytes-same a.tag b.tag) (interval_lists a.intervals b.intervals)))
+    (λ a b s i. record { uuid = s.0 i; tag = s.1.0 i; intervals = s.1.1 i })
+    (λ a. (refl, (refl, refl)))
+
+sid_lists : (xs ys : List Sid) → Decides (pointwise derived_sid.ghosts.eq xs ys) (xs ≡ ys)
+sid_lists xs ys = slice_eq-Decides sids-same xs ys _ refl
+
+-- ---- requests
+
+pub table_dumps-same : (a b : ComTableDump) → Decides (derived_table.ghosts.eq a b) (a ≡ b)
+table_dumps-same =
+    parts-same derived_table.ghosts.eq (λ a b. (a.database ≡ b.database) × (a.table ≡ b.table))
+    (λ a b. Decides-and _ _ (bytes-same a.database b.database) (bytes-same a.table b.table))
+    (λ a b s i. table_dump.dump_of (s.0 i) (s.1 i))
+    (λ a. (refl, refl))
+
+pub acks-same : (a b : SemiSyncAckPacket) → Decides (derived_ack.ghosts.eq a b) (a ≡ b)
+acks-same =
+    parts-same derived_ack.ghosts.eq (λ a b. (a.position.0 ≡ b.position.0) × (a.filename ≡ b.filename))
+    (λ a b. Decides-and _ _ (number a.position.0 b.position.0) (bytes-same a.filename b.filename))
+    (λ a b s i. ack_of (s.0 i) (s.1 i))
+    (λ a. (refl, refl))
+
+pub dumps-same : (a b : ComBinlogDump) → Decides (derived_dump.ghosts.eq a b) (a ≡ b)
+dumps-same =
+    parts-same derived_dump.ghosts.eq (λ a b. (a.pos.0 ≡ b.pos.0) × ((a.flags.0.0 ≡ b.flags.0.0) × ((a.server_id.0 ≡ b.server_id.0) × (a.filename ≡ b.filename))))
+    (λ a b. Decides-and _ _ (number a.pos.0 b.pos.0) (Decides-and _ _ (and-true _ (number a.flags.0.0 b.flags.0.0))
+    (Decides-and _ _ (number a.server_id.0 b.server_id.0) (bytes-same a.filename b.filename))))
+    (λ a b s i. dump.dump_of (s.1.1.0 i) (s.0 i) (s.1.0 i) (s.1.1.1 i))
+    (λ a. (refl, (refl, (refl, refl))))
+
+pub gtid_dumps-same : (a b : ComBinlogDumpGtid) → Decides (derived_gtid_dump.ghosts.eq a b) (a ≡ b)
+gtid_dumps-same =
+    parts-same derived_gtid_dump.ghosts.eq
+    (λ a b. (a.flags.0.0 ≡ b.flags.0.0) × ((a.server_id.0 ≡ b.server_id.0) × ((a.filename ≡ b.filename) × ((a.pos.0 ≡ b.pos.0) × (a.sid_block ≡ b.sid_block)))))
+    (λ a b. Decides-and _ _ (and-true _ (number a.flags.0.0 b.flags.0.0)) (Decides-and _ _ (number a.server_id.0 b.server_id.0)
+    (Decides-and _ _ (bytes-same a.filename b.filename) (Decides-and _ _ (number a.pos.0 b.pos.0) (sid_lists a.sid_block b.sid_block)))))
+    (λ a b s i. gtid_dump.dump_of (s.1.0 i) (s.1.1.1.0 i) (s.0 i) (s.1.1.0 i) (s.1.1.1.1 i))
+    (λ a. (refl, (refl, (refl, (refl, refl)))))
+
+pub requests-same : (a b : BinlogRequest) → Decides (derived_request.ghosts.eq a b) (a ≡ b)
+requests-same =
+    parts-same derived_request.ghosts.eq
+    (λ a b. (a.server_id ≡ b.server_id) × ((a.use_gtid ≡ b.use_gtid) × ((a.flags.0 ≡ b.flags.0) × ((a.filename ≡ b.filename) × ((a.pos ≡ b.pos) × (a.sids ≡ b.sids))))))
+    (λ a b. Decides-and _ _ (numbers-same a.server_id b.server_id) (Decides-and _ _ (booleans_Decides a.use_gtid b.use_gtid)
+    (Decides-and _ _ (number a.flags.0 b.flags.0) (Decides-and _ _ (bytes-same a.filename b.filename)
+    (Decides-and _ _ (numbers-same a.pos b.pos) (sid_lists a.sids b.sids))))))
+    (λ a b s i. record {
+      server_id = s.0 i;
+      use_gtid = s.1.0 i;
+      flags = record { 0 = s.1.1.0 i; 1 = record {} };
+      filename = s.1.1.1.0 i;
+      pos = s.1.1.1.1.0 i;
+      sids = s.1.1.1.1.1 i;
+    })
+    (λ a. (refl, (refl, (refl, (refl, (refl, refl))))))
+
+pub registrations-same : (a b : ComRegisterSlave) → Decides (derived_registration.ghosts.eq a b) (a ≡ b)
+registrations-same =
+    parts-same derived_registration.ghosts.eq
+    (λ a b. (a.server_id.0 ≡ b.server_id.0) × ((a.hostname ≡ b.hostname) × ((a.user ≡ b.user) × ((a.password ≡ b.password)
+    × ((a.port.0 ≡ b.port.0) × ((a.replication_rank.0 ≡ b.replication_rank.0) × (a.master_id.0 ≡ b.master_id.0)))))))
+    (λ a b. Decides-and _ _ (number a.server_id.0 b.server_id.0) (Decides-and _ _ (bytes-same a.hostname b.hostname)
+    (Decides-and _ _ (bytes-same a.user b.user) (Decides-and _ _ (bytes-same a.password b.password) (Decides-and _ _ (number a.port.0 b.port.0)
+    (Decides-and _ _ (number a.replication_rank.0 b.replication_rank.0) (number a.master_id.0 b.master_id.0)))))))
+    (λ a b s i. record {
+      header = record { 0 = record {} };
+      server_id = record { 0 = s.0 i; 1 = record {} };
+      hostname = s.1.0 i;
+      user = s.1.1.0 i;
+      password = s.1.1.1.0 i;
+      port = record { 0 = s.1.1.1.1.0 i; 1 = record {} };
+      replication_rank = record { 0 = s.1.1.1.1.1.0 i; 1 = record {} };
+      master_id = record { 0 = s.1.1.1.1.1.1 i; 1 = record {} };
+    })
+    (λ a. (refl, (refl, (refl, (refl, (refl, (refl, refl)))))))
+
+pub ruleset equal_requests = (bytes-same, intervals-same, sids-same, table_dumps-same, acks-same, dumps-same, gtid_dumps-same, requests-same, registrations-same)
