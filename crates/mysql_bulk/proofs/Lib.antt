@@ -3,6 +3,7 @@ pub mod ColumnTypes
 pub mod BuilderRows
 pub mod SentValues
 pub mod RequestBytes
+pub mod CopiedRow
 pub mod BuilderSteps
 pub mod RunSteps
 pub mod WholeRun
