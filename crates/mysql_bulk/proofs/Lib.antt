@@ -19,4 +19,5 @@ pub mod HeadTypes
 pub mod Memory
 pub mod NoColumns
 pub mod RequestWriter
+pub mod CollectedRows
 pub mod StreamedRows

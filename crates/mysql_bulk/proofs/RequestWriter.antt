@@ -123,7 +123,7 @@ some_counted w rows h n e = n (h.count ∙ ap length e)
 
 -- ---- the request
 
-length_first : (w : WriterState) (rows : List (List Content)) → rows ≢ [] → All (TakesTypes (Some w.types)) rows → length w.types ≡ first_length rows
+pub length_first : (w : WriterState) (rows : List (List Content)) → rows ≢ [] → All (TakesTypes (Some w.types)) rows → length w.types ≡ first_length rows
 length_first w [] some taken = absurd (some refl)
 length_first w (row ∷ rows) some taken = sym (spelled_long w.types row (All-head (TakesTypes (Some w.types)) row rows taken))
 
