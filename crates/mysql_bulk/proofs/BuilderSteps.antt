@@ -1,7 +1,7 @@
 -- How a builder stores the rows that wait, and the request that it makes of them.
-use Rattle.std.proofs.Common.{◌≡◌, ◌≢◌, ℕ, zero, suc, ◌+◌, ◌*◌, ◌<◌, ◌≤◌, ◌^◌, Bool, true, false, if◌then◌else◌, List, [], ◌∷◌, ◌++◌, length, drop, Option, Some, None, unwrap_or, refl, sym, ◌∙◌, ap, subst, ◌⊎◌, inl, inr, arith, sum_by}
+use Rattle.std.proofs.Common.{◌≡◌, ◌≢◌, ℕ, zero, suc, ◌+◌, ◌*◌, ◌<◌, ◌≤◌, ◌↔◌, ◌^◌, Bool, true, false, if◌then◌else◌, List, [], ◌∷◌, ◌++◌, length, drop, Option, Some, None, unwrap_or, refl, sym, ◌∙◌, ap, subst, ◌⊎◌, inl, inr, arith, sum_by}
 use Rattle.std.specs.List.{AllZip}
-use Rattle.std.specs.Prelude.{All}
+use Rattle.std.specs.Prelude.{All, MatchOption}
 use Rattle.std.proofs.Math.Nat.{suc-mul}
 use Rattle.std.proofs.lemmas.List.{length-drop, length-take-le, map-append, nil_from_length}
 use Rattle.std.proofs.lemmas.List.Elements.{All-nil, All-push}
@@ -12,12 +12,12 @@ use Rattle.mysql_values.specs.declared.value.Value.{Value}
 use Rattle.mysql_values.specs.Value.{Content, content_of, contents_of}
 use Rattle.mysql_bulk.specs.Builder.{BuilderState, packing, IsStoredAs, waiting_size, WaitingFits, TakesArity, TakesRow, RowFits, after_row, arity_after, IsConsistent}
 use Rattle.mysql_bulk.specs.ColumnTypes.{TakesTypes, types_of_rows, types_so_far, types_after_row, MayFollow}
-use Rattle.mysql_bulk.specs.Row.{row_size, first_length, EqualLengths}
+use Rattle.mysql_bulk.specs.Row.{row_size, rows_packing, first_length, EqualLengths}
 use Rattle.mysql_bulk.specs.BuilderRows.{rows_of, waiting_rows}
 use Rattle.mysql_bulk.proofs.ColumnTypes.{spelled_long, length-types_of_rows, types_so_far_all, types_so_far_more, types_so_far_declared}
 use Rattle.mysql_bulk.proofs.DeclaredTypes.{types_before}
 use Rattle.mysql_bulk.proofs.RequestBytes.{size-rows_in}
-use Rattle.mysql_bulk.proofs.BuilderRows.{flat_values, flat_none, flat_some, flat_rows, flat_more}
+use Rattle.mysql_bulk.proofs.BuilderRows.{flat_values, flat_none, flat_some, flat_rows, flat_more, length-rows_of}
 
 pub saturated_small : (n : ℕ) → n < 2 ^ 64 → n ≡ saturated n
 unfolding saturated
@@ -130,6 +130,17 @@ module _ {s : BuilderState} {count size : ℕ} {values : List Content} {types : 
             | inr none ↦ inr (ap (types_so_far None) none)
           ]
       so_far (Some declared) taken = (sym (spelled_long declared row taken), types_so_far_declared declared s.waiting)
+
+  -- what is said of as many rows of that size is said of those that wait: a further one fits where it has no more bytes
+  pub stored_room : (arity : ℕ) (row : List Content) (most : Option ℕ) → arity ≡ length row
+      → ((rows : List (List Content)) (row : List Content) → length rows ≡ count → size ≡ sum_by row_size rows → length row ≡ arity →
+      MatchOption most (PartFits (rows_packing s.rule s.limit arity) s.types_due (rows ++ row ∷ []) → ⊥) (λ n. PartFits (rows_packing s.rule s.limit arity) s.types_due (rows ++ row ∷ []) ↔ (row_size row ≤ n)))
+      → MatchOption most (RowFits s row → ⊥) (λ n. RowFits s row ↔ (row_size row ≤ n))
+  stored_room arity row most long each =
+      let P : ℕ → List (List Content) → Type 0 = λ a rows.
+      MatchOption most (PartFits (rows_packing s.rule s.limit a) s.types_due (rows ++ row ∷ []) → ⊥) (λ n. PartFits (rows_packing s.rule s.limit a) s.types_due (rows ++ row ∷ []) ↔ (row_size row ≤ n)) in
+      let here = each (waiting_rows s.arity count values) row (length-rows_of (unwrap_or s.arity 0) count values) k.flat.size_is (sym long) in
+      subst (λ a. P a s.waiting) long (subst (P arity) (sym k.rows_is) here)
 
   -- one more row waits
   pub stored_more : (total : ℕ) (row : List Content) → TakesRow s row → RowFits s row → total ≡ sum_by row_size (s.waiting ++ row ∷ [])

@@ -3,6 +3,7 @@ pub mod ColumnTypes
 pub mod BuilderRows
 pub mod SentValues
 pub mod RequestBytes
+pub mod CopiedRow
 pub mod BuilderSteps
 pub mod RunSteps
 pub mod WholeRun
@@ -18,4 +19,5 @@ pub mod HeadTypes
 pub mod Memory
 pub mod NoColumns
 pub mod RequestWriter
+pub mod CollectedRows
 pub mod StreamedRows

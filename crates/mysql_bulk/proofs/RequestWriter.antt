@@ -94,11 +94,11 @@ fits_after w row n (Some m) long each size = (
 )
 
 -- it was written after these bytes
-pub holds_more : (w : WriterState) (rows : List (List Content)) (row : List ValueRef) (size : ℕ) (before : List ℕ) → Holds w rows → TakesRow (as_builder w rows) (map ref_content row)
+pub holds_more : (w : WriterState) (rows : List (List Content)) (row : List ValueRef) (size capacity : ℕ) (before : List ℕ) → Holds w rows → TakesRow (as_builder w rows) (map ref_content row)
     → RowFits (as_builder w rows) (map ref_content row) → size ≡ w.size + row_size (map ref_content row)
     → bytes_so_far (as_builder w (rows ++ map ref_content row ∷ [])) (rows ++ map ref_content row ∷ []) ≡ before ++ cells_bytes row
-    → Holds (with_row w before size row) (rows ++ map ref_content row ∷ [])
-holds_more w rows row size before h t f total bytes =
+    → Holds (with_row w before size capacity row) (rows ++ map ref_content row ∷ [])
+holds_more w rows row size capacity before h t f total bytes =
     let values = map ref_content row in
     let P : ℕ → Type 0 = λ n. PartFits (rows_packing w.rule w.limit n) w.types_due (rows ++ values ∷ []) in
     record {
@@ -123,7 +123,7 @@ some_counted w rows h n e = n (h.count ∙ ap length e)
 
 -- ---- the request
 
-length_first : (w : WriterState) (rows : List (List Content)) → rows ≢ [] → All (TakesTypes (Some w.types)) rows → length w.types ≡ first_length rows
+pub length_first : (w : WriterState) (rows : List (List Content)) → rows ≢ [] → All (TakesTypes (Some w.types)) rows → length w.types ≡ first_length rows
 length_first w [] some taken = absurd (some refl)
 length_first w (row ∷ rows) some taken = sym (spelled_long w.types row (All-head (TakesTypes (Some w.types)) row rows taken))
 
@@ -180,13 +180,13 @@ is_too_large w row long spells empty none = λ rows h. (rows, h, (takes w row lo
 pub no_memory : (w : WriterState) (row : List ValueRef) → length row ≡ length w.types → Spells w row → EachFits w row → AddsAsBuilder w (map ref_content row) (Err refused.Memory) w
 no_memory w row long spells fits = λ rows h. (rows, h, (takes w row long spells rows, fits rows h, refl))
 
-wrote : (w : WriterState) (row : List ValueRef) (size : ℕ) (before : List ℕ) → length row ≡ length w.types → Spells w row → EachFits w row → size ≡ w.size + row_size (map ref_content row)
+wrote : (w : WriterState) (row : List ValueRef) (size capacity : ℕ) (before : List ℕ) → length row ≡ length w.types → Spells w row → EachFits w row → size ≡ w.size + row_size (map ref_content row)
     → ((rows : List (List Content)) → Holds w rows → bytes_so_far (as_builder w (rows ++ map ref_content row ∷ [])) (rows ++ map ref_content row ∷ []) ≡ before ++ cells_bytes row)
-    → AddsAsBuilder w (map ref_content row) (Ok true) (with_row w before size row)
-wrote w row size before long spells fits total bytes = λ rows h.
+    → AddsAsBuilder w (map ref_content row) (Ok true) (with_row w before size capacity row)
+wrote w row size capacity before long spells fits total bytes = λ rows h.
     let t = takes w row long spells rows in (
       rows ++ map ref_content row ∷ [],
-      holds_more w rows row size before h t (fits rows h) total (bytes rows h),
+      holds_more w rows row size capacity before h t (fits rows h) total (bytes rows h),
       (t, fits rows h, builder_more w rows (map ref_content row) t),
     )
 
@@ -195,14 +195,14 @@ first_after : (w : WriterState) (rows : List (List Content)) (row : List ValueRe
 first_after w [] row e b = first_bytes w row ∙ ap (λ (l : List ℕ). (l ++ head_bytes w) ++ cells_bytes row) (sym b)
 first_after w (r ∷ rows) row e b = cc
 
-pub wrote_first : (w : WriterState) (row : List ValueRef) (size : ℕ) → length row ≡ length w.types → Spells w row → EachFits w row → size ≡ w.size + row_size (map ref_content row) → w.count ≡ 0
-    → AddsAsBuilder w (map ref_content row) (Ok true) (with_row w (w.bytes ++ head_bytes w) size row)
-wrote_first w row size long spells fits total empty = wrote w row size (w.bytes ++ head_bytes w) long spells fits total (λ rows h. first_after w rows row (none_counted w rows h empty) h.bytes)
+pub wrote_first : (w : WriterState) (row : List ValueRef) (size capacity : ℕ) → length row ≡ length w.types → Spells w row → EachFits w row → size ≡ w.size + row_size (map ref_content row) → w.count ≡ 0
+    → AddsAsBuilder w (map ref_content row) (Ok true) (with_row w (w.bytes ++ head_bytes w) size capacity row)
+wrote_first w row size capacity long spells fits total empty = wrote w row size capacity (w.bytes ++ head_bytes w) long spells fits total (λ rows h. first_after w rows row (none_counted w rows h empty) h.bytes)
 
-pub wrote_further : (w : WriterState) (row : List ValueRef) (size : ℕ) → length row ≡ length w.types → Spells w row → EachFits w row → size ≡ w.size + row_size (map ref_content row) → w.count ≢ 0
-    → AddsAsBuilder w (map ref_content row) (Ok true) (with_row w w.bytes size row)
-wrote_further w row size long spells fits total some =
-    wrote w row size w.bytes long spells fits total (λ rows h. further_bytes w rows row (some_counted w rows h some) ∙ ap (λ (l : List ℕ). l ++ cells_bytes row) (sym h.bytes))
+pub wrote_further : (w : WriterState) (row : List ValueRef) (size capacity : ℕ) → length row ≡ length w.types → Spells w row → EachFits w row → size ≡ w.size + row_size (map ref_content row) → w.count ≢ 0
+    → AddsAsBuilder w (map ref_content row) (Ok true) (with_row w w.bytes size capacity row)
+wrote_further w row size capacity long spells fits total some =
+    wrote w row size capacity w.bytes long spells fits total (λ rows h. further_bytes w rows row (some_counted w rows h some) ∙ ap (λ (l : List ℕ). l ++ cells_bytes row) (sym h.bytes))
 
 -- ---- the request is done with
 
@@ -211,9 +211,9 @@ nothing_finished w empty = λ rows h.
     let e = none_counted w rows h empty in
     (Err request_refused.NoParams, subst (Holds w) e h, (e, ap (as_builder w) (sym e)))
 
-pub request_finished : (w : WriterState) (bytes : List ℕ) → w.count ≢ 0 → bytes ≡ []
-    → FinishesAsBuilder w (record w { types_due = w.rule.types_always; count = 0; size = 0; bytes = bytes })
-request_finished w bytes some none = λ rows h.
+pub request_finished : (w : WriterState) (bytes : List ℕ) (capacity : ℕ) → w.count ≢ 0 → bytes ≡ []
+    → FinishesAsBuilder w (record w { types_due = w.rule.types_always; count = 0; size = 0; bytes = bytes; capacity = capacity })
+request_finished w bytes capacity some none = λ rows h.
     let built = holds_request w rows h (some_counted w rows h some) in
-    let left = record w { types_due = w.rule.types_always; count = 0; size = 0; bytes = bytes } in
+    let left = record w { types_due = w.rule.types_always; count = 0; size = 0; bytes = bytes; capacity = capacity } in
     (Ok built.0, holds_none left refl refl none, built.1)

@@ -1,16 +1,24 @@
--- A caller's own loop over a writer of requests sends a fewest cut of its rows.
-use Rattle.std.proofs.Common.{◌≡◌, ◌≢◌, ℕ, Bool, true, false, List, [], ◌∷◌, ◌++◌, length, Some, unwrap_or, Result, Ok, Err, refl, sym, ◌∙◌, ap, subst, append_assoc, inl, inr}
-use Rattle.std.proofs.lemmas.List.{append-nil}
-use Rattle.mysql_cuts.specs.Cut.{Packing, PartFits, types_after}
-use Rattle.mysql_cuts.proofs.Packed.{IsPacked, packed_none, packed_more, packed_close, packed_fewest, types_after_push}
+-- A caller's own loop over a writer of requests is the loop over the builder whose waiting rows it has written.
+use Rattle.std.proofs.Common.{◌≡◌, ◌≢◌, ℕ, true, List, [], ◌∷◌, ◌++◌, map, Result, Ok, Err, refl, sym, ◌∙◌, ap, subst, inl, inr}
+use Rattle.std.specs.Prelude.{All}
+use Rattle.std.proofs.lemmas.List.{append-nil, map-append}
+use Rattle.std.proofs.lemmas.List.Elements.{All-nil}
+use Rattle.mysql_cuts.specs.Cut.{IsFewest, rows_in}
 use Rattle.mysql_values.specs.Value.{Content}
 use Rattle.mysql_bulk.specs.declared.error.BulkExecuteRequestError.{BulkExecuteRequestError}
-use Rattle.mysql_bulk.specs.Builder.{BuilderState, packing, RowFits, Builds, after_row, after_request}
+use Rattle.mysql_bulk.specs.declared.error.BulkRowRefusal.{BulkRowRefusal}
+use Rattle.mysql_bulk.specs.declared.error.BulkRowRefusal.TheVariants as copy
+use Rattle.mysql_bulk.specs.Builder.{BuilderState, packing, AddsCopy, Builds, BuildsRequest, IsConsistent, IsRequest, after_request}
+use Rattle.mysql_bulk.specs.CollectedRows.{Collects}
+use Rattle.mysql_bulk.specs.ColumnTypes.{TakesTypes}
 use Rattle.mysql_bulk.specs.Request.{BulkRequest, request_bytes}
-use Rattle.mysql_bulk.specs.RequestWriter.{WriterState, as_builder, request_of, Holds, AddsAsBuilder, FinishesAsBuilder}
-use Rattle.mysql_bulk.specs.StreamedRows.{Streams, AreBytes, AreFewest}
-use Rattle.mysql_bulk.proofs.RequestWriter.{bytes_are}
+use Rattle.mysql_bulk.specs.RequestWriter.{WriterState, as_builder, request_of, Holds, AddsAsBuilder}
+use Rattle.mysql_bulk.specs.StreamedRows.{Streams, AreBytes, AreFewest, StreamEndsRefused}
+use Rattle.mysql_bulk.specs.WholeRun.{AreRequests, IsNew}
+use Rattle.mysql_bulk.proofs.CollectedRows.{all_collected, copy_ends}
+use Rattle.mysql_bulk.proofs.RequestWriter.{holds_request, length_first}
 use Rattle.mysql_bulk.proofs.RunSteps.{none_built}
+use Rattle.mysql_bulk.proofs.WholeRun.{new_consistent}
 
 some_last : {X : Type 0} (xs : List X) (x : X) → xs ++ x ∷ [] ≢ []
 some_last [] x e = cc
@@ -21,128 +29,121 @@ is_after : (s t : BuilderState) (result : Result BulkRequest BulkExecuteRequestE
 is_after s t (Ok request) b some = b.left
 is_after s t (Err e) b some = absurd (some (none_built s t e b).0)
 
-module _ (n : ℕ) where
-  due_sent : (s : BuilderState) (cut : List (List (List Content))) → types_after (packing s n) s.rule.types_always cut ≡ s.rule.types_always
-  due_sent s [] = refl
-  due_sent s (part ∷ cut) = refl
+-- ---- the loops
 
-  AreBytes-push : (s : BuilderState) (cut : List (List (List Content))) (requests : List (List ℕ)) (part : List (List Content)) (bytes : List ℕ) → AreBytes s cut requests
-      → bytes ≡ request_bytes (request_of (record s { types_due = types_after (packing s n) s.types_due cut }) part) → AreBytes s (cut ++ part ∷ []) (requests ++ bytes ∷ [])
-  AreBytes-push s [] [] part bytes a e = (e, tt)
-  AreBytes-push s [] (r ∷ requests) part bytes a e = absurd a
-  AreBytes-push s (p ∷ cut) [] part bytes a e = absurd a
-  AreBytes-push s (p ∷ cut) (r ∷ requests) part bytes a e =
-      (a.0, AreBytes-push (after_request s) cut requests part bytes a.1 (e ∙ ap (λ (t : Bool). request_bytes (request_of (record s { types_due = t }) part)) (sym (due_sent s cut))))
+-- what a writer did that had written these rows
+record IsCollected (w : WriterState) (part rows : List (List Content)) (requests : List (List ℕ)) (u : WriterState) : Type 0 where
+  sent : List BulkRequest
+  bytes : requests ≡ map request_bytes sent
+  waiting : List (List Content)
+  holds : Holds u waiting
+  collects : Collects (as_builder w part) rows sent (as_builder u waiting)
 
-module _ (w : WriterState) where
-  abbrev start : BuilderState
-  start = as_builder w []
+is_collected : (rows : List (List Content)) (w u : WriterState) (part : List (List Content)) (requests : List (List ℕ)) → Holds w part → Streams w rows requests u → IsCollected w part rows requests u
+is_collected [] w u part requests h s = record {
+  sent = [];
+  bytes = s.0;
+  waiting = part;
+  holds = let H : WriterState → Type 0 = λ x. Holds x part in subst H (sym s.1) h;
+  collects = (refl, ap (λ (x : WriterState). as_builder x part) s.1);
+}
+is_collected (row ∷ rows) w u part requests h s = elim s [
+  | inl at ↦
+      let a = at.1 part h in
+      let later = is_collected rows at.0 u a.0 requests a.1 at.2 in
+      record { sent = later.sent; bytes = later.bytes; waiting = later.waiting; holds = later.holds; collects = inl (as_builder at.0 a.0, a.2, later.collects) }
+  | inr at ↦
+      let a = at.4 part h in
+      let full = as_builder at.0 a.0 in
+      let some : a.0 ≢ [] = λ e. a.2.2 (sym (ap (λ (b : BuilderState). b.waiting) a.2.3) ∙ e) in
+      let built = holds_request at.0 a.0 a.1 some in
+      let f = at.5 a.0 a.1 in
+      let after : as_builder at.1 [] ≡ after_request full = is_after full (as_builder at.1 []) f.0 f.2 some in
+      let b = at.6 [] f.1 in
+      let later = is_collected rows at.2 u b.0 at.3 b.1 at.8 in
+      record {
+        sent = built.0 ∷ later.sent;
+        bytes = at.7 ∙ ap (λ (l : List ℕ). l ∷ at.3) built.2 ∙ ap (λ (l : List (List ℕ)). request_bytes built.0 ∷ l) later.bytes;
+        waiting = later.waiting;
+        holds = later.holds;
+        collects = inr (full, as_builder at.1 [], as_builder at.2 b.0, built.0, later.sent, a.2, subst (BuildsRequest full built.0) (sym after) built.1, b.2, refl, later.collects);
+      }
+]
 
-  abbrev k : Packing (List Content)
-  k = packing start (length w.types)
+-- rows wait at the end
+waits_still : (rows : List (List Content)) (s t : BuilderState) (requests : List BulkRequest) → s.waiting ≢ [] → Collects s rows requests t → t.waiting ≢ []
+waits_still [] s t requests some c = λ e. some (sym (ap (λ (b : BuilderState). b.waiting) c.1) ∙ e)
+waits_still (row ∷ rows) s t requests some c = elim c [
+  | inl at ↦ waits_still rows at.0 t requests (λ e. some_last s.waiting row (sym (ap (λ (b : BuilderState). b.waiting) at.1.2) ∙ e)) at.2
+  | inr at ↦ waits_still rows at.2 t at.4 (λ e. some_last at.1.waiting row (sym (ap (λ (b : BuilderState). b.waiting) at.7.2) ∙ e)) at.9
+]
 
-  abbrev after_parts : List (List (List Content)) → BuilderState
-  after_parts full = record start { types_due = types_after k w.types_due full }
+waits : (rows : List (List Content)) (s t : BuilderState) (requests : List BulkRequest) → rows ≢ [] → Collects s rows requests t → t.waiting ≢ []
+waits [] s t requests some c = absurd (some refl)
+waits (row ∷ rows) s t requests some c = elim c [
+  | inl at ↦ waits_still rows at.0 t requests (λ e. some_last s.waiting row (sym (ap (λ (b : BuilderState). b.waiting) at.1.2) ∙ e)) at.2
+  | inr at ↦ waits_still rows at.2 t at.4 (λ e. some_last at.1.waiting row (sym (ap (λ (b : BuilderState). b.waiting) at.7.2) ∙ e)) at.9
+]
 
-  -- a loop that began with this writer has come so far
-  record Streaming (m : WriterState) (full : List (List (List Content))) (part before rest : List (List Content)) (sent : List (List ℕ)) : Type 0 where
-    held : Holds m part
-    settings : as_builder m [] ≡ after_parts full
-    packed : IsPacked k w.types_due full part before rest
-    bytes : AreBytes start full sent
+-- ---- the bytes
 
-  abbrev Fits : List (List Content) → BuilderState → Type 0
-  Fits part s = PartFits (packing s (unwrap_or s.arity 0)) s.types_due part
+is_request : (s : BuilderState) (rows : List (List Content)) (q : BulkRequest) → IsRequest s rows q → q ≡ request_of s rows
+is_request s rows q i = let r = request_of s rows in
+    ap (λ n. record q { stmt_id = n }) i.id
+    ∙ ap (λ f. record q { stmt_id = r.stmt_id; bulk_flags = f }) i.flags
+    ∙ ap (λ t. record q { stmt_id = r.stmt_id; bulk_flags = r.bulk_flags; types = t }) i.types
+    ∙ ap (λ v. record r { values = v }) i.values
 
-  module _ {m : WriterState} {full : List (List (List Content))} {part before : List (List Content)} {row : List Content} {rest : List (List Content)} {sent : List (List ℕ)} (r : Streaming m full part before (row ∷ rest) sent) where
-    fits_to : length row ≡ length m.types → RowFits (as_builder m part) row → PartFits k (types_after k w.types_due full) (part ++ row ∷ [])
-    fits_to long f =
-        let P : ℕ → Type 0 = λ n. PartFits (packing (as_builder m part) n) m.types_due (part ++ row ∷ []) in
-        let here : Fits (part ++ row ∷ []) (as_builder m []) = subst P long f in
-        subst (Fits (part ++ row ∷ [])) r.settings here
+are_bytes : (s : BuilderState) (cut : List (List (List Content))) (requests : List BulkRequest) → AreRequests s cut requests → AreBytes s cut (map request_bytes requests)
+are_bytes s [] [] a = tt
+are_bytes s [] (q ∷ requests) a = absurd a
+are_bytes s (part ∷ cut) [] a = absurd a
+are_bytes s (part ∷ cut) (q ∷ requests) a = (ap request_bytes (is_request s part q a.0), are_bytes (after_request s) cut requests a.1)
 
-    fits_from : length row ≡ length m.types → PartFits k (types_after k w.types_due full) (part ++ row ∷ []) → RowFits (as_builder m part) row
-    fits_from long f =
-        let P : ℕ → Type 0 = λ n. PartFits (packing (as_builder m part) n) m.types_due (part ++ row ∷ []) in
-        let there : Fits (part ++ row ∷ []) (after_parts full) = f in
-        let here : Fits (part ++ row ∷ []) (as_builder m []) = subst (Fits (part ++ row ∷ [])) (sym r.settings) there in
-        subst P (sym long) here
+-- ---- the ends of a loop that began with no row
 
-    -- the row is written
-    more : (u : WriterState) → AddsAsBuilder m row (Ok true) u → Streaming u full (part ++ row ∷ []) (before ++ row ∷ []) rest sent
-    more u a =
-        let step = a part r.held in
-        let later = step.0 in
-        let taken = step.2.0 in
-        let state : as_builder u later ≡ after_row (as_builder m part) row = step.2.2 in
-        let same : later ≡ part ++ row ∷ [] = ap (λ (s : BuilderState). s.waiting) state in
-        record {
-          held = subst (Holds u) same step.1;
-          settings = ap (λ (s : BuilderState). record s { waiting = [] }) state
-              ∙ ap (λ (n : ℕ). record (as_builder m []) { arity = Some n }) taken.0
-              ∙ r.settings;
-          packed = packed_more k w.types_due full part before row rest r.packed (fits_to taken.0 step.2.1);
-          bytes = r.bytes;
-        }
+pub streamed_fewest : (w u : WriterState) (rows : List (List Content)) (requests : List (List ℕ)) → Holds w [] → w.types_due ≡ true → Streams w rows requests u → rows ≢ [] → AreFewest w rows (requests ++ u.bytes ∷ [])
+streamed_fewest w u rows requests h due s some =
+    let start = as_builder w [] in
+    let new : IsNew start = record { arity = refl; types_due = due; waiting = refl } in
+    let c = is_collected rows w u [] requests h s in
+    let last = holds_request u c.waiting c.holds (waits rows start (as_builder u c.waiting) c.sent some c.collects) in
+    let run = (all_collected start (as_builder u c.waiting) (after_request (as_builder u c.waiting)) rows c.sent last.0 (new_consistent start new) c.collects last.1).1 in
+    let all : rows_in run.cut ++ [] ≡ rows = sym (append-nil (rows_in run.cut ++ [])) ∙ ap (λ (l : List (List Content)). (rows_in run.cut ++ []) ++ l) (sym run.ended.1) ∙ run.all_rows in
+    let taken : All (TakesTypes start.columns) rows = subst (All (TakesTypes start.columns)) all run.taken in
+    let F : ℕ → Type 0 = λ n. IsFewest (packing start n) rows run.cut in
+    let B : List (List ℕ) → Type 0 = AreBytes start run.cut in
+    let bytes : map request_bytes (c.sent ++ last.0 ∷ []) ≡ requests ++ u.bytes ∷ [] =
+    map-append request_bytes c.sent (last.0 ∷ [])
+    ∙ ap (λ (l : List (List ℕ)). l ++ request_bytes last.0 ∷ []) (sym c.bytes)
+    ∙ ap (λ (l : List ℕ). requests ++ l ∷ []) (sym last.2) in
+    record {
+      cut = run.cut;
+      fewest = subst F (sym (length_first w rows some taken)) (run.fewest new refl);
+      bytes = subst B bytes (are_bytes start run.cut (c.sent ++ last.0 ∷ []) run.requests_are);
+    }
 
-    -- the request of the rows before it is let go
-    close : (v : WriterState) → AddsAsBuilder m row (Ok false) m → FinishesAsBuilder m v → Streaming v (full ++ part ∷ []) [] before (row ∷ rest) (sent ++ m.bytes ∷ [])
-    close v a f =
-        let step = a part r.held in
-        let same : as_builder m step.0 ≡ as_builder m part = step.2.3 in
-        let some = step.2.2 in
-        let done = f part r.held in
-        let after : as_builder v [] ≡ after_request (as_builder m part) = is_after (as_builder m part) (as_builder v []) done.0 done.2 some in
-        record {
-          held = done.1;
-          settings = after
-              ∙ ap (λ (s : BuilderState). record s { types_due = s.rule.types_always }) r.settings
-              ∙ ap (λ (t : Bool). record start { types_due = t }) (sym (types_after_push k w.types_due full part));
-          packed = packed_close k w.types_due full part before (row ∷ rest) r.packed some (λ g. step.2.1 (fits_from step.2.0.0 g));
-          bytes = AreBytes-push (length w.types) start full sent part m.bytes r.bytes
-              (r.held.bytes ∙ bytes_are (as_builder m part) part some ∙ ap (λ (s : BuilderState). request_bytes (request_of s part)) r.settings);
-        }
+-- a refusal leaves the builder
+stays : (s t : BuilderState) (row : List Content) (e : BulkRowRefusal) → AddsCopy s row (Err e) t → t ≡ s
+stays s t row copy.MixedArity a = a.1
+stays s t row copy.MixedTypes a = a.2
+stays s t row copy.TooLarge a = a.3
+stays s t row copy.Memory a = a.2
 
-  -- the loop ends
-  finish : (u : WriterState) (full : List (List (List Content))) (part rows : List (List Content)) (sent : List (List ℕ)) → w.types_due ≡ true → Streaming u full part rows [] sent → part ≢ [] → AreFewest w rows (sent ++ u.bytes ∷ [])
-  finish u full part rows sent due r some = record {
-    cut = full ++ part ∷ [];
-    fewest = packed_fewest k (full ++ part ∷ []) rows (subst (λ t. IsPacked k t (full ++ part ∷ []) [] rows []) due (packed_close k w.types_due full part rows [] r.packed some tt));
-    bytes = AreBytes-push (length w.types) start full sent part u.bytes r.bytes
-        (r.held.bytes ∙ bytes_are (as_builder u part) part some ∙ ap (λ (s : BuilderState). request_bytes (request_of s part)) r.settings);
-  }
+none_consistent : (w : WriterState) → IsConsistent (as_builder w [])
+none_consistent w = record { one_length = tt; arity = refl; taken = All-nil (TakesTypes (as_builder w []).columns); fits = λ some. absurd (some refl) }
 
-  streams : (rows : List (List Content)) (m u : WriterState) (full : List (List (List Content))) (part before : List (List Content)) (sent requests : List (List ℕ)) → w.types_due ≡ true → Streaming m full part before rows sent
-      → (before ≢ [] → part ≢ []) → Streams m rows requests u → before ++ rows ≢ [] → AreFewest w (before ++ rows) (sent ++ (requests ++ u.bytes ∷ []))
-  streams [] m u full part before sent requests due r waits s some =
-      let whole : before ++ [] ≡ before = append-nil before in
-      let there = finish m full part before sent due r (waits (λ e. some (whole ∙ e))) in
-      let F : List (List Content) → List (List ℕ) → WriterState → Type 0 = λ rows requests u. AreFewest w rows (sent ++ (requests ++ u.bytes ∷ [])) in
-      subst (λ rows. F rows requests u) (sym whole) (subst (λ l. F before l u) (sym s.0) (subst (λ x. F before [] x) (sym s.1) there))
-  streams (row ∷ rows) m u full part before sent requests due r waits s some = elim s [
-    | inl at ↦
-        let later = more r at.0 at.1 in
-        let whole : (before ++ row ∷ []) ++ rows ≡ before ++ row ∷ rows = append_assoc before (row ∷ []) rows in
-        let F : List (List Content) → Type 0 = λ all. AreFewest w all (sent ++ (requests ++ u.bytes ∷ [])) in
-        subst F whole (streams rows at.0 u full (part ++ row ∷ []) (before ++ row ∷ []) sent requests due later (λ e. some_last part row) at.2 (λ e. some (sym whole ∙ e)))
-    | inr at ↦
-        let closed = close r at.0 at.3 at.4 in
-        let later = more closed at.1 at.5 in
-        let whole : (before ++ row ∷ []) ++ rows ≡ before ++ row ∷ rows = append_assoc before (row ∷ []) rows in
-        let F : List (List Content) → List (List ℕ) → Type 0 = λ all requests. AreFewest w all requests in
-        let seam : (sent ++ m.bytes ∷ []) ++ (at.2 ++ u.bytes ∷ []) ≡ sent ++ (requests ++ u.bytes ∷ []) =
-        append_assoc sent (m.bytes ∷ []) (at.2 ++ u.bytes ∷ []) ∙ ap (λ (l : List (List ℕ)). sent ++ (l ++ u.bytes ∷ [])) (sym at.6) in
-        subst (λ l. F (before ++ row ∷ rows) l) seam
-        (subst (λ all. F all ((sent ++ m.bytes ∷ []) ++ (at.2 ++ u.bytes ∷ []))) whole
-        (streams rows at.1 u (full ++ part ∷ []) ([] ++ row ∷ []) (before ++ row ∷ []) (sent ++ m.bytes ∷ []) at.2 due later (λ e. some_last [] row) at.7 (λ e. some (sym whole ∙ e))))
-  ]
-
-  pub streamed_fewest : (u : WriterState) (rows : List (List Content)) (requests : List (List ℕ)) → Holds w [] → w.types_due ≡ true → Streams w rows requests u → rows ≢ [] → AreFewest w rows (requests ++ u.bytes ∷ [])
-  streamed_fewest u rows requests h due s some =
-      let begins : Streaming w [] [] [] rows [] = record {
-        held = h;
-        settings = refl;
-        packed = packed_none k w.types_due rows;
-        bytes = tt;
-      } in
-      streams rows w u [] [] [] [] requests due begins (λ n. absurd (n refl)) s some
+pub stream_refused : (w u v : WriterState) (rows later : List (List Content)) (requests : List (List ℕ)) (row : List Content) (e : BulkRowRefusal) → Holds w [] → Streams w rows requests u → AddsAsBuilder u row (Err e) v
+    → StreamEndsRefused w rows requests row later e u
+stream_refused w u v rows later requests row e h s a =
+    let c = is_collected rows w u [] requests h s in
+    let t = as_builder u c.waiting in
+    let r = a c.waiting c.holds in
+    let A : BuilderState → Type 0 = λ b. AddsCopy t row (Err e) b in
+    record {
+      sent = c.sent;
+      bytes = c.bytes;
+      waiting = c.waiting;
+      holds = c.holds;
+      ends = copy_ends (as_builder w []) t rows later c.sent row e (none_consistent w) c.collects (subst A (stays t (as_builder v r.0) row e r.2) r.2);
+    }

@@ -16,9 +16,12 @@ use Rattle.mysql_bulk.specs.declared.error.BulkExecuteRequestBuilderError.{BulkE
 use Rattle.mysql_bulk.specs.declared.error.BulkExecuteRequestBuilderError.TheVariants.{Request, Params}
 use Rattle.mysql_bulk.specs.declared.error.BulkExecuteRequestError.{BulkExecuteRequestError}
 use Rattle.mysql_bulk.specs.declared.error.BulkExecuteRequestError.TheVariants.{MixedArity, MixedTypes, RowTooLarge, MemoryRow, NoParams, Memory}
-use Rattle.mysql_bulk.specs.Builder.{BuilderState, packing, TakesArity, TakesRow, RowFits, after_row, Adds, IsRequest, BuildsRequest, after_request, arity_after, IsConsistent}
+use Rattle.mysql_bulk.specs.declared.error.BulkRowRefusal.{BulkRowRefusal}
+use Rattle.mysql_bulk.specs.declared.error.BulkRowRefusal.TheVariants as copy
+use Rattle.mysql_bulk.specs.CollectedRows.{RefusesIn}
+use Rattle.mysql_bulk.specs.Builder.{BuilderState, packing, TakesArity, TakesRow, RowFits, after_row, Adds, AddsCopy, IsRequest, BuildsRequest, after_request, arity_after, IsConsistent}
 use Rattle.mysql_bulk.specs.ColumnTypes.{takes_types, TakesTypes, types_of_rows}
-use Rattle.mysql_bulk.specs.WholeRunRefusal.{taken_front, measure, RefusalOfRows, IsNextAfterFront, EachFrontFits}
+use Rattle.mysql_bulk.specs.WholeRunRefusal.{taken_front, measure, RefusesArity, RefusesTypes, RefusesSize, RefusalOfRows, IsNextAfterFront, EachFrontFits}
 use Rattle.mysql_bulk.specs.Request.{BulkRequest, request_flags}
 use Rattle.mysql_bulk.specs.Row.{contents_of_row, first_length, EqualLengths, OneLength}
 use Rattle.mysql_bulk.specs.Run.{Accepts}
@@ -274,7 +277,7 @@ module _ {s : BuilderState} {all : List (List Content)} {requests : List BulkReq
   front_is rest r = ap (take_while (taken_as_long s.columns (first_length all))) (sym r.whole) ∙ front_from s.columns (first_length all) (rows_in r.cut ++ b.waiting) rest r.lengths r.taken
 
   -- the cut is full from the front
-  full : (rest : List (List Content)) (r : Running s all requests ends sent b rest) → IsNew s → IsFullFromFront (measure s all) (taken_front s all) r.cut
+  pub full : (rest : List (List Content)) (r : Running s all requests ends sent b rest) → IsNew s → IsFullFromFront (measure s all) (taken_front s all) r.cut
   full rest r n =
       let front = take_while (taken_as_long s.columns (first_length all)) rest in
       let before = rows_in r.cut ++ b.waiting in
@@ -360,29 +363,25 @@ module _ {s : BuilderState} {all : List (List Content)} {requests : List BulkReq
     arity_after_front : b.arity ≡ arity_after s.arity (taken_front s all)
     arity_after_front = arity_is r ∙ ap (arity_after s.arity) (sym front_ends)
 
-  other_length : (row : List Content) (rest : List (List Content)) → Running s all requests ends sent b (row ∷ rest) → (TakesArity b.arity (length row) → ⊥) → IsNew s → RefusalOfRows s all (Some MixedArity)
+  other_length : (row : List Content) (rest : List (List Content)) → Running s all requests ends sent b (row ∷ rest) → (TakesArity b.arity (length row) → ⊥) → IsNew s → RefusesArity s all row
   other_length row rest r t n =
       let known : b.arity ≡ arity_after (option_map length s.columns) (rows_in r.cut ++ b.waiting) = arity_is r ∙ ap (λ o. arity_after o (rows_in r.cut ++ b.waiting)) n.arity in
       let no : (taken_as_long s.columns (first_length all)) row ≡ false = not_true ((taken_as_long s.columns (first_length all)) row) (λ e.
       let both = and_parts (nat_eq (length row) (first_length all)) (takes_types s.columns row) e in
       t (takes_as_long s.columns b.arity (rows_in r.cut ++ b.waiting) row rest all known r.whole (eqb-true (length row) (first_length all) both.0) both.1)) in
       let A : Option ℕ → Type 0 = λ o. TakesArity o (length row) in
-      (fronts_fit row rest r no n, (row, next_after row rest r no, λ a. t (subst A (sym (arity_after_front row rest r no)) a)))
+      (fronts_fit row rest r no n, next_after row rest r no, λ a. t (subst A (sym (arity_after_front row rest r no)) a))
 
-  other_types : (row : Vec Value) (rest : List (List Content)) → Running s all requests ends sent b (contents_of_row row ∷ rest) → TakesArity b.arity (length (contents_of_row row)) → (TakesTypes b.columns (contents_of_row row) → ⊥) → IsNew s
-      → RefusalOfRows s all (Some (MixedTypes row))
-  other_types row rest r a t n =
-      let values = contents_of_row row in
+  other_types : (values : List Content) (rest : List (List Content)) → Running s all requests ends sent b (values ∷ rest) → TakesArity b.arity (length values) → (TakesTypes b.columns values → ⊥) → IsNew s → RefusesTypes s all values
+  other_types values rest r a t n =
       let T : BuilderState → Type 0 = λ u. TakesTypes u.columns values → ⊥ in
       let not_taken : TakesTypes s.columns values → ⊥ = subst T r.left t in
       let no : (taken_as_long s.columns (first_length all)) values ≡ false = not_true ((taken_as_long s.columns (first_length all)) values) (λ e. not_taken (and_parts (nat_eq (length values) (first_length all)) (takes_types s.columns values) e).1) in
       let A : Option ℕ → Type 0 = λ o. TakesArity o (length values) in
       (fronts_fit values rest r no n, next_after values rest r no, subst A (arity_after_front values rest r no) a, not_taken)
 
-  too_large : (row : Vec Value) (rest : List (List Content)) → Running s all requests ends sent b (contents_of_row row ∷ rest) → TakesRow b (contents_of_row row) → (RowFits b (contents_of_row row) → ⊥)
-      → b.waiting ≡ [] → IsNew s → RefusalOfRows s all (Some (RowTooLarge row))
-  too_large row rest r t f w n =
-      let values = contents_of_row row in
+  too_large : (values : List Content) (rest : List (List Content)) → Running s all requests ends sent b (values ∷ rest) → TakesRow b values → (RowFits b values → ⊥) → b.waiting ≡ [] → IsNew s → RefusesSize s all values
+  too_large values rest r t f w n =
       let before = rows_in r.cut ++ b.waiting in
       let F : List (List Content) → Type 0 = HasFittingCut (measure s all) in
       let next = next_taken values rest r t in
@@ -405,19 +404,26 @@ module _ {s : BuilderState} {all : List (List Content)} {requests : List BulkReq
         λ m le. subst F (sym (ap (take m) front ∙ take-append-le m before (values ∷ more) le)) (fits_front (measure s all) before m (so_far_fits (values ∷ rest) r n)),
       )
 
+  -- a copy of the next row is refused
+  pub copy_refused : (row : List Content) (rest : List (List Content)) (e : BulkRowRefusal) → Running s all requests ends sent b (row ∷ rest) → AddsCopy b row (Err e) b → IsNew s → RefusesIn s all row e
+  copy_refused row rest copy.MixedArity r a n = other_length row rest r a.0 n
+  copy_refused row rest copy.MixedTypes r a n = other_types row rest r a.0 a.1 n
+  copy_refused row rest copy.TooLarge r a n = too_large row rest r a.0 a.1 a.2 n
+  copy_refused row rest copy.Memory r a n = tt
+
   -- the next row is refused
   pub gives_refused : (row : Vec Value) (rest : List (List Content)) (e : BulkExecuteRequestError) → Running s all requests ends sent b (contents_of_row row ∷ rest) → Adds b row (Err e) b → RunGives s all requests ends (Some (Request e)) b
   gives_refused row rest MixedArity r a =
       gives (contents_of_row row ∷ rest) (Some (Request MixedArity)) r (record { row = row; later = rest; is_next = refl; refused = a })
-      (λ n h. other_length (contents_of_row row) rest r a.0 n) (λ n h. cc)
+      (λ n h. (contents_of_row row, other_length (contents_of_row row) rest r a.0 n)) (λ n h. cc)
   gives_refused row rest (MixedTypes back) r a =
       let P : Vec Value → Type 0 = λ x. RefusalOfRows s all (Some (MixedTypes x)) in
       gives (contents_of_row row ∷ rest) (Some (Request (MixedTypes back))) r (record { row = row; later = rest; is_next = refl; refused = a })
-      (λ n h. subst P (sym a.2) (other_types row rest r a.0 a.1 n)) (λ n h. cc)
+      (λ n h. subst P (sym a.2) (other_types (contents_of_row row) rest r a.0 a.1 n)) (λ n h. cc)
   gives_refused row rest (RowTooLarge back) r a =
       let P : Vec Value → Type 0 = λ x. RefusalOfRows s all (Some (RowTooLarge x)) in
       gives (contents_of_row row ∷ rest) (Some (Request (RowTooLarge back))) r (record { row = row; later = rest; is_next = refl; refused = a })
-      (λ n h. subst P (sym a.3) (too_large row rest r a.0 a.1 a.2 n)) (λ n h. cc)
+      (λ n h. subst P (sym a.3) (too_large (contents_of_row row) rest r a.0 a.1 a.2 n)) (λ n h. cc)
   gives_refused row rest (MemoryRow back) r a =
       gives (contents_of_row row ∷ rest) (Some (Request (MemoryRow back))) r (record { row = row; later = rest; is_next = refl; refused = a }) (λ n h. absurd h) (λ n h. cc)
   gives_refused row rest NoParams r a = absurd a

@@ -22,4 +22,5 @@ pub mod ParamValueEq
 pub mod RequestEq
 pub mod BuilderEq
 pub mod RequestWriter
+pub mod CollectedRows
 pub mod StreamedRows

@@ -1,5 +1,5 @@
 -- A writer of bulk requests: a builder whose waiting rows stand in the bytes of their request.
-use Rattle.std.specs.Prelude.{◌≡◌, ◌≢◌, ℕ, ◌+◌, Bool, true, false, if◌then◌else◌, List, [], ◌∷◌, ◌++◌, length, Some, None, Result, Ok, Err, map, All, sum_by}
+use Rattle.std.specs.Prelude.{◌≡◌, ◌≢◌, ℕ, ◌+◌, ◌*◌, ◌^◌, ◌<◌, ◌≤◌, ◌==◌, Bool, true, false, if◌then◌else◌, List, [], ◌∷◌, ◌++◌, length, Some, None, Result, Ok, Err, map, All, sum_by}
 use Rattle.std.specs.List.{flat_map}
 use Rattle.mysql_cuts.specs.declared.rule.BulkRule.{BulkRule}
 use Rattle.mysql_cuts.specs.Cut.{PartFits, rows_in}
@@ -32,8 +32,9 @@ pub record WriterState : Type 0 where
   -- how many rows were written, and their bytes in the request
   pub count : ℕ
   pub size : ℕ
-  -- the request so far
+  -- the request so far, and how many bytes the buffer has memory for
   pub bytes : List ℕ
+  pub capacity : ℕ
 
 -- the builder with the same settings in which these rows wait
 abbrev pub as_builder : WriterState → List (List Content) → BuilderState
@@ -117,6 +118,18 @@ cells_bytes row = flat_map (λ v. cell (ref_content v)) row
 abbrev pub head_bytes : WriterState → List ℕ
 head_bytes w = head.bytes (record { stmt_id = w.stmt_id; bulk_flags = request_flags w.types_due w.results; types = if w.types_due then w.types else [] })
 
--- one more row was written after these bytes, where the rows have so many bytes now
-abbrev pub with_row : WriterState → List ℕ → ℕ → List ValueRef → WriterState
-with_row w before size row = record w { count = w.count + 1; size = size; bytes = before ++ cells_bytes row }
+-- one more row was written after these bytes, where the rows have so many bytes now, and the buffer has this capacity
+abbrev pub with_row : WriterState → List ℕ → (size capacity : ℕ) → List ValueRef → WriterState
+with_row w before size capacity row = record w { count = w.count + 1; size = size; bytes = before ++ cells_bytes row; capacity = capacity }
+
+-- how many bytes the head of the next request takes
+abbrev pub head_size : WriterState → ℕ
+head_size w = 7 + (if w.types_due then 2 * length w.types else 0)
+
+-- how many bytes are written for a row: before the first one, the head too
+abbrev pub bytes_more : WriterState → List Content → ℕ
+bytes_more w row = if w.count == 0 then head_size w + (w.size + row_size row) else row_size row
+
+-- the buffer has the memory for a row, and the rows can be counted
+abbrev pub HasRoom : WriterState → List Content → Type 0
+HasRoom w row = (length w.bytes + bytes_more w row ≤ w.capacity) × (w.count + 1 < 2 ^ 64)

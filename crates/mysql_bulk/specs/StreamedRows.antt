@@ -1,17 +1,21 @@
 -- A caller's own loop over a writer of requests.
-use Rattle.std.specs.Prelude.{◌≡◌, ◌⊎◌, ℕ, true, false, List, [], ◌∷◌, length, Ok}
+use Rattle.std.specs.Prelude.{◌≡◌, ◌⊎◌, ℕ, true, false, List, [], ◌∷◌, length, map, Ok}
 use Rattle.mysql_cuts.specs.Cut.{IsFewest}
 use Rattle.mysql_values.specs.Value.{Content}
 use Rattle.mysql_bulk.specs.Builder.{BuilderState, packing, after_request}
-use Rattle.mysql_bulk.specs.Request.{request_bytes}
-use Rattle.mysql_bulk.specs.RequestWriter.{WriterState, as_builder, request_of, AddsAsBuilder, FinishesAsBuilder}
+use Rattle.mysql_bulk.specs.declared.error.BulkRowRefusal.{BulkRowRefusal}
+use Rattle.mysql_bulk.specs.CollectedRows.{EndsRefused}
+use Rattle.mysql_bulk.specs.Request.{BulkRequest, request_bytes}
+use Rattle.mysql_bulk.specs.RequestWriter.{WriterState, as_builder, request_of, Holds, AddsAsBuilder, FinishesAsBuilder}
 
--- Rows were offered to a writer one after another, and each was written: where it did not fit with those that waited, their request was let go first. These are the bytes of the requests that were let go.
+-- Rows were offered to a writer one after another, and each was written: where it did not fit with those that waited, their request was
+-- let go first, after the answer that it does not fit. These are the bytes of the requests that were let go.
 abbrev pub Streams : WriterState → List (List Content) → List (List ℕ) → WriterState → Type 0
 Streams w [] requests u = (requests ≡ []) × (u ≡ w)
 Streams w (row ∷ rows) requests u =
     ((m : WriterState) × AddsAsBuilder w row (Ok true) m × Streams m rows requests u)
-    ⊎ ((v : WriterState) × (m : WriterState) × (later : List (List ℕ)) × AddsAsBuilder w row (Ok false) w × FinishesAsBuilder w v × AddsAsBuilder v row (Ok true) m × (requests ≡ w.bytes ∷ later) × Streams m rows later u)
+    ⊎ ((n : WriterState) × (v : WriterState) × (m : WriterState) × (later : List (List ℕ)) × AddsAsBuilder w row (Ok false) n × FinishesAsBuilder n v × AddsAsBuilder v row (Ok true) m
+    × (requests ≡ n.bytes ∷ later) × Streams m rows later u)
 
 -- these are the bytes of the requests that a builder makes of the parts, one after another
 abbrev pub AreBytes : BuilderState → List (List (List Content)) → List (List ℕ) → Type 0
@@ -25,3 +29,11 @@ pub record AreFewest (w : WriterState) (rows : List (List Content)) (requests : 
   pub cut : List (List (List Content))
   pub fewest : IsFewest (packing (as_builder w []) (length w.types)) rows cut
   pub bytes : AreBytes (as_builder w []) cut requests
+
+-- a row that was offered after these was refused: these are the requests that were let go, and the rows that wait
+pub record StreamEndsRefused (w : WriterState) (rows : List (List Content)) (requests : List (List ℕ)) (row : List Content) (later : List (List Content)) (e : BulkRowRefusal) (u : WriterState) : Type 0 where
+  pub sent : List BulkRequest
+  pub bytes : requests ≡ map request_bytes sent
+  pub waiting : List (List Content)
+  pub holds : Holds u waiting
+  pub ends : EndsRefused (as_builder w []) rows sent row later e (as_builder u waiting)

@@ -28,21 +28,28 @@ IsNextAfterFront s rows row = slice_get rows (length (taken_front s rows)) ≡ S
 abbrev pub FrontTakesArity : BuilderState → List (List Content) → List Content → Type 0
 FrontTakesArity s rows row = TakesArity (arity_after s.arity (taken_front s rows)) (length row)
 
+-- a row of another length comes after that beginning
+abbrev pub RefusesArity : BuilderState → List (List Content) → List Content → Type 0
+RefusesArity s rows row = EachFrontFits s rows × IsNextAfterFront s rows row × (FrontTakesArity s rows row → ⊥)
+
+-- a row of that length comes after it, which the declared types do not spell
+abbrev pub RefusesTypes : BuilderState → List (List Content) → List Content → Type 0
+RefusesTypes s rows row = EachFrontFits s rows × IsNextAfterFront s rows row × FrontTakesArity s rows row × (TakesTypes s.columns row → ⊥)
+
+-- the least beginning without a fitting cut ends with the row
+abbrev pub RefusesSize : BuilderState → List (List Content) → List Content → Type 0
+RefusesSize s rows row =
+    (n : ℕ)
+    × (slice_get (taken_front s rows) n ≡ Some row)
+    × (HasFittingCut (measure s rows) (take (n + 1) (taken_front s rows)) → ⊥)
+    × ((m : ℕ) → m ≤ n → HasFittingCut (measure s rows) (take m (taken_front s rows)))
+
 -- why a list of rows is refused, if it is
 abbrev pub RefusalOfRows : BuilderState → List (List Content) → Option BulkExecuteRequestError → Type 0
 RefusalOfRows s rows None = EachFrontFits s rows × (taken_front s rows ≡ rows)
-RefusalOfRows s rows (Some MixedArity) = EachFrontFits s rows × ((row : List Content) × IsNextAfterFront s rows row × (FrontTakesArity s rows row → ⊥))
-RefusalOfRows s rows (Some (MixedTypes row)) =
-    EachFrontFits s rows
-    × IsNextAfterFront s rows (contents_of_row row)
-    × FrontTakesArity s rows (contents_of_row row)
-    × (TakesTypes s.columns (contents_of_row row) → ⊥)
--- the least beginning without a fitting cut ends with this row
-RefusalOfRows s rows (Some (RowTooLarge row)) =
-    (n : ℕ)
-    × (slice_get (taken_front s rows) n ≡ Some (contents_of_row row))
-    × (HasFittingCut (measure s rows) (take (n + 1) (taken_front s rows)) → ⊥)
-    × ((m : ℕ) → m ≤ n → HasFittingCut (measure s rows) (take m (taken_front s rows)))
+RefusalOfRows s rows (Some MixedArity) = (row : List Content) × RefusesArity s rows row
+RefusalOfRows s rows (Some (MixedTypes row)) = RefusesTypes s rows (contents_of_row row)
+RefusalOfRows s rows (Some (RowTooLarge row)) = RefusesSize s rows (contents_of_row row)
 RefusalOfRows s rows (Some (MemoryRow row)) = ⊥
 RefusalOfRows s rows (Some NoParams) = ⊥
 RefusalOfRows s rows (Some Memory) = ⊥

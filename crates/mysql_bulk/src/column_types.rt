@@ -8,7 +8,7 @@ ghost use Rattle.mysql_bulk.specs.ColumnTypes as spec;
 
 use crate::declared_types::join_row;
 use crate::row_value::RowValue;
-use mysql_values::{ParamType, ValueKind, ValueRef};
+use mysql_values::{ParamType, ValueKind, ValueRef, string_type};
 use mysql_wire::{ColumnType, Flags, StmtExecuteParamFlags};
 
 /// Whether values of the type are spelled as they are where no type is declared for them.
@@ -31,7 +31,7 @@ fn is_declarable(column_type: ColumnType) -> bool
 fn is_longlong(column_type: ColumnType) -> bool
     ensures { result ≡ is_longlong (kind_of column_type) }
 {
-    matches!(ValueKind::of(column_type), ValueKind::LongLong)
+    matches!(column_type, ColumnType::MYSQL_TYPE_LONGLONG)
 }
 
 fn is_unsigned(kind: ParamType) -> bool
@@ -57,11 +57,14 @@ pub(crate) fn first_refused(types: &[ParamType]) -> Option<usize>
 }
 
 /// Whether a value is spelled under the type as it is under its own.
+// (the types of what most rows hold are matched themselves, since the compiler makes one more choice of their kinds)
 fn spells(kind: ParamType, value: &ValueRef<'_>) -> bool
     ensures { result ≡ spec.spells kind (ref_content value.now) }
 {
     let column_type = kind.column_type();
     match value {
+        ValueRef::NULL => true,
+        ValueRef::Bytes(_) => matches!(column_type, string_type!()),
         ValueRef::Int(n) => is_longlong(column_type) && !(is_unsigned(kind) && *n < 0),
         ValueRef::UInt(n) => is_longlong(column_type) && (is_unsigned(kind) || *n < 1 << 63),
         value => ValueKind::of(column_type).suits(value),

@@ -1,6 +1,7 @@
 //! Laws over requests and runs of the builder, each a function that does nothing.
 
-ghost use Rattle.std.specs.Prelude.{◌≡◌, ◌≢◌, ◌++◌, ◌∷◌, ℕ, true, List, [], Ok, Some, None, length, map};
+ghost use Rattle.std.specs.Prelude.{◌≡◌, ◌≢◌, ◌++◌, ◌∷◌, ℕ, true, List, [], Ok, Err, Some, None, length, map};
+ghost use Rattle.std.specs.Global.{Vec};
 ghost use Rattle.std.specs.List.{AllZip};
 ghost use Rattle.mysql_cuts.specs.declared.rule.BulkRule.{BulkRule};
 ghost use Rattle.mysql_cuts.specs.Cut.{IsFewest, ends_after, request_size};
@@ -10,10 +11,13 @@ ghost use Rattle.mysql_wire.specs.Flags.{has};
 ghost use Rattle.mysql_values.specs.declared.params.ParamsError.{ParamsError};
 ghost use Rattle.mysql_values.specs.declared.param_type.ParamType.{ParamType};
 ghost use Rattle.mysql_values.specs.ReadingBack.{Agrees};
+ghost use Rattle.mysql_values.specs.declared.value.Value.{Value};
 ghost use Rattle.mysql_values.specs.Value.{Content};
 ghost use Rattle.mysql_bulk.specs.declared.error.BulkExecuteRequestBuilderError.TheVariants as refused;
 ghost use Rattle.mysql_bulk.specs.declared.error.BulkExecuteRequestError.{BulkExecuteRequestError};
-ghost use Rattle.mysql_bulk.specs.Builder.{BuilderState, IsConsistent, IsRequest, packing};
+ghost use Rattle.mysql_bulk.specs.declared.error.BulkRowRefusal.{BulkRowRefusal};
+ghost use Rattle.mysql_bulk.specs.Builder.{BuilderState, Adds, AddsCopy, BuildsRequest, IsConsistent, IsRequest, packing};
+ghost use Rattle.mysql_bulk.specs.CollectedRows.{Collects, EndsRefused};
 ghost use Rattle.mysql_bulk.specs.RunLoop.{WholeLoop, SentAllRows, RefusedRow, RefusedParams};
 ghost use Rattle.mysql_bulk.specs.ParamValue.{ParamValue, with_indicator, param_value, param_value_bytes, values_bytes};
 ghost use Rattle.mysql_bulk.specs.ParamValues.{BulkColumn, values_of_columns};
@@ -23,11 +27,11 @@ ghost use Rattle.mysql_bulk.specs.Head.{column_of_type};
 ghost use Rattle.mysql_bulk.specs.ReadingBack.{ParamValueAgrees, RequestFits, RowsFit, PartAgrees, row_under, IsDeclaredPart};
 ghost use Rattle.mysql_bulk.specs.Request.{BulkRequest, request_bytes, written_size};
 ghost use Rattle.mysql_bulk.specs.RequestForm.{bulk_request};
-ghost use Rattle.mysql_bulk.specs.RequestWriter.{WriterState, Holds};
-ghost use Rattle.mysql_bulk.specs.StreamedRows.{Streams, AreFewest};
-ghost use Rattle.mysql_bulk.specs.Row.{first_length, row_size, rows_packing};
+ghost use Rattle.mysql_bulk.specs.RequestWriter.{WriterState, AddsAsBuilder, Holds};
+ghost use Rattle.mysql_bulk.specs.StreamedRows.{Streams, AreFewest, StreamEndsRefused};
+ghost use Rattle.mysql_bulk.specs.Row.{contents_of_row, first_length, row_size, rows_packing};
 ghost use Rattle.mysql_bulk.specs.Run.{RunState, NextRequest};
-ghost use Rattle.mysql_bulk.specs.WholeRun.{IsNew};
+ghost use Rattle.mysql_bulk.specs.WholeRun.{IsNew, RunGives};
 
 use mysql_values::{Params, Value};
 
@@ -93,11 +97,26 @@ pub fn params_loop_that_refuses_params<I: Iterator<Item = Params>>()
         WholeLoop (NextRequestOfParams I.next_gives names) s requests (Some (refused.Params e)) u → RefusedParams I.next_gives names s requests e u }
 {}
 
+/// A loop that offers rows to a builder, and builds a request where one does not fit, gives what `build_all` gives of these rows:
+/// with the request that is built after the last, no row is lost, and from a new builder they are the fewest. So it does where
+/// a row is refused.
+pub fn collected_rows_are_sent_in_the_fewest_requests()
+    ensures all { (s t u : BuilderState) (rows : List (List Content)) (requests : List BulkRequest) (last : BulkRequest) →
+        IsConsistent s → Collects s rows requests t → BuildsRequest t last u → (ends : List ℕ) × RunGives s (s.waiting ++ rows) (requests ++ last ∷ []) ends None u }
+    ensures refused { (s t : BuilderState) (rows later : List (List Content)) (requests : List BulkRequest) (row : Vec Value) (e : BulkExecuteRequestError) →
+        IsConsistent s → Collects s rows requests t → Adds t row (Err e) t → (ends : List ℕ) × RunGives s (s.waiting ++ (rows ++ contents_of_row row ∷ later)) requests ends (Some (refused.Request e)) t }
+    ensures copy_refused { (s t : BuilderState) (rows later : List (List Content)) (requests : List BulkRequest) (row : List Content) (e : BulkRowRefusal) →
+        IsConsistent s → Collects s rows requests t → AddsCopy t row (Err e) t → EndsRefused s rows requests row later e t }
+{}
+
 /// Rows that are streamed through a new writer, where each request is let go once a row does not fit with those that wait, are
-/// sent in the fewest requests: the last one is that of the rows that wait at the end.
+/// sent in the fewest requests: the last one is that of the rows that wait at the end. Where a row is refused, it is the right one,
+/// and the requests before it are full from the front.
 pub fn streamed_rows_are_sent_in_the_fewest_requests()
-    ensures { (w u : WriterState) (rows : List (List Content)) (requests : List (List ℕ)) →
+    ensures all { (w u : WriterState) (rows : List (List Content)) (requests : List (List ℕ)) →
         Holds w [] → w.types_due ≡ true → Streams w rows requests u → rows ≢ [] → AreFewest w rows (requests ++ u.bytes ∷ []) }
+    ensures refused { (w u v : WriterState) (rows later : List (List Content)) (requests : List (List ℕ)) (row : List Content) (e : BulkRowRefusal) →
+        Holds w [] → Streams w rows requests u → AddsAsBuilder u row (Err e) v → StreamEndsRefused w rows requests row later e u }
 {}
 
 // ---- what is written is read again

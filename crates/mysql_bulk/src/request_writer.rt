@@ -1,12 +1,12 @@
 //! A writer of bulk requests, which keeps the bytes of the rows that it is offered and not their values.
 
-ghost use Rattle.std.specs.Prelude.{◌≡◌, ◌≢◌, ◌+◌, ◌++◌, ◌≤◌, ◌-◌, ◌↔◌, IsTrue, IfOk, OnErr, MatchOption, [], length, map, None, Some, true, false, if◌then◌else◌, vec_len, vec_capacity, List};
+ghost use Rattle.std.specs.Prelude.{◌≡◌, ◌≢◌, ◌+◌, ◌++◌, ◌<◌, ◌≤◌, ◌-◌, ◌^◌, ◌↔◌, IsTrue, IfOk, OnErr, MatchOption, [], length, map, None, Some, true, false, if◌then◌else◌, vec_len, vec_capacity, List};
 ghost use Rattle.std.specs.Bool.{OnTrue, OnFalse};
 ghost use Rattle.mysql_values.specs.Value.{Content};
 ghost use Rattle.mysql_values.specs.ValueRef.{ref_content};
 ghost use Rattle.mysql_bulk.specs.Builder.{RowFits};
 ghost use Rattle.mysql_bulk.specs.Head.{head};
-ghost use Rattle.mysql_bulk.specs.RequestWriter.{as_builder, Holds, StartsAsBuilder, AddsAsBuilder, IsBuilt, FinishesAsBuilder, head_bytes, with_row};
+ghost use Rattle.mysql_bulk.specs.RequestWriter.{as_builder, Holds, StartsAsBuilder, AddsAsBuilder, IsBuilt, FinishesAsBuilder, HasRoom, head_bytes, head_size, with_row};
 ghost use Rattle.mysql_bulk.specs.Row.{row_size};
 
 use crate::builder::{flags_of, size_with};
@@ -47,6 +47,7 @@ pub struct BulkRequestWriter<'a> {
 }
 
 impl<'a> Model for BulkRequestWriter<'a> {
+    ghost use Rattle.std.specs.Prelude.{vec_capacity};
     ghost use Rattle.mysql_bulk.specs.RequestWriter.{WriterState};
 
     ghost Value = { WriterState };
@@ -61,6 +62,7 @@ impl<'a> Model for BulkRequestWriter<'a> {
       count = a.count;
       size = a.size;
       bytes = a.bytes.items;
+      capacity = vec_capacity a.bytes;
     } };
 }
 
@@ -98,6 +100,7 @@ impl<'a> BulkRequestWriter<'a> {
     ) -> Result<Self, BulkColumnTypeError>
         requires { 4 ≤ max_allowed_packet }
         ensures none { IfOk result (λ writer. writer.count ≡ 0) }
+        ensures capacity { IfOk result (λ writer. writer.capacity ≡ vec_capacity buffer) }
         ensures starts { StartsAsBuilder stmt_id (max_allowed_packet - 4) types.now result }
     {
         if let Some(place) = first_refused(types) {
@@ -165,7 +168,8 @@ impl<'a> BulkRequestWriter<'a> {
 
     /// The buffer, with the request so far.
     pub fn into_buffer(self) -> Vec<u8>
-        ensures { result.items ≡ self.entry.bytes }
+        ensures items { result.items ≡ self.entry.bytes }
+        ensures capacity { vec_capacity result ≡ self.entry.capacity }
     {
         self.bytes
     }
@@ -174,8 +178,8 @@ impl<'a> BulkRequestWriter<'a> {
     ///
     /// Where the row fits with those that wait, it is written after them, and the answer is `Ok(true)`; where it does not fit
     /// with those that wait it is `Ok(false)`, and the request is done with then. The refusals are those of
-    /// [`add_row_refs`](crate::ComStmtBulkExecuteRequestBuilder::add_row_refs): `Memory` where the buffer did not grow. Where no
-    /// row is written, the writer stays as it was. The bytes of the row are counted first, and the buffer grows once at the
+    /// [`add_row_refs`](crate::ComStmtBulkExecuteRequestBuilder::add_row_refs): `Memory` where the buffer did not grow, and not
+    /// where it has the memory. Where no row is written, the writer stays as it was. The bytes of the row are counted first, and the buffer grows once at the
     /// most.
     ///
     /// ```
@@ -191,6 +195,8 @@ impl<'a> BulkRequestWriter<'a> {
         ensures adds { AddsAsBuilder self.old (map ref_content row.now) result self.new }
         ensures waits { IfOk result (λ taken. taken ≡ false → self.new ≡ self.old) }
         ensures err { OnErr result (self.new ≡ self.old) }
+        ensures capacity { self.old.capacity ≤ self.new.capacity }
+        ensures no_memory { HasRoom self.old (map ref_content row.now) → result ≢ Err BulkRowRefusal.Memory }
     {
         if row.len() != self.types.len() {
             return Err(BulkRowRefusal::MixedArity);
@@ -238,8 +244,10 @@ impl<'a> BulkRequestWriter<'a> {
     /// Writes the first row of a request, after what stands before it. Where memory is refused, nothing is written.
     fn write_first(&mut self, row: &[ValueRef<'_>], size: u64) -> bool
         requires { size ≡ self.old.size + row_size (map ref_content row.now) }
-        ensures written { OnTrue result (self.new ≡ with_row self.old (self.old.bytes ++ head_bytes self.old) size row.now) }
+        ensures written { OnTrue result (self.new ≡ with_row self.old (self.old.bytes ++ head_bytes self.old) size self.new.capacity row.now) }
         ensures stays { OnFalse result (self.new ≡ self.old) }
+        ensures capacity { self.old.capacity ≤ self.new.capacity }
+        ensures no_memory { self.old.count + 1 < 2 ^ 64 → length self.old.bytes + (head_size self.old + size) ≤ self.old.capacity → IsTrue result }
     {
         let Some(count) = self.count.checked_add(1) else {
             return false;
@@ -263,8 +271,10 @@ impl<'a> BulkRequestWriter<'a> {
     #[inline(always)]
     fn write_further(&mut self, row: &[ValueRef<'_>], size: u64) -> bool
         requires { size ≡ self.old.size + row_size (map ref_content row.now) }
-        ensures written { OnTrue result (self.new ≡ with_row self.old self.old.bytes size row.now) }
+        ensures written { OnTrue result (self.new ≡ with_row self.old self.old.bytes size self.new.capacity row.now) }
         ensures stays { OnFalse result (self.new ≡ self.old) }
+        ensures capacity { self.old.capacity ≤ self.new.capacity }
+        ensures no_memory { self.old.count + 1 < 2 ^ 64 → length self.old.bytes + row_size (map ref_content row.now) ≤ self.old.capacity → IsTrue result }
     {
         let Some(count) = self.count.checked_add(1) else {
             return false;
@@ -294,7 +304,8 @@ impl<'a> BulkRequestWriter<'a> {
     /// Lets the request go: its rows wait no longer, and the next row that is written begins another one. Where no row was
     /// written, nothing changes. The memory of the buffer stays.
     pub fn finish(&mut self)
-        ensures { FinishesAsBuilder self.old self.new }
+        ensures finishes { FinishesAsBuilder self.old self.new }
+        ensures capacity { self.new.capacity ≡ self.old.capacity }
     {
         if self.count == 0 {
             return;

@@ -1,12 +1,13 @@
 //! The values of a row that is offered, whoever keeps their bytes.
 
-ghost use Rattle.std.specs.Prelude.{◌≡◌, ◌+◌, ◌≤◌, ◌++◌, ◌∷◌, [], length, take, drop, IfSome, IfNone, OnSome, vec_len, vec_capacity};
+ghost use Rattle.std.specs.Prelude.{◌≡◌, ◌+◌, ◌≤◌, ◌++◌, ◌∷◌, [], length, take, drop, IfOk, IfErr, OnOk, OnErr, vec_len, vec_capacity};
 ghost use Rattle.mysql_wire.specs.declared.codes.mariadb_bulk_indicator.MariadbBulkIndicator.TheVariants.{BULK_INDICATOR_NONE, BULK_INDICATOR_NULL};
 ghost use Rattle.mysql_values.specs.ParamType.{type_of};
 ghost use Rattle.mysql_values.specs.SentType.{is_uint};
-ghost use Rattle.mysql_values.specs.Value.{bin_size, content_of, contents_of, size_of};
+ghost use Rattle.mysql_values.specs.Value.{bin_size, contents_of};
 ghost use Rattle.mysql_values.specs.ValueRef.{ref_content};
 ghost use Rattle.mysql_bulk.specs.ParamValue.{cell};
+ghost use Rattle.mysql_bulk.specs.Row.{RefusesValue};
 
 use mysql_values::{ParamType, Value, ValueRef};
 use mysql_wire::{Buffer, Const, MariadbBulkIndicator, MySerialize, parts};
@@ -26,6 +27,15 @@ fn sent_value() -> Const<MariadbBulkIndicator, u8>
     ensures { result.0 ≡ BULK_INDICATOR_NONE }
 {
     Const::new(MariadbBulkIndicator::BULK_INDICATOR_NONE)
+}
+
+/// Why no copy of a value is put after others.
+#[derive(Clone, Copy, Debug, PartialEq, Eq)]
+pub(crate) enum NoCopy {
+    /// It has more bytes than it may have.
+    TooLong,
+    /// Memory for its bytes was refused.
+    Memory,
 }
 
 /// A value of a row that is offered.
@@ -61,15 +71,15 @@ pub(crate) trait RowValue {
 
     /// Puts a copy at the end of values that have capacity for it, and answers its bytes in a request: no more than `most`.
     ///
-    /// `None` where it has more, or where memory for it was refused: then nothing is put there. Of bytes the copy is made
-    /// in one piece.
-    fn push_copy(&self, alloc: Global, values: &mut Vec<Value>, most: u64) -> Option<u64>
+    /// Where it has more, or memory for its bytes was refused, nothing is put there. Of bytes the copy is made in one piece.
+    fn push_copy(&self, alloc: Global, values: &mut Vec<Value>, most: u64) -> Result<u64, NoCopy>
         requires { vec_len values.old + 1 ≤ vec_capacity values.old }
-        ensures size { IfSome result (λ n. (n ≡ 1 + bin_size (content self.now)) × (n ≤ most)) }
-        ensures copy { OnSome result (contents_of values.new.items ≡ contents_of values.old.items ++ content self.now ∷ []) }
-        ensures kept { OnSome result (take (vec_len values.old) values.new.items ≡ values.old.items) }
-        ensures count { OnSome result (vec_len values.new ≡ vec_len values.old + 1) }
-        ensures none { IfNone result (values.new.items ≡ values.old.items) }
+        ensures size { IfOk result (λ n. (n ≡ 1 + bin_size (content self.now)) × (n ≤ most)) }
+        ensures copy { OnOk result (contents_of values.new.items ≡ contents_of values.old.items ++ content self.now ∷ []) }
+        ensures kept { OnOk result (take (vec_len values.old) values.new.items ≡ values.old.items) }
+        ensures count { OnOk result (vec_len values.new ≡ vec_len values.old + 1) }
+        ensures refused { IfErr result (λ why. RefusesValue why most (content self.now)) }
+        ensures err { OnErr result (values.new.items ≡ values.old.items) }
         ensures capacity { vec_capacity values.old ≤ vec_capacity values.new };
 }
 
@@ -109,43 +119,47 @@ impl RowValue for Value {
 
     // (each kind is pushed where it is known: one value for all kinds would be taken apart again)
     #[inline(always)]
-    fn push_copy(&self, alloc: Global, values: &mut Vec<Value>, most: u64) -> Option<u64> {
+    fn push_copy(&self, alloc: Global, values: &mut Vec<Value>, most: u64) -> Result<u64, NoCopy> {
         match self {
             Value::NULL if 1 <= most => {
                 values.push_reserved(Value::NULL);
-                Some(1)
+                Ok(1)
             }
             Value::Int(n) if 9 <= most => {
                 values.push_reserved(Value::Int(*n));
-                Some(9)
+                Ok(9)
             }
-            Value::Bytes(bytes) if bytes.len() < 251 && bytes.len() as u64 + 2 <= most => {
-                let copy = Vec::from_slice(alloc, bytes.as_slice()).ok()?;
+            Value::Bytes(bytes)
+                if !bytes.is_empty() && bytes.len() < 251 && bytes.len() as u64 + 2 <= most => {
+                let Ok(copy) = Vec::from_slice(alloc, bytes.as_slice()) else {
+                    return Err(NoCopy::Memory);
+                };
                 values.push_reserved(Value::Bytes(copy));
-                Some(bytes.len() as u64 + 2)
+                Ok(bytes.len() as u64 + 2)
             }
-            _ => push_any(values, self, most),
+            _ => push_any(alloc, values, &self.as_ref(), most),
         }
     }
 }
 
 /// The same, for a value of any kind.
 #[inline(never)]
-fn push_any(values: &mut Vec<Value>, value: &Value, most: u64) -> Option<u64>
+fn push_any(
+    alloc: Global,
+    values: &mut Vec<Value>,
+    value: &ValueRef<'_>,
+    most: u64,
+) -> Result<u64, NoCopy>
     requires { vec_len values.old + 1 ≤ vec_capacity values.old }
-    ensures size { IfSome result (λ n. (n ≡ 1 + size_of value.now) × (n ≤ most)) }
-    ensures copy { OnSome result (contents_of values.new.items ≡ contents_of values.old.items ++ content_of value.now ∷ []) }
-    ensures kept { OnSome result (take (vec_len values.old) values.new.items ≡ values.old.items) }
-    ensures count { OnSome result (vec_len values.new ≡ vec_len values.old + 1) }
-    ensures none { IfNone result (values.new.items ≡ values.old.items) }
+    ensures size { IfOk result (λ n. (n ≡ 1 + bin_size (ref_content value.now)) × (n ≤ most)) }
+    ensures copy { OnOk result (contents_of values.new.items ≡ contents_of values.old.items ++ ref_content value.now ∷ []) }
+    ensures kept { OnOk result (take (vec_len values.old) values.new.items ≡ values.old.items) }
+    ensures count { OnOk result (vec_len values.new ≡ vec_len values.old + 1) }
+    ensures refused { IfErr result (λ why. RefusesValue why most (ref_content value.now)) }
+    ensures err { OnErr result (values.new.items ≡ values.old.items) }
     ensures capacity { vec_capacity values.old ≤ vec_capacity values.new }
 {
-    let size = value.bin_len().checked_add(1)?;
-    if most < size {
-        return None;
-    }
-    values.push_reserved(value.clone().ok()?);
-    Some(size)
+    value.push_copy(alloc, values, most)
 }
 
 impl RowValue for ValueRef<'_> {
@@ -183,12 +197,17 @@ impl RowValue for ValueRef<'_> {
     }
 
     #[inline(always)]
-    fn push_copy(&self, alloc: Global, values: &mut Vec<Value>, most: u64) -> Option<u64> {
-        let size = self.bin_len().checked_add(1)?;
+    fn push_copy(&self, alloc: Global, values: &mut Vec<Value>, most: u64) -> Result<u64, NoCopy> {
+        let Some(size) = self.bin_len().checked_add(1) else {
+            return Err(NoCopy::TooLong);
+        };
         if most < size {
-            return None;
+            return Err(NoCopy::TooLong);
         }
-        values.push_reserved(self.to_value(alloc).ok()?);
-        Some(size)
+        let Ok(copy) = self.to_value(alloc) else {
+            return Err(NoCopy::Memory);
+        };
+        values.push_reserved(copy);
+        Ok(size)
     }
 }

@@ -121,6 +121,7 @@ pub use Rattle.mysql_prepared.specs.WrittenExecution
 pub use Rattle.mysql_cuts.specs.Cut
 pub use Rattle.mysql_cuts.specs.Fewest
 pub use Rattle.mysql_bulk.specs.Builder
+pub use Rattle.mysql_bulk.specs.CollectedRows
 pub use Rattle.mysql_bulk.specs.ColumnTypes
 pub use Rattle.mysql_bulk.specs.DeclaredTypes
 pub use Rattle.mysql_bulk.specs.Head

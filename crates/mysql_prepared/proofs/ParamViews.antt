@@ -16,7 +16,7 @@ use Rattle.mysql_prepared.specs.NullBitmap.{null_bitmap}
 use Rattle.mysql_prepared.specs.ExecuteParam.{Param}
 use Rattle.mysql_prepared.specs.declared.execute_view.BoundParam.{BoundParam}
 use Rattle.mysql_prepared.proofs.NullBits.{is-one}
-use Rattle.mysql_prepared.specs.ExecuteRead.{TypedParam, Several, ParamsLeft, param_value, typed_param, types, passed_types, params_in, then_params, params_left, params_to, params_of, RefusesParam, HasTypes, types_read, bound_left, under_types, bound_params, front, some_front, execute_params, IsExecution}
+use Rattle.mysql_prepared.specs.ExecuteRead.{TypedParam, Several, ParamsLeft, param_value, typed_param, types, passed_types, params_in, then_params, params_left, params_to, params_of, Gives, RefusesParam, HasTypes, types_read, bound_left, under_types, bound_params, front, some_front, execute_params, IsExecution}
 
 module _ (nulls : List ℕ) (place : ℕ) (p : BoundParam) (ps : List BoundParam) (bytes : List ℕ) where
   -- one parameter, and what is read after it
@@ -27,6 +27,10 @@ module _ (nulls : List ℕ) (place : ℕ) (p : BoundParam) (ps : List BoundParam
   pub same-end : (x : TypedParam) (after : List ℕ) → (typed_param nulls place p).reads bytes ≡ Ok (x, after) → (params_in nulls (place + 1) ps after).end ≡ (params_in nulls place (p ∷ ps) bytes).end
   unfolding params_in
   same-end x after h = rw h refl
+
+  pub same-tails : (x : TypedParam) (after : List ℕ) → (typed_param nulls place p).reads bytes ≡ Ok (x, after) → (params_in nulls place (p ∷ ps) bytes).tails ≡ after ∷ (params_in nulls (place + 1) ps after).tails
+  unfolding params_in
+  same-tails x after h = rw h refl
 
   none-before : (e : _) → (typed_param nulls place p).reads bytes ≡ Err e → ((params_in nulls place (p ∷ ps) bytes).params ≡ []) × ((params_in nulls place (p ∷ ps) bytes).end ≡ Err e)
   unfolding params_in
@@ -174,18 +178,20 @@ bound-next false p ps bytes t mid h has = ap (λ (u : ParamType). under p u ∷ 
 
 module _ (nulls : List ℕ) (place : ℕ) (s : Bool) (p : BoundParam) (ps : List BoundParam) (bytes buf : List ℕ) (t : ParamType) (mid : List ℕ) where
   abbrev pub before_param : ParamsLeft
-  before_param = params_left s (suc (length ps)) (params_in nulls place (bound_left s (p ∷ ps) bytes) buf)
+  before_param = params_left s (suc (length ps)) nulls place (bound_left s (p ∷ ps) bytes) buf
 
   abbrev pub after_param : List ℕ → ParamsLeft
-  after_param after = params_left s (length ps) (params_in nulls (place + 1) (bound_left s ps mid) after)
+  after_param after = params_left s (length ps) nulls (place + 1) (bound_left s ps mid) after
 
   gives-one : (v : Param) (after : List ℕ) → ReadsType s p bytes t mid → (IsTrue s → HasTypes (suc (length ps)) bytes)
       → (param_value p.is_sent_ahead (cell nulls place == 1) t).reads buf ≡ Ok (v, after)
-      → (before_param.params ≡ (t, v) ∷ (after_param after).params) × ((after_param after).end ≡ before_param.end)
+      → Gives before_param (t, v) (after_param after)
   gives-one v after h has r =
       let q = under p t in
       let read : (typed_param nulls place q).reads buf ≡ Ok ((t, v), after) = rw r refl in
-      rw (bound-next s p ps bytes t mid h has) (one-param nulls place q (bound_left s ps mid) buf (t, v) after read, same-end nulls place q (bound_left s ps mid) buf (t, v) after read)
+      let bound = bound_left s ps mid in
+      rw (bound-next s p ps bytes t mid h has)
+      (refl, one-param nulls place q bound buf (t, v) after read, same-end nulls place q bound buf (t, v) after read, refl, same-tails nulls place q bound buf (t, v) after read)
 
   fails-so : (e : FaultKind) → ReadsType s p bytes t mid → (IsTrue s → HasTypes (suc (length ps)) bytes)
       → (param_value p.is_sent_ahead (cell nulls place == 1) t).reads buf ≡ Err e → (before_param.params ≡ []) × (params_of before_param ≡ Err e)
@@ -220,20 +226,20 @@ module _ (nulls : List ℕ) (place : ℕ) (s : Bool) (p : BoundParam) (ps : List
   module _ (all : List BoundParam) (types_at at : List ℕ) (is_null : Bool) (starts : all ≡ p ∷ ps) (has : IsTrue s → HasTypes (length all) bytes) (types_are : types_at ≡ bytes) (type : ReadsType s p types_at t mid)
       (bit : IsTrue is_null ↔ (cell nulls (place + 0) ≡ 1)) (at_is : at ≡ buf) where
     abbrev pub before_all : ParamsLeft
-    before_all = params_left s (length all) (params_in nulls place (bound_left s all bytes) buf)
+    before_all = params_left s (length all) nulls place (bound_left s all bytes) buf
 
-    pub gives : (v : Param) (after : List ℕ) → (param_value p.is_sent_ahead is_null t).reads at ≡ Ok (v, after) → (before_all.params ≡ (t, v) ∷ (after_param after).params) × ((after_param after).end ≡ before_all.end)
+    pub gives : (v : Param) (after : List ℕ) → (param_value p.is_sent_ahead is_null t).reads at ≡ Ok (v, after) → Gives before_all (t, v) (after_param after)
     gives v after r =
         let P : Bool → List ℕ → Type 0 = λ b l. (param_value p.is_sent_ahead b t).reads l ≡ Ok (v, after) in
         let read = subst (P (cell nulls place == 1)) at_is (subst (λ (b : Bool). P b at) (null-test is_null bit) r) in
-        let Q : List BoundParam → Type 0 = λ l. ((params_in nulls place (bound_left s l bytes) buf).params ≡ (t, v) ∷ (after_param after).params) × ((after_param after).end ≡ (params_in nulls place (bound_left s l bytes) buf).end) in
+        let Q : List BoundParam → Type 0 = λ l. Gives (params_left s (length l) nulls place (bound_left s l bytes) buf) (t, v) (after_param after) in
         subst Q (sym starts) (gives-one v after (type-of types_at types_are type) (has-of all starts has) read)
 
     pub refuses : (e : FaultOf) → Faults false e ((param_value p.is_sent_ahead is_null t).reads at) → RefusesParam e before_all
     refuses e r =
         let P : Bool → List ℕ → Type 0 = λ b l. Faults false e ((param_value p.is_sent_ahead b t).reads l) in
         let read = subst (P (cell nulls place == 1)) at_is (subst (λ (b : Bool). P b at) (null-test is_null bit) r) in
-        let Q : List BoundParam → Type 0 = λ l. RefusesParam e (params_left s (length l) (params_in nulls place (bound_left s l bytes) buf)) in
+        let Q : List BoundParam → Type 0 = λ l. RefusesParam e (params_left s (length l) nulls place (bound_left s l bytes) buf) in
         subst Q (sym starts) (refuses-one e (type-of types_at types_are type) (has-of all starts has) read)
 
 pub skip-done : (count i : ℕ) (bytes : List ℕ) (all : Reading (Unit {0})) → count - i ≡ 0 → left_to_pass (count - i) bytes ≡ all → all ≡ Ok (tt, bytes)
@@ -283,13 +289,13 @@ module _ (ps : List BoundParam) (bytes : List ℕ) (nulls : Bitmap) (mid : List 
 
   pub begins-some : length ps ≢ 0 → (null_bitmap 0 (length ps)).reads bytes ≡ Ok (nulls, mid) → byte.reads mid ≡ Ok (n, tb)
       → (either sends (passed_types (length ps)) (give tt)).reads tb ≡ Ok (tt, after)
-      → IsExecution ps bytes (params_left sends (length ps) (params_in nulls.bytes 0 (bound_left sends ps tb) after))
+      → IsExecution ps bytes (params_left sends (length ps) nulls.bytes 0 (bound_left sends ps tb) after)
   begins-some some a b c =
       let h : (front ps).reads bytes ≡ Ok (record { nulls = nulls.bytes; sends_types = sends; bound = bound_left sends ps tb }, after) =
       some-read ps bytes some ∙ rw (a, b, bound-read sends ps tb after c) refl in
       (record { nulls = nulls.bytes; sends_types = sends; bound = bound_left sends ps tb }, after, h, refl)
 
-pub begins-none : (ps : List BoundParam) (nulls bytes : List ℕ) → length ps ≡ 0 → IsExecution ps bytes (params_left false (length ps) (params_in nulls 0 ps bytes))
+pub begins-none : (ps : List BoundParam) (nulls bytes : List ℕ) → length ps ≡ 0 → IsExecution ps bytes (params_left false (length ps) nulls 0 ps bytes)
 unfolding params_in
 begins-none [] nulls bytes e = (record { nulls = []; sends_types = false; bound = [] }, bytes, refl, refl)
 begins-none (p ∷ ps) nulls bytes e = absurd (omega (arith, e))

@@ -1,5 +1,5 @@
 -- The bytes of a binary row's values, one value after another.
-use Rattle.std.proofs.Common.{◌≡◌, ℕ, zero, suc, ◌+◌, ◌<◌, ◌≤◌, ◌&&◌, Bool, true, List, [], ◌∷◌, ◌++◌, length, drop, get_or, slice_get, Some, refl, sym, ap, ◌∙◌, arith}
+use Rattle.std.proofs.Common.{◌≡◌, ℕ, zero, suc, ◌+◌, ◌<◌, ◌≤◌, ◌&&◌, Bool, true, false, IsTrue, List, [], ◌∷◌, ◌++◌, length, map, take, drop, get_or, slice_get, Some, refl, sym, ap, ◌∙◌, arith}
 use Rattle.std.specs.Int.{w64, cast_unsigned}
 use Rattle.std.specs.Prelude.{ℤ}
 use Rattle.std.proofs.lemmas.List.{drop_more, length-append}
@@ -10,7 +10,7 @@ use Rattle.mysql_wire.specs.Writing.{saturated}
 use Rattle.mysql_values.specs.declared.value_ref.ValueRef.{ValueRef}
 use Rattle.mysql_values.specs.declared.value_kind.ValueKind.{ValueKind}
 use Rattle.mysql_values.specs.declared.value_kind.ValueKind.TheVariants as kind
-use Rattle.mysql_values.specs.Value.{Int}
+use Rattle.mysql_values.specs.Value.{Content, Int}
 use Rattle.mysql_values.specs.ValueKind.{kind_of}
 use Rattle.mysql_values.specs.ValueRef.{ref_content}
 use Rattle.mysql_prepared.specs.RowView.{refs_held}
@@ -52,6 +52,24 @@ module _ {C : Type 0} (type_of : C → ColumnType) (unsigned : C → Bool) (colu
 
   pub taken-next : takes_row type_of unsigned (drop i columns) (refs_held (drop i values)) ≡ (takes (type_of column) (unsigned column) (ref_content (get_or values i d)) && takes_row type_of unsigned (drop (i + 1) columns) (refs_held (drop (i + 1) values)))
   taken-next = rw (columns-left, values-left) refl
+
+both_parts : (a b : Bool) → IsTrue (a && b) → IsTrue a × IsTrue b
+both_parts true b h = (refl, h)
+both_parts false b h = let f : IsTrue false = h in absurd cc
+
+-- one more column takes its value
+pub taken_more : {C : Type 0} (type_of : C → ColumnType) (unsigned : C → Bool) (columns : List C) (values : List Content) (i : ℕ) (column : C) (value : Content) → slice_get columns i ≡ Some column
+    → slice_get values i ≡ Some value → IsTrue (takes (type_of column) (unsigned column) value) → IsTrue (takes_row type_of unsigned (take i columns) (take i values))
+    → IsTrue (takes_row type_of unsigned (take (suc i) columns) (take (suc i) values))
+taken_more type_of unsigned [] values i column value a b one before = absurd cc
+taken_more type_of unsigned (c ∷ cs) [] i column value a b one before = absurd cc
+taken_more type_of unsigned (c ∷ cs) (v ∷ vs) zero column value a b one before =
+    let s : c ≡ column = cc in
+    let t : v ≡ value = cc in
+    rw (s, t, one) refl
+taken_more type_of unsigned (c ∷ cs) (v ∷ vs) (suc i) column value a b one before =
+    let both = both_parts (takes (type_of c) (unsigned c) v) (takes_row type_of unsigned (take i cs) (take i vs)) before in
+    rw (both.0) (taken_more type_of unsigned cs vs i column value a b one both.1)
 
 -- nothing is left of a row past its end
 pub bytes-end : {C : Type 0} (type_of : C → ColumnType) (unsigned : C → Bool) (columns : List C) (values : List ValueRef) (i : ℕ) → length columns ≡ length values → length values ≤ i → values_bytes type_of unsigned (drop i columns) (refs_held (drop i values)) ≡ []

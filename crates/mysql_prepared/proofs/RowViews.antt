@@ -1,5 +1,5 @@
 -- A row that is read value by value: one value, and what is read after it.
-use Rattle.std.proofs.Common.{◌≡◌, ◌∙◌, sym, ap, subst, zero, suc, ℕ, ◌+◌, ◌==◌, ◌↔◌, IsTrue, List, [], ◌∷◌, Result, Ok, Err, Some, Option, Bool, false, length, refl, arith}
+use Rattle.std.proofs.Common.{◌≡◌, ◌∙◌, sym, ap, subst, zero, suc, ℕ, ◌+◌, ◌==◌, ◌↔◌, IsTrue, List, [], ◌∷◌, Result, Ok, Err, Some, Option, Bool, false, length, drop, refl, arith}
 use Rattle.std.specs.Prelude.{replicate}
 use Rattle.std.proofs.lemmas.List.{length-replicate}
 use Rattle.mysql_wire.specs.declared.fault.FaultOf.{FaultOf}
@@ -18,7 +18,7 @@ use Rattle.mysql_replies.specs.declared.column.Column.{Column}
 use Rattle.mysql_replies.specs.Column.{column_type, flags}
 use Rattle.mysql_prepared.specs.RowForm.{there, bin_row, text_row}
 use Rattle.mysql_prepared.specs.Bitmap.{cell}
-use Rattle.mysql_prepared.specs.RowView.{RowLeft, Values, values_in, then_values, row_left, text_row_left, read_to, read_of, RefusesNext, bin_row_of, ref_cell, ref_unless, text_row_of}
+use Rattle.mysql_prepared.specs.RowView.{RowLeft, Values, values_in, then_values, row_left, text_row_left, read_to, read_of, Gives, RefusesNext, bin_row_of, ref_cell, ref_unless, text_row_of}
 use Rattle.mysql_prepared.proofs.NullBits.{is-one}
 
 -- no value is good before this kind of fault
@@ -34,6 +34,10 @@ module _ {C : Type 0} (f : ℕ → C → Form Content) (place : ℕ) (c : C) (cs
   pub same-end : (x : Content) (after : List ℕ) → (f place c).reads bytes ≡ Ok (x, after) → (values_in f (place + 1) cs after).end ≡ (values_in f place (c ∷ cs) bytes).end
   unfolding values_in
   same-end x after h = rw h refl
+
+  pub same-tails : (x : Content) (after : List ℕ) → (f place c).reads bytes ≡ Ok (x, after) → (values_in f place (c ∷ cs) bytes).tails ≡ after ∷ (values_in f (place + 1) cs after).tails
+  unfolding values_in
+  same-tails x after h = rw h refl
 
   none-before : (e : _) → (f place c).reads bytes ≡ Err e → ((values_in f place (c ∷ cs) bytes).values ≡ []) × ((values_in f place (c ∷ cs) bytes).end ≡ Err e)
   unfolding values_in
@@ -75,13 +79,12 @@ module _ {C : Type 0} (type_of : C → ColumnType) (unsigned : C → Bool) (null
   abbrev row_before : List C → RowLeft
   row_before l = row_left (ref_cell type_of unsigned nulls offset) place l bytes
 
-  pub first-value : (x : Content) (after : List ℕ) → value_read is_null at ≡ Ok (x, after)
-      → ((row_before left).left ≡ suc (row_after after).left) × ((row_before left).values ≡ x ∷ (row_after after).values) × ((row_after after).end ≡ (row_before left).end)
+  pub first-value : (x : Content) (after : List ℕ) → value_read is_null at ≡ Ok (x, after) → Gives (row_before left) x (row_after after)
   first-value x after h =
       let f = ref_cell type_of unsigned nulls offset in
       let here = subst (λ (buf : List ℕ). value_read (cell nulls (place + offset) == 1) buf ≡ Ok (x, after)) at_is (subst (λ (b : Bool). value_read b at ≡ Ok (x, after)) is_the_bit h) in
-      subst (λ (l : List C). ((row_before l).left ≡ suc (row_after after).left) × ((row_before l).values ≡ x ∷ (row_after after).values) × ((row_after after).end ≡ (row_before l).end)) (sym cut)
-      (refl, one-value f place c cs bytes x after here, same-end f place c cs bytes x after here)
+      subst (λ (l : List C). Gives (row_before l) x (row_after after)) (sym cut)
+      (refl, one-value f place c cs bytes x after here, same-end f place c cs bytes x after here, same-tails f place c cs bytes x after here)
 
   -- its fault is that of the row
   pub first-fault : (e : FaultOf) → Faults false e (value_read is_null at) → RefusesNext e (row_before left)
@@ -147,11 +150,24 @@ place-free p q zero bytes = refl
 place-free p q (suc left) bytes = then_values-alike (text_value.reads bytes) _ _ (λ mid. place-free (p + 1) (q + 1) left mid)
 
 pub one-text : (left : ℕ) (bytes : List ℕ) (x : Content) (after : List ℕ) → text_value.reads bytes ≡ Ok (x, after)
-    → let now = text_row_left left after in let was = text_row_left (suc left) bytes in (was.left ≡ suc now.left) × (was.values ≡ x ∷ now.values) × (now.end ≡ was.end)
+    → Gives (text_row_left (suc left) bytes) x (text_row_left left after)
 one-text left bytes x after h =
     let f : ℕ → Unit {0} → Form Content = λ place column. text_value in
     let same = place-free 1 0 left after in
-    (refl, one-value f 0 tt (replicate left tt) bytes x after h ∙ ap (λ (v : Values). x ∷ v.values) same, sym (ap (λ (v : Values). v.end) same) ∙ same-end f 0 tt (replicate left tt) bytes x after h)
+    let columns = replicate left tt in (
+      refl,
+      one-value f 0 tt columns bytes x after h ∙ ap (λ (v : Values). x ∷ v.values) same,
+      sym (ap (λ (v : Values). v.end) same) ∙ same-end f 0 tt columns bytes x after h,
+      same-tails f 0 tt columns bytes x after h ∙ ap (λ (v : Values). after ∷ v.tails) same,
+    )
 
 pub text-fault : (left : ℕ) (bytes : List ℕ) (e : FaultOf) → Faults false e (text_value.reads bytes) → RefusesNext e (text_row_left (suc left) bytes)
 text-fault left bytes e h = one-fault (λ place column. text_value) 0 tt (replicate left tt) bytes e h
+
+-- ---- the bytes after each value, in a loop over the values
+
+pub rest_next : {A : Type 0} (all : List A) (i : ℕ) (x : A) (later : List A) → drop i all ≡ x ∷ later → drop (i + 1) all ≡ later
+rest_next [] zero x later e = cc
+rest_next [] (suc i) x later e = cc
+rest_next (y ∷ all) zero x later e = cc
+rest_next (y ∷ all) (suc i) x later e = let more : suc i + 1 ≡ suc (i + 1) = omega arith in rw more (rest_next all i x later e)

@@ -1,5 +1,6 @@
 -- The bytes of an execution that is written at once, and how many they are.
-use Rattle.std.proofs.Common.{◌≡◌, ◌≢◌, ◌≤◌, ℕ, ◌+◌, ◌*◌, Bool, false, None, List, [], ◌∷◌, ◌++◌, length, append_assoc, refl, sym, ◌∙◌, ap, arith}
+use Rattle.std.proofs.Common.{◌≡◌, ◌≢◌, ◌<◌, ◌≤◌, ◌↔◌, ℕ, ◌+◌, ◌*◌, Bool, true, false, nat_lt, IsTrue, None, List, [], ◌∷◌, ◌++◌, length, append_assoc, refl, sym, ◌∙◌, ap, arith, ltb-true}
+use Rattle.std.proofs.lemmas.Bool.{lt-ltb}
 use Rattle.std.proofs.lemmas.List.{append-nil, length-append, length-map}
 use Rattle.mysql_wire.specs.Writing.{le_bytes}
 use Rattle.mysql_prepared.specs.Bitmap.{bytes_for}
@@ -7,7 +8,8 @@ use Rattle.mysql_prepared.specs.ExecuteHead.{execute_head, head_without_cursor}
 use Rattle.mysql_prepared.specs.ExecuteParam.{Param, contents, param_types, param_values, type_bytes, value_of}
 use Rattle.mysql_prepared.specs.Execution.{params_bytes}
 use Rattle.mysql_prepared.specs.NullMarks.{AppendsNulls}
-use Rattle.mysql_prepared.specs.WrittenExecution.{AppendsExecution, AppendsParams, execution_size, params_size}
+use Rattle.mysql_prepared.specs.Payload.{max_payload}
+use Rattle.mysql_prepared.specs.WrittenExecution.{AppendsExecution, AppendsParams, execution_size, params_size, written_size}
 use Rattle.mysql_prepared.proofs.Nulls.{cell-zeros}
 use Rattle.mysql_prepared.proofs.OptionLengths.{length-type_bytes}
 
@@ -16,6 +18,18 @@ regroup old nulls flag types values = simp (append-nil, append_assoc)
 
 after-head : (old head params : List ℕ) → (old ++ head) ++ params ≡ old ++ (head ++ [] ++ params)
 after-head old head params = simp (append-nil, append_assoc)
+
+-- a test is what it says
+tested : (b : Bool) (m n : ℕ) → IsTrue b ↔ (m < n) → b ≡ nat_lt m n
+tested true m n h = sym (lt-ltb m n (h.0 refl))
+tested false m n h = decide (nat_lt m n) refl
+  where
+    decide : (t : Bool) → nat_lt m n ≡ t → false ≡ t
+    decide false e = refl
+    decide true e = h.1 (ltb-true m n e)
+
+pub size-written : {V : Type 0} (param : V → Param) (params : List V) (long : Bool) → IsTrue long ↔ (max_payload < execution_size param params false) → execution_size param params long ≡ written_size param params
+size-written param params long h = ap (execution_size param params) (tested long max_payload (execution_size param params false) h)
 
 module _ {V : Type 0} (param : V → Param) (as_long_data : Bool) where
   -- ---- how many bytes

@@ -1,5 +1,5 @@
 -- Binary rows, written from their values.
-use Rattle.std.specs.Prelude.{◌≡◌, ◌≢◌, ℕ, ℤ, pos, negsuc, ◌+◌, ◌^◌, Bool, true, false, not, ◌&&◌, nat_lt, IsTrue, IsFalse, List, [], ◌∷◌, ◌++◌, length, slice_get, Some}
+use Rattle.std.specs.Prelude.{◌≡◌, ◌≢◌, ℕ, ℤ, pos, negsuc, ◌+◌, ◌^◌, Bool, true, false, not, ◌&&◌, nat_lt, IsTrue, IsFalse, List, [], ◌∷◌, ◌++◌, length, take, slice_get, Some}
 use Rattle.std.specs.Int.{w64, cast_unsigned}
 use Rattle.mysql_wire.specs.declared.codes.column_type.ColumnType.{ColumnType}
 use Rattle.mysql_wire.specs.Writing.{le_bytes}
@@ -7,6 +7,7 @@ use Rattle.mysql_values.specs.Value.{Content, Int, UInt, bin}
 use Rattle.mysql_values.specs.declared.value_kind.ValueKind.{ValueKind}
 use Rattle.mysql_values.specs.declared.value_kind.ValueKind.TheVariants as kind
 use Rattle.mysql_values.specs.ValueKind.{kind_of, is_longlong, suits}
+use Rattle.mysql_prepared.specs.Bitmap.{bytes_for}
 use Rattle.mysql_prepared.specs.NullMarks.{MarksNulls}
 use Rattle.mysql_prepared.specs.declared.binary_row.BinaryRowError.{BinaryRowError}
 use Rattle.mysql_prepared.specs.declared.binary_row.BinaryRowError.TheVariants as error
@@ -61,6 +62,10 @@ module _ {C : Type 0} (type_of : C → ColumnType) (unsigned : C → Bool) where
   values_bytes (c ∷ cs) [] = []
   values_bytes (c ∷ cs) (v ∷ vs) = bin_in (type_of c) v ++ values_bytes cs vs
 
+  -- how many bytes the row takes
+  abbrev pub row_len : List C → List Content → ℕ
+  row_len columns values = 1 + bytes_for 2 (length values) + length (values_bytes columns values)
+
   -- a byte, the bitmap of NULLs, and the values
   abbrev pub IsRowBytes : List C → List Content → List ℕ → Type 0
   IsRowBytes columns values bytes = (nulls : List ℕ) × MarksNulls 2 values nulls × (bytes ≡ 0 ∷ nulls ++ values_bytes columns values)
@@ -75,7 +80,12 @@ module _ {C : Type 0} (type_of : C → ColumnType) (unsigned : C → Bool) where
   abbrev pub IsRefusedAt : List C → List Content → ℕ → Type 0
   IsRefusedAt columns values place = (c : C) × (v : Content) × (slice_get columns place ≡ Some c) × (slice_get values place ≡ Some v) × IsFalse (takes (type_of c) (unsigned c) v)
 
+  -- it is the first such place
+  pub record IsFirstRefused (columns : List C) (values : List Content) (place : ℕ) : Type 0 where
+    pub refused : IsRefusedAt columns values place
+    pub before : IsTrue (takes_row (take place columns) (take place values))
+
   abbrev pub RefusesRow : List C → List Content → BinaryRowError → Type 0
   RefusesRow columns values error.Count = length columns ≢ length values
-  RefusesRow columns values (error.Value place) = IsRefusedAt columns values place
+  RefusesRow columns values (error.Value place) = (length columns ≡ length values) × IsFirstRefused columns values place
   RefusesRow columns values error.Memory = IsTrue (takes_row columns values)

@@ -75,18 +75,20 @@ execute_params params = front params >>= (λ f. each (typed_param f.nulls) 0 f.b
 
 -- ---- parameter by parameter
 
--- the parameters that are read one after another until one has a fault; and the bytes after the last, or the kind of that fault
+-- the parameters that are read one after another until one has a fault, and the bytes after each of them; and the bytes after
+-- the last, or the kind of that fault
 pub record Several : Type 0 where
   pub params : List TypedParam
+  pub tails : List (List ℕ)
   pub end : Result (List ℕ) FaultKind
 
 -- a parameter, and those that are read of the bytes after it
 abbrev pub then_params : Reading TypedParam → (List ℕ → Several) → Several
-then_params (Ok x) next = record { params = x.0 ∷ (next x.1).params; end = (next x.1).end }
-then_params (Err e) next = record { params = []; end = Err e }
+then_params (Ok x) next = record { params = x.0 ∷ (next x.1).params; tails = x.1 ∷ (next x.1).tails; end = (next x.1).end }
+then_params (Err e) next = record { params = []; tails = []; end = Err e }
 
 unfoldable pub params_in : (nulls : List ℕ) → ℕ → List BoundParam → List ℕ → Several
-params_in nulls place [] bytes = record { params = []; end = Ok bytes }
+params_in nulls place [] bytes = record { params = []; tails = []; end = Ok bytes }
 params_in nulls place (p ∷ ps) bytes = then_params ((typed_param nulls place p).reads bytes) (params_in nulls (place + 1) ps)
 
 -- what is left of an execution: whether it sends types, how many parameters, those that are good, and the bytes after the last
@@ -96,9 +98,20 @@ pub record ParamsLeft : Type 0 where
   pub left : ℕ
   pub params : List TypedParam
   pub end : Result (List ℕ) FaultKind
+  -- the bytes after the parameters that were read, and after each of those that are good
+  pub rest : List ℕ
+  pub tails : List (List ℕ)
 
-abbrev pub params_left : (sends_types : Bool) (left : ℕ) → Several → ParamsLeft
-params_left sends_types left several = record { sends_types = sends_types; left = left; params = several.params; end = several.end }
+-- the parameters in these bytes
+abbrev pub params_left : (sends_types : Bool) (left : ℕ) → (nulls : List ℕ) → ℕ → List BoundParam → List ℕ → ParamsLeft
+params_left sends_types left nulls place params bytes = record {
+  sends_types = sends_types;
+  left = left;
+  params = (params_in nulls place params bytes).params;
+  end = (params_in nulls place params bytes).end;
+  rest = bytes;
+  tails = (params_in nulls place params bytes).tails;
+}
 
 -- the types in these bytes
 abbrev pub types_read : Reading (List ParamType) → List ParamType
@@ -116,7 +129,7 @@ HasTypes count bytes = (ts : List ParamType) × (rest : List ℕ) × ((types cou
 -- the execution stands after the types, which are there
 abbrev pub IsExecution : List BoundParam → List ℕ → ParamsLeft → Type 0
 IsExecution params bytes view =
-    (f : Front) × (after : List ℕ) × ((front params).reads bytes ≡ Ok (f, after)) × (view ≡ params_left f.sends_types (length params) (params_in f.nulls 0 f.bound after))
+    (f : Front) × (after : List ℕ) × ((front params).reads bytes ≡ Ok (f, after)) × (view ≡ params_left f.sends_types (length params) f.nulls 0 f.bound after)
 
 -- what reading all that is left gives
 abbrev pub params_to : List TypedParam → Result (List ℕ) FaultKind → Reading (List TypedParam)
@@ -136,9 +149,13 @@ RefusesParam e view = (view.params ≡ []) × Faults false e (params_of view)
 abbrev pub HasNoParam : ParamsLeft → Type 0
 HasNoParam view = (view.left ≡ 0) × (view.params ≡ [])
 
+-- this is the first of the parameters that are good
+abbrev pub Gives : ParamsLeft → TypedParam → ParamsLeft → Type 0
+Gives old x new = (old.left ≡ suc new.left) × (old.params ≡ x ∷ new.params) × (new.end ≡ old.end) × (new.sends_types ≡ old.sends_types) × (old.tails ≡ new.rest ∷ new.tails)
+
 -- the first of the parameters that are good, or none is left, or the fault and all is left
 abbrev pub GivesParam : ParamsLeft → Result (Option (ParamType × ExecuteParam)) FaultOf → ParamsLeft → Type 0
-GivesParam old (Ok (Some x)) new = (old.left ≡ suc new.left) × (old.params ≡ (x.0, param_of x.1) ∷ new.params) × (new.end ≡ old.end) × (new.sends_types ≡ old.sends_types)
+GivesParam old (Ok (Some x)) new = Gives old (x.0, param_of x.1) new
 GivesParam old (Ok None) new = HasNoParam old × (new ≡ old)
 GivesParam old (Err e) new = RefusesParam e old × (new ≡ old)
 

@@ -44,19 +44,21 @@ text_row_of columns = counted columns (there text_value)
 
 -- ---- value by value
 
--- the values that are read one after another until one has a fault; and the bytes after the last, or the kind of that fault
+-- the values that are read one after another until one has a fault, and the bytes after each of them; and the bytes after the
+-- last, or the kind of that fault
 pub record Values : Type 0 where
   pub values : List Content
+  pub tails : List (List ℕ)
   pub end : Result (List ℕ) FaultKind
 
 -- a value, and those that are read of the bytes after it
 abbrev pub then_values : Reading Content → (List ℕ → Values) → Values
-then_values (Ok x) next = record { values = x.0 ∷ (next x.1).values; end = (next x.1).end }
-then_values (Err e) next = record { values = []; end = Err e }
+then_values (Ok x) next = record { values = x.0 ∷ (next x.1).values; tails = x.1 ∷ (next x.1).tails; end = (next x.1).end }
+then_values (Err e) next = record { values = []; tails = []; end = Err e }
 
 -- a value of each form
 unfoldable pub values_in : {C : Type 0} → (ℕ → C → Form Content) → ℕ → List C → List ℕ → Values
-values_in form place [] bytes = record { values = []; end = Ok bytes }
+values_in form place [] bytes = record { values = []; tails = []; end = Ok bytes }
 values_in form place (c ∷ cs) bytes = then_values ((form place c).reads bytes) (values_in form (place + 1) cs)
 
 -- what is left of a row: how many values, those that are good, and the bytes after the last value, or the kind of the fault
@@ -65,12 +67,17 @@ pub record RowLeft : Type 0 where
   pub left : ℕ
   pub values : List Content
   pub end : Result (List ℕ) FaultKind
+  -- the bytes after the values that were read, and after each of those that are good
+  pub rest : List ℕ
+  pub tails : List (List ℕ)
 
 abbrev pub row_left : {C : Type 0} → (ℕ → C → Form Content) → ℕ → List C → List ℕ → RowLeft
 row_left form place columns bytes = record {
   left = length columns;
   values = (values_in form place columns bytes).values;
   end = (values_in form place columns bytes).end;
+  rest = bytes;
+  tails = (values_in form place columns bytes).tails;
 }
 
 abbrev pub text_row_left : ℕ → List ℕ → RowLeft
@@ -78,6 +85,8 @@ text_row_left left bytes = record {
   left = left;
   values = (values_in (λ place (column : Unit {0}). text_value) 0 (replicate left tt) bytes).values;
   end = (values_in (λ place (column : Unit {0}). text_value) 0 (replicate left tt) bytes).end;
+  rest = bytes;
+  tails = (values_in (λ place (column : Unit {0}). text_value) 0 (replicate left tt) bytes).tails;
 }
 
 -- the row stands after the byte and the bitmap, which are there
@@ -110,9 +119,13 @@ RefusesNext e row = (row.values ≡ []) × Faults false e (read_of row)
 abbrev pub IsDone : RowLeft → Type 0
 IsDone row = (row.left ≡ 0) × (row.values ≡ [])
 
+-- this is the first of the values that are good
+abbrev pub Gives : RowLeft → Content → RowLeft → Type 0
+Gives old x new = (old.left ≡ suc new.left) × (old.values ≡ x ∷ new.values) × (new.end ≡ old.end) × (old.tails ≡ new.rest ∷ new.tails)
+
 -- the first of the values that are good, or none is left, or the fault and all is left
 abbrev pub GivesOne : RowLeft → Result (Option ValueRef) FaultOf → RowLeft → Type 0
-GivesOne old (Ok (Some v)) new = (old.left ≡ suc new.left) × (old.values ≡ ref_content v ∷ new.values) × (new.end ≡ old.end)
+GivesOne old (Ok (Some v)) new = Gives old (ref_content v) new
 GivesOne old (Ok None) new = IsDone old × (new ≡ old)
 GivesOne old (Err e) new = RefusesNext e old × (new ≡ old)
 
@@ -125,4 +138,5 @@ pub record Fills (old new : RowLeft) (before after : List ValueRef) : Type 0 whe
   pub fewer : new.left ≤ old.left
   pub values : old.values ≡ refs_held (take (old.left - new.left) after) ++ new.values
   pub end : new.end ≡ old.end
+  pub rest : drop (old.left - new.left) (old.rest ∷ old.tails) ≡ new.rest ∷ new.tails
   pub others : drop (old.left - new.left) after ≡ drop (old.left - new.left) before

@@ -1,10 +1,11 @@
 -- An execution that is written at once.
-use Rattle.std.specs.Prelude.{◌≡◌, ℕ, ◌+◌, ◌*◌, Bool, List, [], ◌∷◌, ◌++◌, length, None}
+use Rattle.std.specs.Prelude.{◌≡◌, ℕ, ◌+◌, ◌*◌, Bool, false, nat_lt, List, [], ◌∷◌, ◌++◌, length, None}
 use Rattle.mysql_prepared.specs.Bitmap.{bytes_for}
 use Rattle.mysql_prepared.specs.ExecuteHead.{head_without_cursor}
 use Rattle.mysql_prepared.specs.ExecuteParam.{Param, contents, param_values}
 use Rattle.mysql_prepared.specs.Execution.{execution_bytes, params_bytes}
 use Rattle.mysql_prepared.specs.NullMarks.{MarksNulls}
+use Rattle.mysql_prepared.specs.Payload.{max_payload}
 
 module _ {V : Type 0} (param : V → Param) where
   -- the buffer ends in the parameters
@@ -28,3 +29,11 @@ module _ {V : Type 0} (param : V → Param) where
   abbrev pub execution_size : List V → (as_long_data : Bool) → ℕ
   execution_size [] as_long_data = 10
   execution_size (p ∷ params) as_long_data = 10 + params_size (p ∷ params) as_long_data
+
+  -- byte strings are long data: where the bytes of all values are past what one packet carries
+  abbrev pub is_long : List V → Bool
+  is_long params = nat_lt max_payload (execution_size params false)
+
+  -- how many bytes are written
+  abbrev pub written_size : List V → ℕ
+  written_size params = execution_size params (is_long params)

@@ -1,6 +1,6 @@
 //! Binary rows, written from their values.
 
-ghost use Rattle.std.specs.Prelude.{◌≡◌, ◌+◌, ◌++◌, ◌≤◌, [], length, vec_len, vec_capacity, OnOk, OnErr, IfErr, IfNone, IfSome, IsTrue};
+ghost use Rattle.std.specs.Prelude.{◌≡◌, ◌≢◌, ◌+◌, ◌++◌, ◌≤◌, [], length, vec_len, vec_capacity, OnOk, OnErr, IfErr, IfNone, IfSome, IsTrue};
 ghost use Rattle.mysql_wire.specs.Writing.{saturated};
 ghost use Rattle.mysql_values.specs.Value.{Int};
 ghost use Rattle.mysql_values.specs.ValueKind.{kind_of};
@@ -21,7 +21,7 @@ pub enum BinaryRowError {
     /// There is not a value for each column.
     #[error("Not a value for each column")]
     Count,
-    /// The column at this place does not take its value.
+    /// The column at this place does not take its value: the first one.
     #[error("Value that its column does not take")]
     Value(usize),
     /// Memory for the row was refused.
@@ -75,11 +75,11 @@ fn takes(column_type: ColumnType, is_unsigned: bool, value: &ValueRef<'_>) -> bo
     }
 }
 
-/// A place whose column does not take its value: the first one. There is a value for each column.
+/// The first place whose column does not take its value. There is a value for each column.
 fn refused_at<C: TypedColumn>(columns: &[C], values: &[ValueRef<'_>]) -> Option<usize>
     requires { length columns.now ≡ length values.now }
     ensures none { IfNone result (IsTrue (spec.takes_row C.type_of C.unsigned columns.now (refs_held values.now))) }
-    ensures some { IfSome result (λ place. spec.IsRefusedAt C.type_of C.unsigned columns.now (refs_held values.now) place) }
+    ensures some { IfSome result (λ place. spec.IsFirstRefused C.type_of C.unsigned columns.now (refs_held values.now) place) }
 {
     for place in 0..values.len() {
         let column = &columns[place];
@@ -188,7 +188,8 @@ fn append_values<C: TypedColumn>(columns: &[C], values: &[ValueRef<'_>], out: &m
 /// | `VARCHAR`, `VAR_STRING`, `STRING`, the four `BLOB`s, `DECIMAL`, `NEWDECIMAL`, `ENUM`, `SET`, `BIT`, `JSON`, `VECTOR`, `GEOMETRY` | `Bytes` |
 ///
 /// What is written is read again as the same values; but a negative span of no time is read without its sign. After a refusal
-/// the buffer is as it was.
+/// the buffer is as it was. `Count` comes before `Value`, which has the first place, and `Memory` comes last; it does not come
+/// where the buffer has the capacity.
 pub fn write_binary_row<C: TypedColumn>(
     columns: &[C],
     values: &[ValueRef<'_>],
@@ -198,6 +199,7 @@ pub fn write_binary_row<C: TypedColumn>(
     ensures ok { OnOk result (spec.AppendsRow C.type_of C.unsigned columns.now (refs_held values.now) out.old.items out.new.items) }
     ensures refused { IfErr result (λ e. spec.RefusesRow C.type_of C.unsigned columns.now (refs_held values.now) e) }
     ensures err { OnErr result (out.new.items ≡ out.old.items) }
+    ensures no_memory { vec_len out.old + spec.row_len C.type_of C.unsigned columns.now (refs_held values.now) ≤ vec_capacity out.old → result ≢ Err BinaryRowError.Memory }
 {
     if columns.len() != values.len() {
         return Err(BinaryRowError::Count);

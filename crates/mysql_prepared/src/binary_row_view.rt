@@ -116,8 +116,8 @@ fn put_unless<'s, 'de, C: TypedColumn>(
 /// values as [`RowDeserializer`](crate::RowDeserializer), and the same fault; [`read_rest`](Self::read_rest) puts them into
 /// places of the caller's.
 ///
-/// In a clause it is how many values are left, those of them that are good, and the bytes after the last, or the kind of the
-/// fault that ends them.
+/// In a clause it is how many values are left, those of them that are good, the bytes after the last, or the kind of the fault
+/// that ends them, and the bytes after those that were read.
 #[derive(Drop)]
 pub struct BinaryRowView<'a, 'c, S: SerializationSide, C: TypedColumn> {
     buf: ParseBuf<'a>,
@@ -173,6 +173,7 @@ impl<'a, 'c, S: SerializationSide, C: TypedColumn> BinaryRowView<'a, 'c, S, C> {
     #[inline(always)]
     pub fn rest(&self) -> ParseBuf<'a>
         ensures value { self.now.left ≡ 0 → self.now.end ≡ Ok result }
+        ensures read { result ≡ self.now.rest }
     {
         self.buf.rest()
     }

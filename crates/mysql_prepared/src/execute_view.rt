@@ -4,7 +4,7 @@ ghost use Rattle.std.specs.Prelude.{false, ◌≡◌, Ok, length, IfOk, IfErr, I
 ghost use Rattle.mysql_wire.specs.Reading.{Answers, Faults};
 ghost use Rattle.mysql_wire.specs.Form.{either, give};
 ghost use Rattle.mysql_values.specs.ParamType.{param_type};
-ghost use Rattle.mysql_prepared.specs.ExecuteRead.{GivesParam, HasTypes, IsExecution, execute_params, param_read, param_value, params_of, passed_types};
+ghost use Rattle.mysql_prepared.specs.ExecuteRead.{GivesParam, HasNoParam, HasTypes, IsExecution, execute_params, param_read, param_value, params_of, passed_types};
 
 use crate::execute_param::ExecuteParam;
 use crate::null_bitmap::NullBitmap;
@@ -84,8 +84,8 @@ fn read_param<'s, 'de>(
 ///
 /// It takes no memory, and the bytes of a value stay in the packet. What was sent ahead is that, whatever its bit says.
 ///
-/// In a clause it is whether types are sent, how many parameters are left, those of them that are good with their types, and the
-/// bytes after the last, or the kind of the fault that ends them.
+/// In a clause it is whether types are sent, how many parameters are left, those of them that are good with their types, the bytes
+/// after the last, or the kind of the fault that ends them, and the bytes after those that were read.
 #[derive(Drop)]
 pub struct ExecuteParamsView<'a, 'c> {
     buf: ParseBuf<'a>,
@@ -100,11 +100,11 @@ pub struct ExecuteParamsView<'a, 'c> {
 impl<'a, 'c> Model for ExecuteParamsView<'a, 'c> {
     ghost use Rattle.std.specs.Prelude.{length, IsTrue};
     ghost use Rattle.mysql_prepared.specs.RowView.{HasBits};
-    ghost use Rattle.mysql_prepared.specs.ExecuteRead.{ParamsLeft, HasTypes, params_left, params_in, bound_left};
+    ghost use Rattle.mysql_prepared.specs.ExecuteRead.{ParamsLeft, HasTypes, params_left, bound_left};
 
     ghost Value = { ParamsLeft };
 
-    ghost view = { λ r. params_left r.sends_types (length r.params.now) (params_in r.nulls.bytes r.place (bound_left r.sends_types r.params.now r.types) r.buf) };
+    ghost view = { λ r. params_left r.sends_types (length r.params.now) r.nulls.bytes r.place (bound_left r.sends_types r.params.now r.types) r.buf };
 
     ghost invariant = { λ r. HasBits r.nulls.bytes 0 r.none r.place (length r.params.now) × (IsTrue r.sends_types → HasTypes (length r.params.now) r.types) };
 }
@@ -163,6 +163,7 @@ impl<'a, 'c> ExecuteParamsView<'a, 'c> {
     #[inline]
     pub fn left(&self) -> usize
         ensures value { result ≡ self.now.left }
+        ensures done { result ≡ 0 → HasNoParam self.now }
     {
         self.params.len()
     }
@@ -171,6 +172,7 @@ impl<'a, 'c> ExecuteParamsView<'a, 'c> {
     #[inline]
     pub fn rest(&self) -> ParseBuf<'a>
         ensures value { self.now.left ≡ 0 → self.now.end ≡ Ok result }
+        ensures read { result ≡ self.now.rest }
     {
         self.buf.rest()
     }

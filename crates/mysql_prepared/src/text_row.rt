@@ -1,7 +1,7 @@
 //! Text rows, written from their cells.
 #![tactic(auto, using(crate::proofs::OptionLengths::written), unfolding(mysql_wire::specs::Writing::saturated))]
 
-ghost use Rattle.std.specs.Prelude.{◌≡◌, ◌++◌, map, OnOk, OnErr};
+ghost use Rattle.std.specs.Prelude.{◌≡◌, ◌+◌, ◌++◌, ◌≤◌, length, map, vec_len, vec_capacity, IsOk, OnOk, OnErr};
 ghost use Rattle.std.specs.Option.{option_copied};
 ghost use Rattle.mysql_prepared.specs.TextRow.{text_row_bytes};
 
@@ -42,10 +42,11 @@ impl<'a> ItemForm<Option<&'a [u8]>> for AsText {
 /// Writes a text row (`ProtocolText::ResultsetRow`) to the end of a buffer, which grows once at the most.
 ///
 /// Each cell is the byte `fb` where there is no value, else a length-encoded string. Where that allocation fails, the buffer
-/// is as it was.
+/// is as it was; it does not fail where the buffer has the capacity.
 pub fn write_text_row(cells: &[Option<&[u8]>], out: &mut Vec<u8>) -> Result<(), AllocError>
     ensures ok { OnOk result (out.new.items ≡ out.old.items ++ text_row_bytes (map option_copied cells.now)) }
     ensures err { OnErr result (out.new.items ≡ out.old.items) }
+    ensures no_memory { vec_len out.old + length (text_row_bytes (map option_copied cells.now)) ≤ vec_capacity out.old → IsOk result }
 {
     let row = Items {
         items: cells,

@@ -13,8 +13,8 @@ use std::marker::Model;
 /// values as [`RowDeserializer`](crate::RowDeserializer), and the same fault; [`read_rest`](Self::read_rest) puts them into
 /// places of the caller's.
 ///
-/// In a clause it is how many values are left, those of them that are good, and the bytes after the last, or the kind of the
-/// fault that ends them.
+/// In a clause it is how many values are left, those of them that are good, the bytes after the last, or the kind of the fault
+/// that ends them, and the bytes after those that were read.
 ///
 /// ```
 /// let mut row = TextRowView::new(2, ParseBuf::new(alloc, payload));
@@ -58,6 +58,7 @@ impl<'a> TextRowView<'a> {
     #[inline(always)]
     pub fn rest(&self) -> ParseBuf<'a>
         ensures value { self.now.left ≡ 0 → self.now.end ≡ Ok result }
+        ensures read { result ≡ self.now.rest }
     {
         self.buf.rest()
     }

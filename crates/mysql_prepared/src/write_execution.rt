@@ -1,6 +1,6 @@
 //! One execution of a prepared statement, written at once.
 
-ghost use Rattle.std.specs.Prelude.{◌≡◌, ◌+◌, ◌*◌, ◌<◌, ◌≤◌, ◌^◌, ◌↔◌, IsTrue, IfOk, OnErr, false, length, vec_len, vec_capacity};
+ghost use Rattle.std.specs.Prelude.{◌≡◌, ◌+◌, ◌*◌, ◌<◌, ◌≤◌, ◌^◌, ◌↔◌, IsTrue, IsOk, IfOk, OnErr, false, length, vec_len, vec_capacity};
 ghost use Rattle.mysql_wire.specs.Writing.{saturated};
 ghost use Rattle.mysql_prepared.specs.Payload.{max_payload};
 ghost use Rattle.mysql_prepared.specs.WrittenExecution as spec;
@@ -89,7 +89,8 @@ fn measured<V: AsExecuteParam>(params: &[V]) -> (usize, bool)
 impl ComStmtExecuteRequestBuilder {
     /// Writes the request that executes the statement with these parameters to the end of a buffer, and answers whether byte
     /// strings are long data: the bytes of the request that [`build_ref`](Self::build_ref) makes. The buffer grows once at the
-    /// most, and no other memory is taken. Where that is refused, the buffer is as it was.
+    /// most, and no other memory is taken. Where that is refused, the buffer is as it was; it is not refused where the buffer has
+    /// the capacity.
     pub fn write_ref<V: AsExecuteParam>(
         self,
         params: &[V],
@@ -98,6 +99,7 @@ impl ComStmtExecuteRequestBuilder {
         ensures written { IfOk result (λ long. spec.AppendsExecution V.param self.stmt_id params.now long out.old.items out.new.items) }
         ensures as_long_data { IfOk result (λ long. IsTrue long ↔ (max_payload < spec.execution_size V.param params.now false)) }
         ensures err { OnErr result (out.new.items ≡ out.old.items) }
+        ensures no_memory { vec_len out.old + spec.written_size V.param params.now ≤ vec_capacity out.old → IsOk result }
     {
         // (no memory holds the types of so many)
         if params.len() > usize::MAX / 4 {

@@ -52,6 +52,7 @@ fn put_value<'s>(
     ensures len { OnOk result (vec_len cells.new ≡ vec_len cells.old + 1) }
     ensures capacity { vec_capacity cells.old ≤ vec_capacity cells.new }
     ensures err { OnErr result (cells.new.items ≡ cells.old.items) }
+    ensures stays { OnErr result (buf.new ≡ buf.old) }
 {
     match column_type {
         string_type!() => {
@@ -83,7 +84,8 @@ fn put_value<'s>(
 }
 
 /// Reads a value in the form of its column's type, as [`ValueDeserializer<BinValue>`](crate::ValueDeserializer) does, and
-/// puts it after the cells, where there is capacity for one more. After a refusal the cells are as they were.
+/// puts it after the cells, where there is capacity for one more. After a refusal the cells and the buffer are
+/// as they were.
 #[inline(always)]
 pub fn read_bin_cell<'s>(
     column: (ColumnType, ColumnFlags),
@@ -96,6 +98,7 @@ pub fn read_bin_cell<'s>(
     ensures capacity { vec_capacity cells.old ≤ vec_capacity cells.new }
     ensures refused { IfErr result (λ fault. RefusesValue fault ((value_in_column column).reads buf.old)) }
     ensures err { OnErr result (cells.new.items ≡ cells.old.items) }
+    ensures stays { OnErr result (buf.new ≡ buf.old) }
 {
     let (column_type, flags) = column;
     put_value(

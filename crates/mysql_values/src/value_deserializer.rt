@@ -80,6 +80,7 @@ ghost use Rattle.mysql_values.specs.ValueDeserializer.{reads_bytes, string_value
 #[inline(always)]
 pub(crate) fn read_string<'s>(buf: &mut ParseBuf<'_>) -> Result<Value, FaultOf<'s>>
     ensures value { Answers (reads_bytes (string_value.reads buf.old)) (contents result) buf.new (string_value.reads buf.old) }
+    ensures stays { OnErr result (buf.new ≡ buf.old) }
     ensures tail { OnErr result (IsTail buf.new buf.old) }
 {
     let mut rest = buf.rest();
@@ -94,7 +95,7 @@ pub(crate) fn read_string<'s>(buf: &mut ParseBuf<'_>) -> Result<Value, FaultOf<'
 #[inline(always)]
 pub(crate) fn read_long<'s>(is_unsigned: bool, buf: &mut ParseBuf<'_>) -> Result<Value, FaultOf<'s>>
     ensures value { Answers false (contents result) buf.new ((short_integer w32 4 is_unsigned).reads buf.old) }
-    ensures tail { OnErr result (IsTail buf.new buf.old) }
+    ensures stays { OnErr result (buf.new ≡ buf.old) }
 {
     let number: RawInt<LeU32> = buf.parse(())?;
     Ok(Value::Int(if is_unsigned {

@@ -1,7 +1,6 @@
 //! Rows of which a builder takes copies.
 
-ghost use Rattle.std.specs.Prelude.{◌≡◌, ◌+◌, ◌≤◌, ◌++◌, ◌∷◌, [], length, map, IfSome, List, ℕ, sum_by};
-ghost use Rattle.std.specs.Bool.{OnTrue, OnFalse};
+ghost use Rattle.std.specs.Prelude.{◌≡◌, ◌+◌, ◌≤◌, ◌↔◌, ◌++◌, ◌∷◌, [], length, map, IfSome, IfErr, OnOk, OnErr, MatchOption, List, ℕ, sum_by};
 ghost use Rattle.mysql_cuts.specs.Cut.{PartFits};
 ghost use Rattle.mysql_values.specs.Value.{Content, contents_of};
 ghost use Rattle.mysql_values.specs.ValueRef.{ref_content};
@@ -12,7 +11,7 @@ use super::ComStmtBulkExecuteRequestBuilder;
 use crate::column_types::join_types;
 use crate::error::BulkRowRefusal;
 use crate::row::{append_copies, find_capacity};
-use crate::row_value::RowValue;
+use crate::row_value::{NoCopy, RowValue};
 use crate::size::request_len;
 use mysql_cuts::BulkRule;
 use mysql_values::{Value, ValueRef};
@@ -53,11 +52,15 @@ impl<'a> ComStmtBulkExecuteRequestBuilder<'a> {
         if !self.takes_types(row) {
             return Err(BulkRowRefusal::MixedTypes);
         }
-        if self.takes_copy(row) {
+        let Err(why) = self.take_copy(row) else {
             return Ok(true);
-        }
-        // (nothing changed: why no copy waits is found out apart)
-        if self.size_after(row).is_some() {
+        };
+        // (memory may be refused before it is known whether the row fits)
+        let fits = match why {
+            NoCopy::TooLong => false,
+            NoCopy::Memory => self.size_after(row).is_some(),
+        };
+        if fits {
             Err(BulkRowRefusal::Memory)
         } else if self.has_rows() {
             Ok(false)
@@ -66,14 +69,15 @@ impl<'a> ComStmtBulkExecuteRequestBuilder<'a> {
         }
     }
 
-    /// Whether a copy of a row, which may come next, fits with the rows that wait and now waits too. Where memory was refused,
-    /// it does not wait either.
+    /// Lets a copy of a row wait, which may come next. It does not wait where it does not fit with the rows that wait, nor where
+    /// memory is refused, which may be a row that does not fit either.
     // (its bytes are counted while it is copied, so that they are looked at once)
     #[inline(always)]
-    fn takes_copy<V: RowValue>(&mut self, row: &[V]) -> bool
+    fn take_copy<V: RowValue>(&mut self, row: &[V]) -> Result<(), NoCopy>
         requires { TakesRow self.old (map V.content row.now) }
-        ensures waits { OnTrue result (RowFits self.old (map V.content row.now) × (self.new ≡ after_row self.old (map V.content row.now))) }
-        ensures stays { OnFalse result (self.new ≡ self.old) }
+        ensures waits { OnOk result (RowFits self.old (map V.content row.now) × (self.new ≡ after_row self.old (map V.content row.now))) }
+        ensures too_long { IfErr result (λ why. why ≡ NoCopy.TooLong → RowFits self.old (map V.content row.now) → ⊥) }
+        ensures stays { OnErr result (self.new ≡ self.old) }
     {
         let arity = row.len();
         let Some(most) = most_bytes(
@@ -84,26 +88,25 @@ impl<'a> ComStmtBulkExecuteRequestBuilder<'a> {
             self.size,
             arity,
         ) else {
-            return false;
+            return Err(NoCopy::TooLong);
         };
         let Some(count) = self.count.checked_add(1) else {
-            return false;
+            return Err(NoCopy::Memory);
         };
         let Ok(()) = find_capacity(&mut self.values, &mut self.types, self.types_due, arity) else {
-            return false;
+            return Err(NoCopy::Memory);
         };
-        let Some(size) = append_copies(self.alloc, &mut self.values, row, most) else {
-            return false;
-        };
+        let size = append_copies(self.alloc, &mut self.values, row, most)?;
         join_types(&mut self.types, self.types_due, self.columns, row);
         self.size += size;
         self.count = count;
         self.arity = Some(arity);
-        true
+        Ok(())
     }
 }
 
-/// How many bytes a further row may have, if a further one may be in a request with those that wait.
+/// How many bytes a further row may have, if a further one may be in a request with those that wait. It fits exactly where it has
+/// no more.
 fn most_bytes(
     rule: BulkRule,
     limit: u64,
@@ -113,8 +116,9 @@ fn most_bytes(
     arity: usize,
 ) -> Option<u64>
     ensures bound { IfSome result (λ most. size + most ≤ limit) }
-    ensures fits { IfSome result (λ most. (rows : List (List Content)) (row : List Content) → length rows ≡ count → size ≡ sum_by row_size rows → length row ≡ arity → row_size row ≤ most
-        → PartFits (rows_packing rule limit arity) types (rows ++ row ∷ [])) }
+    ensures fits { (rows : List (List Content)) (row : List Content) → length rows ≡ count → size ≡ sum_by row_size rows → length row ≡ arity →
+        MatchOption result (PartFits (rows_packing rule limit arity) types (rows ++ row ∷ []) → ⊥)
+        (λ most. PartFits (rows_packing rule limit arity) types (rows ++ row ∷ []) ↔ (row_size row ≤ most)) }
 {
     if rule.max_rows.is_some_and(|rows| rows <= count) {
         return None;

@@ -1,5 +1,8 @@
-use Rattle.mysql_bulk.proofs.StreamedRows.{streamed_fewest}
+use Rattle.mysql_bulk.proofs.StreamedRows.{streamed_fewest, stream_refused}
 use Rattle.mysql_bulk.proofs.laws.streamed_rows_are_sent_in_the_fewest_requests.Goals as goal
 
-pub returns : goal.returns
-returns c = λ w u rows requests h due s some. streamed_fewest w u rows requests h due s some
+pub returns-clause-all : goal.returns-clause-all
+returns-clause-all c = streamed_fewest
+
+pub returns-clause-refused : goal.returns-clause-refused
+returns-clause-refused c = stream_refused

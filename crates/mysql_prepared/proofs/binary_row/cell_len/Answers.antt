@@ -1,5 +1,4 @@
-use Rattle.std.proofs.Common.{sym, ap, ◌∙◌}
-use Rattle.mysql_prepared.specs.BinaryRow.{integer_size}
+use Rattle.std.proofs.Common.{sym, ◌∙◌}
 use Rattle.mysql_prepared.proofs.RowBytes.{integer-saturated}
 use Rattle.mysql_prepared.proofs.binary_row.cell_len.Goals as goal
 

@@ -1,4 +1,4 @@
-use Rattle.std.proofs.Common.{◌≡◌, length, drop}
+use Rattle.std.proofs.Common.{◌≡◌, IsTrue, length, take, drop}
 use Rattle.mysql_prepared.specs.RowView.{refs_held}
 use Rattle.mysql_prepared.specs.BinaryRow.{takes_row}
 use Rattle.mysql_prepared.proofs.binary_row.refused_at.Given as goal
@@ -9,4 +9,5 @@ invariant-loop-place g l =
     record {
       lengths : length l.columns ≡ length l.values;
       left : taken l.columns (refs_held l.values) ≡ taken (drop l.place l.columns) (refs_held (drop l.place l.values));
+      before : IsTrue (taken (take l.place l.columns) (take l.place (refs_held l.values)));
     }

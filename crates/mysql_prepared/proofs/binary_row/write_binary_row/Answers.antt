@@ -1,4 +1,4 @@
-use Rattle.std.proofs.Common.{rules, ◌≡◌, ◌+◌, ◌≤◌, length, ap, ◌∙◌, arith, length-append, vec_len, vec_capacity}
+use Rattle.std.proofs.Common.{rules, ◌≡◌, ◌+◌, ◌≤◌, length, ap, ◌∙◌, arith, length-append, vec_len, vec_capacity, true, false, not, sym}
 use Rattle.std.proofs.lemmas.List.{length-map}
 use Rattle.mysql_wire.specs.Writing.{saturated}
 use Rattle.mysql_values.specs.ValueRef.{ref_content}
@@ -30,3 +30,22 @@ append_values-requires-clause-capacity g c =
       c.reserve.new.self.ok,
       c.reserve.new.self.small,
     )
+
+pub returns-then-is_err-clause-no_memory : goal.returns-then-is_err-clause-no_memory
+unfolding saturated
+returns-then-is_err-clause-no_memory g c = λ fits same.
+    let values = c.args.values.now in
+    let len = c.saturating_add-len.result in
+    let there : vec_len c.args.out.now + len ≤ vec_capacity c.args.out.now =
+    omega (
+      arith,
+      fits,
+      length-map values ref_content,
+      ap (bytes_for 2) (length-map values ref_content),
+      c.saturating_add-len.ensures,
+      c.values_len.ensures,
+      c.bitmap_len-front.ensures.value,
+      c.args.out.now.small,
+    ) in
+    let both : true ≡ false = sym (c.reserve.ensures.succeeds there) ∙ c.is_err.ensures.negation ∙ ap not c.if-is_err.true in
+    absurd cc

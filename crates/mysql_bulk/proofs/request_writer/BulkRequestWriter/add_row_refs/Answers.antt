@@ -11,7 +11,7 @@ returns-then-write_first-clause-adds c =
     let long : length row ≡ length w.types = search rules in
     let spells : Spells w row = search rules in
     let empty = sym (ap (λ (w : WriterState). w.count) c.self.view_is) ∙ c.if-self-eq0-2.true in
-    subst (λ u. AddsAsBuilder w (map ref_content row) (Ok true) u) (sym c.if-write_first.ensures.written) (wrote_first w row c.in-Some.size long spells c.in-Some.ensures.1 c.in-Some.ensures.0 empty)
+    subst (λ u. AddsAsBuilder w (map ref_content row) (Ok true) u) (sym c.if-write_first.ensures.written) (wrote_first w row c.in-Some.size c.write_first.new.self.capacity long spells c.in-Some.ensures.1 c.in-Some.ensures.0 empty)
 
 pub returns-then-write_further-clause-adds : goal.returns-then-write_further-clause-adds
 returns-then-write_further-clause-adds c =
@@ -20,4 +20,4 @@ returns-then-write_further-clause-adds c =
     let long : length row ≡ length w.types = search rules in
     let spells : Spells w row = search rules in
     subst (λ u. AddsAsBuilder w (map ref_content row) (Ok true) u) (sym c.if-write_further.ensures.written)
-    (wrote_further w row c.in-Some.size long spells c.in-Some.ensures.1 c.in-Some.ensures.0 (λ e. c.if-self-eq0-2.false (ap (λ (w : WriterState). w.count) c.self.view_is ∙ e)))
+    (wrote_further w row c.in-Some.size c.write_further.new.self.capacity long spells c.in-Some.ensures.1 c.in-Some.ensures.0 (λ e. c.if-self-eq0-2.false (ap (λ (w : WriterState). w.count) c.self.view_is ∙ e)))

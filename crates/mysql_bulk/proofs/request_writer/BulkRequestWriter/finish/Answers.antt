@@ -1,13 +1,13 @@
-use Rattle.std.proofs.Common.{sym, ◌∙◌, ap, subst}
+use Rattle.std.proofs.Common.{vec_capacity, sym, ◌∙◌, ap, subst}
 use Rattle.mysql_bulk.specs.RequestWriter.{WriterState, FinishesAsBuilder}
 use Rattle.mysql_bulk.proofs.RequestWriter.{nothing_finished, request_finished}
 use Rattle.mysql_bulk.proofs.request_writer.BulkRequestWriter.finish.Goals as goal
 
-pub returns-then-self-eq0 : goal.returns-then-self-eq0
-returns-then-self-eq0 c = nothing_finished c.args.self.now (sym (ap (λ (w : WriterState). w.count) c.self.view_is) ∙ c.if-self-eq0.true)
+pub returns-then-self-eq0-clause-finishes : goal.returns-then-self-eq0-clause-finishes
+returns-then-self-eq0-clause-finishes c = nothing_finished c.args.self.now (sym (ap (λ (w : WriterState). w.count) c.self.view_is) ∙ c.if-self-eq0.true)
 
-pub returns : goal.returns
-returns c =
+pub returns-clause-finishes : goal.returns-clause-finishes
+returns-clause-finishes c =
     let was : WriterState = record {
       stmt_id = c.self.inside.stmt_id;
       limit = c.self.inside.limit;
@@ -18,6 +18,7 @@ returns c =
       count = c.self.inside.count;
       size = c.self.inside.size;
       bytes = c.self.inside.bytes.items;
+      capacity = vec_capacity c.self.inside.bytes;
     } in
-    let is : WriterState = record was { types_due = was.rule.types_always; count = 0; size = 0; bytes = c.clear.new.self.items } in
-    subst (λ w. FinishesAsBuilder w is) c.self.view_is (request_finished was c.clear.new.self.items c.if-self-eq0.false c.clear.ensures.items)
+    let is : WriterState = record was { types_due = was.rule.types_always; count = 0; size = 0; bytes = c.clear.new.self.items; capacity = vec_capacity c.clear.new.self } in
+    subst (λ w. FinishesAsBuilder w is) c.self.view_is (request_finished was c.clear.new.self.items (vec_capacity c.clear.new.self) c.if-self-eq0.false c.clear.ensures.items)

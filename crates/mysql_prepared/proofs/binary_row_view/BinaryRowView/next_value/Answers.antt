@@ -1,7 +1,7 @@
-use Rattle.std.proofs.Common.{rules, arith, suc, ◌≡◌, ◌+◌, ◌∷◌, length, subst, refl}
+use Rattle.std.proofs.Common.{rules, arith, ◌≡◌, ◌+◌, length, subst, refl}
 use Rattle.std.proofs.lemmas.Result.{err_from_is_err_and}
 use Rattle.mysql_values.specs.ValueRef.{ref_content}
-use Rattle.mysql_prepared.specs.RowView.{RowLeft, IsDone, RefusesNext, ref_cell, row_left}
+use Rattle.mysql_prepared.specs.RowView.{RowLeft, Gives, IsDone, RefusesNext, ref_cell, row_left}
 use Rattle.mysql_prepared.proofs.NullBits.{bits-after}
 use Rattle.mysql_prepared.proofs.RowViews.{no-value, first-value, first-fault}
 use Rattle.mysql_prepared.proofs.binary_row_view.BinaryRowView.next_value.Goals as goal
@@ -33,4 +33,4 @@ returns g c =
     let x = ref_content c.in_ok-value.value in
     let one = first-value g.C.TypedColumn.type_of g.C.TypedColumn.unsigned v.nulls.bytes offset v.place c.in-Some.column.now c.in-Some.columns.now v.columns.now v.buf c.rest-rest.result c.is_null_at-is_null.result c.is_null_at-is_null.ensures.value c.in-Some.ensures.cases.0 c.rest-rest.ensures x c.read_unless.new.buf c.in_ok-value.ensures.value in
     let now = row_left (ref_cell g.C.TypedColumn.type_of g.C.TypedColumn.unsigned v.nulls.bytes offset) (v.place + 1) c.in-Some.columns.now c.read_unless.new.buf in
-    record { value = subst (λ (r : RowLeft). (r.left ≡ suc now.left) × (r.values ≡ x ∷ now.values) × (now.end ≡ r.end)) c.self.view_is one }
+    record { value = subst (λ (r : RowLeft). Gives r x now) c.self.view_is one }

@@ -1,7 +1,7 @@
-use Rattle.std.proofs.Common.{arith, suc, ◌≡◌, ◌+◌, ◌∷◌, subst}
+use Rattle.std.proofs.Common.{arith, ◌+◌, subst}
 use Rattle.std.proofs.lemmas.Result.{err_from_is_err_and}
 use Rattle.mysql_values.specs.ValueRef.{ref_content}
-use Rattle.mysql_prepared.specs.RowView.{RowLeft, RefusesNext, ref_cell, row_left}
+use Rattle.mysql_prepared.specs.RowView.{RowLeft, Gives, RefusesNext, ref_cell, row_left}
 use Rattle.mysql_prepared.proofs.NullBits.{bits-after}
 use Rattle.mysql_prepared.proofs.RowViews.{first-value, first-fault}
 use Rattle.mysql_prepared.proofs.binary_row_view.BinaryRowView.put_next.Goals as goal
@@ -27,4 +27,4 @@ returns-clause-value g c =
     let x = ref_content c.put_unless.new.place in
     let one = first-value g.C.TypedColumn.type_of g.C.TypedColumn.unsigned v.nulls.bytes offset v.place c.in-Some.column.now c.in-Some.columns.now v.columns.now v.buf c.rest-rest.result c.is_null_at-is_null.result c.is_null_at-is_null.ensures.value c.in-Some.ensures.cases.0 c.rest-rest.ensures x c.put_unless.new.buf c.in_ok-put_unless.ensures.value in
     let now = row_left (ref_cell g.C.TypedColumn.type_of g.C.TypedColumn.unsigned v.nulls.bytes offset) (v.place + 1) c.in-Some.columns.now c.put_unless.new.buf in
-    subst (λ (r : RowLeft). (r.left ≡ suc now.left) × (r.values ≡ x ∷ now.values) × (now.end ≡ r.end)) c.self.view_is one
+    subst (λ (r : RowLeft). Gives r x now) c.self.view_is one

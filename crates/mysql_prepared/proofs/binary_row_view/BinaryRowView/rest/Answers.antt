@@ -3,10 +3,8 @@ use Rattle.mysql_prepared.specs.RowView.{RowLeft, ref_cell}
 use Rattle.mysql_prepared.proofs.RowViews.{no-value}
 use Rattle.mysql_prepared.proofs.binary_row_view.BinaryRowView.rest.Goals as goal
 
-pub returns : goal.returns
-returns g c =
+pub returns-clause-value : goal.returns-clause-value
+returns-clause-value g c =
     let f = ref_cell g.C.TypedColumn.type_of g.C.TypedColumn.unsigned c.self.inside.nulls.bytes g.S.SerializationSide.BIT_OFFSET in
-    record {
-      value = subst (λ (r : RowLeft). r.left ≡ 0 → r.end ≡ Ok c.rest.result) c.self.view_is
-          (λ none. rw c.rest.ensures (no-value f c.self.inside.place c.self.inside.columns.now c.self.inside.buf none).1);
-    }
+    subst (λ (r : RowLeft). r.left ≡ 0 → r.end ≡ Ok c.rest.result) c.self.view_is
+    (λ none. rw c.rest.ensures (no-value f c.self.inside.place c.self.inside.columns.now c.self.inside.buf none).1)

@@ -1,6 +1,6 @@
 use Rattle.std.proofs.Common.{rules, arith, ◌≡◌, ◌≢◌, ◌+◌, ◌*◌, ◌<◌, ◌==◌, not, false, Ok, length}
 use Rattle.mysql_wire.specs.Form.{either, give}
-use Rattle.mysql_prepared.specs.ExecuteRead.{passed_types, params_left, params_in, bound_left}
+use Rattle.mysql_prepared.specs.ExecuteRead.{passed_types, params_left, bound_left}
 use Rattle.mysql_prepared.proofs.NullBits.{has-bits}
 use Rattle.mysql_prepared.proofs.ParamViews.{begins-none, begins-some, is-none, is-some, passed-else, passed-then, read-all, types-there}
 use Rattle.mysql_prepared.proofs.execute_view.ExecuteParamsView.new.Goals.{then-sends_types+in_ok-skip_types, else-sends_types}
@@ -16,7 +16,7 @@ returns-then-is_empty-clause-read c =
     let ps = c.args.params.now in
     let none : length ps ≡ 0 = is-none c.is_empty.result _ c.is_empty.ensures c.if-is_empty.true in
     let nulls = c.from_bytes.result.bytes in
-    read-all ps c.args.buf (params_left false (length ps) (params_in nulls 0 ps c.args.buf)) (begins-none ps nulls c.args.buf none)
+    read-all ps c.args.buf (params_left false (length ps) nulls 0 ps c.args.buf) (begins-none ps nulls c.args.buf none)
 
 pub invariant_of-result-2 : goal.invariant_of-result-2
 invariant_of-result-2 c =
@@ -61,5 +61,5 @@ returns-clause-read c =
       | then-sends_types+in_ok-skip_types w ↦ rw w.rest-is (passed-then n.0 (length ps) tb w.skip_types.new.buf _ w.if-sends_types.true (rw c.rest-types.ensures w.in_ok-skip_types.ensures.value))
       | else-sends_types w ↦ rw (w.rest-is, c.rest-types.ensures) (passed-else n.0 (length ps) c.parse.new.self w.if-sends_types.false)
     ] in
-    read-all ps c.args.buf (params_left s (length ps) (params_in c.in_ok-nulls.nulls.bytes 0 (bound_left s ps tb) after))
+    read-all ps c.args.buf (params_left s (length ps) c.in_ok-nulls.nulls.bytes 0 (bound_left s ps tb) after)
     (begins-some ps c.args.buf c.in_ok-nulls.nulls c.deserialize.new.buf n tb after some c.in_ok-nulls.ensures.value (rw c.rest-types.ensures c.in_ok-new_params_bound.ensures.value) passed)

@@ -1,7 +1,7 @@
-use Rattle.std.proofs.Common.{rules, arith, suc, ◌≡◌, ◌+◌, ◌*◌, ◌<◌, List, ◌∷◌, IsTrue, length, subst, refl}
+use Rattle.std.proofs.Common.{rules, arith, suc, ◌≡◌, ◌+◌, ◌*◌, ◌<◌, List, IsTrue, length, subst, refl}
 use Rattle.std.proofs.lemmas.Result.{err_from_is_err_and}
 use Rattle.mysql_prepared.specs.ExecuteParam.{param_of}
-use Rattle.mysql_prepared.specs.ExecuteRead.{ParamsLeft, HasNoParam, HasTypes, RefusesParam, params_in, bound_left}
+use Rattle.mysql_prepared.specs.ExecuteRead.{ParamsLeft, Gives, HasNoParam, HasTypes, RefusesParam, params_left, bound_left}
 use Rattle.mysql_prepared.specs.declared.execute_view.BoundParam.{BoundParam}
 use Rattle.mysql_prepared.proofs.ParamViews.{no-param, none-bound, one-type, goes-on, gives, refuses}
 use Rattle.mysql_prepared.proofs.execute_view.ExecuteParamsView.next_param.Goals as goal
@@ -48,6 +48,6 @@ returns c =
     let t = c.next_type-param_type.result in
     let x = param_of c.in_ok-value.value in
     let row = gives v.nulls.bytes v.place v.sends_types c.in-Some.param.now c.in-Some.params.now v.types v.buf c.next_type-param_type.result c.next_type-param_type.new.buf v.params.now c.rest-types.result c.rest-rest.result c.is_null_at-is_null.result c.in-Some.ensures.cases.0 c.self.invariant.1 c.rest-types.ensures c.next_type-param_type.ensures.value c.is_null_at-is_null.ensures.value c.rest-rest.ensures x c.read_param.new.buf c.in_ok-value.ensures.value in
-    let now = params_in v.nulls.bytes (v.place + 1) (bound_left v.sends_types c.in-Some.params.now c.next_type-param_type.new.buf) c.read_param.new.buf in
-    let more : length v.params.now ≡ suc (length c.in-Some.params.now) = search rules in
-    record { value = subst (λ (r : ParamsLeft). (r.left ≡ suc (length c.in-Some.params.now)) × (r.params ≡ (t, x) ∷ now.params) × (now.end ≡ r.end) × (v.sends_types ≡ r.sends_types)) c.self.view_is (more, row.0, row.1, refl) }
+    let ps = c.in-Some.params.now in
+    let now = params_left v.sends_types (length ps) v.nulls.bytes (v.place + 1) (bound_left v.sends_types ps c.next_type-param_type.new.buf) c.read_param.new.buf in
+    record { value = subst (λ (r : ParamsLeft). Gives r (t, x) now) c.self.view_is row }

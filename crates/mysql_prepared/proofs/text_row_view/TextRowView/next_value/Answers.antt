@@ -1,9 +1,9 @@
-use Rattle.std.proofs.Common.{rules, ℕ, suc, ◌≡◌, List, ◌∷◌, Ok, false, subst, refl, sym}
+use Rattle.std.proofs.Common.{rules, ℕ, suc, ◌≡◌, List, Ok, false, subst, refl, sym}
 use Rattle.std.proofs.lemmas.Result.{err_from_is_err_and}
 use Rattle.mysql_wire.specs.Reading.{Faults}
 use Rattle.mysql_values.specs.ValueRef.{ref_content}
 use Rattle.mysql_values.specs.ValueDeserializer.{text_value}
-use Rattle.mysql_prepared.specs.RowView.{RowLeft, IsDone, RefusesNext, text_row_left}
+use Rattle.mysql_prepared.specs.RowView.{RowLeft, Gives, IsDone, RefusesNext, text_row_left}
 use Rattle.mysql_prepared.proofs.RowViews.{no-text, one-text, text-fault}
 use Rattle.mysql_prepared.proofs.text_row_view.TextRowView.next_value.Goals as goal
 
@@ -29,6 +29,6 @@ returns c =
     let now = text_row_left c.in-Some.left after in
     let more : c.self.inside.left ≡ suc c.in-Some.left = search rules in
     let here = subst (λ (bytes : List ℕ). text_value.reads bytes ≡ Ok (x, after)) c.rest-rest.ensures c.in_ok-value.ensures.value in
-    let Was : RowLeft → Type 0 = λ (r : RowLeft). (r.left ≡ suc now.left) × (r.values ≡ x ∷ now.values) × (now.end ≡ r.end) in
+    let Was : RowLeft → Type 0 = λ (r : RowLeft). Gives r x now in
     let row = subst (λ (n : ℕ). Was (text_row_left n buf)) (sym more) (one-text c.in-Some.left buf x after here) in
     record { value = subst Was c.self.view_is row }
