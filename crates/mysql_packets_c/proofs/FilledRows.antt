@@ -1,6 +1,6 @@
 -- What filling places gives of a row.
-use Rattle.std.proofs.Common.{◌≡◌, ◌-◌, ◌++◌, ◌∷◌, ◌+◌, ◌<◌, ℕ, List, [], get_or, refl, slice_set, Option, Result, Ok, Err, length, map, take, drop, false, sym, subst, ap, ◌∙◌, arith}
-use Rattle.std.proofs.lemmas.List.{append-nil, append_assoc, drop-drop, drop-set-lt, get_or-drop, map-append, take_more, take_more_set}
+use Rattle.std.proofs.Common.{◌≡◌, ◌-◌, ◌++◌, ◌∷◌, ◌+◌, ◌<◌, ℕ, suc, List, [], get_or, refl, slice_set, Option, Result, Ok, Err, length, map, take, drop, false, sym, subst, ap, ◌∙◌, arith}
+use Rattle.std.proofs.lemmas.List.{append-nil, append_assoc, drop-drop, drop-set-lt, get_or-drop, length-set, map-append, take_more, take_more_set}
 use Rattle.std.proofs.lemmas.List.Elements.{AllZip-push}
 use Rattle.std.specs.List.{AllZip}
 use Rattle.mysql_wire.specs.declared.fault.FaultKind.{FaultKind}
@@ -52,6 +52,19 @@ pub others-kept : {X : Type 0} (before values : List X) (place : ℕ) (x : X) �
 others-kept before values place x others =
     let past : place < place + 1 = omega arith in
     drop-set-lt (place + 1) values place x past ∙ sym (drop-drop 1 place values) ∙ ap (drop 1) others ∙ drop-drop 1 place before
+
+-- one value more is put into its place
+pub one-filled : (first row after : RowLeft) (before values : List CValue) (place : ℕ) (x z : CValue) (c : Content) → SoFar first row before values place
+    → (row.left ≡ suc after.left) × (row.values ≡ c ∷ after.values) × (after.end ≡ row.end) → value_content x ≡ c → Sets c (get_or values place z) x → place < length values
+    → SoFar first after before (slice_set values place x) (place + 1)
+one-filled first row after before values place x z c so_far gives content sets fits = record {
+  count = omega (arith, so_far.count, gives.0);
+  good = one-more values place x first.values row.values after.values c so_far.good gives.1 content fits;
+  end = gives.2 ∙ so_far.end;
+  set = one-set before values place x z c so_far.set so_far.others so_far.len fits content sets;
+  others = others-kept before values place x so_far.others;
+  len = length-set values place x ∙ so_far.len;
+}
 
 -- no place is set
 pub none-filled : (columns : ℕ) (is_read : Type 0) (values : List CValue) → (is_read → ⊥) → FillsPlaces columns is_read values values
