@@ -1,21 +1,32 @@
 #!/usr/bin/env python3
 """Lists each public call that can answer that memory was refused, and the clause that says when it can't. It fails where one has none.
 
-A call can answer so where its result names AllocError, a fault, or an error with a variant for memory. Its clause is named no_memory, or
-is one whose words say it, as WORDS has them. The readers of a trait have the trait's clause, over what each says by takes_memory. A copy
-that clone makes follows the contract of the standard library, which says nothing of memory. The last line is 'N passed, N failed'."""
+A call can answer so where its result names AllocError, a fault, or an error with a variant for memory. Its clause has a name that says so
+(NAMES), or words that do (WORDS). The readers of a trait have the trait's clause, over what each says by takes_memory. A copy that clone
+makes follows the contract of the standard library, which says nothing of memory. What asks for memory whatever it is passed is in ALWAYS, with
+its reason. The last line is 'N passed, N failed'."""
 import re
 import sys
 
 from lines import TOP, summary
 
+# what clauses of these names say
+NAMES = {
+    "no_memory": "memory is no answer there",
+    "memory": "memory is an answer there alone",
+    "early": "what is refused before the first allocation is never refused for memory",
+}
 # what a clause says by these words
 WORDS = {
     r"\bAnswers\b": "memory is an answer only where the reader takes some",
     r"\bFaults false\b|\bRefuses(Next|Param)\b|\bGives(One|Param)\b": "a fault is the grammar's, which is never that of memory",
     r"\bNext(Change|ChangeRef|Variable|Pair|Sid|Interval)\b": "an entry is read without memory, or as its grammar has it",
-    r"\bGivesText\b|\bBorrowsUtf8\b": "what is UTF-8 is borrowed",
+    r"\bGivesText\b|BorrowsUtf8\b": "what is UTF-8 is borrowed",
     r"→ IsOk result": "memory is no answer there",
+}
+# what asks for memory in any case
+ALWAYS = {
+    "HandshakePacket::nonce": "its 20 bytes are joined from two places",
 }
 FUNCTION = re.compile(r"( *)pub (?:const )?fn (\w+)|( {4})(?:final )?fn (\w+)")
 OWNER = re.compile(r"(?:pub )?(?:unsafe )?(impl|trait)(?:<[^{]*?>)? (?:.* for )?(\w+)")
@@ -28,12 +39,13 @@ def libraries():
 def refusals():
     """The types of a refusal that memory is one of."""
     found = {"AllocError", "Fault", "FaultOf"}
+    # (FaultKind is what a fault is of, and no answer of a call)
     sources = [it.read_text() for library in libraries() for it in (library / "src").rglob("*.rt")]
     enums = [it for source in sources for it in re.findall(r"^pub enum (\w+)(?:<[^>]*>)? \{(.*?)^\}", source, re.M | re.S)]
     # (an error may be made of another)
     while more := {name for name, body in enums if re.search(rf"^ {{4}}Memory\b|\b(?:{'|'.join(found)})\b", body, re.M)} - found:
         found |= more
-    return found
+    return found - {"FaultKind"}
 
 
 def signatures(source):
@@ -60,9 +72,9 @@ def signatures(source):
 
 def clause_of(clauses):
     """The name of the clause that says when memory is no answer, and what it says."""
-    for name, text in clauses:
-        if name == "no_memory":
-            return name, "memory is no answer there"
+    for name, _ in clauses:
+        if name in NAMES:
+            return name, NAMES[name]
     for name, text in clauses:
         for words, meaning in WORDS.items():
             if re.search(words, text):
@@ -80,7 +92,9 @@ def answers(exported):
                 continue
             for owner, name, result, clauses in signatures(file.read_text()):
                 if (owner or name) in given and kinds & set(re.findall(r"\w+", result)):
-                    yield library.name, f"{owner}::{name}" if owner else name, clause_of(clauses)
+                    call = f"{owner}::{name}" if owner else name
+                    always = ("always", ALWAYS[call]) if call in ALWAYS else None
+                    yield library.name, call, clause_of(clauses) or always
 
 
 def calls_without_clauses(exported):

@@ -186,3 +186,5 @@ pub use Rattle.mysql_repl.specs.SidText
 pub use Rattle.mysql_repl.specs.TableDump
 pub use Rattle.mysql_repl.specs.Tag
 pub use Rattle.mysql_repl.specs.TagString
+pub use Rattle.mysql_frames.specs.FrameReader
+pub use Rattle.mysql_frames.specs.Frames

@@ -11,6 +11,7 @@ mod commands;
 pub mod constants;
 mod decimal;
 mod digits;
+pub mod frames;
 mod input;
 pub mod io;
 pub mod laws;
