@@ -143,9 +143,7 @@ pub fn this_sent_change_round_trips(change: &SessionStateChange<'_>)
 #[inline]
 pub fn this_sql_state_round_trips(state: &SqlState)
     ensures spelled { (rest : List ℕ) → (sql_state.form tt).Spells state.now (sql_state.bytes state.now ++ rest) rest }
-{
-    let _bytes = state.as_bytes();
-}
+{}
 
 /// An OK packet that was read as its kind under these flags is sent as the same.
 #[inline]
