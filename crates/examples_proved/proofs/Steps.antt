@@ -15,11 +15,14 @@ stepped w m row before a = record {
 }
 
 -- the row did not fit: the request was let go, and the row is the first one of the next
-pub closed : (w v m : WriterState) (row : List Content) (before after : List (List ℕ)) (copy : List ℕ) → AddsAsBuilder w row (Ok false) w → copy ≡ w.bytes
-    → FinishesAsBuilder w v → AddsAsBuilder v row (Ok true) m → after ≡ before ++ copy ∷ [] → Steps w row before m after
-closed w v m row before after copy a bytes f b e = record {
-  holds = λ held h. let s = b [] (f held h).1 in (s.0, s.1);
-  streams = λ held h rest requests u s. (copy ∷ [], e, inr (v, m, requests, a, f, b, ap (λ (x : List ℕ). x ∷ requests) bytes, s));
+pub closed : (w n v m : WriterState) (row : List Content) (before after : List (List ℕ)) (copy : List ℕ) → AddsAsBuilder w row (Ok false) n → copy ≡ n.bytes → FinishesAsBuilder n v → AddsAsBuilder v row (Ok true) m
+    → after ≡ before ++ copy ∷ [] → Steps w row before m after
+closed w n v m row before after copy a bytes f b e = record {
+  holds = λ held h.
+      let full = a held h in
+      let next = b [] (f full.0 full.1).1 in
+      (next.0, next.1);
+  streams = λ held h rest requests u s. (copy ∷ [], e, inr (n, v, m, requests, a, f, b, ap (λ (x : List ℕ). x ∷ requests) bytes, s));
 }
 
 -- so far: what is streamed from here was streamed from the start

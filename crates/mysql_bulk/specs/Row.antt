@@ -1,5 +1,5 @@
 -- Rows of a bulk request: what their values hold, their lengths and their sizes.
-use Rattle.std.specs.Prelude.{◌≡◌, ℕ, ◌+◌, ◌<◌, IsTrue, List, [], ◌∷◌, length, map, sum_by}
+use Rattle.std.specs.Prelude.{◌≡◌, ℕ, ◌+◌, ◌<◌, ◌⊎◌, IsTrue, List, [], ◌∷◌, length, map, sum_by}
 use Rattle.std.specs.Global.{Vec}
 use Rattle.std.specs.List.{list_any}
 use Rattle.mysql_cuts.specs.declared.rule.BulkRule.{BulkRule}
@@ -7,8 +7,6 @@ use Rattle.mysql_cuts.specs.Cut.{Packing}
 use Rattle.mysql_values.specs.declared.value.Value.{Value}
 use Rattle.mysql_values.specs.Value.{Content, contents_of, bin_size}
 use Rattle.mysql_values.specs.ValueDeserializer.{has_bytes}
-use Rattle.mysql_bulk.specs.declared.row_value.NoCopy.{NoCopy}
-use Rattle.mysql_bulk.specs.declared.row_value.NoCopy.TheVariants as no_copy
 
 -- what the values of a row hold
 abbrev pub contents_of_row : Vec Value → List Content
@@ -50,15 +48,13 @@ values_size content row = sum_by (λ value. 1 + bin_size (content value)) row
 
 -- ---- copies
 
--- a copy of a value is not put after others: it has more bytes than it may have, or it has bytes for which memory ran out
-abbrev pub RefusesValue : NoCopy → (most : ℕ) → Content → Type 0
-RefusesValue no_copy.TooLong most value = most < param_size value
-RefusesValue no_copy.Memory most value = IsTrue (has_bytes value)
+-- a copy of a value is not put after others: it has more bytes than it may have, or it has bytes, for which memory ran out
+abbrev pub RefusesValue : (most : ℕ) → Content → Type 0
+RefusesValue most value = (most < param_size value) ⊎ IsTrue (has_bytes value)
 
 -- the same of a row
-abbrev pub RefusesRow : NoCopy → (most : ℕ) → List Content → Type 0
-RefusesRow no_copy.TooLong most row = most < row_size row
-RefusesRow no_copy.Memory most row = IsTrue (list_any has_bytes row)
+abbrev pub RefusesRow : (most : ℕ) → List Content → Type 0
+RefusesRow most row = (most < row_size row) ⊎ IsTrue (list_any has_bytes row)
 
 -- how requests of rows of a length are measured, under a rule and a limit
 abbrev pub rows_packing : BulkRule → ℕ → ℕ → Packing (List Content)

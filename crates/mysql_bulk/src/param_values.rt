@@ -1,6 +1,6 @@
 //! The values of a row in a bulk request.
 
-ghost use Rattle.std.specs.Prelude.{◌≡◌, map, List, None, IfOk, OnErr};
+ghost use Rattle.std.specs.Prelude.{◌≡◌, [], map, List, None, IsOk, IfOk, OnErr};
 ghost use Rattle.mysql_wire.specs.Reading.{Answers};
 ghost use Rattle.mysql_wire.specs.Seq.{items_of};
 ghost use Rattle.mysql_values.specs.Value.{contents_of};
@@ -54,6 +54,7 @@ impl StmtBulkExecuteParamValues {
     /// The values, each with its indicator.
     pub fn new(alloc: Global, values: Vec<Value>) -> Result<Self, AllocError>
         ensures value { IfOk result (λ row. row ≡ map with_indicator (contents_of values.items)) }
+        ensures no_memory { values.items ≡ [] → IsOk result }
     {
         let mut row = Vec::with_capacity(alloc, values.len())?;
         for value in values {

@@ -1,10 +1,10 @@
 //! Rows of a bulk request: their sizes, their lengths and their values.
 
-ghost use Rattle.std.specs.Prelude.{◌≡◌, ◌+◌, ◌<◌, ◌≤◌, ◌^◌, ◌++◌, ◌↔◌, ◌⊎◌, length, map, true, IsTrue, IfOk, IfErr, OnOk, OnErr, MatchOption, vec_len, vec_capacity};
+ghost use Rattle.std.specs.Prelude.{◌≡◌, ◌+◌, ◌<◌, ◌≤◌, ◌^◌, ◌++◌, ◌↔◌, ◌⊎◌, length, map, true, IsTrue, IfSome, IfNone, OnSome, OnOk, OnErr, MatchOption, vec_len, vec_capacity};
 ghost use Rattle.mysql_values.specs.Value.{contents_of};
 ghost use Rattle.mysql_bulk.specs.Row.{row_size, values_size, contents_of_rows, EqualLengths, RefusesRow};
 
-use crate::row_value::{NoCopy, RowValue};
+use crate::row_value::RowValue;
 use mysql_values::{ParamType, Value};
 use std::alloc::{AllocError, Global};
 
@@ -80,30 +80,28 @@ pub(crate) fn append_row(values: &mut Vec<Value>, row: Vec<Value>)
 /// Puts copies of the values of a row at the end, where there is capacity, and answers its bytes in a request: no more than
 /// `most`.
 ///
-/// Where it has more, or memory for one of its values was refused, nothing is put there.
+/// `None` where it has more, or where memory for bytes of one was refused: then nothing is put there.
 #[inline(always)]
 pub(crate) fn append_copies<V: RowValue>(
     alloc: Global,
     values: &mut Vec<Value>,
     row: &[V],
     most: u64,
-) -> Result<u64, NoCopy>
+) -> Option<u64>
     requires { vec_len values.old + length row.now ≤ vec_capacity values.old }
-    ensures size { IfOk result (λ n. (n ≡ values_size V.content row.now) × (n ≤ most)) }
-    ensures copies { OnOk result (contents_of values.new.items ≡ contents_of values.old.items ++ map V.content row.now) }
-    ensures refused { IfErr result (λ why. RefusesRow why most (map V.content row.now)) }
-    ensures err { OnErr result (values.new.items ≡ values.old.items) }
+    ensures size { IfSome result (λ n. (n ≡ values_size V.content row.now) × (n ≤ most)) }
+    ensures copies { OnSome result (contents_of values.new.items ≡ contents_of values.old.items ++ map V.content row.now) }
+    ensures none { IfNone result (values.new.items ≡ values.old.items) }
+    ensures refused { IfNone result (RefusesRow most (map V.content row.now)) }
 {
     let before = values.len();
     let mut left = most;
     for value in row {
-        match value.push_copy(alloc, values, left) {
-            Ok(size) => left -= size,
-            Err(why) => {
-                values.truncate(before);
-                return Err(why);
-            }
-        }
+        let Some(size) = value.push_copy(alloc, values, left) else {
+            values.truncate(before);
+            return None;
+        };
+        left -= size;
     }
-    Ok(most - left)
+    Some(most - left)
 }

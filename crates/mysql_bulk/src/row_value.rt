@@ -1,10 +1,10 @@
 //! The values of a row that is offered, whoever keeps their bytes.
 
-ghost use Rattle.std.specs.Prelude.{◌≡◌, ◌+◌, ◌≤◌, ◌++◌, ◌∷◌, [], length, take, drop, IfOk, IfErr, OnOk, OnErr, vec_len, vec_capacity};
+ghost use Rattle.std.specs.Prelude.{◌≡◌, ◌+◌, ◌≤◌, ◌++◌, ◌∷◌, [], length, take, drop, IfSome, IfNone, OnSome, vec_len, vec_capacity};
 ghost use Rattle.mysql_wire.specs.declared.codes.mariadb_bulk_indicator.MariadbBulkIndicator.TheVariants.{BULK_INDICATOR_NONE, BULK_INDICATOR_NULL};
 ghost use Rattle.mysql_values.specs.ParamType.{type_of};
 ghost use Rattle.mysql_values.specs.SentType.{is_uint};
-ghost use Rattle.mysql_values.specs.Value.{bin_size, contents_of};
+ghost use Rattle.mysql_values.specs.Value.{bin_size, content_of, contents_of, size_of};
 ghost use Rattle.mysql_values.specs.ValueRef.{ref_content};
 ghost use Rattle.mysql_bulk.specs.ParamValue.{cell};
 ghost use Rattle.mysql_bulk.specs.Row.{RefusesValue};
@@ -27,15 +27,6 @@ fn sent_value() -> Const<MariadbBulkIndicator, u8>
     ensures { result.0 ≡ BULK_INDICATOR_NONE }
 {
     Const::new(MariadbBulkIndicator::BULK_INDICATOR_NONE)
-}
-
-/// Why no copy of a value is put after others.
-#[derive(Clone, Copy, Debug, PartialEq, Eq)]
-pub(crate) enum NoCopy {
-    /// It has more bytes than it may have.
-    TooLong,
-    /// Memory for its bytes was refused.
-    Memory,
 }
 
 /// A value of a row that is offered.
@@ -71,15 +62,16 @@ pub(crate) trait RowValue {
 
     /// Puts a copy at the end of values that have capacity for it, and answers its bytes in a request: no more than `most`.
     ///
-    /// Where it has more, or memory for its bytes was refused, nothing is put there. Of bytes the copy is made in one piece.
-    fn push_copy(&self, alloc: Global, values: &mut Vec<Value>, most: u64) -> Result<u64, NoCopy>
+    /// `None` where it has more, or where memory for its bytes was refused: then nothing is put there. Of bytes the copy is
+    /// made in one piece.
+    fn push_copy(&self, alloc: Global, values: &mut Vec<Value>, most: u64) -> Option<u64>
         requires { vec_len values.old + 1 ≤ vec_capacity values.old }
-        ensures size { IfOk result (λ n. (n ≡ 1 + bin_size (content self.now)) × (n ≤ most)) }
-        ensures copy { OnOk result (contents_of values.new.items ≡ contents_of values.old.items ++ content self.now ∷ []) }
-        ensures kept { OnOk result (take (vec_len values.old) values.new.items ≡ values.old.items) }
-        ensures count { OnOk result (vec_len values.new ≡ vec_len values.old + 1) }
-        ensures refused { IfErr result (λ why. RefusesValue why most (content self.now)) }
-        ensures err { OnErr result (values.new.items ≡ values.old.items) }
+        ensures size { IfSome result (λ n. (n ≡ 1 + bin_size (content self.now)) × (n ≤ most)) }
+        ensures copy { OnSome result (contents_of values.new.items ≡ contents_of values.old.items ++ content self.now ∷ []) }
+        ensures kept { OnSome result (take (vec_len values.old) values.new.items ≡ values.old.items) }
+        ensures count { OnSome result (vec_len values.new ≡ vec_len values.old + 1) }
+        ensures none { IfNone result (values.new.items ≡ values.old.items) }
+        ensures refused { IfNone result (RefusesValue most (content self.now)) }
         ensures capacity { vec_capacity values.old ≤ vec_capacity values.new };
 }
 
@@ -119,47 +111,45 @@ impl RowValue for Value {
 
     // (each kind is pushed where it is known: one value for all kinds would be taken apart again)
     #[inline(always)]
-    fn push_copy(&self, alloc: Global, values: &mut Vec<Value>, most: u64) -> Result<u64, NoCopy> {
+    fn push_copy(&self, alloc: Global, values: &mut Vec<Value>, most: u64) -> Option<u64> {
         match self {
             Value::NULL if 1 <= most => {
                 values.push_reserved(Value::NULL);
-                Ok(1)
+                Some(1)
             }
             Value::Int(n) if 9 <= most => {
                 values.push_reserved(Value::Int(*n));
-                Ok(9)
+                Some(9)
             }
             Value::Bytes(bytes)
                 if !bytes.is_empty() && bytes.len() < 251 && bytes.len() as u64 + 2 <= most => {
-                let Ok(copy) = Vec::from_slice(alloc, bytes.as_slice()) else {
-                    return Err(NoCopy::Memory);
-                };
+                let copy = Vec::from_slice(alloc, bytes.as_slice()).ok()?;
                 values.push_reserved(Value::Bytes(copy));
-                Ok(bytes.len() as u64 + 2)
+                Some(bytes.len() as u64 + 2)
             }
-            _ => push_any(alloc, values, &self.as_ref(), most),
+            _ => push_any(alloc, values, self, most),
         }
     }
 }
 
 /// The same, for a value of any kind.
 #[inline(never)]
-fn push_any(
-    alloc: Global,
-    values: &mut Vec<Value>,
-    value: &ValueRef<'_>,
-    most: u64,
-) -> Result<u64, NoCopy>
+fn push_any(alloc: Global, values: &mut Vec<Value>, value: &Value, most: u64) -> Option<u64>
     requires { vec_len values.old + 1 ≤ vec_capacity values.old }
-    ensures size { IfOk result (λ n. (n ≡ 1 + bin_size (ref_content value.now)) × (n ≤ most)) }
-    ensures copy { OnOk result (contents_of values.new.items ≡ contents_of values.old.items ++ ref_content value.now ∷ []) }
-    ensures kept { OnOk result (take (vec_len values.old) values.new.items ≡ values.old.items) }
-    ensures count { OnOk result (vec_len values.new ≡ vec_len values.old + 1) }
-    ensures refused { IfErr result (λ why. RefusesValue why most (ref_content value.now)) }
-    ensures err { OnErr result (values.new.items ≡ values.old.items) }
+    ensures size { IfSome result (λ n. (n ≡ 1 + size_of value.now) × (n ≤ most)) }
+    ensures copy { OnSome result (contents_of values.new.items ≡ contents_of values.old.items ++ content_of value.now ∷ []) }
+    ensures kept { OnSome result (take (vec_len values.old) values.new.items ≡ values.old.items) }
+    ensures count { OnSome result (vec_len values.new ≡ vec_len values.old + 1) }
+    ensures none { IfNone result (values.new.items ≡ values.old.items) }
+    ensures refused { IfNone result (RefusesValue most (content_of value.now)) }
     ensures capacity { vec_capacity values.old ≤ vec_capacity values.new }
 {
-    value.push_copy(alloc, values, most)
+    let size = value.bin_len().checked_add(1)?;
+    if most < size {
+        return None;
+    }
+    values.push_reserved(value.as_ref().to_value(alloc).ok()?);
+    Some(size)
 }
 
 impl RowValue for ValueRef<'_> {
@@ -197,17 +187,12 @@ impl RowValue for ValueRef<'_> {
     }
 
     #[inline(always)]
-    fn push_copy(&self, alloc: Global, values: &mut Vec<Value>, most: u64) -> Result<u64, NoCopy> {
-        let Some(size) = self.bin_len().checked_add(1) else {
-            return Err(NoCopy::TooLong);
-        };
+    fn push_copy(&self, alloc: Global, values: &mut Vec<Value>, most: u64) -> Option<u64> {
+        let size = self.bin_len().checked_add(1)?;
         if most < size {
-            return Err(NoCopy::TooLong);
+            return None;
         }
-        let Ok(copy) = self.to_value(alloc) else {
-            return Err(NoCopy::Memory);
-        };
-        values.push_reserved(copy);
-        Ok(size)
+        values.push_reserved(self.to_value(alloc).ok()?);
+        Some(size)
     }
 }

@@ -111,6 +111,11 @@ pub record HasBits (nulls : List ℕ) (offset : ℕ) (none : Bool) (place left :
 
 -- ---- what reading does
 
+-- the value of a form was put into a place; or the fault of reading it, and the place is as it was
+abbrev pub PutsValue : Form Content → Result (Unit {0}) FaultOf → (bytes rest : List ℕ) → (before after : ValueRef) → Type 0
+PutsValue form (Ok done) bytes rest before after = form.reads bytes ≡ Ok (ref_content after, rest)
+PutsValue form (Err e) bytes rest before after = Faults false e (form.reads bytes) × (after ≡ before)
+
 -- no value is good before this fault
 abbrev pub RefusesNext : FaultOf → RowLeft → Type 0
 RefusesNext e row = (row.values ≡ []) × Faults false e (read_of row)

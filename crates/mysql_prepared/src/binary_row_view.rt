@@ -3,8 +3,8 @@
 ghost use Rattle.std.specs.Prelude.{false, ◌≡◌, ◌<◌, ◌≤◌, Ok, Some, length, IfOk, IfErr, OnOk, OnErr};
 ghost use Rattle.mysql_wire.specs.Reading.{Answers, Faults};
 ghost use Rattle.mysql_values.specs.ValueDeserializer.{bin_value};
-ghost use Rattle.mysql_values.specs.ValueRef.{ref_content, refs_contents};
-ghost use Rattle.mysql_prepared.specs.RowView.{Fills, GivesOne, IsBinaryRow, IsDone, RefusesNext, bin_row_of, read_of, ref_unless};
+ghost use Rattle.mysql_values.specs.ValueRef.{refs_contents};
+ghost use Rattle.mysql_prepared.specs.RowView.{Fills, GivesOne, IsBinaryRow, IsDone, PutsValue, RefusesNext, bin_row_of, read_of, ref_unless};
 
 use crate::null_bitmap::NullBitmap;
 use crate::row_values::is_null_at;
@@ -36,9 +36,7 @@ fn put_value<'s, 'de>(
     buf: &mut ParseBuf<'de>,
     place: &mut ValueRef<'de>,
 ) -> Result<(), FaultOf<'s>>
-    ensures value { OnOk result ((bin_value column_type is_unsigned).reads buf.old ≡ Ok (ref_content place.new, buf.new)) }
-    ensures fault { IfErr result (λ e. Faults false e ((bin_value column_type is_unsigned).reads buf.old)) }
-    ensures place { OnErr result (place.new ≡ place.old) }
+    ensures { PutsValue (bin_value column_type is_unsigned) result buf.old buf.new place.old place.new }
 {
     *place = read_bin_ref(column_type, is_unsigned, buf)?;
     Ok(())
@@ -52,9 +50,7 @@ fn put_seldom<'s, 'de>(
     buf: &mut ParseBuf<'de>,
     place: &mut ValueRef<'de>,
 ) -> Result<(), FaultOf<'s>>
-    ensures value { OnOk result ((bin_value column_type is_unsigned).reads buf.old ≡ Ok (ref_content place.new, buf.new)) }
-    ensures fault { IfErr result (λ e. Faults false e ((bin_value column_type is_unsigned).reads buf.old)) }
-    ensures place { OnErr result (place.new ≡ place.old) }
+    ensures { PutsValue (bin_value column_type is_unsigned) result buf.old buf.new place.old place.new }
 {
     put_value(column_type, is_unsigned, buf, place)
 }
@@ -67,9 +63,7 @@ fn put_apart<'s, 'de>(
     buf: &mut ParseBuf<'de>,
     place: &mut ValueRef<'de>,
 ) -> Result<(), FaultOf<'s>>
-    ensures value { OnOk result ((bin_value column_type is_unsigned).reads buf.old ≡ Ok (ref_content place.new, buf.new)) }
-    ensures fault { IfErr result (λ e. Faults false e ((bin_value column_type is_unsigned).reads buf.old)) }
-    ensures place { OnErr result (place.new ≡ place.old) }
+    ensures { PutsValue (bin_value column_type is_unsigned) result buf.old buf.new place.old place.new }
 {
     let mut rest = buf.rest();
     put_seldom(column_type, is_unsigned, &mut rest, place)?;
@@ -97,9 +91,7 @@ fn put_unless<'s, 'de, C: TypedColumn>(
     buf: &mut ParseBuf<'de>,
     place: &mut ValueRef<'de>,
 ) -> Result<(), FaultOf<'s>>
-    ensures value { OnOk result ((ref_unless C.type_of C.unsigned is_null column.now).reads buf.old ≡ Ok (ref_content place.new, buf.new)) }
-    ensures fault { IfErr result (λ e. Faults false e ((ref_unless C.type_of C.unsigned is_null column.now).reads buf.old)) }
-    ensures place { OnErr result (place.new ≡ place.old) }
+    ensures { PutsValue (ref_unless C.type_of C.unsigned is_null column.now) result buf.old buf.new place.old place.new }
 {
     if is_null {
         *place = ValueRef::NULL;

@@ -1,6 +1,6 @@
 //! Rows of a result.
 
-ghost use Rattle.std.specs.Prelude.{◌≡◌, ◌<◌, ℕ, List, length, map, slice_index_or, slice_set, Option, Some, None, IsSome, IfOk, IsTrue, ◌↔◌, []};
+ghost use Rattle.std.specs.Prelude.{◌≡◌, ◌<◌, ℕ, List, length, map, slice_index_or, slice_set, Option, Some, None, IsSome, IsOk, IfOk, IsTrue, ◌↔◌, []};
 ghost use Rattle.std.specs.Option.{option_copied};
 ghost use Rattle.std.specs.Rc.{rc_slice_items};
 ghost use Rattle.mysql_values.specs.declared.value.Value.{Value};
@@ -55,6 +55,7 @@ pub fn new_row(
     requires { length values.items ≡ length (rc_slice_items columns) }
     ensures cells { IfOk result (λ row. row.cells ≡ map Some values.items) }
     ensures columns { IfOk result (λ row. row.columns ≡ rc_slice_items columns) }
+    ensures no_memory { values.items ≡ [] → IsOk result }
 {
     let mut cells = Vec::with_capacity(alloc, values.len())?;
     for value in values {
@@ -184,6 +185,7 @@ impl Row {
     pub fn unwrap(self, alloc: Global) -> Result<Vec<Value>, AllocError>
         requires { AllThere self.cells }
         ensures value { IfOk result (λ values. map Some values.items ≡ self.cells) }
+        ensures no_memory { self.cells ≡ [] → IsOk result }
     {
         let cells = self.unwrap_raw();
         let mut values = Vec::with_capacity(alloc, cells.len())?;

@@ -1,6 +1,7 @@
 //! Rows of which a builder takes copies.
 
-ghost use Rattle.std.specs.Prelude.{◌≡◌, ◌+◌, ◌≤◌, ◌↔◌, ◌++◌, ◌∷◌, [], length, map, IfSome, IfErr, OnOk, OnErr, MatchOption, List, ℕ, sum_by};
+ghost use Rattle.std.specs.Prelude.{◌≡◌, ◌+◌, ◌≤◌, ◌↔◌, ◌++◌, ◌∷◌, [], length, map, IfSome, MatchOption, List, ℕ, sum_by};
+ghost use Rattle.std.specs.Bool.{OnTrue, OnFalse};
 ghost use Rattle.mysql_cuts.specs.Cut.{PartFits};
 ghost use Rattle.mysql_values.specs.Value.{Content, contents_of};
 ghost use Rattle.mysql_values.specs.ValueRef.{ref_content};
@@ -11,7 +12,7 @@ use super::ComStmtBulkExecuteRequestBuilder;
 use crate::column_types::join_types;
 use crate::error::BulkRowRefusal;
 use crate::row::{append_copies, find_capacity};
-use crate::row_value::{NoCopy, RowValue};
+use crate::row_value::RowValue;
 use crate::size::request_len;
 use mysql_cuts::BulkRule;
 use mysql_values::{Value, ValueRef};
@@ -52,15 +53,11 @@ impl<'a> ComStmtBulkExecuteRequestBuilder<'a> {
         if !self.takes_types(row) {
             return Err(BulkRowRefusal::MixedTypes);
         }
-        let Err(why) = self.take_copy(row) else {
+        if self.takes_copy(row) {
             return Ok(true);
-        };
-        // (memory may be refused before it is known whether the row fits)
-        let fits = match why {
-            NoCopy::TooLong => false,
-            NoCopy::Memory => self.size_after(row).is_some(),
-        };
-        if fits {
+        }
+        // (nothing changed: why no copy waits is found out apart)
+        if self.size_after(row).is_some() {
             Err(BulkRowRefusal::Memory)
         } else if self.has_rows() {
             Ok(false)
@@ -69,15 +66,14 @@ impl<'a> ComStmtBulkExecuteRequestBuilder<'a> {
         }
     }
 
-    /// Lets a copy of a row wait, which may come next. It does not wait where it does not fit with the rows that wait, nor where
-    /// memory is refused, which may be a row that does not fit either.
+    /// Whether a copy of a row, which may come next, fits with the rows that wait and now waits too. Where memory was refused,
+    /// it does not wait either.
     // (its bytes are counted while it is copied, so that they are looked at once)
     #[inline(always)]
-    fn take_copy<V: RowValue>(&mut self, row: &[V]) -> Result<(), NoCopy>
+    fn takes_copy<V: RowValue>(&mut self, row: &[V]) -> bool
         requires { TakesRow self.old (map V.content row.now) }
-        ensures waits { OnOk result (RowFits self.old (map V.content row.now) × (self.new ≡ after_row self.old (map V.content row.now))) }
-        ensures too_long { IfErr result (λ why. why ≡ NoCopy.TooLong → RowFits self.old (map V.content row.now) → ⊥) }
-        ensures stays { OnErr result (self.new ≡ self.old) }
+        ensures waits { OnTrue result (RowFits self.old (map V.content row.now) × (self.new ≡ after_row self.old (map V.content row.now))) }
+        ensures stays { OnFalse result (self.new ≡ self.old) }
     {
         let arity = row.len();
         let Some(most) = most_bytes(
@@ -88,20 +84,22 @@ impl<'a> ComStmtBulkExecuteRequestBuilder<'a> {
             self.size,
             arity,
         ) else {
-            return Err(NoCopy::TooLong);
+            return false;
         };
         let Some(count) = self.count.checked_add(1) else {
-            return Err(NoCopy::Memory);
+            return false;
         };
         let Ok(()) = find_capacity(&mut self.values, &mut self.types, self.types_due, arity) else {
-            return Err(NoCopy::Memory);
+            return false;
         };
-        let size = append_copies(self.alloc, &mut self.values, row, most)?;
+        let Some(size) = append_copies(self.alloc, &mut self.values, row, most) else {
+            return false;
+        };
         join_types(&mut self.types, self.types_due, self.columns, row);
         self.size += size;
         self.count = count;
         self.arity = Some(arity);
-        Ok(())
+        true
     }
 }
 

@@ -24,4 +24,4 @@ pub returns : goal.returns
 returns c =
     let none : drop c.loop-row.row-index c.args.rows.now ≡ [] = drop_all c.loop-row.row-index c.args.rows.now c.loop-row-test.false in
     let streams = ends c.args.writer.now c.args.rows.now c.loop-row.writer (drop c.loop-row.row-index c.args.rows.now) (bytes_of c.loop-row.requests.items) c.loop-row.invariant none in
-    record { fewest = c.streamed_rows_are_sent_in_the_fewest_requests.ensures c.args.writer.now c.loop-row.writer (rows_held c.args.rows.now) (bytes_of c.loop-row.requests.items) c.requires.new c.requires.due streams (some_held c.args.rows.now c.requires.some) }
+    record { fewest = c.streamed_rows_are_sent_in_the_fewest_requests.ensures.all c.args.writer.now c.loop-row.writer (rows_held c.args.rows.now) (bytes_of c.loop-row.requests.items) c.requires.new c.requires.due streams (some_held c.args.rows.now c.requires.some) }
