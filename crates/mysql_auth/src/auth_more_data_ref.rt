@@ -6,7 +6,10 @@ ghost use Rattle.mysql_auth.specs.AuthMoreData as spec;
 
 use crate::auth_more_data::{AuthMoreData, AuthMoreDataHeader};
 use mysql_wire::{AnyWidth, FaultOf, MyDeserialize, ParseBuf};
+use std::alloc::AllocError;
 use std::borrow::CowSlice;
+use std::fmt;
+use std::fmt::Debug;
 use std::marker::Model;
 
 /// What a server sends beyond its first challenge, whose data stays in the packet: an [`AuthMoreData`] for as long as the
@@ -42,6 +45,40 @@ impl<'a> AuthMoreDataRef<'a> {
         ensures value { result ≡ self.now }
     {
         AuthMoreData::new(CowSlice::Borrowed(self.content))
+    }
+}
+
+impl Clone for AuthMoreDataRef<'_> {
+    ghost is_clone = { λ p copy. copy ≡ p };
+
+    fn clone(&self) -> Result<Self, AllocError> {
+        Ok(AuthMoreDataRef {
+            content: self.content,
+        })
+    }
+}
+
+impl PartialEq for AuthMoreDataRef<'_> {
+    ghost use Rattle.mysql_auth.specs.contracts.auth_more_data.AuthMoreDataPartialEq.TheImpl.Laws.{laws-law};
+
+    ghost eq = { ⟦<AuthMoreData<'static> as PartialEq>⟧.eq };
+
+    ghost laws = { laws-law };
+
+    fn eq(&self, other: &Self) -> bool {
+        self.to_packet() == other.to_packet()
+    }
+}
+
+impl Eq for AuthMoreDataRef<'_> {
+    ghost use Rattle.mysql_auth.specs.contracts.auth_more_data.AuthMoreDataEq.TheImpl.Laws.{laws-law};
+
+    ghost laws = { laws-law };
+}
+
+impl Debug for AuthMoreDataRef<'_> {
+    fn fmt<W: fmt::Write>(&self, f: &mut fmt::Formatter<W>) -> fmt::Result {
+        self.to_packet().fmt(f)
     }
 }
 

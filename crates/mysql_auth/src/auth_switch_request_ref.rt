@@ -10,7 +10,10 @@ use crate::auth_plugin::AuthPlugin;
 use crate::auth_switch_request::{AuthSwitchRequest, AuthSwitchRequestHeader};
 use crate::eof_name::without_last_zero;
 use mysql_wire::{AnyWidth, BytesRepr, FaultOf, MyDeserialize, NullBytes, ParseBuf};
+use std::alloc::AllocError;
 use std::borrow::CowSlice;
+use std::fmt;
+use std::fmt::Debug;
 use std::marker::Model;
 
 /// A server's request to switch to another plugin, whose texts stay in the packet: an [`AuthSwitchRequest`] for as long as
@@ -74,6 +77,41 @@ impl<'a> AuthSwitchRequestRef<'a> {
             CowSlice::Borrowed(self.auth_plugin),
             CowSlice::Borrowed(self.plugin_data),
         )
+    }
+}
+
+impl Clone for AuthSwitchRequestRef<'_> {
+    ghost is_clone = { λ p copy. copy ≡ p };
+
+    fn clone(&self) -> Result<Self, AllocError> {
+        Ok(AuthSwitchRequestRef {
+            auth_plugin: self.auth_plugin,
+            plugin_data: self.plugin_data,
+        })
+    }
+}
+
+impl PartialEq for AuthSwitchRequestRef<'_> {
+    ghost use Rattle.mysql_auth.specs.contracts.auth_switch_request.AuthSwitchRequestPartialEq.TheImpl.Laws.{laws-law};
+
+    ghost eq = { ⟦<AuthSwitchRequest<'static> as PartialEq>⟧.eq };
+
+    ghost laws = { laws-law };
+
+    fn eq(&self, other: &Self) -> bool {
+        self.to_packet() == other.to_packet()
+    }
+}
+
+impl Eq for AuthSwitchRequestRef<'_> {
+    ghost use Rattle.mysql_auth.specs.contracts.auth_switch_request.AuthSwitchRequestEq.TheImpl.Laws.{laws-law};
+
+    ghost laws = { laws-law };
+}
+
+impl Debug for AuthSwitchRequestRef<'_> {
+    fn fmt<W: fmt::Write>(&self, f: &mut fmt::Formatter<W>) -> fmt::Result {
+        self.to_packet().fmt(f)
     }
 }
 

@@ -6,7 +6,10 @@ ghost use Rattle.mysql_auth.specs.PublicKeyResponse as spec;
 
 use crate::public_key_response::{PublicKeyResponse, PublicKeyResponseHeader};
 use mysql_wire::{AnyWidth, FaultOf, MyDeserialize, ParseBuf};
+use std::alloc::AllocError;
 use std::borrow::CowSlice;
+use std::fmt;
+use std::fmt::Debug;
 use std::marker::Model;
 
 /// A server's public RSA key, which stays in the packet: a [`PublicKeyResponse`] for as long as the packet lives.
@@ -41,6 +44,40 @@ impl<'a> PublicKeyResponseRef<'a> {
         ensures value { result ≡ self.now }
     {
         PublicKeyResponse::new(CowSlice::Borrowed(self.rsa_key))
+    }
+}
+
+impl Clone for PublicKeyResponseRef<'_> {
+    ghost is_clone = { λ p copy. copy ≡ p };
+
+    fn clone(&self) -> Result<Self, AllocError> {
+        Ok(PublicKeyResponseRef {
+            rsa_key: self.rsa_key,
+        })
+    }
+}
+
+impl PartialEq for PublicKeyResponseRef<'_> {
+    ghost use Rattle.mysql_auth.specs.contracts.public_key_response.PublicKeyResponsePartialEq.TheImpl.Laws.{laws-law};
+
+    ghost eq = { ⟦<PublicKeyResponse<'static> as PartialEq>⟧.eq };
+
+    ghost laws = { laws-law };
+
+    fn eq(&self, other: &Self) -> bool {
+        self.to_packet() == other.to_packet()
+    }
+}
+
+impl Eq for PublicKeyResponseRef<'_> {
+    ghost use Rattle.mysql_auth.specs.contracts.public_key_response.PublicKeyResponseEq.TheImpl.Laws.{laws-law};
+
+    ghost laws = { laws-law };
+}
+
+impl Debug for PublicKeyResponseRef<'_> {
+    fn fmt<W: fmt::Write>(&self, f: &mut fmt::Formatter<W>) -> fmt::Result {
+        self.to_packet().fmt(f)
     }
 }
 

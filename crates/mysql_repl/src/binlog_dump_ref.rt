@@ -8,7 +8,10 @@ use crate::binlog_dump::{ComBinlogDump, ComBinlogDumpHeader};
 use mysql_wire::{
     AnyWidth, BinlogDumpFlags, FaultOf, FixedInt, Flags, LeU16, LeU32, MyDeserialize, ParseBuf,
 };
+use std::alloc::AllocError;
 use std::borrow::CowSlice;
+use std::fmt;
+use std::fmt::Debug;
 use std::marker::Model;
 
 /// A replica's request for a binary log from a position, whose file's name stays in the packet: a [`ComBinlogDump`] for as
@@ -74,6 +77,43 @@ impl<'a> ComBinlogDumpRef<'a> {
             .with_pos(self.pos)
             .with_flags(self.flags)
             .with_filename(CowSlice::Borrowed(self.filename))
+    }
+}
+
+impl Clone for ComBinlogDumpRef<'_> {
+    ghost is_clone = { λ p copy. copy ≡ p };
+
+    fn clone(&self) -> Result<Self, AllocError> {
+        Ok(ComBinlogDumpRef {
+            pos: self.pos,
+            flags: self.flags,
+            server_id: self.server_id,
+            filename: self.filename,
+        })
+    }
+}
+
+impl PartialEq for ComBinlogDumpRef<'_> {
+    ghost use Rattle.mysql_repl.specs.contracts.binlog_dump.ComBinlogDumpPartialEq.TheImpl.Laws.{laws-law};
+
+    ghost eq = { ⟦<ComBinlogDump<'static> as PartialEq>⟧.eq };
+
+    ghost laws = { laws-law };
+
+    fn eq(&self, other: &Self) -> bool {
+        self.to_packet() == other.to_packet()
+    }
+}
+
+impl Eq for ComBinlogDumpRef<'_> {
+    ghost use Rattle.mysql_repl.specs.contracts.binlog_dump.ComBinlogDumpEq.TheImpl.Laws.{laws-law};
+
+    ghost laws = { laws-law };
+}
+
+impl Debug for ComBinlogDumpRef<'_> {
+    fn fmt<W: fmt::Write>(&self, f: &mut fmt::Formatter<W>) -> fmt::Result {
+        self.to_packet().fmt(f)
     }
 }
 

@@ -9,7 +9,10 @@ use crate::register_slave::{ComRegisterSlave, ComRegisterSlaveHeader};
 use mysql_wire::{
     AnyWidth, BytesRepr, FaultOf, LeU16, LeU32, MyDeserialize, ParseBuf, RawInt, U8Bytes,
 };
+use std::alloc::AllocError;
 use std::borrow::CowSlice;
+use std::fmt;
+use std::fmt::Debug;
 use std::marker::Model;
 
 /// The registration of a replica, whose texts stay in the packet: a [`ComRegisterSlave`] for as long as the packet lives.
@@ -142,6 +145,46 @@ fn read_end<'s>(
     let replication_rank = RawInt::take(&mut end);
     let master_id = RawInt::take(&mut end);
     Ok((port, replication_rank, master_id))
+}
+
+impl Clone for ComRegisterSlaveRef<'_> {
+    ghost is_clone = { λ p copy. copy ≡ p };
+
+    fn clone(&self) -> Result<Self, AllocError> {
+        Ok(ComRegisterSlaveRef {
+            server_id: self.server_id,
+            hostname: self.hostname,
+            user: self.user,
+            password: self.password,
+            port: self.port,
+            replication_rank: self.replication_rank,
+            master_id: self.master_id,
+        })
+    }
+}
+
+impl PartialEq for ComRegisterSlaveRef<'_> {
+    ghost use Rattle.mysql_repl.specs.contracts.register_slave.ComRegisterSlavePartialEq.TheImpl.Laws.{laws-law};
+
+    ghost eq = { ⟦<ComRegisterSlave<'static> as PartialEq>⟧.eq };
+
+    ghost laws = { laws-law };
+
+    fn eq(&self, other: &Self) -> bool {
+        self.to_packet() == other.to_packet()
+    }
+}
+
+impl Eq for ComRegisterSlaveRef<'_> {
+    ghost use Rattle.mysql_repl.specs.contracts.register_slave.ComRegisterSlaveEq.TheImpl.Laws.{laws-law};
+
+    ghost laws = { laws-law };
+}
+
+impl Debug for ComRegisterSlaveRef<'_> {
+    fn fmt<W: fmt::Write>(&self, f: &mut fmt::Formatter<W>) -> fmt::Result {
+        self.to_packet().fmt(f)
+    }
 }
 
 /// As a [`ComRegisterSlave`].

@@ -4,6 +4,9 @@ ghost use Rattle.std.specs.Prelude.{◌≡◌, Some, None, IfOk, IfErr};
 ghost use Rattle.mysql_repl.specs.Tag.{IsTag, tag_fault};
 
 use crate::tag::{InvalidTag, Tag, fault_in};
+use std::alloc::AllocError;
+use std::fmt;
+use std::fmt::Debug;
 use std::marker::Model;
 
 /// A tag whose text stays in the packet: a [`Tag`] for as long as the packet lives. In a clause it is that tag.
@@ -51,5 +54,37 @@ impl<'a> TagRef<'a> {
         ensures value { result ≡ self.now }
     {
         Tag::of(self.text)
+    }
+}
+
+impl Clone for TagRef<'_> {
+    ghost is_clone = { λ p copy. copy ≡ p };
+
+    fn clone(&self) -> Result<Self, AllocError> {
+        Ok(TagRef { text: self.text })
+    }
+}
+
+impl PartialEq for TagRef<'_> {
+    ghost use Rattle.mysql_repl.specs.contracts.tag.TagPartialEq.TheImpl.Laws.{laws-law};
+
+    ghost eq = { ⟦<Tag<'static> as PartialEq>⟧.eq };
+
+    ghost laws = { laws-law };
+
+    fn eq(&self, other: &Self) -> bool {
+        self.to_tag() == other.to_tag()
+    }
+}
+
+impl Eq for TagRef<'_> {
+    ghost use Rattle.mysql_repl.specs.contracts.tag.TagEq.TheImpl.Laws.{laws-law};
+
+    ghost laws = { laws-law };
+}
+
+impl Debug for TagRef<'_> {
+    fn fmt<W: fmt::Write>(&self, f: &mut fmt::Formatter<W>) -> fmt::Result {
+        self.to_tag().fmt(f)
     }
 }
