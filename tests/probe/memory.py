@@ -22,11 +22,29 @@ WORDS = {
     r"\bFaults false\b|\bRefuses(Next|Param)\b|\bGives(One|Param)\b": "a fault is the grammar's, which is never that of memory",
     r"\bNext(Change|ChangeRef|Variable|Pair|Sid|Interval)\b": "an entry is read without memory, or as its grammar has it",
     r"\bGivesText\b|BorrowsUtf8\b": "what is UTF-8 is borrowed",
+    r"\bAdds(Row|Copy|Params)?\b": "memory is an answer only where the row would be taken",
+    r"\bBuilds\b": "a request is built without memory",
+    r"\bMakesRequest\b": "memory is an answer only for rows of one length",
+    r"\bRefusesValue\b": "memory is an answer only for a string that has a byte",
     r"→ IsOk result": "memory is no answer there",
 }
-# what asks for memory in any case
+# what asks for a block of its own, or hides in its model whether it has one
 ALWAYS = {
     "HandshakePacket::nonce": "its 20 bytes are joined from two places",
+    "ComStmtExecuteRequestBuilder::build": "its bitmap is a block of its own",
+    "ComStmtExecuteRequestBuilder::build_ref": "its bitmap is a block of its own",
+    "ComStmtExecuteOptionsBuilder::build": "its bitmap is a block of its own",
+    "NullBitmap::new": "its bytes are a block of its own",
+    "NullBitmap::read": "its bytes are a block of its own",
+    "ComStmtSendLongData::into_owned": "whether it owns its content does not show in a clause",
+    "Tag::into_owned": "whether it owns its text does not show in a clause",
+    "ComBinlogDumpGtid::with_sid": "the capacity of its list does not show in a clause",
+    "Sid::with_interval": "the capacity of its list does not show in a clause",
+    "Seq::push": "the capacity of its list does not show in a clause",
+    "Row::columns": "a share of a list is one more count, and shares follow the contract of the standard library",
+    "Row::get": "the value is copied as the type that is asked for copies it",
+    "Row::get_opt": "the value is copied as the type that is asked for copies it",
+    "Params::into_values": "a name that is asked for twice gets a copy",
 }
 FUNCTION = re.compile(r"( *)pub (?:const )?fn (\w+)|( {4})(?:final )?fn (\w+)")
 OWNER = re.compile(r"(?:pub )?(?:unsafe )?(impl|trait)(?:<[^{]*?>)? (?:.* for )?(\w+)")

@@ -58,7 +58,7 @@ first_header size (suc full) number payload after head body rest e h =
     let f = same_front head body (header size number) (h.0 ++ h.2) e h.5 in
     (size, f.0, omega (arith, ap length h.4, length-append h.0 h.1, h.3), omega (arith, ap length f.1, length-append h.0 h.2, h.3))
 
--- Behind the full frames that a reader took, the rest of the payload is framed.
+-- After the full frames that a reader took, the rest of the payload is framed.
 pub peel : (size full i number : ℕ) (payload : List ℕ) (after : ℕ) (head got more rest : List ℕ)
     → number < 256 → full * size ≤ length got → FramedIn size i number payload after (raw size full number got head ++ more) rest
     → (j : ℕ) × (left : List ℕ) × (body : List ℕ) × (length payload ≡ full * size + length left) × (length got ≡ full * size + length body) × FramedIn size j (number_of full number) left after (head ++ (body ++ more)) rest

@@ -41,7 +41,7 @@ number_more full n = omega arith
 pub next_below : (n : ℕ) → next n < 256
 next_below n = omega arith
 
--- behind a full frame
+-- after a full frame
 pub raw_next : (size full number : ℕ) (payload : List ℕ) → number < 256 → length payload ≡ full * size + size → raw size (suc full) number payload [] ≡ raw size full number payload (header size (number_of full number))
 raw_next size zero number payload b e =
     ap (λ xs. header size number ++ xs) (take-append-drop size payload) ∙ ap (λ n. header size n ++ payload) (sym (number_first number b))
@@ -51,7 +51,7 @@ raw_next size (suc full) number payload b e =
     (raw_next size full (next number) (drop size payload) (next_below number) rest
     ∙ ap (λ n. raw size full (next number) (drop size payload) (header size n)) (number_more full number))
 
--- behind the last frame
+-- after the last frame
 pub raw_done : (size full number len : ℕ) (payload rest : List ℕ) → number < 256 → length payload ≡ full * size + len → len < size
     → FramedIn size full number payload (next (number_of full number)) (raw size full number payload (header len (number_of full number)) ++ rest) rest
 raw_done size zero number len payload rest b e h =

@@ -4,7 +4,7 @@ use Rattle.mysql_frames.specs.Frames.{header, most, next, FramedIn, Framed, Stre
 use Rattle.mysql_frames.specs.FrameReader.{NoneWhole}
 use Rattle.mysql_frames.proofs.Peel.{framed_once}
 
--- frames with more bytes behind them
+-- frames with more bytes after them
 pub framed_more : (size full number : ℕ) (payload : List ℕ) (after : ℕ) (bytes rest more : List ℕ) → FramedIn size full number payload after bytes rest → FramedIn size full number payload after (bytes ++ more) (rest ++ more)
 framed_more size zero number payload after bytes rest more h =
     (h.0, ap (λ b. b ++ more) h.1 ∙ append_assoc (header (length payload) number) (payload ++ rest) more ∙ ap (λ b. header (length payload) number ++ b) (append_assoc payload rest more), h.2)

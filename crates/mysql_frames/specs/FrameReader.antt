@@ -16,7 +16,7 @@ NoneWhole number bytes = (payload : List ℕ) (after : ℕ) (rest : List ℕ) �
 abbrev pub AllLonger : ℕ → ℕ → List ℕ → Type 0
 AllLonger limit number bytes = (payload : List ℕ) (after : ℕ) (rest : List ℕ) → Framed number payload after bytes rest → limit < length payload
 
--- What was held and the input begin with the payload's frames, and behind them is what is left of the input.
+-- What was held and the input begin with the payload's frames, and after them is what is left of the input.
 pub record HandsOut (old : ReaderState) (input payload : List ℕ) (new : ReaderState) (rest : List ℕ) : Type 0 where
   pub framed : Framed old.number payload new.number (old.held ++ input) rest
   pub within : length payload ≤ old.limit

@@ -1,6 +1,6 @@
 //! Frames: how payloads stand in the stream of bytes between a client and a server.
 //!
-//! A payload is sent in frames of at most 16,777,215 bytes, each behind a header of four: its length in three, little-endian, and the
+//! A payload is sent in frames of at most 16,777,215 bytes, each after a header of four: its length in three, little-endian, and the
 //! sequence number. A payload of 16,777,215 bytes or more goes on in the next frame, and ends with a shorter one, which may be empty.
 //! The protocol's pages call a frame a packet, as they call what is sent in it.
 //!

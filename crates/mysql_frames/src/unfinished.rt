@@ -187,7 +187,7 @@ impl Unfinished {
         Ok(Some(len))
     }
 
-    /// Goes on to the payload's next frame, behind a full one.
+    /// Goes on to the payload's next frame, after a full one.
     fn next_frame(&mut self)
         requires reading { IsReading self.old }
         requires full { HasFrame self.old 0xffffff }
@@ -200,7 +200,7 @@ impl Unfinished {
         self.head.clear();
     }
 
-    /// Hands out the payload, behind its last frame.
+    /// Hands out the payload, after its last frame.
     fn finish(&mut self, len: usize) -> Vec<u8>
         requires reading { IsReading self.old }
         requires last { HasFrame self.old len }

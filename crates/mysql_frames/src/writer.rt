@@ -84,7 +84,7 @@ fn write_long_packet<P: MySerialize>(
 
 /// Appends a packet in its frames, of which the first has this number, and answers the number after them.
 ///
-/// The packet is written behind its header, where it stays: nothing is copied, unless it takes several frames. The buffer grows once.
+/// The packet is written after its header, where it stays: nothing is copied, unless it takes several frames. The buffer grows once.
 /// A refusal leaves it as it was; a packet of one frame is refused only where the buffer lacks capacity.
 #[inline]
 #[tactic(auto, unfolding(mysql_wire::specs::Writing::saturated))]

@@ -176,7 +176,7 @@ pub use Rattle.mysql_repl.specs.MergedIntervals
 pub use Rattle.mysql_repl.specs.ProperSid
 pub use Rattle.mysql_repl.specs.RegisterSlave
 pub use Rattle.mysql_repl.specs.RequestBytes
-pub use Rattle.mysql_repl.specs.Room
+pub use Rattle.mysql_repl.specs.Space
 pub use Rattle.mysql_repl.specs.SemiSyncAck
 pub use Rattle.mysql_repl.specs.ServerSids
 pub use Rattle.mysql_repl.specs.Sid

@@ -10,7 +10,7 @@ pub mod Sid
 pub mod SidBlock
 pub mod SidBlockAgain
 pub mod BinlogDumpGtid
-pub mod Room
+pub mod Space
 pub mod BinlogRequest
 pub mod SidText
 pub mod SidTextParts

@@ -8,7 +8,7 @@ ghost use Rattle.mysql_wire.specs.Seq.{counts_any};
 ghost use Rattle.mysql_wire.specs.Text.{GivesText};
 ghost use Rattle.mysql_repl.specs.declared.binlog_dump_gtid.ComBinlogDumpGtid.{ComBinlogDumpGtid};
 ghost use Rattle.mysql_repl.specs.BinlogDumpGtid as spec;
-ghost use Rattle.mysql_repl.specs.Room.{room_in_dump};
+ghost use Rattle.mysql_repl.specs.Space.{space_in_dump};
 
 use crate::sid::Sid;
 use crate::sid_block::{SidBlock, read_block};
@@ -208,9 +208,9 @@ impl<'a> ComBinlogDumpGtid<'a> {
     ///
     /// What it reads is what `parse` reads. After a refusal the buffer is as it was.
     pub fn parse_strict(buf: &mut ParseBuf<'a>) -> Result<Self, Fault>
-        ensures value { Answers (counts_any ((room_in_dump true).reads buf.old)) result buf.new ((spec.gtid_dump.form true).reads buf.old) }
+        ensures value { Answers (counts_any ((space_in_dump true).reads buf.old)) result buf.new ((spec.gtid_dump.form true).reads buf.old) }
         ensures spelled { IfOk result (λ p. (spec.gtid_dump.form true).Spells p buf.old buf.new) }
-        ensures read { (p : ComBinlogDumpGtid) (rest : List ℕ) → (spec.gtid_dump.form true).Spells p buf.old rest → Answers (counts_any ((room_in_dump true).reads buf.old)) result buf.new (Ok (p, rest)) }
+        ensures read { (p : ComBinlogDumpGtid) (rest : List ℕ) → (spec.gtid_dump.form true).Spells p buf.old rest → Answers (counts_any ((space_in_dump true).reads buf.old)) result buf.new (Ok (p, rest)) }
         ensures err { OnErr result (buf.new ≡ buf.old) }
     {
         let mut rest = buf.rest();
@@ -286,7 +286,7 @@ fn read<'s, 'de>(
     strict: bool,
     buf: &mut ParseBuf<'de>,
 ) -> Result<ComBinlogDumpGtid<'de>, FaultOf<'s>>
-    ensures value { Answers (counts_any ((room_in_dump strict).reads buf.old)) result buf.new ((spec.gtid_dump.form strict).reads buf.old) }
+    ensures value { Answers (counts_any ((space_in_dump strict).reads buf.old)) result buf.new ((spec.gtid_dump.form strict).reads buf.old) }
 {
     let (header, flags, server_id) = read_head(strict, buf)?;
     let filename = <U32Bytes as BytesRepr>::deserialize((), buf)?.eat_all();
@@ -322,7 +322,7 @@ impl<'de> MyDeserialize<'de> for ComBinlogDumpGtid<'de> {
 
     type Size = AnyWidth;
 
-    ghost takes_memory = { λ _ bytes. counts_any ((room_in_dump false).reads bytes) };
+    ghost takes_memory = { λ _ bytes. counts_any ((space_in_dump false).reads bytes) };
 
     type Ctx = ();
 

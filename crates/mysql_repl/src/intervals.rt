@@ -7,7 +7,7 @@ ghost use Rattle.mysql_wire.specs.Int.{le_u64, number_of};
 ghost use Rattle.mysql_wire.specs.Reading.{Answers};
 ghost use Rattle.mysql_wire.specs.Seq.{counted, counts_any, is_any, items_of, seq};
 ghost use Rattle.mysql_repl.specs.GnoInterval.{interval};
-ghost use Rattle.mysql_repl.specs.Room.{interval_room};
+ghost use Rattle.mysql_repl.specs.Space.{interval_space};
 
 use crate::gno_interval::GnoInterval;
 use mysql_wire::{Buffer, FaultOf, IntRepr, LeU64, MySerialize, ParseBuf, RawInt, Seq};
@@ -36,7 +36,7 @@ fn read_counted<'s>(count: u64, buf: &mut ParseBuf<'_>) -> Result<Vec<GnoInterva
 pub(crate) fn read_intervals<'s, 'de>(
     buf: &mut ParseBuf<'de>,
 ) -> Result<Seq<'de, GnoInterval, LeU64>, FaultOf<'s>>
-    ensures value { Answers (counts_any (interval_room.reads buf.old)) result buf.new ((seq (number_of le_u64) (interval.form tt)).reads buf.old) }
+    ensures value { Answers (counts_any (interval_space.reads buf.old)) result buf.new ((seq (number_of le_u64) (interval.form tt)).reads buf.old) }
 {
     let count: RawInt<LeU64> = buf.parse(())?;
     if count.0 == 0 {

@@ -4,7 +4,7 @@
 ghost use Rattle.std.specs.Prelude.{false, true, ◌≡◌, IfOk, option_map, Option, List, ℕ};
 ghost use Rattle.mysql_wire.specs.Reading.{Answers};
 ghost use Rattle.mysql_wire.specs.Seq.{counts_any};
-ghost use Rattle.mysql_repl.specs.Room.{room_in_sid};
+ghost use Rattle.mysql_repl.specs.Space.{space_in_sid};
 ghost use Rattle.mysql_repl.specs.Sid as spec;
 ghost use Rattle.mysql_repl.specs.TagString.{OptionalTag};
 
@@ -139,7 +139,7 @@ impl<'de> MyDeserialize<'de> for Sid<'de> {
 
     type Size = AnyWidth;
 
-    ghost takes_memory = { λ _ bytes. counts_any ((room_in_sid false).reads bytes) };
+    ghost takes_memory = { λ _ bytes. counts_any ((space_in_sid false).reads bytes) };
 
     type Ctx = ();
 
@@ -176,7 +176,7 @@ impl Parts for Sid<'_> {
 
 /// Reads a sid in the form with tags.
 fn read_tagged<'s, 'de>(buf: &mut ParseBuf<'de>) -> Result<Sid<'de>, FaultOf<'s>>
-    ensures value { Answers (counts_any ((room_in_sid true).reads buf.old)) result buf.new ((spec.tagged_sid.form tt).reads buf.old) }
+    ensures value { Answers (counts_any ((space_in_sid true).reads buf.old)) result buf.new ((spec.tagged_sid.form tt).reads buf.old) }
 {
     Ok(Sid {
         uuid: buf.parse(())?,
@@ -191,7 +191,7 @@ pub(crate) fn read_sid<'s, 'de>(
     tagged: bool,
     buf: &mut ParseBuf<'de>,
 ) -> Result<Sid<'de>, FaultOf<'s>>
-    ensures value { Answers (counts_any ((room_in_sid tagged).reads buf.old)) result buf.new (((spec.sid_as tagged).form tt).reads buf.old) }
+    ensures value { Answers (counts_any ((space_in_sid tagged).reads buf.old)) result buf.new (((spec.sid_as tagged).form tt).reads buf.old) }
 {
     if tagged {
         read_tagged(buf)

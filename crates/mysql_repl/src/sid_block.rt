@@ -6,7 +6,7 @@ ghost use Rattle.std.specs.List.{flat_map};
 ghost use Rattle.mysql_wire.specs.Reading.{Answers, IsTail};
 ghost use Rattle.mysql_wire.specs.Seq.{items_of, counted, counts_any, is_any};
 ghost use Rattle.mysql_wire.specs.Writing.{saturated};
-ghost use Rattle.mysql_repl.specs.Room.{least_len, room_in_sids, room_in_block};
+ghost use Rattle.mysql_repl.specs.Space.{least_len, space_in_sids, space_in_block};
 ghost use Rattle.mysql_repl.specs.Sid.{sid_as};
 ghost use Rattle.mysql_repl.specs.SidBlock as spec;
 
@@ -71,7 +71,7 @@ fn read_tagged<'s, 'de>(count: u64, block: &mut ParseBuf<'de>) -> Result<Vec<Sid
 /// Reads the head, and so many sids. A strict reader knows the layouts 0 and 1 alone.
 #[tactic(auto, using(mysql_wire::proofs::Packets::packets), unfolding(crate::specs::SidBlock::sids_form))]
 fn read_sids<'s, 'de>(strict: bool, block: &mut ParseBuf<'de>) -> Result<Vec<Sid<'de>>, FaultOf<'s>>
-    ensures value { Answers (counts_any ((room_in_sids strict).reads block.old)) (items_of result) block.new ((spec.sids_form strict).reads block.old) }
+    ensures value { Answers (counts_any ((space_in_sids strict).reads block.old)) (items_of result) block.new ((spec.sids_form strict).reads block.old) }
 {
     let head: RawInt<LeU64> = block.parse(())?;
     let head = head.0;
@@ -91,7 +91,7 @@ fn read_sids<'s, 'de>(strict: bool, block: &mut ParseBuf<'de>) -> Result<Vec<Sid
 fn read_whole_block<'s, 'de>(
     buf: &mut ParseBuf<'de>,
 ) -> Result<Seq<'de, Sid<'de>, LeU64>, FaultOf<'s>>
-    ensures value { Answers (counts_any ((room_in_block true).reads buf.old)) result buf.new ((spec.block_form true).reads buf.old) }
+    ensures value { Answers (counts_any ((space_in_block true).reads buf.old)) result buf.new ((spec.block_form true).reads buf.old) }
 {
     let mut block = <U32Bytes as BytesRepr>::deserialize((), buf)?;
     let sids = read_sids(true, &mut block)?;
@@ -106,7 +106,7 @@ fn read_whole_block<'s, 'de>(
 fn read_lenient_block<'s, 'de>(
     buf: &mut ParseBuf<'de>,
 ) -> Result<Seq<'de, Sid<'de>, LeU64>, FaultOf<'s>>
-    ensures value { Answers (counts_any ((room_in_block false).reads buf.old)) result buf.new ((spec.block_form false).reads buf.old) }
+    ensures value { Answers (counts_any ((space_in_block false).reads buf.old)) result buf.new ((spec.block_form false).reads buf.old) }
 {
     let mut block = <U32Bytes as BytesRepr>::deserialize((), buf)?;
     let sids = read_sids(false, &mut block)?;
@@ -118,7 +118,7 @@ pub(crate) fn read_block<'s, 'de>(
     strict: bool,
     buf: &mut ParseBuf<'de>,
 ) -> Result<Seq<'de, Sid<'de>, LeU64>, FaultOf<'s>>
-    ensures value { Answers (counts_any ((room_in_block strict).reads buf.old)) result buf.new ((spec.block_form strict).reads buf.old) }
+    ensures value { Answers (counts_any ((space_in_block strict).reads buf.old)) result buf.new ((spec.block_form strict).reads buf.old) }
 {
     if strict {
         read_whole_block(buf)

@@ -35,7 +35,7 @@ pub trait OkPacketLayout: OkPacketKind {
     /// The defined bytes, by the header and what both sides can do.
     ghost bytes: { ℕ → flags.CapabilityFlags → declared.OkPacket → List ℕ };
 
-    /// Hands the parts over, behind this header.
+    /// Hands the parts over, after this header.
     fn put<S: Sink>(header: u8, capabilities: CapabilityFlags, packet: &OkPacket<'_>, sink: &mut S)
         requires { S.capacity sink.old (length (bytes header capabilities packet.now)) }
         ensures value { S.took sink.old (bytes header capabilities packet.now) sink.new };

@@ -10,7 +10,7 @@ loop-left-preserved c =
     let part = c.split_at.result.0.now in
     let more = c.split_at.result.1.now in
     record {
-      room = omega arith;
+      capacity = omega arith;
       written = (
         inv.0 ++ (header (length part) number ++ part),
         c.push_frame.ensures.items ∙ ap (λ (xs : List ℕ). xs ++ (header (length part) number ++ part)) inv.1 ∙ append_assoc c.args.out.now.items inv.0 (header (length part) number ++ part),

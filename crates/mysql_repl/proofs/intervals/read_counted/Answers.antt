@@ -2,7 +2,7 @@ use Rattle.std.proofs.Common.{◌∙◌, arith, false}
 use Rattle.std.proofs.lemmas.Result.{err_from_is_err_and}
 use Rattle.mysql_wire.proofs.Counted.{next-item, fails, all-read}
 use Rattle.mysql_repl.specs.GnoInterval.{interval}
-use Rattle.mysql_repl.proofs.RoomRead.{told}
+use Rattle.mysql_repl.proofs.SpaceRead.{answered-as}
 use Rattle.mysql_repl.proofs.intervals.read_counted.Goals as goal
 
 pub returns-in_err-item : goal.returns-in_err-item
@@ -10,7 +10,7 @@ returns-in_err-item c =
     let f = interval.form tt in
     let p = err_from_is_err_and c.from_residual-in_err-item.result c.from_residual-in_err-item.ensures.1 in
     let fault = fails f _ c.loop.intervals.items c.in_err-item.field-0.0 c.args.count c.loop.counter c.loop.buf _ c.loop-test.true c.in_err-item.ensures.value c.loop.invariant.read in
-    record { value = rw (p.1, p.2) (told false _ c.in_err-item.field-0.0 (f.reads c.loop.buf) _ (λ none. absurd cc) c.in_err-item.ensures.value fault) }
+    record { value = rw (p.1, p.2) (answered-as false _ c.in_err-item.field-0.0 (f.reads c.loop.buf) _ (λ none. absurd cc) c.in_err-item.ensures.value fault) }
 
 pub loop-preserved : goal.loop-preserved
 loop-preserved c =

@@ -1,5 +1,5 @@
 -- How many values a list among bytes can be of at the most: no more than it counts, and no more than the bytes after the count can
--- hold. Where there is room for any, reading takes memory.
+-- hold. Where there is space for any, reading takes memory.
 use Rattle.std.specs.Prelude.{ℕ, ◌/◌, length, min, Bool, true, false}
 use Rattle.mysql_wire.specs.Form.{Form, ◌>>=◌, bytes, give, decode, beginning, looking}
 use Rattle.mysql_wire.specs.CountedBytes.{u32_string}
@@ -9,24 +9,24 @@ use Rattle.mysql_repl.specs.SidBlock.{head_of, count_of, is_tagged}
 use Rattle.mysql_repl.specs.TagString.{tag_form}
 
 -- so many values, each of so many bytes at least
-abbrev pub room_for : (count least : ℕ) → Form ℕ
-room_for count least = looking (λ bytes. give (min count (length bytes / least)))
+abbrev pub space_for : (count least : ℕ) → Form ℕ
+space_for count least = looking (λ bytes. give (min count (length bytes / least)))
 
 -- intervals after their count, of sixteen bytes each
-abbrev pub interval_room : Form ℕ
-interval_room = do
+abbrev pub interval_space : Form ℕ
+interval_space = do
   count ← number_of le_u64
-  room_for count 16
+  space_for count 16
 
 -- a sid's intervals: after sixteen bytes, and after the tag, where the form is that with tags
-abbrev pub room_in_sid : (tagged : Bool) → Form ℕ
-room_in_sid false = do
+abbrev pub space_in_sid : (tagged : Bool) → Form ℕ
+space_in_sid false = do
   id ← bytes 16
-  interval_room
-room_in_sid true = do
+  interval_space
+space_in_sid true = do
   id ← bytes 16
   name ← tag_form
-  interval_room
+  interval_space
 
 -- the bytes of a sid at least: its identifier, the length of its tag in the form with tags, and its count
 abbrev pub least_len : (tagged : Bool) → ℕ
@@ -34,19 +34,19 @@ least_len true = 25
 least_len false = 24
 
 -- a block's sids after its head
-abbrev pub room_in_sids : (strict : Bool) → Form ℕ
-room_in_sids strict = do
+abbrev pub space_in_sids : (strict : Bool) → Form ℕ
+space_in_sids strict = do
   head ← decode (head_of strict) (number_of le_u64)
-  room_for (count_of head) (least_len (is_tagged head))
+  space_for (count_of head) (least_len (is_tagged head))
 
 -- a block's sids after its length
-abbrev pub room_in_block : (strict : Bool) → Form ℕ
-room_in_block strict = beginning u32_string (room_in_sids strict)
+abbrev pub space_in_block : (strict : Bool) → Form ℕ
+space_in_block strict = beginning u32_string (space_in_sids strict)
 
 -- a dump's sids: after seven bytes, the file's name and the position
-abbrev pub room_in_dump : (strict : Bool) → Form ℕ
-room_in_dump strict = do
+abbrev pub space_in_dump : (strict : Bool) → Form ℕ
+space_in_dump strict = do
   head ← gtid_dump_head.form strict
   name ← u32_string
   position ← le_u64
-  room_in_block strict
+  space_in_block strict

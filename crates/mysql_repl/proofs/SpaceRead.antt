@@ -1,4 +1,4 @@
--- Where a value of a list was read, or is refused for memory, the bytes have room for one.
+-- Where a value of a list was read, or is refused for memory, the bytes have space for one.
 use Rattle.std.proofs.Common.{◌≡◌, ℕ, zero, suc, ◌+◌, ◌*◌, ◌/◌, ◌-◌, ◌^◌, ◌<◌, ◌≤◌, List, ◌∷◌, ◌++◌, length, min, inl, inr, Option, Result, Ok, Err, Bool, true, false, refl, sym, ap, ◌∙◌, arith}
 use Rattle.std.proofs.lemmas.List.{length-append}
 use Rattle.mysql_wire.specs.declared.fault.FaultOf.{FaultOf}
@@ -11,7 +11,7 @@ use Rattle.mysql_wire.specs.Varlen.{varlen, varlen_string}
 use Rattle.mysql_repl.specs.declared.gno_interval.GnoInterval.{GnoInterval}
 use Rattle.mysql_repl.specs.declared.sid.Sid.{Sid}
 use Rattle.mysql_repl.specs.GnoInterval.{interval}
-use Rattle.mysql_repl.specs.Room.{interval_room, least_len, room_for, room_in_sid}
+use Rattle.mysql_repl.specs.Space.{interval_space, least_len, space_for, space_in_sid}
 use Rattle.mysql_repl.specs.Sid.{sid, tagged_sid, sid_as}
 use Rattle.mysql_repl.specs.TagString.{tag_form}
 
@@ -22,12 +22,12 @@ any-above (suc n) lt = refl
 pub not-none : (n : ℕ) → (n ≡ 0 → ⊥) → is_any n ≡ true
 not-none n some = any-above n (omega (arith, some))
 
--- a fault is told as it is, and memory where it may be
-pub told : {A B : Type 0} (b takes : Bool) (e : FaultOf) (one : Reading A) (read : Reading B) → (b ≡ true → takes ≡ true) → Faults b e one → Faults true e read → Faults takes e read
-told b takes fault.Memory one read may h k = may h
-told b takes fault.UnexpectedEof one read may h k = k
-told b takes (fault.InvalidData text) one read may h k = k
-told b takes (fault.InvalidInput text) one read may h k = k
+-- a fault is answered as it is, and memory where it may be
+pub answered-as : {A B : Type 0} (b takes : Bool) (e : FaultOf) (one : Reading A) (read : Reading B) → (b ≡ true → takes ≡ true) → Faults b e one → Faults true e read → Faults takes e read
+answered-as b takes fault.Memory one read may h k = may h
+answered-as b takes fault.UnexpectedEof one read may h k = k
+answered-as b takes (fault.InvalidData text) one read may h k = k
+answered-as b takes (fault.InvalidInput text) one read may h k = k
 
 -- ---- how many bytes are taken
 
@@ -97,27 +97,27 @@ some-above : (n : ℕ) → is_any n ≡ true → 0 < n
 some-above zero h = absurd cc
 some-above (suc n) h = omega arith
 
--- p: the count, what is left, how the count is spelled, and the room
-interval_room-takes : (n : ℕ) (from rest : List ℕ) → interval_room.Spells n from rest → is_any n ≡ true → 24 ≤ length from
-interval_room-takes n from rest p some =
+-- p: the count, what is left, how the count is spelled, and the space
+interval_space-takes : (n : ℕ) (from rest : List ℕ) → interval_space.Spells n from rest → is_any n ≡ true → 24 ≤ length from
+interval_space-takes n from rest p some =
     omega (arith, count-takes p.0 from p.1 p.2, some-above n some, p.3.0)
 
-pub sid-room : (tagged : Bool) (from : List ℕ) → counts_any ((room_in_sid tagged).reads from) ≡ true → least_len tagged ≤ length from
-sid-room false from h =
-    let x = ok-of ((room_in_sid false).reads from) h in
+pub sid-space : (tagged : Bool) (from : List ℕ) → counts_any ((space_in_sid tagged).reads from) ≡ true → least_len tagged ≤ length from
+sid-space false from h =
+    let x = ok-of ((space_in_sid false).reads from) h in
     let some : is_any x.0.0 ≡ true = rw x.1 at h in
-    let p = (room_in_sid false).found x.0.0 from x.0.1 x.1 in
-    omega (arith, bytes-take 16 p.0 from p.1 p.2, interval_room-takes x.0.0 p.1 x.0.1 p.3 some)
-sid-room true from h =
-    let x = ok-of ((room_in_sid true).reads from) h in
+    let p = (space_in_sid false).found x.0.0 from x.0.1 x.1 in
+    omega (arith, bytes-take 16 p.0 from p.1 p.2, interval_space-takes x.0.0 p.1 x.0.1 p.3 some)
+sid-space true from h =
+    let x = ok-of ((space_in_sid true).reads from) h in
     let some : is_any x.0.0 ≡ true = rw x.1 at h in
-    let p = (room_in_sid true).found x.0.0 from x.0.1 x.1 in
+    let p = (space_in_sid true).found x.0.0 from x.0.1 x.1 in
     let named = p.3 in
-    omega (arith, bytes-take 16 p.0 from p.1 p.2, tag-takes named.0 p.1 named.1 named.2, interval_room-takes x.0.0 named.1 x.0.1 named.3 some)
+    omega (arith, bytes-take 16 p.0 from p.1 p.2, tag-takes named.0 p.1 named.1 named.2, interval_space-takes x.0.0 named.1 x.0.1 named.3 some)
 
--- ---- so there is room for one
+-- ---- so there is space for one
 
-pub room-for_one : (tagged : Bool) (count at : ℕ) (left whole : List ℕ) → at < count → length left ≤ length whole → least_len tagged ≤ length left
+pub space-for_one : (tagged : Bool) (count at : ℕ) (left whole : List ℕ) → at < count → length left ≤ length whole → least_len tagged ≤ length left
     → is_any (min count (length whole / least_len tagged)) ≡ true
-room-for_one true count at left whole lt le held = any-above (min count (length whole / 25)) (omega (arith, lt, le, held))
-room-for_one false count at left whole lt le held = any-above (min count (length whole / 24)) (omega (arith, lt, le, held))
+space-for_one true count at left whole lt le held = any-above (min count (length whole / 25)) (omega (arith, lt, le, held))
+space-for_one false count at left whole lt le held = any-above (min count (length whole / 24)) (omega (arith, lt, le, held))
