@@ -25,6 +25,7 @@ WORDS = {
     r"\bAdds(Row|Copy|Params)?\b": "memory is an answer only where the row would be taken",
     r"\bBuilds\b": "a request is built without memory",
     r"\bMakesRequest\b": "memory is an answer only for rows of one length",
+    r"\bRefuses self\b": "memory is an answer only where a name is asked for twice, or a list of values is made",
     r"\bRefusesValue\b": "memory is an answer only for a string that has a byte",
     r"→ IsOk result": "memory is no answer there",
 }
@@ -44,7 +45,6 @@ ALWAYS = {
     "Row::columns": "a share of a list is one more count, and shares follow the contract of the standard library",
     "Row::get": "the value is copied as the type that is asked for copies it",
     "Row::get_opt": "the value is copied as the type that is asked for copies it",
-    "Params::into_values": "a name that is asked for twice gets a copy",
 }
 FUNCTION = re.compile(r"( *)pub (?:const )?fn (\w+)|( {4})(?:final )?fn (\w+)")
 OWNER = re.compile(r"(?:pub )?(?:unsafe )?(impl|trait)(?:<[^{]*?>)? (?:.* for )?(\w+)")

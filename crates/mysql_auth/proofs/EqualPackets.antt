@@ -1,9 +1,8 @@
 -- Packets, and what they are made of, are equal exactly where they are the same.
-use Rattle.std.proofs.Common.{◌≡◌, ◌&&◌, ℕ, List, Option, Bool, true, nat_eq, Decides, IsTrue, refl, ap, subst}
+use Rattle.std.proofs.Common.{◌≡◌, ◌&&◌, ℕ, List, true, nat_eq, Decides, IsTrue, refl, ap, subst}
 use Rattle.std.proofs.lemmas.Bool.Decides.{Decides-and}
 use Rattle.std.proofs.lemmas.Slice.Eq.{slice_eq-Decides}
 use Rattle.std.specs.Cmp.Lexicographic.{pointwise}
-use Rattle.std.specs.Option.{option_eq}
 use borrow.Author.Tests.{clash}
 use Rattle.mysql_wire.proofs.Same.{and-true, numbers-same, bytes-same, options-same, parts-same}
 use Rattle.mysql_auth.specs.contracts.auth_more_data.AuthMoreDataPartialEq.TheImpl as derived_more

@@ -1,10 +1,9 @@
 -- Requests, and what they are made of, are equal exactly where they are the same.
-use Rattle.std.proofs.Common.{◌≡◌, ◌&&◌, ℕ, List, Option, Some, None, Bool, true, false, nat_eq, Decides, refl, ap, subst}
+use Rattle.std.proofs.Common.{◌≡◌, ◌&&◌, ℕ, List, true, nat_eq, Decides, refl}
 use Rattle.std.proofs.lemmas.Bool.Decides.{Decides-and}
 use Rattle.std.proofs.lemmas.Slice.Eq.{slice_eq-Decides}
 use Rattle.std.specs.Cmp.{booleans_Decides}
 use Rattle.std.specs.Cmp.Lexicographic.{pointwise}
-use Rattle.std.specs.Option.{option_eq}
 use Rattle.mysql_wire.proofs.Same.{and-true, numbers-same, bytes-same, options-same, parts-same}
 use Rattle.mysql_repl.specs.contracts.binlog_dump.ComBinlogDumpPartialEq.TheImpl as derived_dump
 use Rattle.mysql_repl.specs.contracts.binlog_dump_gtid.ComBinlogDumpGtidPartialEq.TheImpl as derived_gtid_dump

@@ -1,5 +1,5 @@
 -- A set of transactions that was read is read again from its own text.
-use Rattle.std.proofs.Common.{◌≡◌, ◌⊎◌, inl, inr, ℕ, ◌+◌, ◌<◌, ◌^◌, List, [], ◌∷◌, ◌++◌, length, Option, Some, None, Result, Ok, Err, Bool, true, false, nat_lt, if◌then◌else◌, refl, sym, ap, subst, ◌∙◌, arith}
+use Rattle.std.proofs.Common.{◌≡◌, ◌⊎◌, inl, inr, ℕ, ◌<◌, ◌^◌, List, [], ◌∷◌, ◌++◌, length, Option, Some, None, Result, Ok, Err, Bool, true, false, nat_lt, if◌then◌else◌, refl, sym, subst, ◌∙◌, arith}
 use Rattle.std.specs.List.{All}
 use Rattle.std.proofs.lemmas.Bool.{ltb-true, ltb-false}
 use Rattle.uuid.specs.Text.{parsed}
@@ -9,10 +9,10 @@ use Rattle.mysql_repl.specs.declared.sid_text.InvalidSid.{InvalidSid}
 use Rattle.mysql_repl.specs.declared.sid_text.InvalidSid.TheVariants as fault
 use Rattle.mysql_repl.specs.declared.tag.InvalidTag.{InvalidTag}
 use Rattle.mysql_repl.specs.GnoInterval.{end}
-use Rattle.mysql_repl.specs.GtidSetText.{Found, trimmed, words, plain_number, server_checked, server_numbers, server_interval, is_interval, interval_follows, tag_or, server_tag, with_interval, with_tag, found_in, kept, sids_found, read_uuid, read_piece, joined, read_pieces, read_sids}
+use Rattle.mysql_repl.specs.GtidSetText.{Found, trimmed, words, plain_number, server_numbers, server_interval, is_interval, interval_follows, tag_or, server_tag, with_interval, with_tag, found_in, kept, sids_found, read_uuid, read_piece, joined, read_pieces, read_sids}
 use Rattle.mysql_repl.specs.GtidSetWritten.{set_text, EndsFit, SidInSet, SidsInSet}
 use Rattle.mysql_repl.specs.ProperSid.{ProperInterval, AllProper, ProperIntervals}
-use Rattle.mysql_repl.specs.Sid.{uuid, tag, intervals, AreSids}
+use Rattle.mysql_repl.specs.Sid.{uuid, intervals, AreSids}
 use Rattle.mysql_repl.specs.SidText.{colon, hyphen, comma, has, before, after, checked}
 use Rattle.mysql_repl.proofs.GtidSetAgain.{set-text-again}
 use Rattle.mysql_repl.proofs.SidTextRead.{checked-from, interval-by, same-ok}

@@ -1,10 +1,8 @@
-use Rattle.std.proofs.Common.{rules, ◌≡◌, ◌≢◌, ◌∙◌, [], length, true, false, refl, arith}
+use Rattle.std.proofs.Common.{rules, ◌≡◌, ◌≢◌, ◌∙◌, [], false, arith}
 use Rattle.std.specs.Cmp.Lexicographic.{pointwise}
 use Rattle.std.specs.List.{list_any}
 use Rattle.std.specs.Prelude.{nat_eq}
 use Rattle.std.proofs.lemmas.Result.{err_from_is_err_and}
-use Rattle.mysql_wire.specs.Seq.{is_any}
-use Rattle.mysql_auth.specs.AttributeBytes.{pairs_room}
 use Rattle.mysql_auth.proofs.Merging.{new-once}
 use Rattle.mysql_auth.proofs.PairsRead.{new-pair, pair-shorter, any-held}
 use Rattle.mysql_auth.proofs.attributes.read_few.Goals as goal

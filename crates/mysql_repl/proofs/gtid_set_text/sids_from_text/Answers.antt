@@ -1,4 +1,4 @@
-use Rattle.std.proofs.Common.{◌≡◌, ◌∷◌, ◌∙◌, List, Result, Err, IfSome, ap, subst, sym, option_map}
+use Rattle.std.proofs.Common.{◌≡◌, ◌∷◌, ◌∙◌, Result, Err, IfSome, ap, subst, sym, option_map}
 use Rattle.std.specs.Global.{Vec}
 use Rattle.std.proofs.lemmas.Result.{err_from_is_err_and}
 use Rattle.mysql_repl.specs.declared.sid.Sid.{Sid}
