@@ -1,10 +1,5 @@
-<<<<<<< HEAD:crates/mysql_repl/proofs/SpaceRead.antt
 -- Where a value of a list was read, or is refused for memory, the bytes have space for one.
-use Rattle.std.proofs.Common.{◌≡◌, ℕ, zero, suc, ◌+◌, ◌*◌, ◌/◌, ◌-◌, ◌^◌, ◌<◌, ◌≤◌, List, ◌∷◌, ◌++◌, length, min, inl, inr, Option, Result, Ok, Err, Bool, true, false, refl, sym, ap, ◌∙◌, arith}
-=======
--- Where a value of a list was read, or is refused for memory, the bytes have room for one.
 use Rattle.std.proofs.Common.{◌≡◌, ℕ, zero, suc, ◌+◌, ◌*◌, ◌/◌, ◌-◌, ◌^◌, ◌<◌, ◌≤◌, List, length, min, inl, inr, Option, Ok, Err, Bool, true, false, refl, ap, ◌∙◌, arith}
->>>>>>> h3:crates/mysql_repl/proofs/RoomRead.antt
 use Rattle.std.proofs.lemmas.List.{length-append}
 use Rattle.mysql_wire.specs.declared.fault.FaultOf.{FaultOf}
 use Rattle.mysql_wire.specs.declared.fault.FaultOf.TheVariants as fault
@@ -16,11 +11,7 @@ use Rattle.mysql_wire.specs.Varlen.{varlen, varlen_string}
 use Rattle.mysql_repl.specs.declared.gno_interval.GnoInterval.{GnoInterval}
 use Rattle.mysql_repl.specs.declared.sid.Sid.{Sid}
 use Rattle.mysql_repl.specs.GnoInterval.{interval}
-<<<<<<< HEAD:crates/mysql_repl/proofs/SpaceRead.antt
-use Rattle.mysql_repl.specs.Space.{interval_space, least_len, space_for, space_in_sid}
-=======
-use Rattle.mysql_repl.specs.Room.{interval_room, least_len, room_in_sid}
->>>>>>> h3:crates/mysql_repl/proofs/RoomRead.antt
+use Rattle.mysql_repl.specs.Space.{interval_space, least_len, space_in_sid}
 use Rattle.mysql_repl.specs.Sid.{sid, tagged_sid, sid_as}
 use Rattle.mysql_repl.specs.TagString.{tag_form}
 
