@@ -1,5 +1,5 @@
 #!/usr/bin/env python3
-"""Holds include/mysql_packets.h to the library: each struct, field, call and number.
+"""Holds include/mysql_packets.h to the library: each struct, field and number, each call with its parameters and its answer.
 
 The offset of each field and the size of each struct, as Rattle lays a `repr(C)` struct out, are asserted by the C compiler over the
 header. Numbers are those of crates/mysql_wire, and of <mysql.h> where Debian's libmariadb-dev is installed. The last line is 'N passed, N
@@ -27,6 +27,7 @@ RENAMED = {"MYP_CLIENT_PROGRESS": "CLIENT_PROGRESS_OBSOLETE", "MYP_CLIENT_MULTI_
 # the flags, commands and kinds, each of which the library has
 IS_IN_THE_TABLE = re.compile(r"MYP_(CLIENT|MARIADB_CLIENT|SERVER|COM|DUMP|SESSION_TRACK)_|MYP_\w+_FLAG$|MYP_NUM_FLAG$")
 SIZES = {"u8": 1, "u16": 2, "u32": 4, "u64": 8, "usize": 8}
+C_TYPES = {"u8": "uint8_t", "u16": "uint16_t", "u32": "uint32_t", "u64": "uint64_t", "usize": "size_t"}
 
 
 def comments_out(text):
@@ -51,19 +52,17 @@ def layout(fields):
 
 
 def structs():
-    """The struct of Rattle for each struct of C: its documentation names it."""
-    found = {}
+    """Each struct of C, with the name and the fields of the struct of Rattle whose documentation names it."""
     for path in sorted(CRATE.rglob("*.rt")):
-        for doc, _, body in STRUCT.findall(path.read_text()):
-            name = re.search(r"`(myp_\w+)`", doc)
-            if name:
-                found[name[1]] = FIELD.findall(body)
-    return found
+        for doc, name, body in STRUCT.findall(path.read_text()):
+            theirs = re.search(r"`(myp_\w+)`", doc)
+            if theirs:
+                yield theirs[1], name, FIELD.findall(body)
 
 
 def asserted(header):
     """The assertions of C on its structs, and what has no counterpart."""
-    known, wrong, lines = structs(), [], []
+    known, wrong, lines = {name: fields for name, _, fields in structs()}, [], []
     declared = dict(re.findall(r"typedef struct (myp_\w+) \{(.*?)\} \1;", header, re.S))
     known.pop("myp_bytes"), declared.pop("myp_bytes")
     wrong += [f"{it} is a struct of one side alone" for it in declared.keys() ^ known.keys()]
@@ -103,11 +102,31 @@ def numbers_of_the_library():
     return found
 
 
+def passed_as(kind, names):
+    """What C passes for a parameter of Rattle: a list is where it lies and how long it is, and the allocator is nothing."""
+    kind = re.sub(r"'\w+ |<'\w+>", "", kind)
+    if kind == "Global":
+        return []
+    reference = re.fullmatch(r"&(mut )?(\[)?(\w+)\]?", kind)
+    if not reference:
+        return [C_TYPES[kind]]
+    named = C_TYPES.get(reference[3]) or names[reference[3]]
+    return [f"{'' if reference[1] else 'const '}{named} *"] + ["size_t"] * bool(reference[2])
+
 
 def calls(header):
-    """What is exported, and what is declared."""
-    exported = {name for path in CRATE.rglob("*.rt") for name, _ in EXPORT.findall(path.read_text())}
-    return exported, set(re.findall(r"^uint32_t (myp_\w+)\(", header, re.M))
+    """What is exported, and what is declared: the types of the parameters, by the name of the call."""
+    names = {name: theirs for theirs, name, _ in structs()}
+    exported = {}
+    for path in CRATE.rglob("*.rt"):
+        for name, parameters in EXPORT.findall(path.read_text()):
+            kinds = re.findall(r"\w+: ([^,]+?)(?:,|$)", " ".join(parameters.split()))
+            exported[name] = [it for kind in kinds for it in passed_as(kind.strip(), names)]
+    declared = {}
+    for answer, name, parameters in re.findall(r"^(\w+) (myp_\w+)\(([^)]*)\);", header, re.M):
+        kinds = [re.sub(r"(\*?)\w+$", r"\1", " ".join(it.split())).strip() for it in parameters.split(",") if it.strip() != "void"]
+        declared[name] = kinds if answer == "uint32_t" else [answer, *kinds]
+    return exported, declared
 
 
 def main():
@@ -116,8 +135,9 @@ def main():
     failed = refused(["#include <stddef.h>", "#include <mysql_packets.h>", *lines], "-Werror")
     passed, wrong = passed + len(lines) - len(failed), wrong + found + failed
     exported, declared = calls(header)
-    passed += len(exported & declared)
-    wrong += [f"{it} is a call of one side alone" for it in exported ^ declared]
+    passed += len(exported.keys() & declared.keys())
+    wrong += [f"{it} is a call of one side alone" for it in exported.keys() ^ declared.keys()]
+    wrong += [f"{it} takes {', '.join(declared[it])} in C, and {', '.join(exported[it])} in Rattle" for it in exported.keys() & declared.keys() if exported[it] != declared[it]]
     declared_names = set(re.findall(r"\b(MYP_\w+) =|\b(MYP_\w+),", " ".join(re.findall(r"enum \w+ \{(.*?)\};", header, re.S))))
     names = {a or b for a, b in declared_names}
     ours = {name: value for name, value in numbers_of_the_library().items() if name in names}
@@ -128,7 +148,7 @@ def main():
     passed, wrong = passed + len(tests) - len(failed), wrong + failed
     if shutil.which("mariadb_config"):
         flags = subprocess.run(["mariadb_config", "--cflags"], capture_output=True, text=True).stdout.split()
-        texts = "".join(path.read_text(errors="replace") for path in Path(flags[0].removeprefix("-I")).glob("m*.h"))
+        texts = comments_out("".join(path.read_text(errors="replace") for path in Path(flags[0].removeprefix("-I")).glob("m*.h")))
         theirs = [(name, other) for name in names for other in (name.removeprefix("MYP_"), name.replace("MYP_TYPE_", "MYSQL_TYPE_"))
                   if name.startswith(("MYP_CLIENT_", "MYP_SERVER_", "MYP_COM_", "MYP_TYPE_", "MYP_SESSION_TRACK_")) or name.endswith("_FLAG")
                   if re.search(rf"\b{other}\b", texts)]
