@@ -186,7 +186,7 @@ fn write_kind<T: OkPacketLayout>(
     out: &mut [u8],
     written: &mut usize,
 ) -> u32
-    ensures { PutsUnlessTooLong (T.bytes capabilities (ok_of fields.now)) result out.old out.new written.new }
+    ensures { PutsUnlessTooLong (T.bytes T.HEADER capabilities (ok_of fields.now)) result out.old out.new written.new }
 {
     let packet = packet_of(fields);
     let sent = OkPacketSerializer::<T>::new(&packet, capabilities);
