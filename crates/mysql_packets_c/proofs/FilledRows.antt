@@ -8,7 +8,7 @@ use Rattle.mysql_wire.specs.declared.fault.FaultOf.{FaultOf}
 use Rattle.mysql_wire.specs.declared.fault.FaultOf.TheVariants as fault
 use Rattle.mysql_wire.specs.Reading.{Reading, Faults}
 use Rattle.mysql_values.specs.Value.{Content}
-use Rattle.mysql_prepared.specs.RowView.{RowLeft, IsDone, RefusesNext, read_to, read_of}
+use Rattle.mysql_prepared.specs.RowView.{Gives, RowLeft, IsDone, RefusesNext, read_to, read_of}
 use Rattle.mysql_packets_c.specs.Rows.{Fills, FillsPlaces, values_held}
 use Rattle.mysql_packets_c.specs.Value.{IsSet, Sets, value_content}
 use Rattle.mysql_packets_c.specs.declared.value.CValue.{CValue}
@@ -55,7 +55,7 @@ others-kept before values place x others =
 
 -- one value more is put into its place
 pub one-filled : (first row after : RowLeft) (before values : List CValue) (place : ℕ) (x z : CValue) (c : Content) → SoFar first row before values place
-    → (row.left ≡ suc after.left) × (row.values ≡ c ∷ after.values) × (after.end ≡ row.end) → value_content x ≡ c → Sets c (get_or values place z) x → place < length values
+    → Gives row c after → value_content x ≡ c → Sets c (get_or values place z) x → place < length values
     → SoFar first after before (slice_set values place x) (place + 1)
 one-filled first row after before values place x z c so_far gives content sets fits = record {
   count = omega (arith, so_far.count, gives.0);

@@ -1,7 +1,5 @@
 use Rattle.std.proofs.Common.{◌≢◌, length, refl}
-use Rattle.mysql_prepared.specs.BinaryRow.{IsRefusedAt}
 use Rattle.mysql_prepared.specs.RowView.{refs_held}
-use Rattle.mysql_packets_c.specs.ColumnType.{type_of, unsigned_of}
 use Rattle.mysql_packets_c.proofs.RefusedRow.{count-refused, place-refused}
 use Rattle.mysql_packets_c.proofs.rows.binary_row.Goals as goal
 
@@ -12,5 +10,5 @@ returns-in-Err-Count-clause-refused c = λ h.
 
 pub returns-clause-refused : goal.returns-clause-refused
 returns-clause-refused c = λ h.
-    let refused : IsRefusedAt type_of unsigned_of c.args.columns.now (refs_held c.args.refs.now) c.in-Err-Value.field-0-0 = rw (c.in-Err-Value.field-0-is) at c.in-Err-Value.ensures.refused in
-    (refl, place-refused c.args.columns.now (refs_held c.args.refs.now) c.in-Err-Value.field-0-0 refused)
+    let refuses = rw (c.in-Err-Value.field-0-is) at c.in-Err-Value.ensures.refused in
+    (refl, place-refused c.args.columns.now (refs_held c.args.refs.now) c.in-Err-Value.field-0-0 refuses.1.refused)

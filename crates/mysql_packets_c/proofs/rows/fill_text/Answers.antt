@@ -6,4 +6,4 @@ pub loop-value-preserved : goal.loop-value-preserved
 loop-value-preserved c =
     let gives = rw (c.in-Some.is) at c.in_ok-value.ensures.value in
     let fits : c.loop-value.place < length c.loop-value.values = omega (arith, gives.0) in
-    one-filled _ c.loop-value.row c.next_value.new.self _ c.loop-value.values c.loop-value.place c.put_ref.new.place _ _ c.loop-value.invariant gives c.put_ref.ensures.content c.put_ref.ensures.set fits
+    one-filled c.args.row.now c.loop-value.row c.next_value.new.self c.args.values.now c.loop-value.values c.loop-value.place c.put_ref.new.place _ _ c.loop-value.invariant gives c.put_ref.ensures.content c.put_ref.ensures.set fits
