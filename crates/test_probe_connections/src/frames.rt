@@ -4,7 +4,9 @@
 //! `long_frames LENGTH NUMBER PIECE`: a payload of so many bytes, written, and read again in such pieces. `sequence_id BYTES`.
 
 use crate::prelude::*;
-use mysql_frames::{FrameError, FrameReader, MAX_FRAME_LEN, sequence_id_at, write_frames, write_packet};
+use mysql_frames::{
+    FrameError, FrameReader, MAX_FRAME_LEN, sequence_id_at, write_frames, write_packet,
+};
 
 /// A sequence number among the words.
 fn number(request: &Request<'_>, place: usize) -> u8 {
@@ -81,7 +83,10 @@ pub fn long(out: &mut Out, request: &Request<'_>) -> Result {
     let after = write_frames(&mut frames, number(request, 2), &payload)?;
     out.show("len", frames.len());
     for frame in frames.chunks(MAX_FRAME_LEN + 4) {
-        out.show("header", frame.first_chunk::<4>().map(|header| header.as_slice()));
+        out.show(
+            "header",
+            frame.first_chunk::<4>().map(|header| header.as_slice()),
+        );
     }
     out.show("after", after);
     let packet: RawBytes<'_, EofBytes> = RawBytes::new(CowSlice::Borrowed(&payload));
