@@ -54,7 +54,7 @@ impl<'a> TextRowView<'a> {
         self.left
     }
 
-    /// The bytes after the values that were read: after the last, those that the row does not take.
+    /// The bytes after the values that were read: after the last, what follows the row.
     #[inline(always)]
     pub fn rest(&self) -> ParseBuf<'a>
         ensures value { self.now.left ≡ 0 → self.now.end ≡ Ok result }
@@ -63,7 +63,7 @@ impl<'a> TextRowView<'a> {
         self.buf.rest()
     }
 
-    /// The next value, or none after the last. After a refusal the row is as it was.
+    /// The next value, which is NULL or bytes, or none after the last. After a refusal the row is as it was.
     #[inline(always)]
     pub fn next_value<'s>(&mut self) -> Result<Option<ValueRef<'a>>, FaultOf<'s>>
         ensures value { GivesOne self.old result self.new }
