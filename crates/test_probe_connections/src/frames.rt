@@ -3,6 +3,8 @@
 //! `frames LIMIT NUMBER PIECE BYTES`: a stream that comes in pieces of so many bytes, or whole where that is 0. `write_frames NUMBER BYTES`.
 //! `long_frames LENGTH NUMBER PIECE`: a payload of so many bytes, written, and read again in such pieces. `sequence_id BYTES`.
 
+ghost use Rattle.std.specs.Prelude.{◌≤◌};
+
 use crate::prelude::*;
 use mysql_frames::{
     FrameError, FrameReader, MAX_FRAME_LEN, sequence_id_at, write_frames, write_packet,
