@@ -70,7 +70,7 @@ begin_unproved() {
 # unproved WHAT NAME STATUS OUTPUT: what began as NAME wrote OUTPUT, and says that nothing was proved
 unproved() {
     mv -- "$2/output" output && mv -- "$2/errors" errors
-    compare "$1" "$3" "$4" $'mypackets: runs without proof, which takes about half a minute
+    compare "$1" "$3" "$4" $'mypackets: runs without proof
 mypackets: nothing of this run was proved\n' "$(<"$2/status")"
 }
 
@@ -222,8 +222,8 @@ printf '%s\n' '#!/bin/sh' 'test "$1" = lib && sleep "${LIB_SECONDS:-0}" && exit 
     'printf "#!/bin/sh\necho ran\n" >out/new.$$ && chmod +x out/new.$$ && mv out/new.$$ out/mypackets' \
     "echo 'usage: mypackets COMMAND ARGS'" 'exit 2' >small/bin/rt
 chmod +x small/bin/rt
-first='mypackets: proves and builds the program and its libraries, which takes ten to twenty minutes on four processors
-mypackets: meanwhile ./mypackets --unproved WORDS answers in half a minute, without proof
+first='mypackets: proves and builds the program and its libraries first, which takes half as long as ./check
+mypackets: meanwhile ./mypackets --unproved WORDS answers without proof
 mypackets: mysql_lower
 '
 first_run="${first}mypackets: mysql_upper
