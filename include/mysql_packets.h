@@ -185,7 +185,7 @@ enum myp_session_state {
 /* Initializer: MYP_CHANGE_INIT. */
 typedef struct myp_change {
     myp_bytes content;   /* the data, as it was sent */
-    myp_bytes text;      /* the schema, the GTIDs, or the transaction's characteristics or state; else none */
+    myp_bytes text;      /* the schema, the text of the GTIDs, or the transaction's characteristics or state; else none */
     myp_bytes variables; /* the system variables, for myp_next_variable; else none */
     uint8_t change_type; /* of enum myp_session_state */
     uint8_t is_tracked;  /* 1 of a state change that says that changes are tracked, else 0 */
@@ -193,8 +193,9 @@ typedef struct myp_change {
 #define MYP_CHANGE_INIT { MYP_BYTES_INIT, MYP_BYTES_INIT, MYP_BYTES_INIT, 0, 0 }
 
 /* Takes the next change off the front of *rest, which begins as the session_state of an OK packet. A state change is read as
- * the string of the protocol's pages, and as the one byte that servers send. MYP_END where nothing is left;
- * MYP_UNEXPECTED_EOF; MYP_INVALID_DATA of another type, or of a bad length. */
+ * the string of the protocol's pages, and as the one byte that servers send; GTIDs as the byte 0 and their text, length-encoded, as
+ * servers send them. MYP_END where nothing is left; MYP_UNEXPECTED_EOF; MYP_INVALID_DATA of another type, of another encoding of
+ * GTIDs, or of a bad length. */
 uint32_t myp_next_change(myp_bytes *rest, myp_change *out);
 
 /* Takes the next system variable off the front of *rest, which begins as the variables of a change. MYP_END where nothing is

@@ -59,7 +59,7 @@ static void bulk(void)
 
 static void changes(void)
 {
-    static const uint8_t state[] = "\x00\x0f\x0a" "autocommit\x03OFF\x01\x05\x04test\x02\x01" "1\x03\x04\x00\x01g1";
+    static const uint8_t state[] = "\x00\x0f\x0a" "autocommit\x03OFF\x01\x05\x04test\x02\x01" "1\x03\x04\x00\x02g1";
     myp_bytes rest = { state, sizeof state - 1 }, name = MYP_BYTES_INIT, value = MYP_BYTES_INIT;
     myp_change c = MYP_CHANGE_INIT;
     CHECK(myp_next_change(&rest, &c) == MYP_OK && c.change_type == MYP_SESSION_TRACK_SYSTEM_VARIABLES && c.variables.len == 15 && c.content.data == state + 2 && c.text.len == 0);
@@ -68,7 +68,7 @@ static void changes(void)
     CHECK(myp_next_variable(&left, &name, &value) == MYP_END && IS(name, "autocommit"));
     CHECK(myp_next_change(&rest, &c) == MYP_OK && c.change_type == MYP_SESSION_TRACK_SCHEMA && IS(c.text, "test") && c.variables.len == 0 && c.is_tracked == 0);
     CHECK(myp_next_change(&rest, &c) == MYP_OK && c.change_type == MYP_SESSION_TRACK_STATE_CHANGE && c.is_tracked == 1 && c.text.len == 0);
-    CHECK(myp_next_change(&rest, &c) == MYP_OK && c.change_type == MYP_SESSION_TRACK_GTIDS && c.text.len == 4 && rest.len == 0);
+    CHECK(myp_next_change(&rest, &c) == MYP_OK && c.change_type == MYP_SESSION_TRACK_GTIDS && IS(c.text, "g1") && c.content.len == 4 && rest.len == 0);
     CHECK(myp_next_change(&rest, &c) == MYP_END && c.change_type == MYP_SESSION_TRACK_GTIDS);
     rest.data = state, rest.len = 5;
     CHECK(myp_next_change(&rest, &c) == MYP_UNEXPECTED_EOF && rest.len == 5 && rest.data == state && c.change_type == MYP_SESSION_TRACK_GTIDS);

@@ -16,9 +16,13 @@ def session_state_change(buf, kind):
 
 
 def change_as_sent(kind, data):
-    """A state change is sent as one byte, the truth value, or as a string."""
+    """A state change is sent as one byte, the truth value, or as a string; GTIDs are sent as the encoding 00 and a string."""
     if kind == 2 and len(data) == 1:
         return data == b"1"
+    if kind == 3:
+        buf = Buf(data)
+        buf.const(b"\0")
+        return buf.string()
     return session_state_change(Buf(data), kind)
 
 

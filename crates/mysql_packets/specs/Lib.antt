@@ -91,6 +91,7 @@ pub use Rattle.mysql_replies.specs.OkPacket
 pub use Rattle.mysql_replies.specs.OkPacketSent
 pub use Rattle.mysql_replies.specs.ProgressReport
 pub use Rattle.mysql_replies.specs.SentChange
+pub use Rattle.mysql_replies.specs.SentGtids
 pub use Rattle.mysql_replies.specs.ServerError
 pub use Rattle.mysql_replies.specs.SessionStateChanges
 pub use Rattle.mysql_replies.specs.SessionStateInfo

@@ -1,5 +1,5 @@
 -- Changes in the layouts that servers send.
-use Rattle.std.proofs.Common.{◌≡◌, ◌≢◌, ◌==◌, ◌&&◌, ◌+◌, ◌<◌, ◌≤◌, ℕ, List, [], length, Some, Result, Ok, Err, IfOk, Bool, false, refl, sym, ap, subst, arith}
+use Rattle.std.proofs.Common.{◌≡◌, ◌≢◌, ◌==◌, ◌&&◌, ◌+◌, ◌<◌, ◌≤◌, ℕ, List, [], length, Some, Result, Ok, Err, IfOk, Bool, true, false, if◌then◌else◌, refl, sym, ◌∙◌, ap, subst, arith}
 use Rattle.std.proofs.lemmas.List.{length-append}
 use Rattle.mysql_wire.specs.declared.fault.FaultOf.{FaultOf}
 use Rattle.mysql_wire.specs.declared.fault.FaultOf.TheVariants as fault
@@ -13,9 +13,10 @@ use Rattle.mysql_wire.specs.declared.constant_value.Const.{Const}
 use Rattle.mysql_wire.specs.Reading.{Reading, Answers, Faults, IsTail, then_read, then_read-ok, done-rest}
 use Rattle.mysql_session.specs.declared.session_state_change.SessionStateChange.{SessionStateChange}
 use Rattle.mysql_session.specs.SessionStateChange.{session_state_change}
+use Rattle.mysql_replies.specs.SentGtids.{sent_gtids}
 use Rattle.mysql_replies.specs.declared.session_state_info.SessionStateInfo.{SessionStateInfo}
 use Rattle.mysql_replies.specs.SessionStateInfo.{session_state_info, decoded, front_of, data_type, data_bytes}
-use Rattle.mysql_replies.specs.SessionStateChanges.{is_state_change, sent_unless_read, decoded_as_sent, after_entry, ChangeOf, NextOf}
+use Rattle.mysql_replies.specs.SessionStateChanges.{is_state_change, is_gtids, gtids_of, sent_unless_read, decoded_as_sent, after_entry, ChangeOf, NextOf}
 
 -- ---- the next change
 
@@ -67,9 +68,14 @@ pub ruleset next_changes = (read-next, fault-next)
 kept : (one : Bool) (bytes : List ℕ) (read : Reading SessionStateChange) (change : SessionStateChange) → read ≡ Ok (change, []) → sent_unless_read one bytes read ≡ Ok (change, [])
 kept one bytes read change e = subst (λ r. sent_unless_read one bytes r ≡ Ok (change, [])) (sym e) refl
 
-pub as_sent : (i : SessionStateInfo) (change : SessionStateChange) → decoded i ≡ Ok (change, []) → decoded_as_sent i ≡ Ok (change, [])
-as_sent i change e =
-    kept (is_state_change (data_type i) && (length (data_bytes i) == 1)) (data_bytes i) (front_of ((session_state_change (data_type i)).reads (data_bytes i))) change e
+not-gtids : (b : Bool) (gtids other : Reading SessionStateChange) → b ≡ false → ◌≡◌ {A = Reading SessionStateChange} (if b then gtids else other) other
+not-gtids true gtids other e = absurd cc
+not-gtids false gtids other e = refl
+
+pub as_sent : (i : SessionStateInfo) (change : SessionStateChange) → is_gtids (data_type i) ≡ false → decoded i ≡ Ok (change, []) → decoded_as_sent i ≡ Ok (change, [])
+as_sent i change other e =
+    not-gtids (is_gtids (data_type i)) (gtids_of ((sent_gtids.form tt).reads (data_bytes i))) _ other
+    ∙ kept (is_state_change (data_type i) && (length (data_bytes i) == 1)) (data_bytes i) (front_of ((session_state_change (data_type i)).reads (data_bytes i))) change e
 
 -- ---- what is read of a front is spelled there
 

@@ -5,6 +5,7 @@ pub mod ProgressReport
 pub mod ErrPacket
 pub mod ErrPacketRef
 pub mod SessionStateInfo
+pub mod SentGtids
 pub mod SessionStateChanges
 pub mod SentChange
 pub mod SessionStateChangesRef

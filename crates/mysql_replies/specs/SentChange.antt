@@ -1,12 +1,13 @@
 -- The entry of a change, as servers send it.
-use Rattle.std.specs.Prelude.{◌≡◌, ℕ, List, [], ◌∷◌, Option, Some, None, true, false}
+use Rattle.std.specs.Prelude.{◌≡◌, ◌<◌, ◌^◌, ℕ, length, List, [], ◌∷◌, Option, Some, None, true, false}
 use Rattle.std.specs.Option.{option_map}
 use Rattle.mysql_wire.specs.declared.codes.session_state_type.SessionStateType.{SessionStateType}
 use Rattle.mysql_wire.specs.declared.codes.session_state_type.SessionStateType.TheVariants as kind
-use Rattle.mysql_session.specs.SessionStateChange.{session_state_change_bytes}
+use Rattle.mysql_session.specs.SessionStateChange.{session_state_change_bytes, ChangeIsShort}
 use Rattle.mysql_session.specs.SessionText.{text_bytes}
 use Rattle.mysql_session.specs.declared.session_state_change.SessionStateChange.{SessionStateChange}
 use Rattle.mysql_session.specs.declared.session_state_change.SessionStateChange.TheVariants as change
+use Rattle.mysql_replies.specs.SentGtids.{sent_gtids, sent_text}
 use Rattle.mysql_replies.specs.declared.session_state_info.SessionStateInfo.{SessionStateInfo}
 
 -- the type of a change, none of one of another kind
@@ -19,13 +20,13 @@ type_of (change.TransactionCharacteristics c) = Some kind.SESSION_TRACK_TRANSACT
 type_of (change.TransactionState s) = Some kind.SESSION_TRACK_TRANSACTION_STATE
 type_of (change.Unsupported u) = None
 
--- the data: of whether changes are tracked `31` or `30` alone, and else the defined bytes
+-- the data: of whether changes are tracked `31` or `30` alone, of GTIDs the encoding before the text, and else the defined bytes
 abbrev pub sent_data : SessionStateChange → List ℕ
 sent_data (change.IsTracked true) = 49 ∷ []
 sent_data (change.IsTracked false) = 48 ∷ []
 sent_data (change.Schema s) = session_state_change_bytes (change.Schema s)
 sent_data (change.SystemVariables vs) = session_state_change_bytes (change.SystemVariables vs)
-sent_data (change.Gtids g) = session_state_change_bytes (change.Gtids g)
+sent_data (change.Gtids g) = sent_gtids.bytes (sent_text (text_bytes g))
 sent_data (change.TransactionCharacteristics c) = session_state_change_bytes (change.TransactionCharacteristics c)
 sent_data (change.TransactionState s) = session_state_change_bytes (change.TransactionState s)
 sent_data (change.Unsupported u) = session_state_change_bytes (change.Unsupported u)
@@ -38,13 +39,23 @@ info_of type content = record { data_type = record { 0 = type; 1 = record {} }; 
 abbrev pub sent_info : SessionStateChange → Option SessionStateInfo
 sent_info c = option_map (λ type. info_of type (sent_data c)) (type_of c)
 
+-- what makes the entry of a change be read again: a length of its GTIDs' text that eight bytes can tell, too
+abbrev pub SentIsShort : SessionStateChange → Type 0
+SentIsShort (change.IsTracked b) = ChangeIsShort (change.IsTracked b)
+SentIsShort (change.Schema s) = ChangeIsShort (change.Schema s)
+SentIsShort (change.SystemVariables vs) = ChangeIsShort (change.SystemVariables vs)
+SentIsShort (change.Gtids g) = length (text_bytes g) < 2 ^ 64
+SentIsShort (change.TransactionCharacteristics c) = ChangeIsShort (change.TransactionCharacteristics c)
+SentIsShort (change.TransactionState s) = ChangeIsShort (change.TransactionState s)
+SentIsShort (change.Unsupported u) = ChangeIsShort (change.Unsupported u)
+
 -- The entry of such a change takes no memory: it is one byte that lies in the program, or no byte, or there is none. A
 -- length-encoded text has at least the byte of its length.
 abbrev pub TakesNoMemory : SessionStateChange → Type 0
 TakesNoMemory (change.IsTracked b) = Unit {0}
 TakesNoMemory (change.Schema s) = ⊥
 TakesNoMemory (change.SystemVariables vs) = vs ≡ []
-TakesNoMemory (change.Gtids g) = text_bytes g ≡ []
+TakesNoMemory (change.Gtids g) = ⊥
 TakesNoMemory (change.TransactionCharacteristics c) = ⊥
 TakesNoMemory (change.TransactionState s) = ⊥
 TakesNoMemory (change.Unsupported u) = Unit {0}

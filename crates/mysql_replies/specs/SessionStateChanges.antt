@@ -1,13 +1,17 @@
 -- The session's changes, one after another, in the layouts that servers send.
-use Rattle.std.specs.Prelude.{◌≡◌, ◌≢◌, ℕ, List, [], ◌∷◌, length, Option, Some, None, Result, Ok, Err, Bool, true, false, ◌&&◌, ◌==◌}
+use Rattle.std.specs.Prelude.{◌≡◌, ◌≢◌, ℕ, List, [], ◌∷◌, length, Option, Some, None, Result, Ok, Err, Bool, true, false, ◌&&◌, ◌==◌, if◌then◌else◌}
 use Rattle.mysql_wire.specs.declared.codes.session_state_type.SessionStateType.{SessionStateType}
 use Rattle.mysql_wire.specs.declared.codes.session_state_type.SessionStateType.TheVariants as kind
 use Rattle.mysql_wire.specs.declared.fault.FaultOf.{FaultOf}
 use Rattle.mysql_wire.specs.LenEnc.{lenenc_string}
 use Rattle.mysql_wire.specs.Reading.{Reading, Answers, Faults}
 use Rattle.mysql_session.specs.SessionStateChange.{session_state_change, is_tracked, lists_variables}
+use Rattle.mysql_session.specs.SessionText.{text_of}
 use Rattle.mysql_session.specs.declared.session_state_change.SessionStateChange.{SessionStateChange}
+use Rattle.mysql_session.specs.declared.session_state_change.SessionStateChange.TheVariants as change
+use Rattle.mysql_replies.specs.declared.sent_gtids.SentGtids.{SentGtids}
 use Rattle.mysql_replies.specs.declared.session_state_info.SessionStateInfo.{SessionStateInfo}
+use Rattle.mysql_replies.specs.SentGtids.{sent_gtids, gtids_text}
 use Rattle.mysql_replies.specs.SessionStateInfo.{session_state_info, data_type, data_bytes, front_of}
 
 abbrev pub is_state_change : SessionStateType → Bool
@@ -18,15 +22,30 @@ is_state_change kind.SESSION_TRACK_GTIDS = false
 is_state_change kind.SESSION_TRACK_TRANSACTION_CHARACTERISTICS = false
 is_state_change kind.SESSION_TRACK_TRANSACTION_STATE = false
 
+abbrev pub is_gtids : SessionStateType → Bool
+is_gtids kind.SESSION_TRACK_GTIDS = true
+is_gtids kind.SESSION_TRACK_SYSTEM_VARIABLES = false
+is_gtids kind.SESSION_TRACK_SCHEMA = false
+is_gtids kind.SESSION_TRACK_STATE_CHANGE = false
+is_gtids kind.SESSION_TRACK_TRANSACTION_CHARACTERISTICS = false
+is_gtids kind.SESSION_TRACK_TRANSACTION_STATE = false
+
 -- what is read; where that is refused, one byte alone is the truth value
 abbrev pub sent_unless_read : Bool → List ℕ → Reading SessionStateChange → Reading SessionStateChange
 sent_unless_read one bytes (Ok x) = Ok x
 sent_unless_read true bytes (Err kind) = Ok (is_tracked bytes, [])
 sent_unless_read false bytes (Err kind) = Err kind
 
--- the change that data of this type begins with, or the state change that one byte is
+-- the GTIDs that were read, the bytes after them dropped
+abbrev pub gtids_of : Reading SentGtids → Reading SessionStateChange
+gtids_of (Ok x) = Ok (change.Gtids (text_of (gtids_text x.0)), [])
+gtids_of (Err kind) = Err kind
+
+-- the change that data of this type begins with, or the state change that one byte is; GTIDs have an encoding before their text
 abbrev pub change_as_sent : SessionStateType → List ℕ → Reading SessionStateChange
-change_as_sent type bytes = sent_unless_read (is_state_change type && (length bytes == 1)) bytes (front_of ((session_state_change type).reads bytes))
+change_as_sent type bytes =
+    if is_gtids type then gtids_of ((sent_gtids.form tt).reads bytes)
+    else sent_unless_read (is_state_change type && (length bytes == 1)) bytes (front_of ((session_state_change type).reads bytes))
 
 abbrev pub decoded_as_sent : SessionStateInfo → Reading SessionStateChange
 decoded_as_sent i = change_as_sent (data_type i) (data_bytes i)

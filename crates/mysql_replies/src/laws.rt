@@ -3,7 +3,7 @@
 //! Each law is a function with nothing in it, whose contract holds for all values.
 #![tactic(auto, using(mysql_wire::proofs::Packets::packets))]
 
-ghost use Rattle.std.specs.Prelude.{◌≡◌, ◌++◌, ◌<◌, ◌^◌, ◌↔◌, [], List, ℕ, length, Bool, None, Some, Ok, IfSome, IsTrue};
+ghost use Rattle.std.specs.Prelude.{◌≡◌, ◌++◌, ◌<◌, ◌^◌, ◌↔◌, [], List, ℕ, length, Bool, None, Some, Ok, IfSome, IsTrue, false};
 ghost use Rattle.mysql_wire.specs.Flags.{CapabilityFlags, MariadbCapabilities};
 ghost use Rattle.mysql_replies.specs.declared.column.Column.{Column};
 ghost use Rattle.mysql_replies.specs.declared.column_count.ColumnCount.{ColumnCount};
@@ -27,10 +27,9 @@ ghost use Rattle.mysql_replies.specs.declared.ok_kind.OldEofPacket.{OldEofPacket
 ghost use Rattle.mysql_replies.specs.declared.ok_kind.NetworkStreamTerminator.{NetworkStreamTerminator};
 ghost use Rattle.mysql_replies.specs.ProgressReport.{progress_report, ProgressReportFits};
 ghost use Rattle.mysql_replies.specs.ServerError.{server_error, error_code, sql_state_of, StateFits};
-ghost use Rattle.mysql_replies.specs.SessionStateInfo.{session_state_info, data_bytes, decoded, state_string};
-ghost use Rattle.mysql_replies.specs.SessionStateChanges.{decoded_as_sent};
-ghost use Rattle.mysql_replies.specs.SentChange.{sent_info};
-ghost use Rattle.mysql_session.specs.SessionStateChange.{ChangeIsShort};
+ghost use Rattle.mysql_replies.specs.SessionStateInfo.{session_state_info, data_type, data_bytes, decoded, state_string};
+ghost use Rattle.mysql_replies.specs.SessionStateChanges.{decoded_as_sent, is_gtids};
+ghost use Rattle.mysql_replies.specs.SentChange.{sent_info, SentIsShort};
 ghost use Rattle.mysql_session.specs.declared.session_state_change.SessionStateChange.{SessionStateChange};
 ghost use Rattle.mysql_replies.specs.SqlState.{sql_state, state_bytes};
 
@@ -100,10 +99,10 @@ pub fn session_state_info_round_trips()
     ensures plain { (i : SessionStateInfo) (rest : List ℕ) → length (data_bytes i) < 2 ^ 64 → (session_state_info.form tt).Spells i (session_state_info.bytes i ++ rest) rest }
 {}
 
-/// What a change is read as in the written layout, it is read as in the layouts that servers send.
+/// What a change is read as in the written layout, it is read as in the layouts that servers send, but for GTIDs.
 #[tactic(auto, using(crate::proofs::AsSent::as_sent))]
 pub fn session_state_change_as_sent()
-    ensures value { (i : SessionStateInfo) (change : SessionStateChange) → decoded i ≡ Ok (change, []) → decoded_as_sent i ≡ Ok (change, []) }
+    ensures value { (i : SessionStateInfo) (change : SessionStateChange) → is_gtids (data_type i) ≡ false → decoded i ≡ Ok (change, []) → decoded_as_sent i ≡ Ok (change, []) }
 {}
 
 /// What is sent of an OK packet is read again as its kind, under the same flags, where nothing follows.
@@ -117,7 +116,7 @@ pub fn ok_packet_round_trips()
 /// What is sent of a change is decoded again.
 #[tactic(auto, using(crate::proofs::SentChangeAgain::sent_changes))]
 pub fn sent_change_round_trips()
-    ensures decoded { (c : SessionStateChange) → ChangeIsShort c → IfSome (sent_info c) (λ i. decoded_as_sent i ≡ Ok (c, [])) }
+    ensures decoded { (c : SessionStateChange) → SentIsShort c → IfSome (sent_info c) (λ i. decoded_as_sent i ≡ Ok (c, [])) }
 {}
 
 /// A state string spells at most one list of entries.

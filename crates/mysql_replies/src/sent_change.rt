@@ -1,10 +1,11 @@
 //! Entries of a state string that are put together of changes, as a server sends them.
-#![tactic(auto, unfolding(mysql_session::specs::SessionStateChange::session_state_change_bytes, mysql_session::specs::SessionText::gtids, mysql_session::specs::SystemVariables::system_variables))]
+#![tactic(auto, unfolding(mysql_session::specs::SessionStateChange::session_state_change_bytes, crate::specs::SentGtids::sent_gtids, mysql_session::specs::SystemVariables::system_variables))]
 
 ghost use Rattle.std.specs.Prelude.{◌≡◌, IfOk, IsOk, IsSome};
 ghost use Rattle.std.specs.Cow.{cow_slice_items};
 ghost use Rattle.mysql_replies.specs.SentChange as spec;
 
+use crate::sent_gtids::SentGtids;
 use crate::session_state_info::SessionStateInfo;
 use mysql_session::SessionStateChange;
 use mysql_wire::{MySerialize, SessionStateType};
@@ -43,6 +44,11 @@ fn data_of(
     match change {
         SessionStateChange::IsTracked(true) => Ok(CowSlice::Borrowed(b"1")),
         SessionStateChange::IsTracked(false) => Ok(CowSlice::Borrowed(b"0")),
+        SessionStateChange::Gtids(gtids) => {
+            let mut content = Vec::new(alloc);
+            SentGtids::new(gtids.as_bytes()).serialize(&mut content)?;
+            Ok(CowSlice::Owned(content))
+        }
         _ => {
             let mut content = Vec::new(alloc);
             change.serialize(&mut content)?;
@@ -55,8 +61,9 @@ impl SessionStateInfo<'static> {
     /// The entry of a change, on memory of its own; none of [`Unsupported`](SessionStateChange::Unsupported), which has no
     /// type.
     ///
-    /// Whether changes are tracked is sent as one byte, `1` or `0`, as servers do;
-    /// [`decode_as_sent`](Self::decode_as_sent) reads it. That byte, and what has no bytes, takes no memory.
+    /// Whether changes are tracked is sent as one byte, `1` or `0`, and GTIDs as the byte `00` and their text, length-encoded,
+    /// as servers do: [`decode_as_sent`](Self::decode_as_sent) reads them. The one byte, and an empty list of system
+    /// variables, take no memory.
     pub fn from_change(
         alloc: Global,
         change: &SessionStateChange<'_>,

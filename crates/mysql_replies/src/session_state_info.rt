@@ -9,8 +9,9 @@ ghost use Rattle.mysql_replies.specs.SessionStateInfo as spec;
 ghost use Rattle.mysql_replies.specs.SessionStateChanges as changes;
 ghost use Rattle.mysql_replies.specs.SentChange.{info_of};
 
+use crate::sent_gtids::SentGtidsRef;
 use crate::session_state_info_ref::SessionStateInfoRef;
-use mysql_session::SessionStateChange;
+use mysql_session::{Gtids, SessionStateChange};
 use mysql_wire::{
     AnyWidth, Const, Fault, FaultOf, LenEnc, MyDeserialize, ParseBuf, Parts, RawBytes,
     SessionStateType, Sink, parts,
@@ -58,7 +59,7 @@ impl<'a> SessionStateInfo<'a> {
     /// The change that the data begins with; bytes after it are dropped.
     ///
     /// The fault is that of reading the data as a change of this type. Memory is taken for a list of system variables
-    /// alone. Servers send a state change in another layout: [`decode_as_sent`](Self::decode_as_sent) reads both.
+    /// alone. Servers send state changes and GTIDs in other layouts: [`decode_as_sent`](Self::decode_as_sent) reads them.
     pub fn decode(&self, alloc: Global) -> Result<SessionStateChange<'_>, Fault>
         ensures value { Answers (lists_variables (spec.data_type self.now) (spec.data_bytes self.now)) result [] (spec.decoded self.now) }
         ensures spelled { IfOk result (λ change. (rest : List ℕ) × (session_state_change (spec.data_type self.now)).Spells change (spec.data_bytes self.now) rest) }
@@ -67,10 +68,12 @@ impl<'a> SessionStateInfo<'a> {
         data.parse(self.data_type.0)
     }
 
-    /// The change, in either layout of a state change (`SESSION_TRACK_STATE_CHANGE`).
+    /// The change, in the layouts that servers send.
     ///
-    /// Servers send its data as one byte, the truth value itself: `1` where changes are tracked. All else is as
-    /// [`decode`](Self::decode) reads it, with the same faults.
+    /// A state change (`SESSION_TRACK_STATE_CHANGE`) is one byte, the truth value itself, `1` where changes are tracked, or what
+    /// [`decode`](Self::decode) reads. GTIDs (`SESSION_TRACK_GTIDS`) are the byte `00`, their encoding, and the text,
+    /// length-encoded: bytes after it are dropped, another encoding is `InvalidData`, and data that are cut `UnexpectedEof`.
+    /// All else is as `decode` reads it, with the same faults.
     pub fn decode_as_sent(&self, alloc: Global) -> Result<SessionStateChange<'_>, Fault>
         ensures value { Answers (lists_variables (spec.data_type self.now) (spec.data_bytes self.now)) result [] (changes.decoded_as_sent self.now) }
     {
@@ -99,6 +102,13 @@ pub(crate) fn is_state_change(data_type: SessionStateType) -> bool
     matches!(data_type, SessionStateType::SESSION_TRACK_STATE_CHANGE)
 }
 
+/// Whether it is a set of GTIDs, which servers send in a layout of its own.
+pub(crate) fn is_gtids(data_type: SessionStateType) -> bool
+    ensures value { result ≡ changes.is_gtids data_type }
+{
+    matches!(data_type, SessionStateType::SESSION_TRACK_GTIDS)
+}
+
 /// The change that data of this type spells, in the layouts that servers send.
 pub(crate) fn read_as_sent<'a>(
     data_type: SessionStateType,
@@ -107,6 +117,11 @@ pub(crate) fn read_as_sent<'a>(
     ensures value { Answers (lists_variables data_type data_bytes.entry) result [] (changes.change_as_sent data_type data_bytes.entry) }
 {
     let mut bytes = data_bytes;
+    if is_gtids(data_type) {
+        let set: SentGtidsRef<'a> = bytes.parse(())?;
+        let text = CowSlice::Borrowed(set.text());
+        return Ok(SessionStateChange::Gtids(Gtids::new(text)));
+    }
     let change: Result<SessionStateChange<'a>, Fault> = bytes.parse(data_type);
     if change.is_err() && is_state_change(data_type) && bytes.len() == 1 {
         return Ok(SessionStateChange::IsTracked(bytes.eat_all() == b"1".as_slice()));

@@ -7,7 +7,8 @@ ghost use Rattle.mysql_session.specs.SessionStateChange.{session_state_change};
 ghost use Rattle.mysql_replies.specs.SessionStateInfo as spec;
 ghost use Rattle.mysql_replies.specs.SessionStateChanges as changes;
 
-use crate::session_state_info::{SessionStateInfo, is_state_change};
+use crate::sent_gtids::SentGtidsRef;
+use crate::session_state_info::{SessionStateInfo, is_gtids, is_state_change};
 use mysql_session::{ChangeRef, SessionStateChangeRef};
 use mysql_wire::{
     AnyWidth, BytesRepr, Const, Fault, FaultOf, LenEnc, MyDeserialize, ParseBuf, RawBytes,
@@ -54,8 +55,8 @@ impl<'a> SessionStateInfoRef<'a> {
 
     /// The change that the data begins with; bytes after it are dropped. It takes no memory.
     ///
-    /// The fault is that of reading the data as a change of this type. Servers send a state change in another layout:
-    /// [`decode_as_sent`](Self::decode_as_sent) reads both.
+    /// The fault is that of reading the data as a change of this type. Servers send state changes and GTIDs in other layouts:
+    /// [`decode_as_sent`](Self::decode_as_sent) reads them.
     pub fn decode(&self) -> Result<SessionStateChangeRef<'a>, Fault>
         ensures value { Answers false result [] (spec.decoded self.now) }
         ensures spelled { IfOk result (λ change. (rest : List ℕ) × (session_state_change (spec.data_type self.now)).Spells change (spec.data_bytes self.now) rest) }
@@ -64,10 +65,7 @@ impl<'a> SessionStateInfoRef<'a> {
         bytes.parse(self.data_type.0)
     }
 
-    /// The change, in either layout of a state change (`SESSION_TRACK_STATE_CHANGE`). It takes no memory.
-    ///
-    /// Servers send its data as one byte, the truth value itself: `1` where changes are tracked. All else is as
-    /// [`decode`](Self::decode) reads it, with the same faults.
+    /// The change, in the layouts that servers send, as [`SessionStateInfo::decode_as_sent`] reads it. It takes no memory.
     pub fn decode_as_sent(&self) -> Result<SessionStateChangeRef<'a>, Fault>
         ensures value { Answers false result [] (changes.decoded_as_sent self.now) }
     {
@@ -93,6 +91,10 @@ pub(crate) fn read_as_sent_ref<'a>(
     ensures value { Answers false result [] (changes.change_as_sent data_type data_bytes.entry) }
 {
     let mut bytes = data_bytes;
+    if is_gtids(data_type) {
+        let set: SentGtidsRef<'a> = bytes.parse(())?;
+        return Ok(SessionStateChangeRef::new(ChangeRef::Gtids(set.text())));
+    }
     let change: Result<SessionStateChangeRef<'a>, Fault> = bytes.parse(data_type);
     if change.is_err() && is_state_change(data_type) && bytes.len() == 1 {
         let is_tracked = bytes.eat_all() == b"1".as_slice();

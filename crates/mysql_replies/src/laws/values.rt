@@ -137,6 +137,9 @@ pub fn this_sent_change_round_trips(change: &SessionStateChange<'_>)
     ensures decoded { IfSome (sent_info change.now) (λ i. decoded_as_sent i ≡ Ok (change.now, [])) }
 {
     this_session_state_change_round_trips(change);
+    if let SessionStateChange::Gtids(gtids) = change {
+        let _text = gtids.as_bytes().len();
+    }
 }
 
 /// What is written of this SQL state is read again, whatever follows.
