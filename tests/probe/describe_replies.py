@@ -17,8 +17,9 @@ def describe_column(record):
 
 
 def describe_column_count(record):
-    count, byte = record
-    return [f"count={count}", "metadata_follows=" + ("no" if byte == 0 else "yes")] + numbers(("metadata_byte",), (byte,))
+    optional, count, byte = record
+    return (numbers(("optional_metadata_byte",), (optional,)) + [f"count={count}"] + numbers(("metadata_byte",), (byte,))
+            + ["metadata_follows=" + ("no" if 0 in (optional, byte) else "yes")])
 
 
 def shown_progress(stage, most, progress, info):
@@ -120,7 +121,7 @@ MARKERS = {"ColumnDefinitionCatalog": b"\x03def", "FixedLengthFieldsLen": b"\x0c
 
 DESCRIBERS = {
     "column": lambda: by("Column", describe_column),
-    "column_count": lambda mariadb: by("ColumnCount", describe_column_count, int(mariadb)),
+    "column_count": lambda caps, mariadb: by("ColumnCount", describe_column_count, int(caps), int(mariadb)),
     "err": lambda caps: by("ErrPacket", describe_err, int(caps)),
     "ok": lambda caps: by("CommonOkPacket", describe_ok, int(caps)),
     "ok_end": lambda caps: by("ResultSetTerminator", describe_ok, int(caps)),

@@ -1,6 +1,6 @@
 """What a server answers: changes of a session's state, columns, OK packets, errors."""
 from .buf import Buf, Eof, Invalid, to_the_end
-from .codes import CACHE_METADATA, COLUMN_TYPES, PROGRESS_OBSOLETE, PROTOCOL_41, SESSION_STATE_CHANGED, SESSION_TRACK
+from .codes import CACHE_METADATA, COLUMN_TYPES, OPTIONAL_METADATA, PROGRESS_OBSOLETE, PROTOCOL_41, SESSION_STATE_CHANGED, SESSION_TRACK
 
 
 def system_variable(buf):
@@ -101,8 +101,9 @@ def progress_report(buf):
     return block.number(1), block.number(1), block.number(3), buf.string()
 
 
-def column_count(buf, mariadb):
-    return buf.lenenc(), buf.number(1) if mariadb & CACHE_METADATA else None
+def column_count(buf, capabilities, mariadb):
+    optional = buf.number(1) if capabilities & OPTIONAL_METADATA else None
+    return optional, buf.lenenc(), buf.number(1) if mariadb & CACHE_METADATA else None
 
 
 def sql_state(buf):

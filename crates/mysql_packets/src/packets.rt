@@ -122,6 +122,7 @@ pub use mysql_replies::ProgressReportRef;
 pub use mysql_replies::ResultSetTerminator;
 pub use mysql_replies::ServerError;
 pub use mysql_replies::ServerErrorRef;
+pub use mysql_replies::SessionCapabilities;
 pub use mysql_replies::SessionStateChanges;
 pub use mysql_replies::SessionStateChangesRef;
 pub use mysql_replies::SessionStateInfo;

@@ -2,7 +2,7 @@
 use Rattle.std.specs.Prelude.{◌≡◌, not, ◌==◌, if◌then◌else◌, ℕ, List}
 use Rattle.mysql_replies.specs.ColumnCount.{columns, count, metadata_follows, says_follow, with_metadata_follows}
 use Rattle.mysql_replies.specs.declared.column_count.ColumnCount.{ColumnCount}
-use Rattle.mysql_wire.specs.Flags.{MariadbCapabilities}
+use Rattle.mysql_replies.specs.declared.session_capabilities.SessionCapabilities.{SessionCapabilities}
 use Rattle.mysql_packets_c.specs.Input.{used_of}
 use Rattle.mysql_packets_c.specs.declared.column_count.CColumnCount.{CColumnCount}
 
@@ -11,7 +11,11 @@ pub record IsCount (packet : List ℕ) (c : ColumnCount) (rest : List ℕ) (out 
   pub metadata_follows : out.metadata_follows ≡ (if metadata_follows c then 1 else 0)
   pub used : out.used ≡ used_of packet rest
 
+-- none of MySQL's flags, and MariaDB's own of these bits
+abbrev pub session_of : ℕ → SessionCapabilities
+session_of bits = record { mysql = record { 0 = 0; 1 = record {} }; mariadb = record { 0 = bits; 1 = record {} } }
+
 -- the count of these fields: where a byte says it, 1 says that definitions follow, and 0 that none do
-abbrev pub count_given : MariadbCapabilities → CColumnCount → ColumnCount
+abbrev pub count_given : SessionCapabilities → CColumnCount → ColumnCount
 count_given capabilities c =
     if says_follow capabilities then with_metadata_follows (not (c.metadata_follows == 0)) (columns c.count) else columns c.count

@@ -4,15 +4,15 @@
 ghost use Rattle.std.specs.Prelude.{◌≡◌, ◌≢◌, ◌<◌, false, true};
 ghost use Rattle.mysql_replies.specs.ColumnCount.{column_count, says_follow};
 ghost use Rattle.mysql_packets_c.specs.Code.{ReadsInto};
-ghost use Rattle.mysql_packets_c.specs.ColumnCount.{IsCount, count_given};
+ghost use Rattle.mysql_packets_c.specs.ColumnCount.{IsCount, count_given, session_of};
 ghost use Rattle.mysql_packets_c.specs.Output.{PutsUnlessTooLong};
 
 use crate::code::{INVALID_INPUT, OK, code_of};
-use crate::flags::mariadb_of;
+use crate::flags::{capabilities_of, mariadb_of};
 use crate::input::read;
 use crate::output::put_packet;
 use bitflags::Flags;
-use mysql_replies::ColumnCount;
+use mysql_replies::{ColumnCount, SessionCapabilities};
 use mysql_wire::MariadbCapabilities;
 use std::alloc::Global;
 
@@ -33,9 +33,9 @@ pub extern "C" fn myp_read_column_count(
     mariadb_capabilities: u32,
     out: &mut CColumnCount,
 ) -> u32
-    ensures value { ReadsInto (IsCount packet.now) ((column_count.form (record { 0 = mariadb_capabilities; 1 = record {} })).reads packet.now) result out.old out.new }
+    ensures value { ReadsInto (IsCount packet.now) ((column_count.form (session_of mariadb_capabilities)).reads packet.now) result out.old out.new }
 {
-    let capabilities = MariadbCapabilities::from_bits_retain(mariadb_capabilities);
+    let capabilities = session_of(mariadb_capabilities);
     match read::<ColumnCount>(alloc, packet, capabilities) {
         Ok((columns, used)) => {
             out.count = columns.count();
@@ -47,15 +47,27 @@ pub extern "C" fn myp_read_column_count(
     }
 }
 
+/// None of MySQL's flags, and MariaDB's own of these bits.
+fn session_of(mariadb_capabilities: u32) -> SessionCapabilities
+    ensures value { result ≡ session_of mariadb_capabilities }
+{
+    SessionCapabilities {
+        mysql: capabilities_of(0),
+        mariadb: mariadb_of(mariadb_capabilities),
+    }
+}
+
 /// Whether a byte says that definitions follow.
-fn says_follow(capabilities: MariadbCapabilities) -> bool
+fn says_follow(capabilities: SessionCapabilities) -> bool
     ensures value { result ≡ says_follow capabilities }
 {
-    capabilities.contains(MariadbCapabilities::MARIADB_CLIENT_CACHE_METADATA)
+    capabilities
+        .mariadb
+        .contains(MariadbCapabilities::MARIADB_CLIENT_CACHE_METADATA)
 }
 
 /// The count of the caller's fields.
-fn count_of(capabilities: MariadbCapabilities, columns: &CColumnCount) -> ColumnCount
+fn count_of(capabilities: SessionCapabilities, columns: &CColumnCount) -> ColumnCount
     ensures value { result ≡ count_given capabilities columns.now }
 {
     let count = ColumnCount::new(columns.count);
@@ -75,11 +87,11 @@ pub extern "C" fn myp_write_column_count(
     out: &mut [u8],
     written: &mut usize,
 ) -> u32
-    ensures refused { columns.now.metadata_follows ≡ 0 → says_follow (record { 0 = mariadb_capabilities; 1 = record {} }) ≡ false → (result ≡ 3) × (out.new ≡ out.old) × (written.new ≡ 0) }
-    ensures follow { columns.now.metadata_follows ≢ 0 → PutsUnlessTooLong (column_count.bytes (count_given (record { 0 = mariadb_capabilities; 1 = record {} }) columns.now)) result out.old out.new written.new }
-    ensures said { says_follow (record { 0 = mariadb_capabilities; 1 = record {} }) ≡ true → PutsUnlessTooLong (column_count.bytes (count_given (record { 0 = mariadb_capabilities; 1 = record {} }) columns.now)) result out.old out.new written.new }
+    ensures refused { columns.now.metadata_follows ≡ 0 → says_follow (session_of mariadb_capabilities) ≡ false → (result ≡ 3) × (out.new ≡ out.old) × (written.new ≡ 0) }
+    ensures follow { columns.now.metadata_follows ≢ 0 → PutsUnlessTooLong (column_count.bytes (count_given (session_of mariadb_capabilities) columns.now)) result out.old out.new written.new }
+    ensures said { says_follow (session_of mariadb_capabilities) ≡ true → PutsUnlessTooLong (column_count.bytes (count_given (session_of mariadb_capabilities) columns.now)) result out.old out.new written.new }
 {
-    let capabilities = mariadb_of(mariadb_capabilities);
+    let capabilities = session_of(mariadb_capabilities);
     if columns.metadata_follows == 0 && !says_follow(capabilities) {
         *written = 0;
         return INVALID_INPUT;

@@ -3,10 +3,10 @@ use Rattle.std.proofs.Common.{◌≡◌, ◌<◌, ◌^◌, ℕ, List, [], ◌++�
 use Rattle.std.proofs.lemmas.List.{append-nil}
 use Rattle.mysql_wire.specs.CodecAgain.{option_fits}
 use Rattle.mysql_wire.specs.Codecs.{without_context, u8}
-use Rattle.mysql_wire.specs.Flags.{MariadbCapabilities}
 use Rattle.mysql_wire.specs.declared.int.RawInt.{RawInt}
+use Rattle.mysql_replies.specs.declared.session_capabilities.SessionCapabilities.{SessionCapabilities}
 use Rattle.mysql_replies.specs.declared.column_count.ColumnCount.{ColumnCount}
-use Rattle.mysql_replies.specs.ColumnCount.{column_count, says_follow, IsSaid, SaysByte, ColumnCountFits}
+use Rattle.mysql_replies.specs.ColumnCount.{column_count, says_follow, says_optional, IsSaid, SaysByte, ColumnCountFits}
 use Rattle.mysql_replies.specs.declared.column.Column.{Column}
 use Rattle.mysql_replies.specs.declared.local_infile.LocalInfilePacket.{LocalInfilePacket}
 use Rattle.mysql_replies.specs.declared.progress_report.ProgressReport.{ProgressReport}
@@ -52,14 +52,17 @@ pub sql_state-plain : (s : SqlState) (rest : List ℕ) → length (state_bytes s
 unfolding sql_state
 sql_state-plain s rest h = sql_state.again tt s rest (tt, (h, tt))
 
-said-fits : (capabilities : MariadbCapabilities) (says : Bool) (byte : Option (RawInt ℕ ℕ)) (rest : List ℕ) → SaysByte byte → IsSaid says byte → option_fits u8 says capabilities byte rest
+said-fits : (capabilities : SessionCapabilities) (says : Bool) (byte : Option (RawInt ℕ ℕ)) (rest : List ℕ) → SaysByte byte → IsSaid says byte → option_fits u8 says capabilities byte rest
 said-fits capabilities says None rest width said = said
 said-fits capabilities says (Some b) rest width said = (said, width)
 
-pub column_count-plain : (capabilities : MariadbCapabilities) (c : ColumnCount) (rest : List ℕ) → ColumnCountFits capabilities c
+pub column_count-plain : (capabilities : SessionCapabilities) (c : ColumnCount) (rest : List ℕ) → ColumnCountFits capabilities c
     → (column_count.form capabilities).Spells c (column_count.bytes c ++ rest) rest
 unfolding column_count
 column_count-plain capabilities c rest h =
-    column_count.again capabilities c rest (h.count, (said-fits capabilities (says_follow capabilities) c.metadata_follows rest h.byte h.said, tt))
+    column_count.again capabilities c rest (
+      said-fits capabilities (says_optional capabilities) c.optional_metadata _ h.optional_byte h.suits.optional,
+      (h.count, (said-fits capabilities (says_follow capabilities) c.metadata_follows rest h.byte h.suits.follows, tt)),
+    )
 
 pub ruleset plain = (column_count-plain, column-plain, local_infile-plain, progress_report-plain, server_error-plain, session_state_info-plain, sql_state-plain)

@@ -4,7 +4,7 @@
 #![tactic(auto, using(mysql_wire::proofs::Packets::packets))]
 
 ghost use Rattle.std.specs.Prelude.{◌≡◌, ◌++◌, ◌<◌, ◌^◌, ◌↔◌, [], List, ℕ, length, Bool, None, Some, Ok, IfSome, IsTrue, false};
-ghost use Rattle.mysql_wire.specs.Flags.{CapabilityFlags, MariadbCapabilities};
+ghost use Rattle.mysql_wire.specs.Flags.{CapabilityFlags};
 ghost use Rattle.mysql_replies.specs.declared.column.Column.{Column};
 ghost use Rattle.mysql_replies.specs.declared.column_count.ColumnCount.{ColumnCount};
 ghost use Rattle.mysql_replies.specs.declared.err_packet.ErrPacket.{ErrPacket};
@@ -12,6 +12,7 @@ ghost use Rattle.mysql_replies.specs.declared.local_infile.LocalInfilePacket.{Lo
 ghost use Rattle.mysql_replies.specs.declared.ok_packet.OkPacket.{OkPacket};
 ghost use Rattle.mysql_replies.specs.declared.progress_report.ProgressReport.{ProgressReport};
 ghost use Rattle.mysql_replies.specs.declared.server_error.ServerError.{ServerError};
+ghost use Rattle.mysql_replies.specs.declared.session_capabilities.SessionCapabilities.{SessionCapabilities};
 ghost use Rattle.mysql_replies.specs.declared.session_state_info.SessionStateInfo.{SessionStateInfo};
 ghost use Rattle.mysql_replies.specs.declared.sql_state.SqlState.{SqlState};
 ghost use Rattle.mysql_replies.specs.Column.{column, ColumnFits};
@@ -50,8 +51,8 @@ pub fn local_infile_round_trips()
 /// where the flags ask for it.
 #[tactic(auto, using(mysql_wire::proofs::Packets::packets, crate::proofs::PlainFits::plain))]
 pub fn column_count_round_trips()
-    ensures spelled { (capabilities : MariadbCapabilities) (c : ColumnCount) (rest : List ℕ) → column_count.fits capabilities c rest → (column_count.form capabilities).Spells c (column_count.bytes c ++ rest) rest }
-    ensures plain { (capabilities : MariadbCapabilities) (c : ColumnCount) (rest : List ℕ) → ColumnCountFits capabilities c → (column_count.form capabilities).Spells c (column_count.bytes c ++ rest) rest }
+    ensures spelled { (capabilities : SessionCapabilities) (c : ColumnCount) (rest : List ℕ) → column_count.fits capabilities c rest → (column_count.form capabilities).Spells c (column_count.bytes c ++ rest) rest }
+    ensures plain { (capabilities : SessionCapabilities) (c : ColumnCount) (rest : List ℕ) → ColumnCountFits capabilities c → (column_count.form capabilities).Spells c (column_count.bytes c ++ rest) rest }
 {}
 
 /// What is written of an SQL state is read again, whatever follows.

@@ -1,4 +1,4 @@
-//! Columns, their count, and requests for a file: `column BYTES`, `column_count MARIADB_CAPABILITIES BYTES`,
+//! Columns, their count, and requests for a file: `column BYTES`, `column_count CAPABILITIES MARIADB_CAPABILITIES BYTES`,
 //! `local_infile BYTES`.
 
 use crate::prelude::*;
@@ -17,21 +17,29 @@ impl Shows<Column> for Server {
     }
 }
 
-/// What both sides can do beyond MySQL's flags, at place 1.
-pub fn flags(request: &Request<'_>) -> MariadbCapabilities {
-    MariadbCapabilities::from_bits_retain(request.number(1))
+/// What both sides can do: MySQL's flags at place 1, and MariaDB's own at place 2.
+pub fn flags(request: &Request<'_>) -> SessionCapabilities {
+    SessionCapabilities {
+        mysql: request.capabilities(),
+        mariadb: MariadbCapabilities::from_bits_retain(request.number(2)),
+    }
 }
 
 impl Shows<ColumnCount> for Server {
     fn show(it: &ColumnCount, out: &mut Out) {
-        fields!(out, it; count, metadata_follows, metadata_byte);
+        fields!(out, it; optional_metadata_byte, count, metadata_byte, metadata_follows);
         let made = ColumnCount::new(it.count());
+        let made = match it.optional_metadata_byte() {
+            Some(byte) => made.with_optional_metadata(byte != 0),
+            None => made,
+        };
         let made = match it.metadata_byte() {
             Some(byte) => made.with_metadata_follows(byte != 0),
             None => made,
         };
         // (of the bytes that say that definitions follow, 1 is made)
-        let is_other = it.metadata_byte().is_some_and(|byte| byte > 1);
+        let is_other = it.optional_metadata_byte().is_some_and(|byte| byte > 1)
+            || it.metadata_byte().is_some_and(|byte| byte > 1);
         made_anew(out, if is_other { it } else { &made }, it.clone());
         laws::this_column_count_round_trips(it)
     }

@@ -6,10 +6,11 @@
 
 ghost use Rattle.std.specs.Prelude.{◌≡◌, ◌++◌, ◌<◌, ◌^◌, [], ℕ, List, Ok, IfSome, is_some};
 ghost use Rattle.mysql_replies.specs.Column as spec;
-ghost use Rattle.mysql_wire.specs.Flags.{CapabilityFlags, MariadbCapabilities};
-ghost use Rattle.mysql_replies.specs.ColumnCount.{column_count, says_follow, IsSaid};
+ghost use Rattle.mysql_wire.specs.Flags.{CapabilityFlags};
+ghost use Rattle.mysql_replies.specs.ColumnCount.{column_count, SuitsSession};
 ghost use Rattle.mysql_replies.specs.ErrPacket.{err_packet, HasWidths, SuitsFlags};
 ghost use Rattle.mysql_replies.specs.LocalInfile.{local_infile};
+ghost use Rattle.mysql_replies.specs.declared.session_capabilities.SessionCapabilities.{SessionCapabilities};
 ghost use Rattle.mysql_replies.specs.declared.ok_kind.CommonOkPacket.{CommonOkPacket};
 ghost use Rattle.mysql_replies.specs.declared.ok_kind.NetworkStreamTerminator.{NetworkStreamTerminator};
 ghost use Rattle.mysql_replies.specs.declared.ok_kind.OldEofPacket.{OldEofPacket};
@@ -52,14 +53,17 @@ pub fn this_column_round_trips(column: &Column)
     let _decimals = column.decimals();
 }
 
-/// What is written of this count of columns is read again, whatever follows, where a byte says whether definitions follow
-/// just where the flags ask for it.
+/// What is written of this count of columns is read again, whatever follows, where bytes say whether definitions follow just
+/// where the flags ask for them.
 #[inline]
 pub fn this_column_count_round_trips(columns: &ColumnCount)
-    ensures spelled { (capabilities : MariadbCapabilities) (rest : List ℕ) → IsSaid (says_follow capabilities) columns.now.metadata_follows
+    ensures spelled { (capabilities : SessionCapabilities) (rest : List ℕ) → SuitsSession capabilities columns.now
         → (column_count.form capabilities).Spells columns.now (column_count.bytes columns.now ++ rest) rest }
 {
     let _count = columns.count();
+    if let Some(byte) = columns.optional_metadata_byte() {
+        let _byte = byte;
+    }
     if let Some(byte) = columns.metadata_byte() {
         let _byte = byte;
     }
