@@ -49,6 +49,8 @@ def request(packet):
     if kind in WRITTEN_ALONE:
         return WRITTEN_ALONE[kind].format(**packet["expected"]["input"])
     head = {**WRITTEN_AGAIN, **READ_ALONE}[kind]
+    if kind == "column" and int(packet["ext_caps"], 16) & 8:
+        head = f"extended_column {int(packet['ext_caps'], 16)}"
     if "COLUMNS" in head:
         head = head.replace("COLUMNS", columns(packet))
     return f"{head.replace('CAPS', str(capabilities(packet)))} {packet['payload']}"

@@ -16,6 +16,32 @@ def describe_column(record):
             + [f"{k}_str={lossy(v)}" for k, v in zip(keys, names)])
 
 
+def shown_kind(kind):
+    return {0: "TypeName", 1: "FormatName"}.get(kind, str(kind))
+
+
+def describe_attribute(record):
+    kind, text = record
+    return [f"kind={shown_kind(kind)}", f"text={x(text)}", f"text_str={lossy(text)}"]
+
+
+def describe_attributes(buf):
+    """Attributes to the end, or to the first that is none."""
+    words = []
+    while buf.data:
+        try:
+            kind, text = replies.column_attribute(buf)
+        except (Eof, Invalid) as fault:
+            return [*words, f"attribute={FAULTS[type(fault)]}"]
+        words += [f"kind={shown_kind(kind)}", f"text={x(text)}"]
+    return words
+
+
+def describe_extended_column(record):
+    column, metadata = record
+    return [*describe_column(column), f"metadata={x(metadata)}", *describe_attributes(Buf(metadata or b""))]
+
+
 def describe_column_count(record):
     optional, count, byte = record
     return (numbers(("optional_metadata_byte",), (optional,)) + [f"count={count}"] + numbers(("metadata_byte",), (byte,))
@@ -121,6 +147,8 @@ MARKERS = {"ColumnDefinitionCatalog": b"\x03def", "FixedLengthFieldsLen": b"\x0c
 
 DESCRIBERS = {
     "column": lambda: by("Column", describe_column),
+    "extended_column": lambda mariadb: by("ExtendedColumn", describe_extended_column, int(mariadb)),
+    "column_attribute": lambda: by("ColumnAttribute", describe_attribute),
     "column_count": lambda caps, mariadb: by("ColumnCount", describe_column_count, int(caps), int(mariadb)),
     "err": lambda caps: by("ErrPacket", describe_err, int(caps)),
     "ok": lambda caps: by("CommonOkPacket", describe_ok, int(caps)),

@@ -15,7 +15,7 @@ PACKETS = {
     "request for the RSA key": ["key_request"], "RSA key": ["key"], "COM_CHANGE_USER": ["change_user"],
     "OK_Packet": ["ok"], "OK_Packet that ends a result": ["ok_end"], "EOF_Packet": ["ok_eof"], "EOF_Packet that ends a stream": ["ok_stream"],
     "ERR_Packet": ["err"], "progress report": ["progress"], "LOCAL INFILE request": ["local_infile"],
-    "count of columns": ["column_count"], "Protocol::ColumnDefinition41": ["column"], "ProtocolText::ResultsetRow": ["row_text", "row_text_client"],
+    "count of columns": ["column_count"], "Protocol::ColumnDefinition41": ["column"], "column definition with extended metadata": ["extended_column"], "ProtocolText::ResultsetRow": ["row_text", "row_text_client"],
     "ProtocolBinary::ResultsetRow": ["row", "row_client"], "COM_STMT_PREPARE_OK": ["stmt", "stmt_metadata"],
     "COM_STMT_EXECUTE": ["execute", "com_execute"], "COM_STMT_SEND_LONG_DATA": ["com_long_data", "long_data"], "COM_STMT_CLOSE": ["com_close", "close"],
     "COM_STMT_BULK_EXECUTE": ["bulk", "bulk_rows"], "COM_REGISTER_SLAVE": ["register_slave"], "COM_BINLOG_DUMP": ["binlog_dump"],

@@ -42,6 +42,8 @@ READERS = {
     "SystemVariables": lambda b: to_the_end(b, replies.system_variable),
     "SessionStateChange": replies.session_state_change,
     "Column": replies.column,
+    "ColumnAttribute": replies.column_attribute,
+    "ExtendedColumn": replies.extended_column,
     "ColumnCount": replies.column_count,
     "LocalInfilePacket": lambda b: (b.const(b"\xfb"), b.all()),
     "ProgressReport": replies.progress_report,

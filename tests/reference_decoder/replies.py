@@ -1,6 +1,6 @@
 """What a server answers: changes of a session's state, columns, OK packets, errors."""
 from .buf import Buf, Eof, Invalid, to_the_end
-from .codes import CACHE_METADATA, COLUMN_TYPES, OPTIONAL_METADATA, PROGRESS_OBSOLETE, PROTOCOL_41, SESSION_STATE_CHANGED, SESSION_TRACK
+from .codes import CACHE_METADATA, COLUMN_TYPES, EXTENDED_METADATA, OPTIONAL_METADATA, PROGRESS_OBSOLETE, PROTOCOL_41, SESSION_STATE_CHANGED, SESSION_TRACK
 
 
 def system_variable(buf):
@@ -61,12 +61,22 @@ def changes_as_sent(data):
 
 
 def column(buf):
+    return extended_column(buf, 0)[0]
+
+
+def column_attribute(buf):
+    return buf.number(1), buf.string()
+
+
+def extended_column(buf, mariadb):
+    """A column, and its extended metadata where both sides have the flag."""
     buf.const(b"\x03def")
     names = [buf.string() for _ in range(5)]
+    metadata = buf.string() if mariadb & EXTENDED_METADATA else None
     block = buf.block(13)
     block.const(b"\x0c")
     numbers = block.number(2), block.number(4), block.code(COLUMN_TYPES), block.number(2), block.number(1)
-    return names, numbers
+    return (names, numbers), metadata
 
 
 def ok_tail(buf, capabilities, status):

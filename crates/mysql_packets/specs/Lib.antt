@@ -81,10 +81,13 @@ pub use Rattle.mysql_session.specs.SessionText
 pub use Rattle.mysql_session.specs.SystemVariable
 pub use Rattle.mysql_session.specs.SystemVariables
 pub use Rattle.mysql_replies.specs.Column
+pub use Rattle.mysql_replies.specs.ColumnAttribute
+pub use Rattle.mysql_replies.specs.ColumnAttributes
 pub use Rattle.mysql_replies.specs.ColumnCount
 pub use Rattle.mysql_replies.specs.ColumnFields
 pub use Rattle.mysql_replies.specs.ColumnNames
 pub use Rattle.mysql_replies.specs.ErrPacket
+pub use Rattle.mysql_replies.specs.ExtendedColumn
 pub use Rattle.mysql_replies.specs.LocalInfile
 pub use Rattle.mysql_replies.specs.OkKind as OkBody
 pub use Rattle.mysql_replies.specs.OkPacket

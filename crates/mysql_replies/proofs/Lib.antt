@@ -1,4 +1,6 @@
+pub mod Attributes
 pub mod EqualColumns
+pub mod ExtendedColumns
 pub mod EqualReplies
 pub mod ErrPacketFits
 pub mod NamesAfter

@@ -7,6 +7,7 @@ use Rattle.mysql_wire.specs.Flags.{ColumnFlags}
 use Rattle.mysql_wire.specs.Form as form
 use Rattle.mysql_replies.specs.declared.column.Catalog.{Catalog}
 use Rattle.mysql_replies.specs.declared.column.Column.{Column}
+use Rattle.mysql_replies.specs.declared.column_fields.ColumnFields.{ColumnFields}
 use Rattle.mysql_replies.specs.declared.column_names.ColumnMeta.{ColumnMeta}
 use Rattle.mysql_replies.specs.ColumnFields.{column_fields, fields_of}
 use Rattle.mysql_replies.specs.ColumnNames.{column_meta, has_a_name, meta_of, reads_a_name}
@@ -61,6 +62,9 @@ column_of schema table org_table name org_name character_set column_length colum
   meta = meta_of schema table org_table name org_name;
   fields = fields_of character_set column_length column_type flags decimals;
 }
+
+abbrev pub column_with : ColumnMeta → ColumnFields → Column
+column_with meta fields = record { catalog = record { 0 = record {} }; meta = meta; fields = fields }
 
 -- a column of this type, all else empty or 0
 abbrev pub new_column : ColumnType → Column

@@ -17,3 +17,6 @@ pub mod ColumnCount
 pub mod ColumnNames
 pub mod ColumnFields
 pub mod Column
+pub mod ColumnAttribute
+pub mod ColumnAttributes
+pub mod ExtendedColumn

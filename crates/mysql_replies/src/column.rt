@@ -55,9 +55,9 @@ pub type ColumnDefinitionCatalog = ConstBytes<Catalog, 4>;
 /// where that is refused.
 #[derive(Clone, Debug, PartialEq, Eq, Drop)]
 pub struct Column {
-    catalog: ColumnDefinitionCatalog,
-    meta: ColumnNames,
-    fields: ColumnFields,
+    pub(crate) catalog: ColumnDefinitionCatalog,
+    pub(crate) meta: ColumnNames,
+    pub(crate) fields: ColumnFields,
 }
 
 /// The column of these names and fields, which copies the names.

@@ -92,7 +92,7 @@ impl Names<'_> {
 
 /// Reads a length-encoded string where it lies.
 #[inline(always)]
-fn read_name<'s, 'de>(buf: &mut ParseBuf<'de>) -> Result<&'de [u8], FaultOf<'s>>
+pub(crate) fn read_name<'s, 'de>(buf: &mut ParseBuf<'de>) -> Result<&'de [u8], FaultOf<'s>>
     ensures value { MatchResult result (λ name. lenenc_string.reads buf.old ≡ Ok (name.now, buf.new)) (λ fault. Faults false fault (lenenc_string.reads buf.old)) }
 {
     let mut name = <LenEnc as BytesRepr>::deserialize((), buf)?;

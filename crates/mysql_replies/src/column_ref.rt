@@ -135,6 +135,21 @@ impl<'a> ColumnRef<'a> {
     }
 }
 
+/// The column of these names and fields.
+#[inline(always)]
+pub(crate) fn placed<'a>(names: Names<'a>, fields: &ColumnFields) -> ColumnRef<'a>
+    ensures value { result ≡ spec.column_with names.entry fields.now }
+{
+    ColumnRef {
+        names,
+        character_set: fields.character_set.0,
+        column_length: fields.column_length.0,
+        column_type: fields.column_type.0,
+        flags: fields.flags.0,
+        decimals: fields.decimals.0,
+    }
+}
+
 /// As a [`Column`], but for `Memory`: none is taken.
 impl<'de> MyDeserialize<'de> for ColumnRef<'de> {
     const SIZE: Option<usize> = None;

@@ -35,6 +35,7 @@ ghost use Rattle.mysql_session.specs.declared.session_state_change.SessionStateC
 ghost use Rattle.mysql_replies.specs.SqlState.{sql_state, state_bytes};
 
 pub mod borrowed;
+pub mod extended;
 pub mod values;
 
 use mysql_wire::MyDeserialize;

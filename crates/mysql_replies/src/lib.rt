@@ -3,12 +3,17 @@
 #![tactic(auto)]
 
 mod column;
+mod column_attribute;
+mod column_attribute_ref;
+mod column_attributes;
 mod column_count;
 mod column_fields;
 mod column_names;
 mod column_ref;
 mod err_packet;
 mod err_packet_ref;
+mod extended_column;
+mod extended_column_ref;
 pub mod laws;
 mod local_infile;
 mod local_infile_ref;
@@ -32,11 +37,16 @@ mod sql_state;
 mod sql_state_ref;
 
 pub use column::{Catalog, Column, ColumnDefinitionCatalog, InvalidCatalog};
+pub use column_attribute::{ColumnAttribute, ColumnAttributeKind};
+pub use column_attribute_ref::ColumnAttributeRef;
+pub use column_attributes::ColumnAttributes;
 pub use column_count::ColumnCount;
 pub use column_fields::{FixedLengthFieldsLen, InvalidFixedLengthFieldsLen};
 pub use column_ref::ColumnRef;
 pub use err_packet::{ErrPacket, ErrPacketHeader, InvalidErrPacketHeader};
 pub use err_packet_ref::ErrPacketRef;
+pub use extended_column::ExtendedColumn;
+pub use extended_column_ref::ExtendedColumnRef;
 pub use local_infile::{InvalidLocalInfileHeader, LocalInfileHeader, LocalInfilePacket};
 pub use local_infile_ref::LocalInfilePacketRef;
 pub use ok_body::OkPacketBodyRef;

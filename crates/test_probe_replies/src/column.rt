@@ -4,14 +4,19 @@
 use crate::prelude::*;
 use mysql_wire::MariadbCapabilities;
 
+/// Adds the fields of a column.
+pub fn show_column(it: &Column, out: &mut Out) {
+    fields!(out, it; schema = schema_ref, table = table_ref, org_table = org_table_ref, name = name_ref,
+        org_name = org_name_ref, character_set, column_length);
+    out.show("column_type", u8::from(it.column_type()));
+    fields!(out, it; flags, decimals; texts schema_str = schema_str, table_str = table_str,
+        org_table_str = org_table_str, name_str = name_str, org_name_str = org_name_str);
+}
+
 impl Shows<Column> for Server {
     fn show(it: &Column, out: &mut Out) {
         let alloc = out.alloc();
-        fields!(out, it; schema = schema_ref, table = table_ref, org_table = org_table_ref, name = name_ref,
-            org_name = org_name_ref, character_set, column_length);
-        out.show("column_type", u8::from(it.column_type()));
-        fields!(out, it; flags, decimals; texts schema_str = schema_str, table_str = table_str,
-            org_table_str = org_table_str, name_str = name_str, org_name_str = org_name_str);
+        show_column(it, out);
         made_anew(out, it, counted!(alloc; made_column(it, alloc)));
         laws::this_column_round_trips(it)
     }
@@ -59,7 +64,8 @@ impl<'a> InPlace<LocalInfilePacket<'a>, LocalInfilePacketRef<'a>> for Server {
     }
 }
 
-fn made_column(column: &Column, alloc: Global) -> Result<Column> {
+/// The column, made anew of what its getters answer.
+pub fn made_column(column: &Column, alloc: Global) -> Result<Column> {
     let made = Column::new(column.column_type())
         .with_schema(alloc, column.schema_ref())?
         .with_table(alloc, column.table_ref())?

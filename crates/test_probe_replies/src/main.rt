@@ -3,6 +3,7 @@
 
 mod column;
 mod errors;
+mod extended;
 mod kinds;
 mod ok;
 mod prelude;
@@ -26,6 +27,8 @@ fn of_replies(out: &mut Out, request: &Request<'_>) -> bool {
             "sql_state": SqlState, SqlStateRef<'_>,
             "progress": ProgressReport<'_>, ProgressReportRef<'_>,
             "session_info": SessionStateInfo<'_>, SessionStateInfoRef<'_>,
+            "column_attribute": ColumnAttribute<'_>, ColumnAttributeRef<'_>,
+        both extended::capabilities(request) => "extended_column": ExtendedColumn, ExtendedColumnRef<'_>,
         both request.capabilities() => "err": ErrPacket<'_>, ErrPacketRef<'_>,
         both errors::context(request) => "server_error": ServerError<'_>, ServerErrorRef<'_>,
         call "ok": ok::ok::<CommonOkPacket>, "ok_end": ok::ok::<ResultSetTerminator>,

@@ -6,7 +6,9 @@
 
 ghost use Rattle.std.specs.Prelude.{◌≡◌, ◌++◌, ◌<◌, ◌^◌, [], ℕ, List, Ok, IfSome, is_some};
 ghost use Rattle.mysql_replies.specs.Column as spec;
-ghost use Rattle.mysql_wire.specs.Flags.{CapabilityFlags};
+ghost use Rattle.mysql_wire.specs.Flags.{CapabilityFlags, MariadbCapabilities};
+ghost use Rattle.mysql_replies.specs.ColumnAttribute.{column_attribute};
+ghost use Rattle.mysql_replies.specs.ExtendedColumn.{extended_column, metadata_of, sends_metadata};
 ghost use Rattle.mysql_replies.specs.ColumnCount.{column_count, SuitsSession};
 ghost use Rattle.mysql_replies.specs.ErrPacket.{err_packet, HasWidths, SuitsFlags};
 ghost use Rattle.mysql_replies.specs.LocalInfile.{local_infile};
@@ -26,8 +28,10 @@ ghost use Rattle.mysql_replies.specs.SessionStateInfo.{session_state_info};
 ghost use Rattle.mysql_replies.specs.SqlState.{sql_state};
 
 use crate::column::Column;
+use crate::column_attribute::ColumnAttribute;
 use crate::column_count::ColumnCount;
 use crate::err_packet::ErrPacket;
+use crate::extended_column::ExtendedColumn;
 use crate::local_infile::LocalInfilePacket;
 use crate::ok_packet::OkPacket;
 use crate::progress_report::ProgressReport;
@@ -42,6 +46,14 @@ use mysql_session::laws::values::this_session_state_change_round_trips;
 pub fn this_column_round_trips(column: &Column)
     ensures spelled { (rest : List ℕ) → (spec.column.form tt).Spells column.now (spec.column.bytes column.now ++ rest) rest }
 {
+    has_column_widths(column);
+}
+
+/// The lengths and numbers of a column have their widths.
+#[inline]
+fn has_column_widths(column: &Column)
+    ensures value { spec.ColumnFits column.now }
+{
     let _schema = column.schema_ref().len();
     let _table = column.table_ref().len();
     let _org_table = column.org_table_ref().len();
@@ -51,6 +63,30 @@ pub fn this_column_round_trips(column: &Column)
     let _column_length = column.column_length();
     let _flags = column.flags();
     let _decimals = column.decimals();
+}
+
+/// What is written of this column is read again under these capabilities, whatever follows, where it has metadata just where
+/// the flag asks for it.
+#[inline]
+#[tactic(auto, using(crate::proofs::ExtendedColumns::extended_columns))]
+pub fn this_extended_column_round_trips(column: &ExtendedColumn)
+    ensures spelled { (capabilities : MariadbCapabilities) (rest : List ℕ) → is_some (metadata_of column.now) ≡ sends_metadata capabilities
+        → (extended_column.form capabilities).Spells column.now (extended_column.bytes column.now ++ rest) rest }
+{
+    has_column_widths(column.column());
+    if let Some(metadata) = column.metadata_ref() {
+        let _metadata = metadata.len();
+    }
+}
+
+/// What is written of this attribute of a column is read again, whatever follows.
+#[inline]
+#[tactic(auto, using(crate::proofs::ExtendedColumns::extended_columns))]
+pub fn this_column_attribute_round_trips(attribute: &ColumnAttribute<'_>)
+    ensures spelled { (rest : List ℕ) → (column_attribute.form tt).Spells attribute.now (column_attribute.bytes attribute.now ++ rest) rest }
+{
+    let _code = attribute.code();
+    let _text = attribute.text_ref().len();
 }
 
 /// What is written of this count of columns is read again, whatever follows, where bytes say whether definitions follow just

@@ -1,0 +1,71 @@
+//! The attributes of a column, one after another.
+
+ghost use Rattle.std.specs.Prelude.{◌≡◌, ◌<◌, length, IfSome};
+ghost use Rattle.mysql_replies.specs.ColumnAttributes as spec;
+
+use crate::column_attribute_ref::ColumnAttributeRef;
+use mysql_wire::{Fault, ParseBuf};
+use std::marker::Model;
+
+/// The attributes in the extended metadata of a column, where they lie: each attribute, or the fault of the first one that is
+/// none, and then no more. They take no memory.
+///
+/// In a clause it is the list of the bytes that are left.
+#[derive(Drop)]
+pub struct ColumnAttributes<'a> {
+    attributes: ParseBuf<'a>,
+}
+
+impl<'a> Model for ColumnAttributes<'a> {
+    ghost use Rattle.std.specs.Prelude.{ℕ, List};
+
+    ghost Value = { List ℕ };
+
+    ghost view = { λ c. c.attributes };
+}
+
+/// Takes the next attribute off the front, or all bytes where it is none.
+#[tactic(auto, using(mysql_wire::proofs::Packets::packets, crate::proofs::Attributes::attributes))]
+fn next_attribute<'a>(
+    attributes: &mut ParseBuf<'a>,
+) -> Option<Result<ColumnAttributeRef<'a>, Fault>>
+    ensures next { spec.NextAttribute attributes.old result attributes.new }
+    ensures shorter { IfSome result (λ attribute. length attributes.new < length attributes.old) }
+{
+    if attributes.is_empty() {
+        return None;
+    }
+    match attributes.parse(()) {
+        Ok(attribute) => Some(Ok(attribute)),
+        Err(fault) => {
+            attributes.eat_all();
+            Some(Err(fault))
+        }
+    }
+}
+
+impl<'a> ColumnAttributes<'a> {
+    /// The attributes of these bytes.
+    pub(crate) fn new(attributes: ParseBuf<'a>) -> Self
+        ensures { result ≡ attributes.entry }
+    {
+        ColumnAttributes { attributes }
+    }
+}
+
+impl<'a> Iterator for ColumnAttributes<'a> {
+    type Item = Result<ColumnAttributeRef<'a>, Fault>;
+
+    ghost use Rattle.std.specs.Prelude.{length, ⊤};
+    ghost use Rattle.std.specs.Iterator.{at_most};
+
+    ghost can_next = { λ _. ⊤ };
+
+    ghost next_gives = { spec.NextAttribute };
+
+    ghost remaining = { λ left. at_most (length left) };
+
+    fn next(&mut self) -> Option<Result<ColumnAttributeRef<'a>, Fault>> {
+        next_attribute(&mut self.attributes)
+    }
+}

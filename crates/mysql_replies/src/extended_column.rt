@@ -1,0 +1,178 @@
+//! A column of a result with extended metadata.
+#![tactic(auto, using(mysql_wire::proofs::Packets::packets), unfolding(crate::specs::ExtendedColumn::extended_column))]
+
+ghost use Rattle.std.specs.Prelude.{◌≡◌, [], None, Some, refl, IfOk, IsOk, option_map};
+ghost use Rattle.mysql_replies.specs.ExtendedColumn as spec;
+
+use crate::column::Column;
+use crate::column_attributes::ColumnAttributes;
+use crate::extended_column_ref::ExtendedColumnRef;
+use mysql_wire::{
+    AnyWidth, FaultOf, LenEnc, MariadbCapabilities, MyDeserialize, ParseBuf, Parts, RawBytes, Sink,
+    parts,
+};
+use std::alloc::{AllocError, Global};
+use std::borrow::CowSlice;
+
+/// A column of a result, by the capabilities of both sides: with `MARIADB_CLIENT_EXTENDED_METADATA` one more length-encoded
+/// string, its extended metadata, stands after the six names (MariaDB's "Result Set Packets", column definition).
+///
+/// | Bytes | Field |
+/// |---|---|
+/// | 4 and more | the catalog and the names of a [`Column`] |
+/// | 1 and more | `metadata`, a length-encoded string, under the flag alone |
+/// | 13 | the other fields of a [`Column`] |
+///
+/// The metadata are attributes, [`ColumnAttribute`](crate::ColumnAttribute)s, one after another. They are kept as they are, so
+/// that what was read is written again as it was: [`attributes`](Self::attributes) gives them one by one, and the fault of
+/// one that is cut.
+///
+/// The faults are those of a [`Column`], and of a length-encoded string for the metadata. Reading copies the texts once the whole column
+/// is there, if one has any byte, and answers `Memory` where that is refused.
+#[derive(Clone, Debug, PartialEq, Eq)]
+pub struct ExtendedColumn {
+    column: Column,
+    metadata: Option<RawBytes<'static, LenEnc>>,
+}
+
+impl Drop for ExtendedColumn {
+    #[inline(always)]
+    fn drop(self) {
+        let ExtendedColumn {
+            column: _,
+            metadata: _,
+        } = self;
+    }
+}
+
+impl ExtendedColumn {
+    /// The column without metadata, as it is sent where the flag is not agreed to.
+    #[inline]
+    pub fn new(column: Column) -> Self
+        ensures value { result ≡ spec.extended column None }
+    {
+        ExtendedColumn {
+            column,
+            metadata: None,
+        }
+    }
+
+    /// The column with metadata of these bytes, as it is sent where the flag is agreed to: attributes, one after another, or
+    /// none. Where the copy is refused, the column is given up; of no byte none is made.
+    pub fn with_metadata(self, alloc: Global, metadata: &[u8]) -> Result<Self, AllocError>
+        ensures value { IfOk result (λ column. column ≡ spec.extended (spec.column_of self) (Some metadata.now)) }
+        ensures no_memory { metadata.now ≡ [] → IsOk result }
+    {
+        let ExtendedColumn {
+            column,
+            metadata: _,
+        } = self;
+        let metadata = owned(alloc, metadata)?;
+        Ok(ExtendedColumn {
+            column,
+            metadata: Some(metadata),
+        })
+    }
+
+    /// The column of these, for which the metadata are copied.
+    pub(crate) fn of(
+        alloc: Global,
+        column: Column,
+        metadata: Option<&[u8]>,
+    ) -> Result<Self, AllocError>
+        ensures value { IfOk result (λ extended. extended ≡ spec.extended column (option_map (λ m. m.now) metadata.entry)) }
+        ensures no_memory { spec.attribute_bytes (option_map (λ m. m.now) metadata.entry) ≡ [] → IsOk result }
+    {
+        match metadata {
+            Some(metadata) => ExtendedColumn::new(column).with_metadata(alloc, metadata),
+            None => Ok(ExtendedColumn::new(column)),
+        }
+    }
+
+    /// The column itself.
+    #[inline]
+    pub fn column(&self) -> &Column
+        ensures value { result.now ≡ spec.column_of self.now }
+    {
+        &self.column
+    }
+
+    /// The column itself, without its metadata.
+    #[inline]
+    pub fn into_column(self) -> Column
+        ensures value { result ≡ spec.column_of self }
+    {
+        let ExtendedColumn {
+            column,
+            metadata: _,
+        } = self;
+        column
+    }
+
+    /// The bytes of the metadata, where there are any: under the flag alone.
+    #[inline]
+    pub fn metadata_ref(&self) -> Option<&[u8]>
+        ensures value { option_map (λ m. m.now) result ≡ spec.metadata_of self.now }
+    {
+        match &self.metadata {
+            Some(metadata) => Some(metadata.as_bytes()),
+            None => None,
+        }
+    }
+
+    /// The attributes in the metadata, one after another; none where there is no metadata.
+    pub fn attributes(&self, alloc: Global) -> ColumnAttributes<'_>
+        ensures value { result ≡ spec.attribute_bytes (spec.metadata_of self.now) }
+    {
+        let bytes = self.metadata_ref().unwrap_or(&[]);
+        ColumnAttributes::new(ParseBuf::new(alloc, bytes))
+    }
+}
+
+/// A copy of a text.
+fn owned(alloc: Global, text: &[u8]) -> Result<RawBytes<'static, LenEnc>, AllocError>
+    ensures value { IfOk result (λ copy. copy ≡ text.now) }
+    ensures no_memory { text.now ≡ [] → IsOk result }
+{
+    let text: RawBytes<'_, LenEnc> = RawBytes::new(CowSlice::Borrowed(text));
+    text.into_owned(alloc)
+}
+
+impl<'de> MyDeserialize<'de> for ExtendedColumn {
+    const SIZE: Option<usize> = None;
+
+    type Size = AnyWidth;
+
+    ghost takes_memory = { λ capabilities bytes. spec.reads_text ((spec.extended_column.form capabilities).reads bytes) };
+
+    /// What both sides can do of MariaDB's own.
+    type Ctx = MariadbCapabilities;
+
+    ghost form = { spec.extended_column.form };
+
+    #[tactic(auto, using(mysql_wire::proofs::Packets::packets, crate::proofs::ExtendedColumns::texts))]
+    fn deserialize<'s>(
+        capabilities: MariadbCapabilities,
+        buf: &mut ParseBuf<'de>,
+    ) -> Result<Self, FaultOf<'s>> {
+        let column: ExtendedColumnRef<'de> = buf.parse(capabilities)?;
+        Ok(column.to_column(buf.alloc())?)
+    }
+
+    ghost size_is = { λ _. unfold spec.extended_column in refl };
+}
+
+impl Parts for ExtendedColumn {
+    ghost bytes = { spec.extended_column.bytes };
+
+    #[inline(always)]
+    fn put<S: Sink>(&self, sink: &mut S) {
+        let column = &self.column;
+        sink.part(&parts!(
+            column.catalog,
+            column.meta.meta(),
+            self.metadata,
+            column.fields
+        ));
+    }
+}

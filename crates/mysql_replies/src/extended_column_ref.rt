@@ -1,0 +1,120 @@
+//! A column of a result with extended metadata that stays in its packet.
+#![tactic(auto, using(mysql_wire::proofs::Packets::packets), unfolding(crate::specs::ExtendedColumn::extended_column))]
+
+ghost use Rattle.std.specs.Prelude.{◌≡◌, None, refl, IfOk, OnErr, IsTrue, option_map};
+ghost use Rattle.mysql_replies.specs.ExtendedColumn as spec;
+
+use crate::column::ColumnDefinitionCatalog;
+use crate::column_attributes::ColumnAttributes;
+use crate::column_fields::ColumnFields;
+use crate::column_names::{read_name, read_names};
+use crate::column_ref::{ColumnRef, placed};
+use crate::extended_column::ExtendedColumn;
+use bitflags::Flags;
+use mysql_wire::{AnyWidth, FaultOf, MariadbCapabilities, MyDeserialize, ParseBuf};
+use std::alloc::{AllocError, Global};
+use std::marker::Model;
+
+/// A column of a result whose names and extended metadata stay in the packet: an [`ExtendedColumn`] without memory.
+///
+/// It is read of the same bytes as an [`ExtendedColumn`], with the same faults but for `Memory`, and in a clause it is that
+/// column.
+#[derive(Drop)]
+pub struct ExtendedColumnRef<'a> {
+    column: ColumnRef<'a>,
+    metadata: Option<&'a [u8]>,
+}
+
+impl<'a> Model for ExtendedColumnRef<'a> {
+    ghost use Rattle.std.specs.Prelude.{option_map};
+    ghost use Rattle.mysql_replies.specs.declared.extended_column.ExtendedColumn.{ExtendedColumn};
+    ghost use Rattle.mysql_replies.specs.ExtendedColumn.{extended};
+
+    ghost Value = { ExtendedColumn };
+
+    ghost view = { λ c. extended c.column (option_map (λ m. m.now) c.metadata) };
+}
+
+impl<'a> ExtendedColumnRef<'a> {
+    /// The column itself.
+    #[inline]
+    pub fn column(&self) -> &ColumnRef<'a>
+        ensures value { result.now ≡ spec.column_of self.now }
+    {
+        &self.column
+    }
+
+    /// The column itself, without its metadata.
+    #[inline]
+    pub fn into_column(self) -> ColumnRef<'a>
+        ensures value { result ≡ spec.column_of self.entry }
+    {
+        self.column
+    }
+
+    /// The bytes of the metadata, where there are any: under the flag alone.
+    #[inline]
+    pub fn metadata(&self) -> Option<&'a [u8]>
+        ensures value { option_map (λ m. m.now) result ≡ spec.metadata_of self.now }
+    {
+        self.metadata
+    }
+
+    /// The attributes in the metadata, one after another; none where there is no metadata.
+    #[inline]
+    pub fn attributes(&self, alloc: Global) -> ColumnAttributes<'a>
+        ensures value { result ≡ spec.attribute_bytes (spec.metadata_of self.now) }
+    {
+        let bytes = match self.metadata {
+            Some(metadata) => metadata,
+            None => &[],
+        };
+        ColumnAttributes::new(ParseBuf::new(alloc, bytes))
+    }
+
+    /// The column with texts of its own. It takes memory where a text has any byte.
+    pub fn to_column(&self, alloc: Global) -> Result<ExtendedColumn, AllocError>
+        ensures value { IfOk result (λ column. column ≡ self.now) }
+        ensures memory { OnErr result (IsTrue (spec.has_text self.now)) }
+    {
+        let column = self.column.to_column(alloc)?;
+        ExtendedColumn::of(alloc, column, self.metadata)
+    }
+}
+
+/// As an [`ExtendedColumn`], but for `Memory`: none is taken.
+impl<'de> MyDeserialize<'de> for ExtendedColumnRef<'de> {
+    const SIZE: Option<usize> = None;
+
+    type Size = AnyWidth;
+
+    /// What both sides can do of MariaDB's own.
+    type Ctx = MariadbCapabilities;
+
+    ghost form = { spec.extended_column.form };
+
+    #[inline]
+    #[tactic(auto, using(mysql_wire::proofs::Tails::tails), unfolding(crate::specs::ExtendedColumn::extended_column, crate::specs::ColumnNames::column_meta))]
+    fn deserialize<'s>(
+        capabilities: MariadbCapabilities,
+        buf: &mut ParseBuf<'de>,
+    ) -> Result<Self, FaultOf<'s>> {
+        let mut rest = buf.rest();
+        let _catalog: ColumnDefinitionCatalog = rest.parse(())?;
+        let names = read_names::<false>(&mut rest)?;
+        let extended = MariadbCapabilities::MARIADB_CLIENT_EXTENDED_METADATA;
+        let metadata = if capabilities.contains(extended) {
+            Some(read_name(&mut rest)?)
+        } else {
+            None
+        };
+        let fields: ColumnFields = rest.parse(())?;
+        *buf = rest;
+        Ok(ExtendedColumnRef {
+            column: placed(names, &fields),
+            metadata,
+        })
+    }
+
+    ghost size_is = { λ _. unfold spec.extended_column in refl };
+}

@@ -1,0 +1,45 @@
+//! Laws over columns with extended metadata, and over their attributes.
+#![tactic(auto, using(mysql_wire::proofs::Packets::packets, crate::proofs::ExtendedColumns::extended_columns))]
+
+ghost use Rattle.std.specs.Prelude.{◌≡◌, ◌++◌, ◌<◌, ◌^◌, ◌↔◌, List, ℕ, length, None, IsTrue, false};
+ghost use Rattle.mysql_wire.specs.Flags.{MariadbCapabilities};
+ghost use Rattle.mysql_replies.specs.Column.{column};
+ghost use Rattle.mysql_replies.specs.ColumnAttribute.{attribute_code, attribute_text, column_attribute};
+ghost use Rattle.mysql_replies.specs.ExtendedColumn.{extended, extended_column, sends_metadata, without_metadata, ExtendedColumnFits};
+ghost use Rattle.mysql_replies.specs.declared.column.Column.{Column};
+ghost use Rattle.mysql_replies.specs.declared.column_attribute.ColumnAttribute.{ColumnAttribute};
+ghost use Rattle.mysql_replies.specs.declared.extended_column.ExtendedColumn.{ExtendedColumn};
+
+use mysql_wire::MyDeserialize;
+
+/// What is written of a column is read again under the same capabilities, whatever follows.
+pub fn extended_column_round_trips()
+    ensures spelled { (capabilities : MariadbCapabilities) (c : ExtendedColumn) (rest : List ℕ) → extended_column.fits capabilities c rest → (extended_column.form capabilities).Spells c (extended_column.bytes c ++ rest) rest }
+    ensures plain { (capabilities : MariadbCapabilities) (c : ExtendedColumn) (rest : List ℕ) → ExtendedColumnFits capabilities c → (extended_column.form capabilities).Spells c (extended_column.bytes c ++ rest) rest }
+{}
+
+/// What is written of an attribute of a column is read again, whatever follows.
+pub fn column_attribute_round_trips()
+    ensures spelled { (a : ColumnAttribute) (rest : List ℕ) → column_attribute.fits tt a rest → (column_attribute.form tt).Spells a (column_attribute.bytes a ++ rest) rest }
+    ensures plain { (a : ColumnAttribute) (rest : List ℕ) → attribute_code a < 2 ^ 8 → length (attribute_text a) < 2 ^ 64 → (column_attribute.form tt).Spells a (column_attribute.bytes a ++ rest) rest }
+{}
+
+/// Without the flag a column is read and written as a `Column`.
+#[tactic(auto, using(crate::proofs::ExtendedColumns::without_the_flag))]
+pub fn extended_columns_without_the_flag_are_columns()
+    ensures read { (capabilities : MariadbCapabilities) (bytes : List ℕ) → sends_metadata capabilities ≡ false → (extended_column.form capabilities).reads bytes ≡ without_metadata ((column.form tt).reads bytes) }
+    ensures written { (c : Column) → extended_column.bytes (extended c None) ≡ column.bytes c }
+{}
+
+/// Columns and attributes that stay in their packet are read as the others are.
+pub fn borrowed_extended_columns_read_extended_columns()
+    ensures column { (capabilities : MariadbCapabilities) (bytes : List ℕ) → (⟦<crate::extended_column_ref::ExtendedColumnRef<'static> as MyDeserialize<'static>>⟧.form capabilities).reads bytes ≡ (extended_column.form capabilities).reads bytes }
+    ensures attribute { (bytes : List ℕ) → (⟦<crate::column_attribute_ref::ColumnAttributeRef<'static> as MyDeserialize<'static>>⟧.form tt).reads bytes ≡ (column_attribute.form tt).reads bytes }
+{}
+
+/// Columns and attributes are equal exactly where they are the same.
+#[tactic(auto, using(crate::proofs::ExtendedColumns::equal_extended_columns))]
+pub fn equal_extended_columns_are_the_same()
+    ensures column { (x y : ExtendedColumn) → IsTrue (⟦<crate::extended_column::ExtendedColumn as PartialEq>⟧.eq x y) ↔ (x ≡ y) }
+    ensures attribute { (x y : ColumnAttribute) → IsTrue (⟦<crate::ColumnAttribute<'static> as PartialEq>⟧.eq x y) ↔ (x ≡ y) }
+{}
