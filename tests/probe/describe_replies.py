@@ -150,6 +150,7 @@ DESCRIBERS = {
     "extended_column": lambda mariadb: by("ExtendedColumn", describe_extended_column, int(mariadb)),
     "column_attribute": lambda: by("ColumnAttribute", describe_attribute),
     "column_count": lambda caps, mariadb: by("ColumnCount", describe_column_count, int(caps), int(mariadb)),
+    "greeting_error": lambda: by("GreetingError", describe_err),
     "err": lambda caps: by("ErrPacket", describe_err, int(caps)),
     "ok": lambda caps: by("CommonOkPacket", describe_ok, int(caps)),
     "ok_end": lambda caps: by("ResultSetTerminator", describe_ok, int(caps)),

@@ -51,6 +51,7 @@ READERS = {
     "SessionStateInfo": lambda b: (b.code(range(6)), b.string()),
     "ServerError": replies.server_error,
     "ErrPacket": replies.err_packet,
+    "GreetingError": replies.greeting_error,
     "CommonOkPacket": lambda b, c: replies.ok_packet(b, c, b"\0", True),
     "ResultSetTerminator": lambda b, c: replies.ok_packet(b, c, b"\xfe", False),
     "OldEofPacket": replies.old_eof,

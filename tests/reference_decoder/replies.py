@@ -126,6 +126,14 @@ def server_error(buf, code, has_state):
     return code, sql_state(buf) if has_state else None, buf.all()
 
 
+def greeting_error(buf):
+    """An error in place of the greeting: a state is there where its bytes are, as no capabilities say so."""
+    block = buf.block(3)
+    block.const(b"\xff")
+    code = block.number(2)
+    return server_error(buf, code, buf.data[:1] == b"#" and len(buf.data) >= 6)
+
+
 def err_packet(buf, capabilities):
     block = buf.block(3)
     block.const(b"\xff")

@@ -88,6 +88,7 @@ pub use Rattle.mysql_replies.specs.ColumnFields
 pub use Rattle.mysql_replies.specs.ColumnNames
 pub use Rattle.mysql_replies.specs.ErrPacket
 pub use Rattle.mysql_replies.specs.ExtendedColumn
+pub use Rattle.mysql_replies.specs.GreetingError
 pub use Rattle.mysql_replies.specs.LocalInfile
 pub use Rattle.mysql_replies.specs.OkKind as OkBody
 pub use Rattle.mysql_replies.specs.OkPacket

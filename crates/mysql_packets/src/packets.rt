@@ -100,6 +100,8 @@ pub use mysql_replies::ErrPacketRef;
 pub use mysql_replies::ExtendedColumn;
 pub use mysql_replies::ExtendedColumnRef;
 pub use mysql_replies::FixedLengthFieldsLen;
+pub use mysql_replies::GreetingError;
+pub use mysql_replies::GreetingErrorRef;
 pub use mysql_replies::GtidsEncoding;
 pub use mysql_replies::InvalidCatalog;
 pub use mysql_replies::InvalidErrPacketHeader;

@@ -1,6 +1,7 @@
 pub mod Attributes
 pub mod EqualColumns
 pub mod ExtendedColumns
+pub mod GreetingErrors
 pub mod EqualReplies
 pub mod ErrPacketFits
 pub mod NamesAfter

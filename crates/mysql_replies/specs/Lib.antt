@@ -4,6 +4,7 @@ pub mod ServerError
 pub mod ProgressReport
 pub mod ErrPacket
 pub mod ErrPacketRef
+pub mod GreetingError
 pub mod SessionStateInfo
 pub mod SentGtids
 pub mod SessionStateChanges

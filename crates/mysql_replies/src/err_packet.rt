@@ -37,8 +37,8 @@ pub(crate) const PROGRESS_CODE: u16 = 0xffff;
 /// Where the code is `ffff` and the flags have `CLIENT_PROGRESS_OBSOLETE`, that is a progress
 /// report. Else it is an error, with an SQL state where the flags have `CLIENT_PROTOCOL_41`.
 ///
-/// Before the handshake no flags are agreed: an error in place of the greeting, as 'Too many connections', has no SQL state
-/// on any server, and is read with no flags, `CapabilityFlags::from_bits_retain(0)`.
+/// Before the handshake no flags are agreed: an error in place of the greeting, as 'Too many connections', is a
+/// [`GreetingError`](crate::GreetingError), with or without an SQL state.
 ///
 /// ```
 /// let packet: ErrPacket<'_> = buf.parse(connection.capabilities)?;

@@ -18,6 +18,8 @@ ghost use Rattle.mysql_replies.specs.declared.sql_state.SqlState.{SqlState};
 ghost use Rattle.mysql_replies.specs.Column.{column, ColumnFits};
 ghost use Rattle.mysql_replies.specs.ColumnCount.{column_count, ColumnCountFits};
 ghost use Rattle.mysql_replies.specs.ErrPacket.{err_packet, ErrPacketFits};
+ghost use Rattle.mysql_replies.specs.GreetingError.{greeting_error, GreetingErrorFits};
+ghost use Rattle.mysql_replies.specs.declared.greeting_error.GreetingError.{GreetingError};
 ghost use Rattle.mysql_replies.specs.LocalInfile.{local_infile};
 ghost use Rattle.mysql_replies.specs.OkKind.{common_ok_body, terminator_body, old_eof_body};
 ghost use Rattle.mysql_replies.specs.OkPacket.{ok_packet};
@@ -74,6 +76,19 @@ pub fn equal_sql_states_hash_equally()
 pub fn server_error_round_trips()
     ensures spelled { (context : ℕ × Bool) (e : ServerError) (rest : List ℕ) → server_error.fits context e rest → (server_error.form context).Spells e (server_error.bytes e ++ rest) rest }
     ensures plain { (has_state : Bool) (e : ServerError) → StateFits has_state (sql_state_of e) → (server_error.form (error_code e, has_state)).Spells e (server_error.bytes e) [] }
+{}
+
+/// What is written of an error in place of the greeting is read again, where nothing follows.
+#[tactic(auto, using(mysql_wire::proofs::Packets::packets, crate::proofs::GreetingErrors::greeting_errors))]
+pub fn greeting_error_round_trips()
+    ensures spelled { (g : GreetingError) (rest : List ℕ) → greeting_error.fits tt g rest → (greeting_error.form tt).Spells g (greeting_error.bytes g ++ rest) rest }
+    ensures plain { (g : GreetingError) → GreetingErrorFits g → (greeting_error.form tt).Spells g (greeting_error.bytes g) [] }
+{}
+
+/// Errors in place of the greeting are equal exactly where they are the same.
+#[tactic(auto, using(crate::proofs::GreetingErrors::greeting_errors))]
+pub fn equal_greeting_errors_are_the_same()
+    ensures same { (x y : GreetingError) → IsTrue (⟦<crate::GreetingError<'static> as PartialEq>⟧.eq x y) ↔ (x ≡ y) }
 {}
 
 /// What is written of a progress report is read again, whatever follows.

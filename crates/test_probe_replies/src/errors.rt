@@ -1,6 +1,6 @@
 //! Errors and progress reports, and their parts, each alone.
 //!
-//! `err CAPABILITIES BYTES`, `server_error CODE STATE BYTES` (STATE is 1 where an SQL state stands there),
+//! `err CAPABILITIES BYTES`, `greeting_error BYTES`, `server_error CODE STATE BYTES` (STATE is 1 where an SQL state stands there),
 //! `sql_state BYTES`, `progress BYTES`.
 
 use crate::prelude::*;
@@ -33,6 +33,25 @@ impl Shows<ErrPacket<'_>> for Server {
             ErrPacket::Progress(report) => made_progress(report, alloc).map(ErrPacket::Progress),
         };
         made_anew(out, it, made)
+    }
+}
+
+impl Shows<GreetingError<'_>> for Server {
+    fn show(it: &GreetingError<'_>, out: &mut Out) {
+        let alloc = out.alloc();
+        show_error(it.server_error(), out);
+        displayed(it, out);
+        let made = made_error(it.server_error(), alloc).map(GreetingError::new);
+        made_anew(out, it, made);
+        if let Ok(copy) = counted!(alloc; it.clone()) {
+            let owned = counted!(alloc; copy.into_owned(alloc));
+            made_anew(
+                out,
+                it.server_error(),
+                owned.map(|it| it.into_server_error()),
+            )
+        }
+        laws::this_greeting_error_round_trips(it)
     }
 }
 
@@ -70,6 +89,12 @@ impl<'a> InPlace<ErrPacket<'a>, ErrPacketRef<'a>> for Server {
             }
         };
         is_same && place.to_packet() == *owned
+    }
+}
+
+impl<'a> InPlace<GreetingError<'a>, GreetingErrorRef<'a>> for Server {
+    fn is(place: &GreetingErrorRef<'a>, owned: &GreetingError<'a>, out: &mut Out) -> bool {
+        Server::is(place.server_error(), owned.server_error(), out) && place.to_packet() == *owned
     }
 }
 

@@ -27,6 +27,7 @@ fn of_replies(out: &mut Out, request: &Request<'_>) -> bool {
             "sql_state": SqlState, SqlStateRef<'_>,
             "progress": ProgressReport<'_>, ProgressReportRef<'_>,
             "session_info": SessionStateInfo<'_>, SessionStateInfoRef<'_>,
+            "greeting_error": GreetingError<'_>, GreetingErrorRef<'_>,
             "column_attribute": ColumnAttribute<'_>, ColumnAttributeRef<'_>,
         both extended::capabilities(request) => "extended_column": ExtendedColumn, ExtendedColumnRef<'_>,
         both request.capabilities() => "err": ErrPacket<'_>, ErrPacketRef<'_>,

@@ -4,6 +4,7 @@
 ghost use Rattle.std.specs.Prelude.{◌≡◌, List, ℕ, Bool};
 ghost use Rattle.mysql_wire.specs.Flags.{CapabilityFlags};
 ghost use Rattle.mysql_replies.specs.ErrPacket.{err_packet};
+ghost use Rattle.mysql_replies.specs.GreetingError.{greeting_error};
 ghost use Rattle.mysql_replies.specs.LocalInfile.{local_infile};
 ghost use Rattle.mysql_replies.specs.OkPacket.{ok_packet};
 ghost use Rattle.mysql_replies.specs.ProgressReport.{progress_report};
@@ -20,6 +21,11 @@ pub fn borrowed_errors_read_errors()
     ensures error { (context : ℕ × Bool) (bytes : List ℕ) → (⟦<crate::server_error_ref::ServerErrorRef<'static> as MyDeserialize<'static>>⟧.form context).reads bytes ≡ (server_error.form context).reads bytes }
     ensures state { (bytes : List ℕ) → (⟦<crate::sql_state_ref::SqlStateRef<'static> as MyDeserialize<'static>>⟧.form tt).reads bytes ≡ (sql_state.form tt).reads bytes }
     ensures report { (bytes : List ℕ) → (⟦<crate::progress_report_ref::ProgressReportRef<'static> as MyDeserialize<'static>>⟧.form tt).reads bytes ≡ (progress_report.form tt).reads bytes }
+{}
+
+/// Errors in place of the greeting that stay in their packet are read as the others are.
+pub fn borrowed_greeting_errors_read_greeting_errors()
+    ensures read { (bytes : List ℕ) → (⟦<crate::greeting_error_ref::GreetingErrorRef<'static> as MyDeserialize<'static>>⟧.form tt).reads bytes ≡ (greeting_error.form tt).reads bytes }
 {}
 
 /// Requests for a local file that stay in their packet are read as the others are.

@@ -10,7 +10,7 @@ ghost use Rattle.mysql_wire.specs.Flags.{CapabilityFlags, MariadbCapabilities};
 ghost use Rattle.mysql_replies.specs.ColumnAttribute.{column_attribute};
 ghost use Rattle.mysql_replies.specs.ExtendedColumn.{extended_column, metadata_of, sends_metadata};
 ghost use Rattle.mysql_replies.specs.ColumnCount.{column_count, SuitsSession};
-ghost use Rattle.mysql_replies.specs.ErrPacket.{err_packet, HasWidths, SuitsFlags};
+ghost use Rattle.mysql_replies.specs.ErrPacket.{err_packet, HasWidths, StateHasWidth, SuitsFlags};
 ghost use Rattle.mysql_replies.specs.LocalInfile.{local_infile};
 ghost use Rattle.mysql_replies.specs.declared.session_capabilities.SessionCapabilities.{SessionCapabilities};
 ghost use Rattle.mysql_replies.specs.declared.ok_kind.CommonOkPacket.{CommonOkPacket};
@@ -22,6 +22,7 @@ ghost use Rattle.mysql_replies.specs.OkPacket.{ok_packet};
 ghost use Rattle.mysql_replies.specs.OkPacketSent.{HasOkWidths, common_bytes, deserializer_of, eof_bytes, terminator_bytes};
 ghost use Rattle.mysql_replies.specs.ProgressReport.{progress_report, progress};
 ghost use Rattle.mysql_replies.specs.ServerError.{server_error, error_code, sql_state_of};
+ghost use Rattle.mysql_replies.specs.GreetingError.{greeting_error, HasPlainMessage};
 ghost use Rattle.mysql_replies.specs.SentChange.{sent_info};
 ghost use Rattle.mysql_replies.specs.SessionStateChanges.{decoded_as_sent};
 ghost use Rattle.mysql_replies.specs.SessionStateInfo.{session_state_info};
@@ -32,6 +33,7 @@ use crate::column_attribute::ColumnAttribute;
 use crate::column_count::ColumnCount;
 use crate::err_packet::ErrPacket;
 use crate::extended_column::ExtendedColumn;
+use crate::greeting_error::GreetingError;
 use crate::local_infile::LocalInfilePacket;
 use crate::ok_packet::OkPacket;
 use crate::progress_report::ProgressReport;
@@ -111,6 +113,27 @@ pub fn this_local_infile_round_trips(request: &LocalInfilePacket<'_>)
     ensures spelled { (local_infile.form tt).Spells request.now (local_infile.bytes request.now) [] }
 {}
 
+/// What is written of this error in place of the greeting is read again, where nothing follows; without a state its message
+/// does not begin as a state does.
+#[inline]
+#[tactic(auto, using(crate::proofs::GreetingErrors::greeting_errors))]
+pub fn this_greeting_error_round_trips(packet: &GreetingError<'_>)
+    ensures spelled { HasPlainMessage packet.now → (greeting_error.form tt).Spells packet.now (greeting_error.bytes packet.now) [] }
+{
+    has_error_widths(packet.server_error());
+}
+
+/// The numbers of an error have their widths.
+#[inline]
+fn has_error_widths(error: &ServerError<'_>)
+    ensures value { (error_code error.now < 2 ^ 16) × StateHasWidth (sql_state_of error.now) }
+{
+    let _code = error.error_code();
+    if let Some(state) = error.sql_state_ref() {
+        let _bytes = state.as_bytes();
+    }
+}
+
 /// What is written of this progress report is read again, whatever follows, where its progress has three bytes.
 #[inline]
 pub fn this_progress_report_round_trips(report: &ProgressReport<'_>)
@@ -148,12 +171,7 @@ fn has_widths(packet: &ErrPacket<'_>)
     ensures value { HasWidths packet.now }
 {
     match packet {
-        ErrPacket::Error(error) => {
-            let _code = error.error_code();
-            if let Some(state) = error.sql_state_ref() {
-                let _bytes = state.as_bytes();
-            }
-        }
+        ErrPacket::Error(error) => { has_error_widths(error) }
         ErrPacket::Progress(report) => {
             let _stage = report.stage();
             let _max_stage = report.max_stage();

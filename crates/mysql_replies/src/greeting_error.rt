@@ -1,0 +1,103 @@
+//! An error in place of the greeting.
+#![tactic(auto, using(mysql_wire::proofs::Packets::packets), unfolding(crate::specs::GreetingError::greeting_error))]
+
+ghost use Rattle.std.specs.Prelude.{◌≡◌, [], None, Some, refl, IfOk, IsOk};
+ghost use Rattle.mysql_replies.specs.GreetingError as spec;
+ghost use Rattle.mysql_replies.specs.ServerError.{error_text, message};
+
+use crate::err_packet::ErrPacketHeader;
+use crate::greeting_error_ref::GreetingErrorRef;
+use crate::server_error::ServerError;
+use mysql_wire::{AnyWidth, FaultOf, LeU16, MyDeserialize, ParseBuf, Parts, RawInt, Sink, parts};
+use std::alloc::{AllocError, Global};
+use std::fmt;
+
+/// An error that a server sends in place of the greeting, as 'Too many connections' (`Protocol::ERR_Packet`): no flags are
+/// agreed yet, and MySQL sends an SQL state, MariaDB none.
+///
+/// | Bytes | Field |
+/// |---|---|
+/// | 1 | the byte `ff` |
+/// | 2 | the code, little-endian |
+/// | 6 | the SQL state, where `#` stands there and five bytes more follow |
+/// | the rest | the message |
+///
+/// Fewer than three bytes are `UnexpectedEof`, another first byte is `InvalidData`. A message without a state that begins with
+/// `#` and has five bytes more is read as one with a state.
+#[derive(Clone, Debug, PartialEq, Drop)]
+pub struct GreetingError<'a> {
+    error: ServerError<'a>,
+}
+
+impl<'a> GreetingError<'a> {
+    /// This error, in place of the greeting.
+    #[inline]
+    pub fn new(error: ServerError<'a>) -> Self
+        ensures value { result ≡ spec.greeting_error_of error.entry }
+    {
+        GreetingError { error }
+    }
+
+    /// The error.
+    #[inline]
+    pub fn server_error(&self) -> &ServerError<'a>
+        ensures value { result.now ≡ spec.error_of_greeting self.now }
+    {
+        &self.error
+    }
+
+    /// The error.
+    #[inline]
+    pub fn into_server_error(self) -> ServerError<'a>
+        ensures value { result ≡ spec.error_of_greeting self.entry }
+    {
+        self.error
+    }
+
+    /// The same, on memory of its own. An empty message takes none.
+    pub fn into_owned(self, alloc: Global) -> Result<GreetingError<'static>, AllocError>
+        ensures value { IfOk result (λ owned. owned ≡ self.entry) }
+        ensures no_memory { message (spec.error_of_greeting self.entry) ≡ [] → IsOk result }
+    {
+        Ok(GreetingError {
+            error: self.error.into_owned(alloc)?,
+        })
+    }
+}
+
+impl<'de> MyDeserialize<'de> for GreetingError<'de> {
+    const SIZE: Option<usize> = None;
+
+    type Size = AnyWidth;
+
+    type Ctx = ();
+
+    ghost form = { spec.greeting_error.form };
+
+    fn deserialize<'s>(_ctx: (), buf: &mut ParseBuf<'de>) -> Result<Self, FaultOf<'s>> {
+        let packet: GreetingErrorRef<'de> = buf.parse(())?;
+        Ok(packet.to_packet())
+    }
+
+    ghost size_is = { λ _. unfold spec.greeting_error in refl };
+}
+
+impl Parts for GreetingError<'_> {
+    ghost bytes = { spec.greeting_error.bytes };
+
+    #[inline(always)]
+    fn put<S: Sink>(&self, sink: &mut S) {
+        let header = ErrPacketHeader::new();
+        let code: RawInt<LeU16> = RawInt::new(self.error.error_code());
+        sink.part(&parts!(header, code, self.error));
+    }
+}
+
+impl fmt::Display for GreetingError<'_> {
+    ghost output = { λ g. Some (error_text (spec.error_of_greeting g)) };
+
+    fn fmt<W: fmt::Write>(&self, f: &mut fmt::Formatter<W>) -> fmt::Result {
+        let error = &self.error;
+        write!(f, "{error}")
+    }
+}

@@ -1,0 +1,78 @@
+//! An error in place of the greeting that stays in its packet.
+#![tactic(auto, using(mysql_wire::proofs::Packets::packets), unfolding(crate::specs::GreetingError::greeting_error))]
+
+ghost use Rattle.std.specs.Prelude.{◌≡◌, None, refl};
+ghost use Rattle.mysql_replies.specs.GreetingError as spec;
+
+use crate::err_packet::ErrPacketHeader;
+use crate::greeting_error::GreetingError;
+use crate::server_error_ref::ServerErrorRef;
+use mysql_wire::{AnyWidth, FaultOf, LeU16, MyDeserialize, ParseBuf, RawInt};
+use std::marker::Model;
+
+/// An error in place of the greeting whose texts stay in the packet: a [`GreetingError`] for as long as the packet lives.
+///
+/// It is read of the same bytes with the same faults, and in a clause it is that packet.
+#[derive(Drop)]
+pub struct GreetingErrorRef<'a> {
+    error: ServerErrorRef<'a>,
+}
+
+impl<'a> Model for GreetingErrorRef<'a> {
+    ghost use Rattle.mysql_replies.specs.declared.greeting_error.GreetingError.{GreetingError};
+    ghost use Rattle.mysql_replies.specs.GreetingError.{greeting_error_of};
+
+    ghost Value = { GreetingError };
+
+    ghost view = { λ g. greeting_error_of g.error };
+}
+
+impl<'a> GreetingErrorRef<'a> {
+    /// The error.
+    #[inline]
+    pub fn server_error(&self) -> &ServerErrorRef<'a>
+        ensures value { result.now ≡ spec.error_of_greeting self.now }
+    {
+        &self.error
+    }
+
+    /// The packet in its other form, which borrows the message still. It takes no memory.
+    pub fn to_packet(&self) -> GreetingError<'a>
+        ensures value { result ≡ self.now }
+    {
+        GreetingError::new(self.error.to_error())
+    }
+}
+
+/// Whether the bytes begin with an SQL state: `#`, and five bytes more.
+#[inline]
+fn begins_with_state(buf: &ParseBuf<'_>) -> bool
+    ensures value { result ≡ spec.begins_with_state buf.now }
+{
+    buf.first() == Some(b'#') && buf.len() > 5
+}
+
+/// As a [`GreetingError`].
+impl<'de> MyDeserialize<'de> for GreetingErrorRef<'de> {
+    const SIZE: Option<usize> = None;
+
+    type Size = AnyWidth;
+
+    type Ctx = ();
+
+    ghost form = { spec.greeting_error.form };
+
+    #[inline]
+    #[tactic(auto, using(mysql_wire::proofs::Blocks::blocks), unfolding(crate::specs::GreetingError::greeting_error))]
+    fn deserialize<'s>(_ctx: (), buf: &mut ParseBuf<'de>) -> Result<Self, FaultOf<'s>> {
+        let mut head: ParseBuf<'de> = buf.parse(3)?;
+        let _header: ErrPacketHeader = head.parse_unchecked(())?;
+        let code: RawInt<LeU16> = RawInt::take(&mut head);
+        let has_state = begins_with_state(buf);
+        Ok(GreetingErrorRef {
+            error: buf.parse((code.0, has_state))?,
+        })
+    }
+
+    ghost size_is = { λ _. unfold spec.greeting_error in refl };
+}
