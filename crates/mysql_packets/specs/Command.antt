@@ -3,8 +3,11 @@ use Rattle.std.specs.Prelude.{ℕ, List, [], ◌∷◌, Bool, true, false, Optio
 use Rattle.mysql_wire.specs.Flags.{CapabilityFlags}
 use Rattle.mysql_packets.specs.declared.command.Command.{Command}
 use Rattle.mysql_packets.specs.declared.command.Command.TheVariants as command
+use Rattle.mysql_packets.specs.declared.commands.change_layout.ChangeLayout.{ChangeLayout}
+use Rattle.mysql_packets.specs.declared.commands.change_layout.ChangeLayout.TheVariants as layout
 use Rattle.mysql_packets.specs.declared.commands.ok.OkKind.{OkKind}
 use Rattle.mysql_packets.specs.Capabilities.{capabilities_of}
+use Rattle.mysql_packets.specs.ChangeLayout.{layout_of}
 use Rattle.mysql_packets.specs.Digits.{bytes_of}
 use Rattle.mysql_packets.specs.OkKind.{kind_of}
 use Rattle.mysql_packets.specs.Named.{is_named}
@@ -35,23 +38,25 @@ with_two name first second =
     else if is_named name (codes "bulk") then option_map command.Bulk (bulk_call first second (Some plain_rule) None)
     else None
 
-abbrev pub ok_command : Option OkKind → Option CapabilityFlags → Option (List ℕ) → Option Command
-ok_command (Some kind) (Some capabilities) (Some bytes) = Some (command.Ok kind capabilities bytes)
-ok_command (Some kind) (Some capabilities) None = None
-ok_command (Some kind) None bytes = None
-ok_command None capabilities bytes = None
+abbrev pub ok_command : Option OkKind → Option CapabilityFlags → Option (List ℕ) → Option ChangeLayout → Option Command
+ok_command (Some kind) (Some capabilities) (Some bytes) (Some layout) = Some (command.Ok kind capabilities bytes layout)
+ok_command (Some kind) (Some capabilities) (Some bytes) None = None
+ok_command (Some kind) (Some capabilities) None layout = None
+ok_command (Some kind) None bytes layout = None
+ok_command None capabilities bytes layout = None
 
 -- ok KIND CAPS HEX, bulk STMT MAX with an option
 unfoldable pub with_three : List ℕ → List ℕ → List ℕ → List ℕ → Option Command
 with_three name first second third =
-    if is_named name (codes "ok") then ok_command (kind_of first) (capabilities_of second) (bytes_of third)
+    if is_named name (codes "ok") then ok_command (kind_of first) (capabilities_of second) (bytes_of third) (Some layout.Documented)
     else if is_named name (codes "bulk") then option_map command.Bulk (call_of_one first second third)
     else None
 
--- bulk STMT MAX with two options
+-- ok KIND CAPS HEX as-sent, bulk STMT MAX with two options
 unfoldable pub with_four : List ℕ → List ℕ → List ℕ → List ℕ → List ℕ → Option Command
 with_four name first second third fourth =
-    if is_named name (codes "bulk") then option_map command.Bulk (call_of_two first second third fourth)
+    if is_named name (codes "ok") then ok_command (kind_of first) (capabilities_of second) (bytes_of third) (layout_of fourth)
+    else if is_named name (codes "bulk") then option_map command.Bulk (call_of_two first second third fourth)
     else None
 
 -- bulk STMT MAX with all three options

@@ -14,6 +14,7 @@ pub mod StmtLines
 pub mod Infile
 pub mod ColumnLines
 pub mod Change
+pub mod ChangeLayout
 pub mod OkKind
 pub mod Ok
 pub mod Err

@@ -15,9 +15,11 @@ use Rattle.mysql_replies.specs.declared.session_state_info.SessionStateInfo.{Ses
 use Rattle.mysql_replies.specs.OkKind.{common_ok_body, terminator_body, old_eof_body}
 use Rattle.mysql_replies.specs.OkPacket.{ok_packet, packet}
 use Rattle.mysql_replies.specs.OkPacket.{affected_rows, last_insert_id, status_flags, warnings, info, session_state, state_bytes}
-use Rattle.mysql_replies.specs.SessionStateInfo.{state_string, decoded}
+use Rattle.mysql_replies.specs.SessionStateInfo.{state_string}
 use Rattle.mysql_packets.specs.declared.commands.ok.OkKind.{OkKind}
 use Rattle.mysql_packets.specs.declared.commands.ok.OkKind.TheVariants as ok_kind
+use Rattle.mysql_packets.specs.declared.commands.change_layout.ChangeLayout.{ChangeLayout}
+use Rattle.mysql_packets.specs.ChangeLayout.{decoded_in}
 use Rattle.mysql_packets.specs.Lines.{line, prefixed, or_none}
 use Rattle.mysql_packets.specs.Change.{change_line}
 use Rattle.mysql_packets.specs.Answer.{Answer, done, refused}
@@ -51,18 +53,18 @@ with_change lines (Ok x) next = next (lines ++ change_line x.0)
 with_change lines (Err k) next = refused lines k
 
 -- a line for each change, up to the first that is refused
-abbrev pub with_changes : List ℕ → ℕ → List SessionStateInfo → Answer
-with_changes lines rest [] = done (lines ++ line (codes "rest") (decimal rest))
-with_changes lines rest (i ∷ infos) = with_change lines (decoded i) (λ more. with_changes more rest infos)
+abbrev pub with_changes : ChangeLayout → List ℕ → ℕ → List SessionStateInfo → Answer
+with_changes layout lines rest [] = done (lines ++ line (codes "rest") (decimal rest))
+with_changes layout lines rest (i ∷ infos) = with_change lines (decoded_in layout i) (λ more. with_changes layout more rest infos)
 
 -- the list of changes is read whole before the first of their lines
-abbrev pub with_session_state : List ℕ → ℕ → Reading (List SessionStateInfo) → Answer
-with_session_state lines rest (Ok x) = with_changes lines rest x.0
-with_session_state lines rest (Err k) = refused lines k
+abbrev pub with_session_state : ChangeLayout → List ℕ → ℕ → Reading (List SessionStateInfo) → Answer
+with_session_state layout lines rest (Ok x) = with_changes layout lines rest x.0
+with_session_state layout lines rest (Err k) = refused lines k
 
-abbrev pub packet_answer : Reading OkPacket → Answer
-packet_answer (Ok x) = with_session_state (field_lines x.0) (length x.1) (state_string.reads (state_bytes x.0))
-packet_answer (Err k) = refused [] k
+abbrev pub packet_answer : ChangeLayout → Reading OkPacket → Answer
+packet_answer layout (Ok x) = with_session_state layout (field_lines x.0) (length x.1) (state_string.reads (state_bytes x.0))
+packet_answer layout (Err k) = refused [] k
 
-abbrev pub ok_answer : OkKind → CapabilityFlags → List ℕ → Answer
-ok_answer kind capabilities bytes = packet_answer (ok_reading kind capabilities bytes)
+abbrev pub ok_answer : OkKind → CapabilityFlags → ChangeLayout → List ℕ → Answer
+ok_answer kind capabilities layout bytes = packet_answer layout (ok_reading kind capabilities bytes)

@@ -27,7 +27,7 @@ AnswersCommand (command.Gtid bytes) input answer = answer ≡ gtid_answer false 
 AnswersCommand (command.GtidStrict bytes) input answer = answer ≡ gtid_answer true bytes
 AnswersCommand (command.Sid text) input answer = answer ≡ sid_answer text
 AnswersCommand (command.GtidSet text) input answer = answer ≡ gtid_set_answer text
-AnswersCommand (command.Ok kind capabilities bytes) input answer = answer ≡ ok_answer kind capabilities bytes
+AnswersCommand (command.Ok kind capabilities bytes layout) input answer = answer ≡ ok_answer kind capabilities layout bytes
 AnswersCommand (command.Err capabilities bytes) input answer = answer ≡ err_answer capabilities bytes
 AnswersCommand (command.Bulk call) input answer = IsBulkAnswer call input answer
 

@@ -7,6 +7,7 @@ ghost use Rattle.mysql_packets.specs.Program.{AnswersCommand};
 use crate::answer::Answer;
 use crate::bulk_call::BulkCall;
 use crate::capabilities::capabilities_of;
+use crate::commands::change_layout::ChangeLayout;
 use crate::commands::ok::OkKind;
 use crate::commands::{bulk, column, err, gtid, gtid_set, handshake, infile, ok, sid, stmt};
 use crate::digits::HexDigits;
@@ -33,8 +34,8 @@ pub enum Command<'a> {
     Sid(Word<'a>),
     /// `gtidset TEXT`: the text of a GTID set.
     GtidSet(Word<'a>),
-    /// `ok KIND CAPS HEX`: an OK packet.
-    Ok(OkKind, CapabilityFlags, HexDigits<'a>),
+    /// `ok KIND CAPS HEX [as-sent]`: an OK packet.
+    Ok(OkKind, CapabilityFlags, HexDigits<'a>, ChangeLayout),
     /// `err CAPS HEX`: an error packet.
     Err(CapabilityFlags, HexDigits<'a>),
     /// `bulk STMT MAX [types] [rows=K] [columns=TYPE,TYPE,..]`: bulk requests for the rows of the input.
@@ -148,7 +149,9 @@ impl<'a> Command<'a> {
             "ok" => {
                 let kind = OkKind::of(first)?;
                 let capabilities = capabilities_of(second)?;
-                Some(Command::Ok(kind, capabilities, HexDigits::new(third.as_bytes())?))
+                let digits = HexDigits::new(third.as_bytes())?;
+                let layout = ChangeLayout::Documented;
+                Some(Command::Ok(kind, capabilities, digits, layout))
             }
             "bulk" => Some(Command::Bulk(BulkCall::with_one_option(first, second, third)?)),
             _ => None,
@@ -160,12 +163,19 @@ impl<'a> Command<'a> {
         name: &str,
         first: &str,
         second: &str,
-        third: &str,
+        third: &'a str,
         fourth: &'a str,
     ) -> Option<Command<'a>>
         ensures value { result ≡ spec.with_four name.now first.now second.now third.now fourth.now }
     {
         match name {
+            "ok" => {
+                let kind = OkKind::of(first)?;
+                let capabilities = capabilities_of(second)?;
+                let digits = HexDigits::new(third.as_bytes())?;
+                let layout = ChangeLayout::of(fourth)?;
+                Some(Command::Ok(kind, capabilities, digits, layout))
+            }
             "bulk" => Some(Command::Bulk(BulkCall::with_two_options(
                 first, second, third, fourth,
             )?)),
@@ -216,8 +226,9 @@ impl<'a> Command<'a> {
             }
             Command::Sid(word) => sid::answer(alloc, word.as_str()),
             Command::GtidSet(word) => gtid_set::answer(alloc, word.as_str()),
-            Command::Ok(kind, capabilities, digits) => {
-                ok::answer(alloc, kind, capabilities, digits.decode(alloc)?.as_slice())
+            Command::Ok(kind, capabilities, digits, layout) => {
+                let bytes = digits.decode(alloc)?;
+                ok::answer(alloc, kind, capabilities, layout, bytes.as_slice())
             }
             Command::Err(capabilities, digits) => {
                 err::answer(alloc, capabilities, digits.decode(alloc)?.as_slice())

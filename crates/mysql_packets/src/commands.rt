@@ -2,6 +2,7 @@
 
 pub mod bulk;
 mod change;
+pub mod change_layout;
 pub mod column;
 pub mod err;
 pub mod gtid;

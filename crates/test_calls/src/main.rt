@@ -5,11 +5,13 @@
 //! no words. The answer is `status N` and the lines that are written, with `; ` in front of each.
 //!
 //! After `fails` it is what becomes of such a call on readers and writers that fail, and after `endless` on an input without
-//! end. `tour` makes the calls of the README's tour, and `kind` reads an OK packet of a kind that stands here.
+//! end. `tour` makes the calls of the README's tour, `kind` reads an OK packet of a kind that stands here, and `gtid_sets` reads the
+//! sets of GTIDs that an OK packet tells.
 #![tactic(auto)]
 
 mod call;
 mod fails;
+mod gtid_sets;
 mod kind;
 mod tour;
 
@@ -26,6 +28,7 @@ impl Answers for Program {
             Some(("fails", call)) => fails::fails(out, request, call).end(out),
             Some(("endless", call)) => fails::endless(out, request, call).end(out),
             Some(("kind", _)) => kind::kind(out, request),
+            Some(("gtid_sets", _)) => gtid_sets::gtid_sets(out, request),
             None if request.line == "tour" => tour::tour(out, request.alloc),
             _ => call::ran(out, request).end(out),
         }

@@ -1,4 +1,4 @@
-//! `ok KIND CAPS HEX`: an OK packet, with the session's changes that it carries.
+//! `ok KIND CAPS HEX [as-sent]`: an OK packet, with the session's changes that it carries.
 
 ghost use Rattle.std.specs.Prelude.{false, ◌≡◌, ◌++◌, IfOk, OnOk, string_bytes};
 ghost use Rattle.mysql_wire.specs.Reading.{Answers};
@@ -10,6 +10,7 @@ ghost use Rattle.mysql_packets.specs.OkKind.{kind_of};
 
 use crate::answer::Answer;
 use crate::commands::change::change_value;
+use crate::commands::change_layout::ChangeLayout;
 use crate::lines::{Line, append_lines, text_of};
 use mysql_replies::{
     CommonOkPacket, NetworkStreamTerminator, OkPacket, OkPacketDeserializer, OldEofPacket,
@@ -47,19 +48,20 @@ impl OkKind {
     }
 }
 
-/// The lines of the OK packet of that kind at the front of the bytes.
+/// The lines of the OK packet of that kind at the front of the bytes, with its changes read in that layout.
 #[tactic(auto, using(crate::proofs::OkRefused::ok_refusals))]
 pub fn answer(
     alloc: Global,
     kind: OkKind,
     capabilities: CapabilityFlags,
+    layout: ChangeLayout,
     bytes: &[u8],
 ) -> Result<Answer, AllocError>
-    ensures value { IfOk result (λ answer. answer ≡ spec.ok_answer kind capabilities bytes.now) }
+    ensures value { IfOk result (λ answer. answer ≡ spec.ok_answer kind capabilities layout bytes.now) }
 {
     let mut buf = ParseBuf::new(alloc, bytes);
     match read(kind, capabilities, &mut buf) {
-        Ok(packet) => show(alloc, &packet, buf.len()),
+        Ok(packet) => show(alloc, &packet, layout, buf.len()),
         Err(fault) => Answer::refused(alloc, String::new(alloc), fault),
     }
 }
@@ -95,12 +97,17 @@ fn read<'a, 's>(
 }
 
 #[tactic(auto, using(crate::proofs::OkRefused::ok_refusals))]
-fn show(alloc: Global, packet: &OkPacket<'_>, rest: usize) -> Result<Answer, AllocError>
-    ensures value { IfOk result (λ answer. answer ≡ spec.with_session_state (spec.field_lines packet.now) rest (state_string.reads (state_bytes packet.now))) }
+fn show(
+    alloc: Global,
+    packet: &OkPacket<'_>,
+    layout: ChangeLayout,
+    rest: usize,
+) -> Result<Answer, AllocError>
+    ensures value { IfOk result (λ answer. answer ≡ spec.with_session_state layout (spec.field_lines packet.now) rest (state_string.reads (state_bytes packet.now))) }
 {
     let text = fields_text(alloc, packet)?;
     match packet.session_state_info(alloc) {
-        Ok(infos) => with_changes(alloc, text, infos.as_slice(), rest),
+        Ok(infos) => with_changes(alloc, text, layout, infos.as_slice(), rest),
         Err(fault) => Answer::refused(alloc, text, fault),
     }
 }
@@ -127,13 +134,14 @@ fn fields_text(alloc: Global, packet: &OkPacket<'_>) -> Result<String, AllocErro
 fn with_changes(
     alloc: Global,
     mut text: String,
+    layout: ChangeLayout,
     infos: &[SessionStateInfo<'_>],
     rest: usize,
 ) -> Result<Answer, AllocError>
-    ensures value { IfOk result (λ answer. answer ≡ spec.with_changes (string_bytes text) rest infos.now) }
+    ensures value { IfOk result (λ answer. answer ≡ spec.with_changes layout (string_bytes text) rest infos.now) }
 {
     for info in infos {
-        match info.decode(alloc) {
+        match layout.decode(alloc, info) {
             Ok(change) => append_change(alloc, &mut text, &change)?,
             Err(fault) => return Answer::refused(alloc, text, fault),
         }
