@@ -1,5 +1,5 @@
 -- The change of a session's user.
-use Rattle.std.specs.Prelude.{◌≡◌, ℕ, ◌<◌, ◌^◌, List, [], ◌++◌, length, Option, Some, None, IfSome, Bool, true, false, refl}
+use Rattle.std.specs.Prelude.{◌≡◌, ℕ, ◌<◌, ◌^◌, List, [], length, Option, Some, None, IfSome, Bool, true, false, refl}
 use Rattle.mysql_wire.specs.Codec.{Codec, Fields}
 use Rattle.mysql_wire.specs.CodecAgain.{some-then}
 use Rattle.mysql_wire.specs.Codecs.{◌>>=◌, give, field, packet, when, without_context, if_bytes_left, const_u8, u16, string_null, string_u8}

@@ -1,5 +1,5 @@
 -- Packets of a stream: the plain conditions are enough for reading back.
-use Rattle.std.proofs.Common.{◌≡◌, ℕ, ◌<◌, ◌^◌, List, [], ◌++◌, Option, Some, None, Bool, true, false, is_some, refl, subst}
+use Rattle.std.proofs.Common.{◌≡◌, ℕ, ◌<◌, ◌^◌, List, [], ◌++◌, Option, Some, None, Bool, is_some, refl, subst}
 use Rattle.std.proofs.lemmas.List.{append-nil}
 use Rattle.mysql_wire.specs.CodecFits.{option_fits}
 use Rattle.mysql_wire.specs.Codecs.{without_context}
