@@ -70,6 +70,26 @@ def describe_switch(record):
     return [plugin(name), f"plugin_data={x(data[:-1] if data.endswith(bytes(1)) else data)}", f"raw={x(data)}"]
 
 
+def describe_reply(record):
+    kind, parts = record
+    if kind == "old_switch":
+        return [kind]
+    if kind in ("switch", "next_factor"):
+        name, data = parts
+        return [f"{kind}={x(name)}", f"raw={x(data)}"]
+    return [f"{kind}={x(parts)}"]
+
+
+def describe_event(record):
+    flags, event = record
+    return [f"wants_ack={'none' if flags is None else ('no', 'yes')[flags & 1]}", f"event={x(event)}"]
+
+
+def describe_stream(record):
+    kind, parts = record
+    return describe_event(parts) if kind == "event" else [f"{kind}={x(parts)}"]
+
+
 def describe_register(record):
     server, texts, port, rank, master = record
     keys = ("hostname", "user", "password")
@@ -120,6 +140,8 @@ DESCRIBERS = {
     "change_user": lambda caps: by("ComChangeUser", lambda it: [], int(caps)),
     "more_data": lambda caps: by("ComChangeUserMoreData", lambda it: [], int(caps)),
     "auth_switch": lambda: by("AuthSwitchRequest", describe_switch),
+    "next_factor": lambda: by("AuthNextFactor", describe_switch),
+    "auth_reply": lambda caps: by("AuthReply", describe_reply, int(caps)),
     "old_switch": lambda: by("OldAuthSwitchRequest", lambda it: [plugin(b"mysql_old_password")]),
     "auth_more_data": lambda: by("AuthMoreData", lambda it: [f"data={x(it[1])}"]),
     "key_request": lambda: by("PublicKeyRequest", lambda it: []),
@@ -130,6 +152,8 @@ DESCRIBERS = {
     "table_dump": lambda: by("ComTableDump", describe_table),
     "binlog_dump": lambda: by("ComBinlogDump", describe_binlog_dump),
     "semi_sync_ack": lambda: by("SemiSyncAckPacket", describe_ack),
+    "stream_event": lambda agreed: by("BinlogStreamEvent", describe_event, agreed == "semi_sync"),
+    "stream": lambda agreed: by("BinlogStreamPacket", describe_stream, agreed == "semi_sync"),
     "interval": lambda: by("GnoInterval", lambda it: numbers(("start", "end"), it)),
     "sid_bytes": lambda: by("Sid", describe_shown_sid),
     "gtid": lambda: by("ComBinlogDumpGtid", describe_gtid),

@@ -61,7 +61,8 @@ def seeds_of(probe):
     for it in vectors(probe):
         head, _, digits = it.request.rpartition(" ")
         if describer(it.request) and it.wanted[:1] == ["read"]:
-            seeds.append((head, bytes.fromhex(digits)))
+            # (`()` stands for no byte)
+            seeds.append((head, bytes.fromhex("" if digits == "()" else digits)))
     return seeds
 
 

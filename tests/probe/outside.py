@@ -12,6 +12,7 @@ from lines import TOP
 PACKETS = {
     "Protocol::HandshakeV10": ["handshake"], "Protocol::SSLRequest": ["tls"], "Protocol::HandshakeResponse41": ["response"],
     "Protocol::AuthSwitchRequest": ["auth_switch"], "Protocol::OldAuthSwitchRequest": ["old_switch"], "Protocol::AuthMoreData": ["auth_more_data"],
+    "answer before a login is done": ["auth_reply"], "Protocol::AuthNextFactorRequest": ["next_factor"],
     "request for the RSA key": ["key_request"], "RSA key": ["key"], "COM_CHANGE_USER": ["change_user"],
     "OK_Packet": ["ok"], "OK_Packet that ends a result": ["ok_end"], "EOF_Packet": ["ok_eof"], "EOF_Packet that ends a stream": ["ok_stream"],
     "ERR_Packet": ["err"], "progress report": ["progress"], "LOCAL INFILE request": ["local_infile"],
@@ -20,9 +21,10 @@ PACKETS = {
     "COM_STMT_EXECUTE": ["execute", "com_execute"], "COM_STMT_SEND_LONG_DATA": ["com_long_data", "long_data"], "COM_STMT_CLOSE": ["com_close", "close"],
     "COM_STMT_BULK_EXECUTE": ["bulk", "bulk_rows"], "COM_REGISTER_SLAVE": ["register_slave"], "COM_BINLOG_DUMP": ["binlog_dump"],
     "COM_BINLOG_DUMP_GTID": ["gtid"], "COM_TABLE_DUMP": ["table_dump"], "semi-synchronous acknowledgement": ["semi_sync_ack"],
+    "packet of a stream": ["stream"],
 }
 # what no server or client of today sends, or what was sent once in all recorded sessions: the pages' examples stand among the rows
-SELDOM = {"EOF_Packet that ends a stream", "COM_TABLE_DUMP", "Protocol::SSLRequest", "request for the RSA key"}
+SELDOM = {"EOF_Packet that ends a stream", "COM_TABLE_DUMP", "Protocol::SSLRequest", "request for the RSA key", "Protocol::AuthNextFactorRequest"}
 
 
 def counts():

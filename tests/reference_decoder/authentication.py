@@ -1,6 +1,6 @@
 """What is said before the first command, and when the user changes."""
 from .buf import to_the_end
-from .codes import CONNECT_ATTRS, CONNECT_WITH_DB, LENENC_CLIENT_DATA, PLUGIN_AUTH, SECURE_CONNECTION
+from .codes import CONNECT_ATTRS, CONNECT_WITH_DB, LENENC_CLIENT_DATA, MULTI_FACTOR_AUTHENTICATION, PLUGIN_AUTH, SECURE_CONNECTION
 from .replies import system_variable
 
 
@@ -12,6 +12,22 @@ def eof_name(buf):
 def auth_switch_request(buf):
     buf.const(b"\xfe")
     return buf.null_string(), buf.all()
+
+
+def auth_next_factor(buf):
+    buf.const(b"\x02")
+    return buf.null_string(), buf.all()
+
+
+def auth_reply(buf, capabilities):
+    """What a reply is, by its first byte, and its parts."""
+    first, payload = buf.data[:1], buf.data
+    if first == b"\xfe":
+        return ("old_switch", buf.all()) if len(payload) == 1 else ("switch", auth_switch_request(buf))
+    if first == b"\x02" and capabilities & MULTI_FACTOR_AUTHENTICATION:
+        return "next_factor", auth_next_factor(buf)
+    kind = {b"\x00": "ok", b"\xff": "err", b"\x01": "more_data"}.get(first, "plugin_data")
+    return kind, buf.all()[1 if kind == "more_data" else 0:]
 
 
 def ssl_request(buf):

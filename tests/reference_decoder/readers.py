@@ -79,6 +79,8 @@ READERS = {
     "PublicKeyResponse": lambda b: (b.const(b"\1"), b.all()),
     "OldAuthSwitchRequest": lambda b: b.const(b"\xfe"),
     "AuthSwitchRequest": authentication.auth_switch_request,
+    "AuthNextFactor": authentication.auth_next_factor,
+    "AuthReply": authentication.auth_reply,
     "SslRequest": authentication.ssl_request,
     "HandshakePacket": authentication.handshake,
     "HandshakeResponse": authentication.handshake_response,
@@ -90,6 +92,8 @@ READERS = {
     "ComTableDump": replication.table_dump,
     "ComBinlogDump": replication.binlog_dump,
     "SemiSyncAckPacket": replication.semi_sync_ack,
+    "BinlogStreamEvent": replication.stream_event,
+    "BinlogStreamPacket": replication.stream_packet,
     "ComBinlogDumpGtid": lambda b: replication.binlog_dump_gtid(b, False),
     "StrictDumpGtid": lambda b: replication.binlog_dump_gtid(b, True),
 }

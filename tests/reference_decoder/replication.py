@@ -1,4 +1,4 @@
-"""What a replica sends."""
+"""What a replica sends, and the stream that it is answered with."""
 import re
 
 from .buf import Invalid, counted
@@ -27,6 +27,22 @@ def semi_sync_ack(buf):
     block = buf.block(9)
     block.const(b"\xef")
     return block.number(8), buf.all()
+
+
+def stream_event(buf, is_semi_sync):
+    """The flags of semi-synchronous replication, where it is agreed on, and the event."""
+    buf.const(b"\0")
+    if not is_semi_sync:
+        return None, buf.all()
+    header = buf.block(2)
+    header.const(b"\xef")
+    return header.number(1), buf.all()
+
+
+def stream_packet(buf, is_semi_sync):
+    """What a packet of a stream is, and its parts."""
+    kind = {b"\xfe": "end", b"\xff": "err"}.get(buf.data[:1], "event")
+    return kind, stream_event(buf, is_semi_sync) if kind == "event" else buf.all()
 
 
 def gno_interval(buf):

@@ -20,6 +20,14 @@ fn plugin_of<'a>(greeting: &'a HandshakePacket<'_>) -> AuthPlugin<'a> {
         .unwrap_or(AuthPlugin::MysqlNativePassword)
 }
 
+/// What these recipes do of what the packets can: results have their metadata, queries have no attributes, and there is one factor.
+fn wanted() -> CapabilityFlags {
+    supported_capabilities()
+        .difference(CapabilityFlags::CLIENT_OPTIONAL_RESULTSET_METADATA)
+        .difference(CapabilityFlags::CLIENT_QUERY_ATTRIBUTES)
+        .difference(CapabilityFlags::MULTI_FACTOR_AUTHENTICATION)
+}
+
 /// The response to a greeting, with what is sent for the password. An empty name is no database.
 fn response_to<'a>(
     alloc: Global,
@@ -40,7 +48,7 @@ fn response_to<'a>(
         Some(CowSlice::Borrowed(user.as_bytes())),
         database,
         Some(plugin_of(greeting)),
-        supported_capabilities() & greeting.capabilities(),
+        wanted() & greeting.capabilities(),
         None,
         1 << 24,
     )?;

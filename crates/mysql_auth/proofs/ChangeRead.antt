@@ -9,7 +9,7 @@ use Rattle.mysql_wire.specs.Reading.{Reading, Faults, then_read}
 use Rattle.mysql_wire.specs.Seq.{counts_any}
 use Rattle.mysql_auth.specs.Attributes.{Attribute}
 use Rattle.mysql_auth.specs.AttributeBytes.{in_change_user, in_last_part, in_more_data, sent_room}
-use Rattle.mysql_auth.specs.ComChangeUser.{change_user, last_part, more_data, named_plugin, sends_attributes, with_connect_attributes, with_more_data, written_attributes}
+use Rattle.mysql_auth.specs.ComChangeUser.{change_user, last_part, more_data, named_plugin, sends_attributes, with_connect_attributes, with_more_data, sent_attributes}
 use Rattle.mysql_auth.specs.ComChangeUserRef.{before_attributes, before_more_data, change_header}
 use Rattle.mysql_auth.specs.declared.com_change_user.ComChangeUser.{ComChangeUser}
 use Rattle.mysql_auth.specs.declared.com_change_user_more_data.ComChangeUserMoreData.{ComChangeUserMoreData}
@@ -19,7 +19,7 @@ use Rattle.mysql_auth.proofs.LastPart.{step, front-fault, last-fault}
 
 module _ (c : CapabilityFlags) where
   abbrev attributes_after : ComChangeUserMoreData → List ℕ → Reading ComChangeUserMoreData
-  attributes_after p mid = then_read ((written_attributes.form c).reads mid) (λ given rest. Ok (with_connect_attributes given p, rest))
+  attributes_after p mid = then_read ((sent_attributes.form c).reads mid) (λ given rest. Ok (with_connect_attributes given p, rest))
 
   more_parts : (bytes : List ℕ) → (more_data.form c).reads bytes ≡ then_read ((before_attributes c).reads bytes) attributes_after
   unfolding more_data
@@ -28,21 +28,21 @@ module _ (c : CapabilityFlags) where
       step ((named_plugin.form c).reads b1) _ attributes_after _ (λ named b2. refl))
 
   pub more-read : (p : ComChangeUserMoreData) (given : Option (List Attribute)) (bytes mid rest : List ℕ) → (before_attributes c).reads bytes ≡ Ok (p, mid)
-      → (written_attributes.form c).reads mid ≡ Ok (given, rest) → (more_data.form c).reads bytes ≡ Ok (with_connect_attributes given p, rest)
+      → (sent_attributes.form c).reads mid ≡ Ok (given, rest) → (more_data.form c).reads bytes ≡ Ok (with_connect_attributes given p, rest)
   more-read p given bytes mid rest e h = more_parts bytes ∙ rw (e, h) refl
 
   pub more-front_fault : (takes_memory : Bool) (e : FaultOf) (bytes : List ℕ) → Faults false e ((before_attributes c).reads bytes) → Faults takes_memory e ((more_data.form c).reads bytes)
   more-front_fault takes_memory e bytes h = rw (more_parts bytes) (front-fault takes_memory e ((before_attributes c).reads bytes) attributes_after h)
 
   pub more-last_fault : (e : FaultOf) (p : ComChangeUserMoreData) (bytes mid : List ℕ) → (before_attributes c).reads bytes ≡ Ok (p, mid)
-      → Faults false e ((written_attributes.form c).reads mid) → Faults false e ((more_data.form c).reads bytes)
-  more-last_fault e p bytes mid same h = rw (more_parts bytes, same) (last-fault false e ((written_attributes.form c).reads mid) _ h)
+      → Faults false e ((sent_attributes.form c).reads mid) → Faults false e ((more_data.form c).reads bytes)
+  more-last_fault e p bytes mid same h = rw (more_parts bytes, same) (last-fault false e ((sent_attributes.form c).reads mid) _ h)
 
   pub more-attributes_fault : (e : FaultOf) (p : ComChangeUserMoreData) (bytes mid : List ℕ) → (before_attributes c).reads bytes ≡ Ok (p, mid)
-      → Faults (counts_any ((sent_room (sends_attributes c)).reads mid)) e ((written_attributes.form c).reads mid)
+      → Faults (counts_any ((sent_room (sends_attributes c)).reads mid)) e ((sent_attributes.form c).reads mid)
       → Faults (counts_any ((in_more_data c).reads bytes)) e ((more_data.form c).reads bytes)
   more-attributes_fault e p bytes mid same h =
-      rw (more_parts bytes, same) (last-fault (counts_any ((sent_room (sends_attributes c)).reads mid)) e ((written_attributes.form c).reads mid) _ h)
+      rw (more_parts bytes, same) (last-fault (counts_any ((sent_room (sends_attributes c)).reads mid)) e ((sent_attributes.form c).reads mid) _ h)
 
 pub ruleset more_data_parts = (more-read, more-front_fault, more-last_fault)
 

@@ -6,7 +6,7 @@ use Rattle.mysql_wire.specs.Form.{when}
 use Rattle.mysql_wire.specs.Null.{HasNoZero, null_string}
 use Rattle.mysql_auth.specs.Attributes.{Attribute, AreShort, AreShortIn, attributes}
 use Rattle.mysql_auth.specs.ComChangeUser as change
-use Rattle.mysql_auth.specs.ComChangeUser.{change_user, last_part, more_data, named_plugin, NamedFits, GivenShort, MoreDataPartsFit, MoreIsShort, MorePartsFit, ChangeUserIsShort, ChangeUserPartsFit}
+use Rattle.mysql_auth.specs.ComChangeUser.{change_user, last_part, more_data, named_plugin, sent_attributes as change_attributes, NamedFits, MoreDataPartsFit, MoreIsShort, MorePartsFit, ChangeUserIsShort, ChangeUserPartsFit}
 use Rattle.mysql_auth.specs.Handshake.{handshake, handshake_head, handshake_block, server_version}
 use Rattle.mysql_auth.specs.HandshakeResponse.{handshake_response, scramble, database, plugin, sent_attributes, counts_by_lenenc, counts_by_byte, sends_database, sends_plugin, sends_attributes, PartFits, ScrambleFits, ScrambleIsShort, ResponseIsShort, ResponsePartsFit}
 use Rattle.mysql_auth.specs.PluginName.{PluginFits, plugin_null, plugin_null_or_eof}
@@ -69,21 +69,27 @@ named-fits true o bytes rest s = subst (λ (q : Option AuthPlugin). NamedFits tr
 named-fits false o bytes rest s = subst (λ (q : Option AuthPlugin). NamedFits false q) (sym s.0) refl
 
 pub more_data-parts : (c : CapabilityFlags) (p : ComChangeUserMoreData) (bytes rest : List ℕ) → (more_data.form c).Spells p bytes rest
-    → GivenShort (change.sends_attributes c) (change.connect_attributes p) → MoreDataPartsFit c p
-unfolding more_data named_plugin
+    → AreShortIn (change.connect_attributes p) → MoreDataPartsFit c p
+unfolding more_data named_plugin change_attributes
 more_data-parts c p bytes rest s h =
     let named = s.3 in
     let fits : NamedFits (change.sends_plugin c) named.0 = named-fits (change.sends_plugin c) named.0 s.1 named.1 named.2 in
     let same : change.auth_plugin p ≡ named.0 = ap change.auth_plugin named.3.3.0 in
-    record { auth_plugin = subst (NamedFits (change.sends_plugin c)) (sym same) fits; connect_attributes = h }
+    let given = named.3 in
+    let fit : AreShortIn given.0 → PartFits AreShort (change.sends_attributes c) given.0 = attributes-fit (change.sends_attributes c) given.0 named.1 given.1 given.2 in
+    let is : change.connect_attributes p ≡ given.0 = ap change.connect_attributes given.3.0 in
+    record {
+      auth_plugin = subst (NamedFits (change.sends_plugin c)) (sym same) fits;
+      connect_attributes = subst (λ (o : Option (List Attribute)). AreShortIn o → PartFits AreShort (change.sends_attributes c) o) (sym is) fit h;
+    }
 
 more-parts : (c : CapabilityFlags) (there : Bool) (o : Option ComChangeUserMoreData) (bytes rest more : List ℕ) → (when there (more_data.form c)).Spells o bytes rest
-    → MoreIsShort c o more → MorePartsFit c o more
+    → MoreIsShort o more → MorePartsFit c o more
 more-parts c true o bytes rest more s =
-    subst (λ (q : Option ComChangeUserMoreData). MoreIsShort c q more → MorePartsFit c q more) s.1 (λ short. more_data-parts c s.0 bytes rest s.2 short)
-more-parts c false o bytes rest more s = subst (λ (q : Option ComChangeUserMoreData). MoreIsShort c q more → MorePartsFit c q more) (sym s.0) (λ none. none)
+    subst (λ (q : Option ComChangeUserMoreData). MoreIsShort q more → MorePartsFit c q more) s.1 (λ short. more_data-parts c s.0 bytes rest s.2 short)
+more-parts c false o bytes rest more s = subst (λ (q : Option ComChangeUserMoreData). MoreIsShort q more → MorePartsFit c q more) (sym s.0) (λ none. none)
 
-pub change-parts : (c : CapabilityFlags) (p : ComChangeUser) (bytes rest more : List ℕ) → (change_user.form c).Spells p bytes rest → ChangeUserIsShort c p more → ChangeUserPartsFit c p more
+pub change-parts : (c : CapabilityFlags) (p : ComChangeUser) (bytes rest more : List ℕ) → (change_user.form c).Spells p bytes rest → ChangeUserIsShort p more → ChangeUserPartsFit c p more
 unfolding change_user last_part
 change-parts c p bytes rest more s =
     let user = s.3 in
@@ -91,13 +97,13 @@ change-parts c p bytes rest more s =
     let base = answer.3 in
     let given = base.3 in
     let made : ComChangeUser = record { header = s.0; user = user.0; auth_plugin_data = answer.0; database = base.0; more_data = given.0 } in
-    let parts : ChangeUserIsShort c made more → ChangeUserPartsFit c made more = λ short. record {
+    let parts : ChangeUserIsShort made more → ChangeUserPartsFit c made more = λ short. record {
       user = null-no_zero user.0 s.1 user.1 user.2;
       auth_plugin_data = short.auth_plugin_data;
       database = null-no_zero base.0 answer.1 base.1 base.2;
       more_data = more-parts c _ given.0 base.1 given.1 more given.2 short.more_data;
     } in
     let whole : p ≡ made = given.3.0 in
-    subst (λ (q : ComChangeUser). ChangeUserIsShort c q more → ChangeUserPartsFit c q more) (sym whole) parts
+    subst (λ (q : ComChangeUser). ChangeUserIsShort q more → ChangeUserPartsFit c q more) (sym whole) parts
 
 pub ruleset read_packets = (version-no_zero, response-parts, more_data-parts, change-parts)

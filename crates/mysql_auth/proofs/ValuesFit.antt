@@ -3,7 +3,7 @@ use Rattle.std.proofs.Common.{◌≡◌, ℕ, ◌<◌, ◌^◌, List, ◌++◌, 
 use Rattle.mysql_wire.specs.Flags.{CapabilityFlags}
 use Rattle.mysql_auth.specs.Attributes.{Attribute, AreShort, AttributesFit, merged}
 use Rattle.mysql_auth.specs.ComChangeUser as change
-use Rattle.mysql_auth.specs.ComChangeUser.{change_user, more_data, GivenShort, WrittenFits, MoreDataPartsFit, MoreDataFits, MorePartsFit, MoreFits, ChangeUserPartsFit, ChangeUserFits}
+use Rattle.mysql_auth.specs.ComChangeUser.{change_user, more_data, MoreDataPartsFit, MoreDataFits, MorePartsFit, MoreFits, ChangeUserPartsFit, ChangeUserFits}
 use Rattle.mysql_auth.specs.Handshake as greeting
 use Rattle.mysql_auth.specs.Handshake.{handshake, HalvesFit, HandshakePartsFit}
 use Rattle.mysql_auth.specs.HandshakeResponse as response
@@ -64,15 +64,11 @@ response-spelled p rest widths once h =
 
 -- ---- the change of user
 
-written-fit : (sent : Bool) (given : Option (List Attribute)) → Once given → GivenShort sent given → WrittenFits sent given
-written-fit sent None once h = h
-written-fit sent (Some pairs) once h = (h.0, record { once = once pairs refl; short = h.1 })
-
 more_data-fit : (c : CapabilityFlags) (p : ComChangeUserMoreData) → change.character_set p < 2 ^ 16 → Once (change.connect_attributes p) → MoreDataPartsFit c p → MoreDataFits c p
 more_data-fit c p width once h = record {
   character_set = width;
   auth_plugin = h.auth_plugin;
-  connect_attributes = written-fit (change.sends_attributes c) (change.connect_attributes p) once h.connect_attributes;
+  connect_attributes = given-fit (change.sends_attributes c) (change.connect_attributes p) once h.connect_attributes;
 }
 
 pub more_data-spelled : (c : CapabilityFlags) (p : ComChangeUserMoreData) (rest : List ℕ) → change.character_set p < 2 ^ 16 → Once (change.connect_attributes p) → MoreDataPartsFit c p

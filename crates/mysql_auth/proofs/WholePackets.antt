@@ -4,6 +4,8 @@ use Rattle.std.proofs.lemmas.List.{append-nil}
 use Rattle.mysql_wire.specs.Codec.{Codec}
 use Rattle.mysql_wire.specs.Null.{HasNoZero}
 use Rattle.mysql_auth.specs.AuthMoreData.{auth_more_data}
+use Rattle.mysql_auth.specs.AuthNextFactor as factor
+use Rattle.mysql_auth.specs.AuthNextFactor.{auth_next_factor}
 use Rattle.mysql_auth.specs.AuthPlugin.{auth_plugin, plugin_name, plugin_named, named-again}
 use Rattle.mysql_auth.specs.AuthSwitchRequest as switch
 use Rattle.mysql_auth.specs.AuthSwitchRequest.{auth_switch_request}
@@ -13,6 +15,7 @@ use Rattle.mysql_auth.specs.PublicKeyResponse.{public_key_response}
 use Rattle.mysql_auth.specs.SslRequest.{ssl_request, SslRequestFits}
 use Rattle.mysql_auth.specs.EofName.{without_last_zero}
 use Rattle.mysql_auth.specs.declared.auth_more_data.AuthMoreData.{AuthMoreData}
+use Rattle.mysql_auth.specs.declared.auth_next_factor.AuthNextFactor.{AuthNextFactor}
 use Rattle.mysql_auth.specs.declared.auth_plugin.AuthPlugin.{AuthPlugin}
 use Rattle.mysql_auth.specs.declared.auth_switch_request.AuthSwitchRequest.{AuthSwitchRequest}
 use Rattle.mysql_auth.specs.declared.old_auth_switch_request.OldAuthSwitchRequest.{OldAuthSwitchRequest}
@@ -54,8 +57,12 @@ pub switch-again : (p : AuthSwitchRequest) → HasNoZero (switch.plugin_name p) 
 unfolding auth_switch_request
 switch-again p h = at-end auth_switch_request p (tt, (h, (refl, tt)))
 
+pub factor-again : (p : AuthNextFactor) → HasNoZero (factor.plugin_name p) → (auth_next_factor.form tt).Spells p (auth_next_factor.bytes p) []
+unfolding auth_next_factor
+factor-again p h = at-end auth_next_factor p (tt, (h, (refl, tt)))
+
 pub request-again : (p : SslRequest) (rest : List ℕ) → SslRequestFits p → (ssl_request.form tt).Spells p (ssl_request.bytes p ++ rest) rest
 unfolding ssl_request
 request-again p rest h = ssl_request.again tt p rest (h.capabilities, (h.max_packet_size, (h.character_set, (tt, (h.mariadb_capabilities, tt)))))
 
-pub ruleset whole_packets = (plugin-again, read_plugin-again, more_data-again, key_request-again, key-again, old_switch-again, switch-again, request-again)
+pub ruleset whole_packets = (plugin-again, read_plugin-again, more_data-again, key_request-again, key-again, old_switch-again, switch-again, factor-again, request-again)

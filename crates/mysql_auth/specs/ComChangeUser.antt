@@ -1,17 +1,17 @@
 -- The change of a session's user.
-use Rattle.std.specs.Prelude.{◌≡◌, ℕ, ◌<◌, ◌^◌, List, [], ◌++◌, length, Option, Some, None, IfSome, Bool, true, false, refl}
+use Rattle.std.specs.Prelude.{◌≡◌, ℕ, ◌<◌, ◌^◌, List, [], length, Option, Some, None, IfSome, Bool, true, false, refl}
 use Rattle.mysql_wire.specs.Codec.{Codec, Fields}
 use Rattle.mysql_wire.specs.CodecAgain.{some-then}
 use Rattle.mysql_wire.specs.Codecs.{◌>>=◌, give, field, packet, when, without_context, if_bytes_left, const_u8, u16, string_null, string_u8}
 use Rattle.mysql_wire.specs.FlagMasks.{CLIENT_PLUGIN_AUTH, CLIENT_CONNECT_ATTRS}
 use Rattle.mysql_wire.specs.Flags.{CapabilityFlags, has}
-use Rattle.mysql_wire.specs.Form as form
 use Rattle.mysql_wire.specs.Int.{raw_int}
 use Rattle.mysql_wire.specs.Null.{HasNoZero}
 use Rattle.std.specs.Option.{option_map_or, unwrap_or}
 use Rattle.std.proofs.Common.{arith}
-use Rattle.mysql_auth.specs.Attributes.{Attribute, AreShort, AttributesFit, attributes}
+use Rattle.mysql_auth.specs.Attributes.{Attribute, AreShort, AreShortIn, AttributesFit, attributes}
 use Rattle.mysql_auth.specs.AuthPlugin.{kept_name}
+use Rattle.mysql_auth.specs.HandshakeResponse.{PartFits}
 use Rattle.mysql_auth.specs.PluginName.{PluginFits, plugin_null}
 use Rattle.mysql_auth.specs.declared.auth_plugin.AuthPlugin.{AuthPlugin}
 use Rattle.mysql_auth.specs.declared.com_change_user.ComChangeUser.{ComChangeUser}
@@ -50,39 +50,20 @@ more_data_of number plugin given = record { character_set = raw_int number; auth
 
 -- ---- more data: the layout
 
--- the flag is set, and the attributes are given and fit
-abbrev pub WrittenFits : Bool → Option (List Attribute) → Type 0
-WrittenFits sent None = ⊥
-WrittenFits sent (Some pairs) = (sent ≡ true) × AttributesFit pairs
-
-pub written-again : (sent : Bool) (given : Option (List Attribute)) (rest : List ℕ) → WrittenFits sent given
-    → (form.when sent (attributes.form tt)).Spells given (attributes.bytes (unwrap_or given []) ++ rest) rest
-unfolding attributes
-written-again sent None rest h = absurd h
-written-again sent (Some pairs) rest h = rw h.0 (pairs, refl, attributes.again tt pairs rest h.1)
-
--- Attributes where CLIENT_CONNECT_ATTRS is set. They are written whether or not it is, empty where none are given, since a
--- writer isn't passed the flags.
-unfoldable pub written_attributes : Codec CapabilityFlags (Option (List Attribute))
-written_attributes = record {
-  form = λ capabilities. form.when (sends_attributes capabilities) (attributes.form tt);
-  bytes = λ given. attributes.bytes (unwrap_or given []);
-  len = λ given. length (attributes.bytes (unwrap_or given []));
-  fits = λ capabilities given rest. WrittenFits (sends_attributes capabilities) given;
-  exact = λ capabilities given rest h. refl;
-  again = λ capabilities given rest h. written-again (sends_attributes capabilities) given rest h;
-}
-
 -- the plugin's name, which ends in a zero, where CLIENT_PLUGIN_AUTH is set
 unfoldable pub named_plugin : Codec CapabilityFlags (Option AuthPlugin)
 named_plugin = when sends_plugin (without_context plugin_null)
+
+-- the attributes, where CLIENT_CONNECT_ATTRS is set
+unfoldable pub sent_attributes : Codec CapabilityFlags (Option (List Attribute))
+sent_attributes = when sends_attributes (without_context attributes)
 
 -- the character set, the plugin, the attributes
 abbrev pub more_data_fields : Fields CapabilityFlags ComChangeUserMoreData ComChangeUserMoreData
 more_data_fields = do
   character_set ← field (λ p. p.character_set) u16
   auth_plugin ← field auth_plugin named_plugin
-  connect_attributes ← field connect_attributes written_attributes
+  connect_attributes ← field connect_attributes sent_attributes
   give (record { character_set = character_set; auth_plugin = auth_plugin; connect_attributes = connect_attributes })
 
 unfoldable pub more_data : Codec CapabilityFlags ComChangeUserMoreData
@@ -166,20 +147,15 @@ abbrev pub NamedFits : Bool → Option AuthPlugin → Type 0
 NamedFits sent None = sent ≡ false
 NamedFits sent (Some p) = (sent ≡ true) × PluginFits p
 
--- the attributes are there exactly under their flag
-abbrev pub GivenShort : Bool → Option (List Attribute) → Type 0
-GivenShort sent None = ⊥
-GivenShort sent (Some pairs) = (sent ≡ true) × AreShort pairs
-
 -- what is left to show of more data at hand
 pub record MoreDataPartsFit (capabilities : CapabilityFlags) (p : ComChangeUserMoreData) : Type 0 where
   pub auth_plugin : NamedFits (sends_plugin capabilities) (auth_plugin p)
-  pub connect_attributes : GivenShort (sends_attributes capabilities) (connect_attributes p)
+  pub connect_attributes : PartFits AreShort (sends_attributes capabilities) (connect_attributes p)
 
 pub record MoreDataFits (capabilities : CapabilityFlags) (p : ComChangeUserMoreData) : Type 0 where
   pub character_set : character_set p < 2 ^ 16
   pub auth_plugin : NamedFits (sends_plugin capabilities) (auth_plugin p)
-  pub connect_attributes : WrittenFits (sends_attributes capabilities) (connect_attributes p)
+  pub connect_attributes : PartFits AttributesFit (sends_attributes capabilities) (connect_attributes p)
 
 -- where more data is left out, nothing follows
 abbrev pub MoreFits : CapabilityFlags → Option ComChangeUserMoreData → List ℕ → Type 0
@@ -205,10 +181,10 @@ abbrev pub ChangeUserPartsFit : CapabilityFlags → ComChangeUser → List ℕ �
 ChangeUserPartsFit capabilities p rest = ChangeFits (MorePartsFit capabilities) p rest
 
 -- what is left to show of a change of user that was read
-abbrev pub MoreIsShort : CapabilityFlags → Option ComChangeUserMoreData → List ℕ → Type 0
-MoreIsShort capabilities None rest = rest ≡ []
-MoreIsShort capabilities (Some p) rest = GivenShort (sends_attributes capabilities) (connect_attributes p)
+abbrev pub MoreIsShort : Option ComChangeUserMoreData → List ℕ → Type 0
+MoreIsShort None rest = rest ≡ []
+MoreIsShort (Some p) rest = AreShortIn (connect_attributes p)
 
-pub record ChangeUserIsShort (capabilities : CapabilityFlags) (p : ComChangeUser) (rest : List ℕ) : Type 0 where
+pub record ChangeUserIsShort (p : ComChangeUser) (rest : List ℕ) : Type 0 where
   pub auth_plugin_data : length (auth_plugin_data p) < 2 ^ 8
-  pub more_data : MoreIsShort capabilities (more_data_in p) rest
+  pub more_data : MoreIsShort (more_data_in p) rest

@@ -3,6 +3,8 @@ pub mod AuthPlugin
 pub mod AuthPluginData
 pub mod Parsec
 pub mod AuthMoreData
+pub mod AuthNextFactor
+pub mod AuthReply
 pub mod PublicKeyRequest
 pub mod PublicKeyResponse
 pub mod OldAuthSwitchRequest

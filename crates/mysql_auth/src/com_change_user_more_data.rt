@@ -15,8 +15,7 @@ use crate::com_change_user_more_data_ref::ComChangeUserMoreDataRef;
 use bitflags::Flags;
 use indexmap::IndexMap;
 use mysql_wire::{
-    AnyWidth, CapabilityFlags, FaultOf, LeU16, LenEnc, MyDeserialize, ParseBuf, Parts, RawBytes,
-    RawInt, Sink, parts,
+    AnyWidth, CapabilityFlags, FaultOf, LeU16, MyDeserialize, ParseBuf, Parts, RawInt, Sink, parts,
 };
 use std::alloc::{AllocError, Global};
 
@@ -24,8 +23,8 @@ use std::alloc::{AllocError, Global};
 /// `CLIENT_PLUGIN_AUTH` the plugin's name, which ends in a zero; under `CLIENT_CONNECT_ATTRS` the attributes, as in a
 /// [`HandshakeResponse`](crate::HandshakeResponse).
 ///
-/// A writer isn't passed the flags: it writes a plugin where one is given, and attributes always, empty where none are
-/// given. Reading takes memory for the attributes alone.
+/// A writer isn't passed the flags: it writes a plugin and attributes where they are given. Where both sides agreed to
+/// `CLIENT_CONNECT_ATTRS`, a server wants attributes, if only empty ones. Reading takes memory for the attributes alone.
 #[derive(Clone, Debug, PartialEq, Eq)]
 pub struct ComChangeUserMoreData<'a> {
     pub(crate) character_set: RawInt<LeU16>,
@@ -124,12 +123,12 @@ impl ComChangeUserMoreData<'_> {
 }
 
 /// The attributes, where the flags say that they are there.
-#[tactic(auto, unfolding(crate::specs::ComChangeUser::written_attributes))]
+#[tactic(auto, unfolding(crate::specs::ComChangeUser::sent_attributes))]
 fn read_attributes<'s, 'a>(
     capabilities: CapabilityFlags,
     buf: &mut ParseBuf<'a>,
 ) -> Result<Option<Attributes<'a>>, FaultOf<'s>>
-    ensures value { Answers (counts_any ((sent_room (spec.sends_attributes capabilities)).reads buf.old)) result buf.new ((spec.written_attributes.form capabilities).reads buf.old) }
+    ensures value { Answers (counts_any ((sent_room (spec.sends_attributes capabilities)).reads buf.old)) result buf.new ((spec.sent_attributes.form capabilities).reads buf.old) }
 {
     if !capabilities.contains(CapabilityFlags::CLIENT_CONNECT_ATTRS) {
         return Ok(None);
@@ -164,20 +163,16 @@ impl<'de> MyDeserialize<'de> for ComChangeUserMoreData<'de> {
     ghost size_is = { spec.size-more_data };
 }
 
-#[tactic(auto, using(mysql_wire::proofs::Packets::packets), unfolding(crate::specs::ComChangeUser::more_data, crate::specs::ComChangeUser::named_plugin, crate::specs::ComChangeUser::written_attributes, crate::specs::PluginName::plugin_null, crate::specs::Attributes::attributes))]
+#[tactic(auto, using(mysql_wire::proofs::Packets::packets), unfolding(crate::specs::ComChangeUser::more_data, crate::specs::ComChangeUser::named_plugin, crate::specs::ComChangeUser::sent_attributes, crate::specs::PluginName::plugin_null))]
 impl Parts for ComChangeUserMoreData<'_> {
     ghost bytes = { spec.more_data.bytes };
 
     #[inline(always)]
     fn put<S: Sink>(&self, sink: &mut S) {
-        match &self.connect_attributes {
-            Some(attributes) => {
-                sink.part(&parts!(self.character_set, self.auth_plugin, *attributes));
-            }
-            None => {
-                let none: RawBytes<'_, LenEnc> = RawBytes::default();
-                sink.part(&parts!(self.character_set, self.auth_plugin, none));
-            }
-        }
+        sink.part(&parts!(
+            self.character_set,
+            self.auth_plugin,
+            self.connect_attributes
+        ));
     }
 }

@@ -14,10 +14,12 @@ use crate::attributes::Attributes;
 use crate::auth_plugin::AuthPlugin;
 use crate::com_change_user_more_data::ComChangeUserMoreData;
 use crate::connect_attributes_ref::{ConnectAttributesRef, attributes_given, iter_given};
-use crate::plugin_name::{AuthPluginRef, name_given, plugin_given};
+use crate::plugin_name::{AuthPluginRef, again_given, name_given, plugin_given};
 use bitflags::Flags;
 use mysql_wire::{AnyWidth, CapabilityFlags, FaultOf, LeU16, MyDeserialize, ParseBuf, RawInt};
 use std::alloc::{AllocError, Global};
+use std::fmt;
+use std::fmt::Debug;
 use std::marker::Model;
 
 /// What a change of a session's user tells besides, whose texts stay in the packet: a [`ComChangeUserMoreData`] for as
@@ -118,6 +120,29 @@ impl<'a> ComChangeUserMoreDataRef<'a> {
     }
 }
 
+impl Clone for ComChangeUserMoreDataRef<'_> {
+    ghost is_clone = { λ p copy. copy ≡ p };
+
+    fn clone(&self) -> Result<Self, AllocError> {
+        Ok(ComChangeUserMoreDataRef {
+            character_set: RawInt::new(self.character_set.0),
+            auth_plugin: again_given(&self.auth_plugin),
+            connect_attributes: iter_given(&self.connect_attributes),
+        })
+    }
+}
+
+/// The attributes are shown as they were sent.
+impl Debug for ComChangeUserMoreDataRef<'_> {
+    fn fmt<W: fmt::Write>(&self, f: &mut fmt::Formatter<W>) -> fmt::Result {
+        f.debug_struct("ComChangeUserMoreDataRef")
+            .field("character_set", &self.character_set)
+            .field("auth_plugin", &self.auth_plugin())
+            .field("connect_attributes", &self.connect_attributes)
+            .finish()
+    }
+}
+
 /// The plugin, where the flags say that it is named.
 #[tactic(auto, unfolding(crate::specs::ComChangeUser::named_plugin))]
 fn read_plugin<'s, 'a>(
@@ -133,12 +158,12 @@ fn read_plugin<'s, 'a>(
 }
 
 /// The attributes, where the flags say that they are there.
-#[tactic(auto, unfolding(crate::specs::ComChangeUser::written_attributes))]
+#[tactic(auto, unfolding(crate::specs::ComChangeUser::sent_attributes))]
 fn read_attributes<'s, 'a>(
     capabilities: CapabilityFlags,
     buf: &mut ParseBuf<'a>,
 ) -> Result<Option<ConnectAttributesRef<'a>>, FaultOf<'s>>
-    ensures value { AnswersGiven result buf.new ((spec.written_attributes.form capabilities).reads buf.old) }
+    ensures value { AnswersGiven result buf.new ((spec.sent_attributes.form capabilities).reads buf.old) }
 {
     if !capabilities.contains(CapabilityFlags::CLIENT_CONNECT_ATTRS) {
         return Ok(None);

@@ -10,13 +10,15 @@ ghost use Rattle.mysql_auth.specs.ComChangeUserRef.{before_more_data};
 use crate::com_change_user::{ComChangeUser, ComChangeUserHeader};
 use crate::com_change_user_more_data::ComChangeUserMoreData;
 use crate::com_change_user_more_data_ref::ComChangeUserMoreDataRef;
-use crate::handshake_head_ref::bytes_of;
+use crate::handshake_head_ref::{bytes_of, shown};
 use mysql_wire::{
     AnyWidth, BytesRepr, CapabilityFlags, ConstU8, FaultOf, MyDeserialize, NullBytes, ParseBuf,
     RawBytes, U8Bytes,
 };
 use std::alloc::{AllocError, Global};
 use std::borrow::CowSlice;
+use std::fmt;
+use std::fmt::Debug;
 use std::marker::Model;
 
 /// The change of a session's user, whose texts stay in the packet: a [`ComChangeUser`] for as long as the packet lives,
@@ -119,6 +121,35 @@ impl<'a> ComChangeUserRef<'a> {
             database,
             more_data: None,
         })
+    }
+}
+
+impl Clone for ComChangeUserRef<'_> {
+    ghost is_clone = { λ p copy. copy ≡ p };
+
+    fn clone(&self) -> Result<Self, AllocError> {
+        let more_data = match &self.more_data {
+            Some(more) => Some(more.clone()?),
+            None => None,
+        };
+        Ok(ComChangeUserRef {
+            user: self.user.rest(),
+            auth_plugin_data: self.auth_plugin_data.rest(),
+            database: self.database.rest(),
+            more_data,
+        })
+    }
+}
+
+/// The attributes are shown as they were sent.
+impl Debug for ComChangeUserRef<'_> {
+    fn fmt<W: fmt::Write>(&self, f: &mut fmt::Formatter<W>) -> fmt::Result {
+        f.debug_struct("ComChangeUserRef")
+            .field("user", &shown(self.user()))
+            .field("auth_plugin_data", &shown(self.auth_plugin_data()))
+            .field("database", &shown(self.database()))
+            .field("more_data", &self.more_data)
+            .finish()
     }
 }
 

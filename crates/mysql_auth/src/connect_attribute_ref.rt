@@ -4,7 +4,11 @@
 ghost use Rattle.std.specs.Prelude.{◌≡◌, refl};
 ghost use Rattle.mysql_auth.specs.Attributes as spec;
 
+use crate::handshake_head_ref::shown;
 use mysql_wire::{AnyWidth, BytesRepr, FaultOf, LenEnc, MyDeserialize, ParseBuf};
+use std::alloc::AllocError;
+use std::fmt;
+use std::fmt::Debug;
 use std::marker::Model;
 
 /// A key with its value, which stay in the packet: each a length-encoded string.
@@ -39,6 +43,46 @@ impl<'a> ConnectAttributeRef<'a> {
         ensures value { result.now ≡ self.now.1 }
     {
         self.value
+    }
+}
+
+impl Clone for ConnectAttributeRef<'_> {
+    ghost is_clone = { λ p copy. copy ≡ p };
+
+    fn clone(&self) -> Result<Self, AllocError> {
+        Ok(ConnectAttributeRef {
+            key: self.key,
+            value: self.value,
+        })
+    }
+}
+
+impl PartialEq for ConnectAttributeRef<'_> {
+    ghost use Rattle.std.specs.Cmp.{and_per, on_per, partial_equiv_from_equiv};
+    ghost use Rattle.std.specs.Cmp.Lexicographic.{nat_list_eq_equiv};
+
+    ghost eq = { spec.attribute_eq };
+
+    ghost laws = { let texts = partial_equiv_from_equiv nat_list_eq_equiv in and_per (on_per (λ p. p.0) texts) (on_per (λ p. p.1) texts) };
+
+    fn eq(&self, other: &Self) -> bool {
+        self.key == other.key && self.value == other.value
+    }
+}
+
+impl Eq for ConnectAttributeRef<'_> {
+    ghost use Rattle.std.specs.Cmp.{and_equiv, on_equiv};
+    ghost use Rattle.std.specs.Cmp.Lexicographic.{nat_list_eq_equiv};
+
+    ghost laws = { and_equiv (on_equiv (λ p. p.0) nat_list_eq_equiv) (on_equiv (λ p. p.1) nat_list_eq_equiv) };
+}
+
+impl Debug for ConnectAttributeRef<'_> {
+    fn fmt<W: fmt::Write>(&self, f: &mut fmt::Formatter<W>) -> fmt::Result {
+        f.debug_struct("ConnectAttributeRef")
+            .field("key", &shown(self.key))
+            .field("value", &shown(self.value))
+            .finish()
     }
 }
 

@@ -2,6 +2,7 @@
 #![tactic(auto, using(crate::proofs::PairsPassed::pairs_passed))]
 
 ghost use Rattle.std.specs.Prelude.{false, [], ◌≡◌, List, IfErr, IfOk, IsOk, OnOk, option_map};
+ghost use Rattle.std.specs.Cmp.Lexicographic.{pointwise};
 ghost use Rattle.std.specs.Option.{unwrap_or};
 ghost use Rattle.mysql_wire.specs.Reading.{Faults};
 ghost use Rattle.mysql_auth.specs.Attributes as spec;
@@ -10,8 +11,11 @@ ghost use Rattle.mysql_auth.specs.ConnectAttributesRef.{AnswersPairs, ArePairs, 
 
 use crate::attributes::{Attributes, read_pairs};
 use crate::connect_attribute_ref::ConnectAttributeRef;
+use crate::handshake_head_ref::shown;
 use mysql_wire::{BytesRepr, Fault, FaultOf, LenEnc, ParseBuf};
 use std::alloc::{AllocError, Global};
+use std::fmt;
+use std::fmt::Debug;
 use std::marker::Model;
 
 /// What a client tells of itself, where it lies: keys with their values, one after another as they were sent, without
@@ -131,6 +135,63 @@ pub(crate) fn attributes_given<'a>(
     match attributes {
         Some(attributes) => Ok(Some(attributes.to_attributes(alloc)?)),
         None => Ok(None),
+    }
+}
+
+/// Whether both give the same pairs, one after another.
+fn give_the_same(one: &ConnectAttributesRef<'_>, other: &ConnectAttributesRef<'_>) -> bool
+    ensures value { result ≡ pointwise spec.attribute_eq one.now other.now }
+{
+    let mut others = other.iter();
+    for pair in one.iter() {
+        match others.next() {
+            Some(other) => {
+                if pair != other {
+                    return false;
+                }
+            }
+            None => return false,
+        }
+    }
+    others.next().is_none()
+}
+
+impl Clone for ConnectAttributesRef<'_> {
+    ghost is_clone = { λ p copy. copy ≡ p };
+
+    fn clone(&self) -> Result<Self, AllocError> {
+        Ok(self.iter())
+    }
+}
+
+/// The same pairs in the same order, as they were sent.
+impl PartialEq for ConnectAttributesRef<'_> {
+    ghost use Rattle.std.specs.Cmp.{and_per, on_per, partial_equiv_from_equiv};
+    ghost use Rattle.std.specs.Cmp.Lexicographic.{pointwise, lists_per, nat_list_eq_equiv};
+
+    ghost eq = { pointwise spec.attribute_eq };
+
+    ghost laws = { let texts = partial_equiv_from_equiv nat_list_eq_equiv in lists_per (and_per (on_per (λ p. p.0) texts) (on_per (λ p. p.1) texts)) };
+
+    fn eq(&self, other: &Self) -> bool {
+        give_the_same(self, other)
+    }
+}
+
+impl Eq for ConnectAttributesRef<'_> {
+    ghost use Rattle.std.specs.Cmp.{and_equiv, on_equiv};
+    ghost use Rattle.std.specs.Cmp.Lexicographic.{lists_equiv, nat_list_eq_equiv};
+
+    ghost laws = { lists_equiv (and_equiv (on_equiv (λ p. p.0) nat_list_eq_equiv) (on_equiv (λ p. p.1) nat_list_eq_equiv)) };
+}
+
+impl Debug for ConnectAttributesRef<'_> {
+    fn fmt<W: fmt::Write>(&self, f: &mut fmt::Formatter<W>) -> fmt::Result {
+        let mut map = f.debug_map();
+        for pair in self.iter() {
+            map.entry(&shown(pair.key()), &shown(pair.value()));
+        }
+        map.finish()
     }
 }
 

@@ -9,8 +9,8 @@ ghost use Rattle.mysql_auth.specs.Handshake as spec;
 use crate::handshake_head::HandshakeHead;
 use bitflags::Flags;
 use mysql_wire::{
-    BytesRepr, CapabilityFlags, Const, FaultOf, FixedInt, LeU16, LeU32, MariadbCapabilities,
-    NullBytes, ParseBuf, RawBytes, RawInt, Skip, StatusFlags,
+    BytesRepr, CapabilityFlags, Const, EofBytes, FaultOf, FixedInt, LeU16, LeU32,
+    MariadbCapabilities, NullBytes, ParseBuf, RawBytes, RawInt, Skip, StatusFlags,
 };
 use std::borrow::CowSlice;
 use std::marker::Model;
@@ -90,6 +90,25 @@ pub(crate) fn bytes_of<'a>(place: &ParseBuf<'a>) -> &'a [u8]
     rest.eat_all()
 }
 
+/// The same place once more, where there is one.
+#[inline]
+pub(crate) fn place_given<'a>(place: &Option<ParseBuf<'a>>) -> Option<ParseBuf<'a>>
+    ensures value { result ≡ place.now }
+{
+    match place {
+        Some(place) => Some(place.rest()),
+        None => None,
+    }
+}
+
+/// The bytes, which are shown as text.
+#[inline]
+pub(crate) fn shown(bytes: &[u8]) -> RawBytes<'_, EofBytes>
+    ensures value { result ≡ bytes.now }
+{
+    RawBytes::new(CowSlice::Borrowed(bytes))
+}
+
 impl<'a> HandshakeHeadRef<'a> {
     /// What the server can do, from both halves.
     #[inline]
@@ -100,6 +119,27 @@ impl<'a> HandshakeHeadRef<'a> {
         let low = u32::from(self.capabilities_low.0);
         let high = u32::from(self.capabilities_high.0);
         CapabilityFlags::from_bits_retain(low + high * 0x1_0000)
+    }
+
+    /// The same head once more.
+    pub(crate) fn again(&self) -> HandshakeHeadRef<'a>
+        ensures value { result ≡ self.now }
+    {
+        HandshakeHeadRef {
+            protocol_version: RawInt::new(self.protocol_version.0),
+            server_version: self.server_version.rest(),
+            connection_id: RawInt::new(self.connection_id.0),
+            scramble_1: FirstScramble {
+                bytes: self.scramble_1.bytes,
+            },
+            filler: Skip,
+            capabilities_low: RawInt::new(self.capabilities_low.0),
+            default_collation: RawInt::new(self.default_collation.0),
+            status_flags: Const::new(self.status_flags.0),
+            capabilities_high: RawInt::new(self.capabilities_high.0),
+            reserved: Skip,
+            mariadb_capabilities: Const::new(self.mariadb_capabilities.0),
+        }
     }
 
     /// The head in its other form, which borrows the version still.

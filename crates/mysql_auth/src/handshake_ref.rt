@@ -8,13 +8,16 @@ use crate::auth_plugin::AuthPlugin;
 use crate::eof_name::{EofName, without_last_zero};
 use crate::handshake::HandshakePacket;
 use crate::handshake_head::scramble_length;
-use crate::handshake_head_ref::{HandshakeHeadRef, bytes_of};
+use crate::handshake_head_ref::{HandshakeHeadRef, bytes_of, place_given};
 use bitflags::Flags;
 use mysql_wire::{
     AnyWidth, BareBytes, BytesRepr, CapabilityFlags, FaultOf, MariadbCapabilities, MyDeserialize,
     ParseBuf, RawBytes, StatusFlags,
 };
+use std::alloc::AllocError;
 use std::borrow::CowSlice;
+use std::fmt;
+use std::fmt::Debug;
 use std::marker::Model;
 
 /// The initial handshake, whose texts and scrambles stay in the packet: a [`HandshakePacket`] for as long as the packet
@@ -151,6 +154,42 @@ impl<'a> HandshakePacketRef<'a> {
                 None => None,
             },
         }
+    }
+}
+
+impl Clone for HandshakePacketRef<'_> {
+    ghost is_clone = { λ p copy. copy ≡ p };
+
+    fn clone(&self) -> Result<Self, AllocError> {
+        Ok(HandshakePacketRef {
+            head: self.head.again(),
+            scramble_2: place_given(&self.scramble_2),
+            auth_plugin_name: place_given(&self.auth_plugin_name),
+        })
+    }
+}
+
+impl PartialEq for HandshakePacketRef<'_> {
+    ghost use Rattle.mysql_auth.specs.contracts.handshake.HandshakePacketPartialEq.TheImpl.Laws.{laws-law};
+
+    ghost eq = { ⟦<HandshakePacket<'static> as PartialEq>⟧.eq };
+
+    ghost laws = { laws-law };
+
+    fn eq(&self, other: &Self) -> bool {
+        self.to_packet() == other.to_packet()
+    }
+}
+
+impl Eq for HandshakePacketRef<'_> {
+    ghost use Rattle.mysql_auth.specs.contracts.handshake.HandshakePacketEq.TheImpl.Laws.{laws-law};
+
+    ghost laws = { laws-law };
+}
+
+impl Debug for HandshakePacketRef<'_> {
+    fn fmt<W: fmt::Write>(&self, f: &mut fmt::Formatter<W>) -> fmt::Result {
+        self.to_packet().fmt(f)
     }
 }
 

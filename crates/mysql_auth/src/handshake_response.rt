@@ -123,7 +123,7 @@ impl<'a> HandshakeResponse<'a> {
     ///     Some(CowSlice::Borrowed(user.as_bytes())),
     ///     database,
     ///     Some(plugin_of(greeting)),
-    ///     supported_capabilities() & greeting.capabilities(),
+    ///     wanted() & greeting.capabilities(),
     ///     None,
     ///     1 << 24,
     /// )?;

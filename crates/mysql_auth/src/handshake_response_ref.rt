@@ -13,9 +13,9 @@ ghost use Rattle.mysql_auth.specs.HandshakeResponseRef.{before_attributes, with_
 use crate::attributes::Attributes;
 use crate::auth_plugin::AuthPlugin;
 use crate::connect_attributes_ref::{ConnectAttributesRef, attributes_given, iter_given};
-use crate::handshake_head_ref::bytes_of;
+use crate::handshake_head_ref::{bytes_of, place_given, shown};
 use crate::handshake_response::HandshakeResponse;
-use crate::plugin_name::{AuthPluginRef, name_given, plugin_given};
+use crate::plugin_name::{AuthPluginRef, again_given, name_given, plugin_given};
 use crate::ssl_request::SslRequest;
 use bitflags::Flags;
 use mysql_wire::{
@@ -24,6 +24,8 @@ use mysql_wire::{
 };
 use std::alloc::{AllocError, Global};
 use std::borrow::CowSlice;
+use std::fmt;
+use std::fmt::Debug;
 use std::marker::Model;
 
 /// A client's answer to a handshake, whose texts stay in the packet: a [`HandshakeResponse`] for as long as the packet
@@ -257,6 +259,39 @@ fn read_attributes<'s, 'a>(
         return Ok(None);
     }
     Ok(Some(ConnectAttributesRef::read(buf)?))
+}
+
+impl Clone for HandshakeResponseRef<'_> {
+    ghost is_clone = { λ p copy. copy ≡ p };
+
+    fn clone(&self) -> Result<Self, AllocError> {
+        Ok(HandshakeResponseRef {
+            head: self.head.again(),
+            user: self.user.rest(),
+            scramble_buf: self.scramble_buf.rest(),
+            db_name: place_given(&self.db_name),
+            auth_plugin: again_given(&self.auth_plugin),
+            connect_attributes: iter_given(&self.connect_attributes),
+        })
+    }
+}
+
+/// The attributes are shown as they were sent.
+impl Debug for HandshakeResponseRef<'_> {
+    fn fmt<W: fmt::Write>(&self, f: &mut fmt::Formatter<W>) -> fmt::Result {
+        let db_name = match self.db_name() {
+            Some(name) => Some(shown(name)),
+            None => None,
+        };
+        f.debug_struct("HandshakeResponseRef")
+            .field("head", &self.head)
+            .field("user", &shown(self.user()))
+            .field("scramble_buf", &shown(self.scramble_buf()))
+            .field("db_name", &db_name)
+            .field("auth_plugin", &self.auth_plugin())
+            .field("connect_attributes", &self.connect_attributes)
+            .finish()
+    }
 }
 
 /// As a [`HandshakeResponse`], but for `Memory`: none is taken.

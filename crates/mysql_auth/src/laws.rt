@@ -6,6 +6,7 @@
 
 ghost use Rattle.std.specs.Prelude.{◌≡◌, ◌++◌, ℕ, List, [], Some, None};
 ghost use Rattle.mysql_auth.specs.declared.auth_more_data.AuthMoreData.{AuthMoreData};
+ghost use Rattle.mysql_auth.specs.declared.auth_next_factor.AuthNextFactor.{AuthNextFactor};
 ghost use Rattle.mysql_auth.specs.declared.auth_switch_request.AuthSwitchRequest.{AuthSwitchRequest};
 ghost use Rattle.mysql_auth.specs.declared.old_auth_switch_request.OldAuthSwitchRequest.{OldAuthSwitchRequest};
 ghost use Rattle.mysql_auth.specs.declared.public_key_request.PublicKeyRequest.{PublicKeyRequest};
@@ -16,11 +17,14 @@ ghost use Rattle.mysql_auth.specs.declared.com_change_user.ComChangeUser.{ComCha
 ghost use Rattle.mysql_auth.specs.declared.com_change_user_more_data.ComChangeUserMoreData.{ComChangeUserMoreData};
 ghost use Rattle.mysql_auth.specs.declared.handshake_response.HandshakeResponse.{HandshakeResponse};
 ghost use Rattle.mysql_wire.specs.Flags.{CapabilityFlags};
-ghost use Rattle.mysql_auth.specs.ComChangeUser.{change_user, connect_attributes, more_data, sends_attributes, ChangeUserFits, ChangeUserIsShort, ChangeUserPartsFit, MoreDataFits, MoreDataPartsFit, GivenShort};
+ghost use Rattle.mysql_auth.specs.ComChangeUser.{change_user, connect_attributes, more_data, ChangeUserFits, ChangeUserIsShort, ChangeUserPartsFit, MoreDataFits, MoreDataPartsFit};
 ghost use Rattle.mysql_auth.specs.HandshakeResponse.{handshake_response, HandshakeResponseFits, ResponseIsShort, ResponsePartsFit};
 ghost use Rattle.mysql_auth.specs.Version.{HasVersion, HasMariadbVersion};
 ghost use Rattle.mysql_auth.specs.Handshake.{handshake, server_version, HandshakeFits};
+ghost use Rattle.mysql_auth.specs.Attributes.{AreShortIn};
 ghost use Rattle.mysql_auth.specs.AuthMoreData.{auth_more_data};
+ghost use Rattle.mysql_auth.specs.AuthNextFactor.{auth_next_factor};
+ghost use Rattle.mysql_auth.specs.AuthNextFactor.{plugin_name as factor_name};
 ghost use Rattle.mysql_auth.specs.AuthPlugin.{auth_plugin, plugin_name, plugin_named};
 ghost use Rattle.mysql_auth.specs.declared.auth_plugin.AuthPlugin.{AuthPlugin};
 ghost use Rattle.mysql_auth.specs.AuthSwitchRequest.{auth_switch_request};
@@ -39,6 +43,7 @@ mod values;
 
 pub use borrowed::{
     borrowed_auth_more_data_reads_auth_more_data,
+    borrowed_auth_next_factors_read_auth_next_factors,
     borrowed_auth_switch_requests_read_auth_switch_requests,
     borrowed_changes_of_user_read_changes_of_user, borrowed_connect_attributes_read_attributes,
     borrowed_handshake_responses_read_handshake_responses, borrowed_handshakes_read_handshakes,
@@ -85,6 +90,11 @@ pub fn auth_switch_request_round_trips()
     ensures spelled { (p : AuthSwitchRequest) → HasNoZero (switch_name p) → (auth_switch_request.form tt).Spells p (auth_switch_request.bytes p) [] }
 {}
 
+/// What is written of a request for the next factor is read again, where nothing follows and no zero is in the plugin's name.
+pub fn auth_next_factor_round_trips()
+    ensures spelled { (p : AuthNextFactor) → HasNoZero (factor_name p) → (auth_next_factor.form tt).Spells p (auth_next_factor.bytes p) [] }
+{}
+
 /// What is written of a request for TLS is read again, whatever follows.
 pub fn ssl_request_round_trips()
     ensures spelled { (p : SslRequest) (rest : List ℕ) → SslRequestFits p → (ssl_request.form tt).Spells p (ssl_request.bytes p ++ rest) rest }
@@ -122,15 +132,15 @@ pub fn read_handshake_response_fits()
     ensures fits { (p : HandshakeResponse) (bytes rest : List ℕ) → (handshake_response.form tt).Spells p bytes rest → ResponseIsShort p → ResponsePartsFit p }
 {}
 
-/// The parts of more data that was read fit, where attributes were sent and their length fits.
+/// The parts of more data that was read fit, where the length of its attributes does.
 #[tactic(auto, using(crate::proofs::ReadPackets::read_packets))]
 pub fn read_more_data_fits()
-    ensures fits { (c : CapabilityFlags) (p : ComChangeUserMoreData) (bytes rest : List ℕ) → (more_data.form c).Spells p bytes rest → GivenShort (sends_attributes c) (connect_attributes p) → MoreDataPartsFit c p }
+    ensures fits { (c : CapabilityFlags) (p : ComChangeUserMoreData) (bytes rest : List ℕ) → (more_data.form c).Spells p bytes rest → AreShortIn (connect_attributes p) → MoreDataPartsFit c p }
 {}
 
 /// The parts of a change of user that was read fit, where its lengths do. Without more data nothing may follow it.
 pub fn read_change_user_fits()
-    ensures fits { (c : CapabilityFlags) (p : ComChangeUser) (bytes rest more : List ℕ) → (change_user.form c).Spells p bytes rest → ChangeUserIsShort c p more → ChangeUserPartsFit c p more }
+    ensures fits { (c : CapabilityFlags) (p : ComChangeUser) (bytes rest more : List ℕ) → (change_user.form c).Spells p bytes rest → ChangeUserIsShort p more → ChangeUserPartsFit c p more }
 {}
 
 /// A text begins with at most one version.
@@ -172,6 +182,20 @@ pub fn auth_switch_request_has_no_constant_size() -> Option<usize>
     ensures value { result ≡ None }
 {
     <crate::auth_switch_request::AuthSwitchRequest<'static> as MyDeserialize>::SIZE
+}
+
+/// A request for the next factor has no constant size.
+pub fn auth_next_factor_has_no_constant_size() -> Option<usize>
+    ensures value { result ≡ None }
+{
+    <crate::auth_next_factor::AuthNextFactor<'static> as MyDeserialize>::SIZE
+}
+
+/// A reply has no constant size.
+pub fn auth_reply_has_no_constant_size() -> Option<usize>
+    ensures value { result ≡ None }
+{
+    <crate::auth_reply::AuthReply<'static> as MyDeserialize>::SIZE
 }
 
 /// A handshake has no constant size.

@@ -6,8 +6,11 @@ mod attribute;
 mod attributes;
 mod auth_more_data;
 mod auth_more_data_ref;
+mod auth_next_factor;
+mod auth_next_factor_ref;
 mod auth_plugin;
 mod auth_plugin_data;
+mod auth_reply;
 mod auth_switch_request;
 mod auth_switch_request_ref;
 mod com_change_user;
@@ -37,8 +40,11 @@ mod version;
 
 pub use auth_more_data::{AuthMoreData, AuthMoreDataHeader, InvalidAuthMoreDataHeader};
 pub use auth_more_data_ref::AuthMoreDataRef;
+pub use auth_next_factor::{AuthNextFactor, AuthNextFactorHeader, InvalidAuthNextFactorHeader};
+pub use auth_next_factor_ref::AuthNextFactorRef;
 pub use auth_plugin::AuthPlugin;
 pub use auth_plugin_data::AuthPluginData;
+pub use auth_reply::AuthReply;
 pub use auth_switch_request::{
     AuthSwitchRequest, AuthSwitchRequestHeader, InvalidAuthSwitchRequestHeader,
 };

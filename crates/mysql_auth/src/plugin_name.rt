@@ -47,6 +47,14 @@ impl<'a> AuthPluginRef<'a> {
         AuthPluginRef { name }
     }
 
+    /// The same plugin once more.
+    #[inline]
+    pub(crate) fn again(&self) -> AuthPluginRef<'a>
+        ensures value { result ≡ self.now }
+    {
+        AuthPluginRef { name: self.name }
+    }
+
     /// The bytes of the name.
     #[inline]
     pub(crate) fn name(&self) -> &'a [u8]
@@ -61,6 +69,17 @@ impl<'a> AuthPluginRef<'a> {
         ensures value { result ≡ self.now }
     {
         AuthPlugin::from_bytes(self.name)
+    }
+}
+
+/// The same plugin once more, where one is named.
+#[inline]
+pub(crate) fn again_given<'a>(plugin: &Option<AuthPluginRef<'a>>) -> Option<AuthPluginRef<'a>>
+    ensures value { result ≡ plugin.now }
+{
+    match plugin {
+        Some(plugin) => Some(plugin.again()),
+        None => None,
     }
 }
 

@@ -9,19 +9,21 @@ use mysql_wire::CapabilityFlags;
 /// The flags that a driver over these packets can agree to: those that change no layout, and those whose layout is read
 /// and written here.
 ///
-/// A driver picks its own of these, and agrees to those of them that the server's handshake has. Six are left out:
+/// A driver picks its own of these, and agrees to those of them that the server's handshake has. Three are left out:
 ///
 /// | Flag | Why |
 /// |---|---|
 /// | `CLIENT_COMPRESS`, `CLIENT_ZSTD_COMPRESSION_ALGORITHM` | packets stand in compressed ones, and the second adds a byte to the response |
 /// | `CLIENT_SSL` | it makes the first 32 bytes of a response a request for TLS: [`HandshakeResponse::ssl_request`](crate::HandshakeResponse::ssl_request) sets it |
-/// | `CLIENT_OPTIONAL_RESULTSET_METADATA` | a byte more in the answer to a preparation and before the count of columns |
-/// | `CLIENT_QUERY_ATTRIBUTES` | names and values before a query's text, and names in an execution |
-/// | `MULTI_FACTOR_AUTHENTICATION` | a packet that asks for the next factor |
+///
+/// Three change what a driver has to do, so that only one that does so agrees to them: under
+/// `CLIENT_OPTIONAL_RESULTSET_METADATA` a byte more stands in the answer to a preparation and before the count of columns, under
+/// `CLIENT_QUERY_ATTRIBUTES` a query and an execution have counts in any case, and under `MULTI_FACTOR_AUTHENTICATION` a login may
+/// go on with a further plugin ([`AuthReply::NextFactor`](crate::AuthReply::NextFactor)).
 ///
 /// `docs/PROTOCOL.md` has the table of all flags.
 pub fn supported_capabilities() -> CapabilityFlags
     ensures value { result.0 ≡ spec.supported }
 {
-    CapabilityFlags::from_bits_retain(0xe1ff_f7df)
+    CapabilityFlags::from_bits_retain(0xfbff_f7df)
 }

@@ -1,10 +1,10 @@
 -- What is known of the bytes that a reader holds.
-use Rattle.std.proofs.Common.{◌≡◌, ◌≢◌, ℕ, ◌+◌, ◌*◌, ◌<◌, ◌≤◌, zero, suc, refl, ◌∷◌, List, [], ◌++◌, length, sym, ap, subst, ◌∙◌, arith, append_assoc, length-append, get_or}
+use Rattle.std.proofs.Common.{◌≡◌, ◌≢◌, ℕ, ◌+◌, ◌*◌, ◌<◌, ◌≤◌, zero, suc, refl, ◌∷◌, List, [], ◌++◌, length, take, drop, sym, ap, subst, ◌∙◌, arith, append_assoc, length-append, get_or}
 use Rattle.std.proofs.lemmas.List.{append-nil}
-use Rattle.mysql_frames.specs.Frames.{header, FramedIn}
+use Rattle.mysql_frames.specs.Frames.{header, most, next, FramedIn}
 use Rattle.mysql_frames.specs.FrameHeader.{length_in}
 use Rattle.mysql_frames.specs.Unfinished.{raw, number_of}
-use Rattle.mysql_frames.proofs.Raw.{raw_head, raw_body}
+use Rattle.mysql_frames.proofs.Raw.{number_first, raw_head, raw_body}
 use Rattle.mysql_frames.proofs.Peel.{peel, four, first_header, header_same, length_in_header, head_is}
 
 -- what was moved from the input stands at the end of what is held
@@ -66,3 +66,19 @@ pub held_nothing : (size full number : ℕ) (payload head : List ℕ) → raw si
 held_nothing size zero number payload [] h = (refl, refl)
 held_nothing size zero number payload (x ∷ xs) h = absurd cc
 held_nothing size (suc full) number payload head h = absurd cc
+
+-- what is held begins with the header of the payload's first frame
+pub begins_in_order : (full number len limit : ℕ) (payload head rest : List ℕ) → number < 256 → head ≡ header len (number_of full number) → full * most + len ≤ limit
+    → (l : ℕ) × (others : List ℕ) × (l ≤ limit) × (raw most full number payload head ++ rest ≡ header l number ++ others)
+begins_in_order zero number len limit payload head rest b is within = (
+  len,
+  payload ++ rest,
+  omega arith,
+  ap (λ h. (h ++ payload) ++ rest) is ∙ ap (λ n. (header len n ++ payload) ++ rest) (number_first number b) ∙ append_assoc (header len number) payload rest,
+)
+begins_in_order (suc full) number len limit payload head rest b is within = (
+  most,
+  (take most payload ++ raw most full (next number) (drop most payload) head) ++ rest,
+  omega arith,
+  append_assoc (header most number) (take most payload ++ raw most full (next number) (drop most payload) head) rest,
+)

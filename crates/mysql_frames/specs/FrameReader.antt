@@ -1,6 +1,6 @@
 -- What a reader of frames holds, and what it hands out.
 use Rattle.std.specs.Prelude.{◌≡◌, ℕ, ◌<◌, ◌≤◌, List, [], ◌++◌, length}
-use Rattle.mysql_frames.specs.Frames.{Framed}
+use Rattle.mysql_frames.specs.Frames.{Framed, header}
 
 -- the bytes that are held of a payload that is not whole, the number of its first frame, and the limit of payloads
 pub record ReaderState : Type 0 where
@@ -15,6 +15,10 @@ NoneWhole number bytes = (payload : List ℕ) (after : ℕ) (rest : List ℕ) �
 -- each payload whose frames begin these bytes is longer than the limit
 abbrev pub AllLonger : ℕ → ℕ → List ℕ → Type 0
 AllLonger limit number bytes = (payload : List ℕ) (after : ℕ) (rest : List ℕ) → Framed number payload after bytes rest → limit < length payload
+
+-- the bytes begin with the header of the frame that comes, within the limit
+abbrev pub BeginsInOrder : ReaderState → List ℕ → Type 0
+BeginsInOrder reader bytes = (len : ℕ) × (others : List ℕ) × (len ≤ reader.limit) × (bytes ≡ header len reader.number ++ others)
 
 -- What was held and the input begin with the payload's frames, and after them is what is left of the input.
 pub record HandsOut (old : ReaderState) (input payload : List ℕ) (new : ReaderState) (rest : List ℕ) : Type 0 where

@@ -3,7 +3,7 @@
 ghost use Rattle.std.specs.Prelude.{◌≡◌, ◌↔◌, ◌≤◌, ◌<◌, [], ◌++◌, length, IfOk, OnErr, IfSome, IfNone, IsTrue, IsErrOf, IsOk, List, ℕ};
 ghost use Rattle.std.specs.Cow.{cow_slice_items};
 ghost use Rattle.mysql_frames.specs.Frames as spec;
-ghost use Rattle.mysql_frames.specs.FrameReader.{AllLonger, HandsOut, HoldsAll, Keeps, NoneWhole};
+ghost use Rattle.mysql_frames.specs.FrameReader.{AllLonger, BeginsInOrder, HandsOut, HoldsAll, Keeps, NoneWhole};
 
 use crate::error::FrameError;
 use crate::unfinished::Unfinished;
@@ -96,6 +96,11 @@ impl FrameReader {
         // A payload that lies whole in one frame is not refused.
         ensures no_memory { self.old.held ≡ [] → (payload rest : List ℕ) → spec.FramedIn 0xffffff 0 self.old.number payload (spec.next self.old.number) input.old.now rest
             → length payload ≤ self.old.limit → IsOk result }
+
+        // Nor is an empty input; nor is memory asked for before the header of the payload's first frame is there, in order and within the
+        // limit: what is out of order or too long is never answered as a refusal of memory.
+        ensures some { IsErrOf result FrameError.Memory → 0 < length input.old.now }
+        ensures early { IsErrOf result FrameError.Memory → BeginsInOrder self.old (self.old.held ++ input.old.now) }
 
         // Whatever comes, no payload's frames begin so; or each whose frames do is past the limit.
         ensures order { IsErrOf result FrameError.OutOfOrder → (more : List ℕ) → NoneWhole self.old.number (self.old.held ++ input.old.now ++ more) }

@@ -1,11 +1,12 @@
 //! A payload that is not whole yet.
 
-ghost use Rattle.std.specs.Prelude.{◌≡◌, ◌↔◌, ◌+◌, ◌*◌, ◌<◌, ◌≤◌, [], ◌++◌, length, IfOk, OnErr, IfSome, IfNone, IsTrue, IsErrOf, IsOk, List, ℕ, true, false};
+ghost use Rattle.std.specs.Prelude.{◌≡◌, ◌≢◌, ◌↔◌, ◌+◌, ◌*◌, ◌<◌, ◌≤◌, [], ◌++◌, length, IfOk, OnErr, IfSome, IfNone, IsTrue, IsErrOf, IsOk, List, ℕ, true, false};
 ghost use Rattle.std.specs.Cow.{cow_slice_items};
 ghost use Rattle.mysql_frames.specs.Frames as spec;
 
 use crate::error::FrameError;
 use crate::header::{HEADER_LEN, MAX_FRAME_LEN, length_in};
+use arrayvec::ArrayVec;
 use std::alloc::{AllocError, Global};
 use std::borrow::CowSlice;
 use std::mem;
@@ -19,13 +20,32 @@ fn fill(into: &mut Vec<u8>, input: &mut &[u8], missing: usize) -> Result<bool, A
     ensures done { IfOk result (λ done. (IsTrue done → length into.new.items ≡ length into.old.items + missing)
         × (done ≡ false → (length into.new.items < length into.old.items + missing) × (input.new.now ≡ []))) }
     ensures err { OnErr result (into.new.items ≡ into.old.items) }
+    // Where nothing comes it takes no memory.
+    ensures some { OnErr result (input.old.now ≢ []) }
 {
+    if input.is_empty() {
+        return Ok(missing == 0);
+    }
     // (one block for all that comes, but not much on the word of a header alone)
     into.reserve(missing.min(AT_ONCE))?;
     let (front, rest) = input.split_at(missing.min(input.len()));
     into.extend_from_slice(front)?;
     *input = rest;
     Ok(front.len() == missing)
+}
+
+/// Moves what is missing of a header from the input's front to the end of `into`, as far as it is there.
+fn fill_header(into: &mut ArrayVec<u8, HEADER_LEN>, input: &mut &[u8]) -> bool
+    requires { length into.old.items ≤ 4 }
+    ensures moved { (moved : List ℕ) × (into.new.items ≡ into.old.items ++ moved) × (input.old.now ≡ moved ++ input.new.now) }
+    ensures done { (IsTrue result → length into.new.items ≡ 4) × (result ≡ false → (length into.new.items < 4) × (input.new.now ≡ [])) }
+{
+    let missing = HEADER_LEN - into.len();
+    let (front, rest) = input.split_at(missing.min(input.len()));
+    // (there is capacity for the whole of a header)
+    let _ = into.try_extend_from_slice(front);
+    *input = rest;
+    front.len() == missing
 }
 
 /// A payload that lies whole in one frame at the front of the input, and what follows it.
@@ -56,13 +76,13 @@ pub struct Unfinished {
     /// How many full frames of the payload were read.
     full: usize,
     /// What is there of the next frame's header.
-    head: Vec<u8>,
+    head: ArrayVec<u8, HEADER_LEN>,
     /// What is there of the payload.
     payload: Vec<u8>,
 }
 
 impl Unfinished {
-    ghost use Rattle.mysql_frames.specs.FrameReader.{AllLonger, HandsOut, HoldsAll, Keeps, NoneWhole};
+    ghost use Rattle.mysql_frames.specs.FrameReader.{AllLonger, BeginsInOrder, HandsOut, HoldsAll, Keeps, NoneWhole};
     ghost use Rattle.mysql_frames.specs.Unfinished.{HasFrame, IsHeader, IsReading, held, number_of, state_of};
 
     /// Nothing has come. The first frame has the number 0.
@@ -77,7 +97,7 @@ impl Unfinished {
             limit,
             first: 0,
             full: 0,
-            head: Vec::new(alloc),
+            head: ArrayVec::new(),
             payload: Vec::new(alloc),
         }
     }
@@ -113,19 +133,19 @@ impl Unfinished {
     }
 
     /// Goes on with a header as far as the input has it. Whether it is whole.
-    fn fill_head(&mut self, input: &mut &[u8]) -> Result<bool, AllocError>
+    fn fill_head(&mut self, input: &mut &[u8]) -> bool
         requires { IsReading self.old }
         ensures reading { IsReading self.new }
         ensures same { (self.new.first ≡ self.old.first) × (self.new.full ≡ self.old.full) × (self.new.limit ≡ self.old.limit) }
         ensures kept { held self.new ++ input.new.now ≡ held self.old ++ input.old.now }
         ensures used { length input.new.now + length self.new.head.items ≡ length input.old.now + length self.old.head.items }
-        ensures done { IfOk result (λ done. (IsTrue done → length self.new.head.items ≡ 4) × (done ≡ false → (length self.new.head.items < 4) × (input.new.now ≡ []))) }
+        ensures less { length input.new.now ≤ length input.old.now }
+        ensures done { (IsTrue result → length self.new.head.items ≡ 4) × (result ≡ false → (length self.new.head.items < 4) × (input.new.now ≡ [])) }
     {
         if self.head.len() == HEADER_LEN {
-            return Ok(true);
+            return true;
         }
-        let missing = HEADER_LEN - self.head.len();
-        fill(&mut self.head, input, missing)
+        fill_header(&mut self.head, input)
     }
 
     /// The length of the frame with this header, which is the one that comes.
@@ -160,6 +180,8 @@ impl Unfinished {
         ensures used { length input.new.now + length self.new.head.items ≤ length input.old.now + length self.old.head.items }
         ensures done { IfOk result (λ done. (IsTrue done → HasFrame self.new len)
             × (done ≡ false → (length self.new.payload.items < self.new.full * 0xffffff + len) × (input.new.now ≡ []))) }
+        ensures less { length input.new.now ≤ length input.old.now }
+        ensures some { OnErr result (0 < length input.old.now) }
     {
         let missing = len - (self.payload.len() - self.full * MAX_FRAME_LEN);
         fill(&mut self.payload, input, missing)
@@ -176,8 +198,11 @@ impl Unfinished {
         ensures part { IfOk result (λ found. IfNone found ((input.new.now ≡ []) × NoneWhole self.new.first (held self.new))) }
         ensures order { IsErrOf result FrameError.OutOfOrder → (more : List ℕ) → NoneWhole self.new.first (held self.new ++ more) }
         ensures limit { IsErrOf result FrameError.TooLong → (more : List ℕ) → AllLonger self.new.limit self.new.first (held self.new ++ more) }
+        ensures less { length input.new.now ≤ length input.old.now }
+        ensures some { IsErrOf result FrameError.Memory → 0 < length input.old.now }
+        ensures early { IsErrOf result FrameError.Memory → BeginsInOrder (state_of self.new) (held self.new ++ input.new.now) }
     {
-        if !self.fill_head(input)? {
+        if !self.fill_head(input) {
             return Ok(None);
         }
         let len = self.length()?;
@@ -227,6 +252,8 @@ impl Unfinished {
         ensures err { OnErr result (Keeps (state_of self.old) input.old.now (state_of self.new) input.new.now) }
         ensures order { IsErrOf result FrameError.OutOfOrder → (more : List ℕ) → NoneWhole self.old.first (held self.old ++ input.old.now ++ more) }
         ensures limit { IsErrOf result FrameError.TooLong → (more : List ℕ) → AllLonger self.old.limit self.old.first (held self.old ++ input.old.now ++ more) }
+        ensures some { IsErrOf result FrameError.Memory → 0 < length input.old.now }
+        ensures early { IsErrOf result FrameError.Memory → BeginsInOrder (state_of self.old) (held self.old ++ input.old.now) }
     {
         'frames: loop {
             match self.frame(input)? {
@@ -252,6 +279,8 @@ impl Unfinished {
             → length payload ≤ self.old.limit → IsOk result }
         ensures order { IsErrOf result FrameError.OutOfOrder → (more : List ℕ) → NoneWhole self.old.first (held self.old ++ input.old.now ++ more) }
         ensures long { IsErrOf result FrameError.TooLong → (more : List ℕ) → AllLonger self.old.limit self.old.first (held self.old ++ input.old.now ++ more) }
+        ensures some { IsErrOf result FrameError.Memory → 0 < length input.old.now }
+        ensures early { IsErrOf result FrameError.Memory → BeginsInOrder (state_of self.old) (held self.old ++ input.old.now) }
     {
         if self.is_between() {
             if let Some((payload, rest)) = whole_at(self.limit, self.first, input) {

@@ -151,8 +151,10 @@ pub use Rattle.mysql_bulk.specs.WholeRunRefusal
 pub use Rattle.mysql_auth.specs.AttributeBytes
 pub use Rattle.mysql_auth.specs.Attributes
 pub use Rattle.mysql_auth.specs.AuthMoreData
+pub use Rattle.mysql_auth.specs.AuthNextFactor
 pub use Rattle.mysql_auth.specs.AuthPlugin
 pub use Rattle.mysql_auth.specs.AuthPluginData
+pub use Rattle.mysql_auth.specs.AuthReply
 pub use Rattle.mysql_auth.specs.AuthSwitchRequest
 pub use Rattle.mysql_auth.specs.ComChangeUser
 pub use Rattle.mysql_auth.specs.ComChangeUserRef
@@ -172,6 +174,8 @@ pub use Rattle.mysql_auth.specs.Version
 pub use Rattle.mysql_repl.specs.BinlogDump
 pub use Rattle.mysql_repl.specs.BinlogDumpGtid
 pub use Rattle.mysql_repl.specs.BinlogRequest
+pub use Rattle.mysql_repl.specs.BinlogStreamEvent
+pub use Rattle.mysql_repl.specs.BinlogStreamPacket
 pub use Rattle.mysql_repl.specs.GnoInterval
 pub use Rattle.mysql_repl.specs.GtidSetEarly
 pub use Rattle.mysql_repl.specs.GtidSetText
@@ -184,6 +188,7 @@ pub use Rattle.mysql_repl.specs.RegisterSlave
 pub use Rattle.mysql_repl.specs.RequestBytes
 pub use Rattle.mysql_repl.specs.Space
 pub use Rattle.mysql_repl.specs.SemiSyncAck
+pub use Rattle.mysql_repl.specs.SemiSyncHeader
 pub use Rattle.mysql_repl.specs.ServerSids
 pub use Rattle.mysql_repl.specs.Sid
 pub use Rattle.mysql_repl.specs.SidBlock

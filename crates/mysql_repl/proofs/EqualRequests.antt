@@ -1,28 +1,37 @@
 -- Requests, and what they are made of, are equal exactly where they are the same.
-use Rattle.std.proofs.Common.{◌≡◌, ◌&&◌, ℕ, List, true, nat_eq, Decides, refl}
+use Rattle.std.proofs.Common.{◌≡◌, ◌&&◌, ℕ, List, true, nat_eq, Decides, IsTrue, refl, ap, subst}
 use Rattle.std.proofs.lemmas.Bool.Decides.{Decides-and}
 use Rattle.std.proofs.lemmas.Slice.Eq.{slice_eq-Decides}
 use Rattle.std.specs.Cmp.{booleans_Decides}
 use Rattle.std.specs.Cmp.Lexicographic.{pointwise}
+use borrow.Author.Tests.{clash}
 use Rattle.mysql_wire.proofs.Same.{and-true, numbers-same, bytes-same, options-same, parts-same}
 use Rattle.mysql_repl.specs.contracts.binlog_dump.ComBinlogDumpPartialEq.TheImpl as derived_dump
 use Rattle.mysql_repl.specs.contracts.binlog_dump_gtid.ComBinlogDumpGtidPartialEq.TheImpl as derived_gtid_dump
 use Rattle.mysql_repl.specs.contracts.binlog_request.BinlogRequestPartialEq.TheImpl as derived_request
+use Rattle.mysql_repl.specs.contracts.binlog_stream_event.BinlogStreamEventPartialEq.TheImpl as derived_event
+use Rattle.mysql_repl.specs.contracts.binlog_stream_packet.BinlogStreamPacketPartialEq.TheImpl as derived_packet
 use Rattle.mysql_repl.specs.contracts.gno_interval.GnoIntervalPartialEq.TheImpl as derived_interval
 use Rattle.mysql_repl.specs.contracts.register_slave.ComRegisterSlavePartialEq.TheImpl as derived_registration
 use Rattle.mysql_repl.specs.contracts.semi_sync_ack.SemiSyncAckPacketPartialEq.TheImpl as derived_ack
+use Rattle.mysql_repl.specs.contracts.semi_sync_header.SemiSyncHeaderPartialEq.TheImpl as derived_header
 use Rattle.mysql_repl.specs.contracts.sid.SidPartialEq.TheImpl as derived_sid
 use Rattle.mysql_repl.specs.contracts.table_dump.ComTableDumpPartialEq.TheImpl as derived_table
 use Rattle.mysql_repl.specs.declared.binlog_dump.ComBinlogDump.{ComBinlogDump}
 use Rattle.mysql_repl.specs.declared.binlog_dump_gtid.ComBinlogDumpGtid.{ComBinlogDumpGtid}
 use Rattle.mysql_repl.specs.declared.binlog_request.BinlogRequest.{BinlogRequest}
+use Rattle.mysql_repl.specs.declared.binlog_stream_event.BinlogStreamEvent.{BinlogStreamEvent}
+use Rattle.mysql_repl.specs.declared.binlog_stream_packet.BinlogStreamPacket.{BinlogStreamPacket}
+use Rattle.mysql_repl.specs.declared.binlog_stream_packet.BinlogStreamPacket.TheVariants as stream
 use Rattle.mysql_repl.specs.declared.gno_interval.GnoInterval.{GnoInterval}
 use Rattle.mysql_repl.specs.declared.register_slave.ComRegisterSlave.{ComRegisterSlave}
 use Rattle.mysql_repl.specs.declared.semi_sync_ack.SemiSyncAckPacket.{SemiSyncAckPacket}
+use Rattle.mysql_repl.specs.declared.semi_sync_header.SemiSyncHeader.{SemiSyncHeader}
 use Rattle.mysql_repl.specs.declared.sid.Sid.{Sid}
 use Rattle.mysql_repl.specs.declared.table_dump.ComTableDump.{ComTableDump}
 use Rattle.mysql_repl.specs.BinlogDump as dump
 use Rattle.mysql_repl.specs.BinlogDumpGtid as gtid_dump
+use Rattle.mysql_repl.specs.BinlogStreamEvent.{event_of}
 use Rattle.mysql_repl.specs.GnoInterval.{interval_of}
 use Rattle.mysql_repl.specs.SemiSyncAck.{ack_of}
 use Rattle.mysql_repl.specs.TableDump as table_dump
@@ -42,7 +51,7 @@ intervals-same =
     (λ a b s i. interval_of (s.0 i) (s.1 i))
     (λ a. (refl, refl))
 
-interval_lists : (xs ys : List GnoInterval) → Decides (pointwise derived_interval.ghosts.eq xs ys) (xs ≡ ys)
+pub interval_lists : (xs ys : List GnoInterval) → Decides (pointwise derived_interval.ghosts.eq xs ys) (xs ≡ ys)
 interval_lists xs ys = slice_eq-Decides intervals-same xs ys _ refl
 
 pub sids-same : (a b : Sid) → Decides (derived_sid.ghosts.eq a b) (a ≡ b)
@@ -52,7 +61,7 @@ sids-same =
     (λ a b s i. record { uuid = s.0 i; tag = s.1.0 i; intervals = s.1.1 i })
     (λ a. (refl, (refl, refl)))
 
-sid_lists : (xs ys : List Sid) → Decides (pointwise derived_sid.ghosts.eq xs ys) (xs ≡ ys)
+pub sid_lists : (xs ys : List Sid) → Decides (pointwise derived_sid.ghosts.eq xs ys) (xs ≡ ys)
 sid_lists xs ys = slice_eq-Decides sids-same xs ys _ refl
 
 -- ---- requests
@@ -125,4 +134,33 @@ registrations-same =
     })
     (λ a. (refl, (refl, (refl, (refl, (refl, (refl, refl)))))))
 
-pub ruleset equal_requests = (bytes-same, intervals-same, sids-same, table_dumps-same, acks-same, dumps-same, gtid_dumps-same, requests-same, registrations-same)
+-- ---- packets of a stream
+
+headers-same : (a b : SemiSyncHeader) → Decides (derived_header.ghosts.eq a b) (a ≡ b)
+headers-same =
+    parts-same derived_header.ghosts.eq (λ a b. a.flags.0 ≡ b.flags.0) (λ a b. number a.flags.0 b.flags.0)
+    (λ a b s i. record { header = record { 0 = record {} }; flags = record { 0 = s i; 1 = record {} } })
+    (λ a. refl)
+
+events-same : (a b : BinlogStreamEvent) → Decides (derived_event.ghosts.eq a b) (a ≡ b)
+events-same =
+    parts-same derived_event.ghosts.eq (λ a b. (a.semi_sync ≡ b.semi_sync) × (a.event ≡ b.event))
+    (λ a b. Decides-and _ _ (options-same headers-same a.semi_sync b.semi_sync) (bytes-same a.event b.event))
+    (λ a b s i. event_of (s.0 i) (s.1 i))
+    (λ a. (refl, refl))
+
+stream-equals_itself : (a : BinlogStreamPacket) → IsTrue (derived_packet.ghosts.eq a a)
+stream-equals_itself (stream.Event a) = (events-same a a).1 refl
+stream-equals_itself (stream.End a) = (bytes-same a a).1 refl
+stream-equals_itself (stream.Error a) = (bytes-same a a).1 refl
+
+equal-stream : (a b : BinlogStreamPacket) → IsTrue (derived_packet.ghosts.eq a b) → a ≡ b
+equal-stream (stream.Event a) (stream.Event b) e = ap stream.Event ((events-same a b).0 e)
+equal-stream (stream.End a) (stream.End b) e = ap stream.End ((bytes-same a b).0 e)
+equal-stream (stream.Error a) (stream.Error b) e = ap stream.Error ((bytes-same a b).0 e)
+equal-stream _ _ e = absurd (clash e)
+
+pub stream_packets-same : (a b : BinlogStreamPacket) → Decides (derived_packet.ghosts.eq a b) (a ≡ b)
+stream_packets-same a b = (equal-stream a b, λ e. subst (λ (c : BinlogStreamPacket). IsTrue (derived_packet.ghosts.eq a c)) e (stream-equals_itself a))
+
+pub ruleset equal_requests = (bytes-same, intervals-same, sids-same, interval_lists, sid_lists, stream_packets-same, table_dumps-same, acks-same, dumps-same, gtid_dumps-same, requests-same, registrations-same)

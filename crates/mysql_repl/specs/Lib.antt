@@ -2,6 +2,9 @@ pub mod RegisterSlave
 pub mod TableDump
 pub mod BinlogDump
 pub mod SemiSyncAck
+pub mod SemiSyncHeader
+pub mod BinlogStreamEvent
+pub mod BinlogStreamPacket
 pub mod GnoInterval
 pub mod Tag
 pub mod TagString

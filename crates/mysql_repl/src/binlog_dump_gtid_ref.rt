@@ -8,9 +8,12 @@ use crate::binlog_dump_gtid::{ComBinlogDumpGtid, of_parts, read_head};
 use crate::sids_ref::{SidsRef, read_block_ref};
 use mysql_wire::{
     AnyWidth, BinlogDumpFlags, BytesRepr, Const, FaultOf, LeU16, LeU32, LeU64, MyDeserialize,
-    ParseBuf, RawInt, U32Bytes,
+    ParseBuf, RawBytes, RawInt, U32Bytes,
 };
 use std::alloc::{AllocError, Global};
+use std::borrow::CowSlice;
+use std::fmt;
+use std::fmt::Debug;
 use std::marker::Model;
 
 /// A replica's request for a binary log without the transactions that it has, whose file's name and sids stay in the packet:
@@ -83,6 +86,55 @@ impl<'a> ComBinlogDumpGtidRef<'a> {
     {
         let sids = self.sids.to_vec(alloc)?;
         Ok(of_parts(self.flags, self.server_id, self.filename, self.pos, sids))
+    }
+}
+
+impl Clone for ComBinlogDumpGtidRef<'_> {
+    ghost is_clone = { λ p copy. copy ≡ p };
+
+    fn clone(&self) -> Result<Self, AllocError> {
+        Ok(ComBinlogDumpGtidRef {
+            flags: self.flags,
+            server_id: self.server_id,
+            filename: self.filename,
+            pos: self.pos,
+            sids: self.sids.iter(),
+        })
+    }
+}
+
+impl PartialEq for ComBinlogDumpGtidRef<'_> {
+    ghost use Rattle.mysql_repl.specs.contracts.binlog_dump_gtid.ComBinlogDumpGtidPartialEq.TheImpl.Laws.{laws-law};
+
+    ghost eq = { ⟦<ComBinlogDumpGtid<'static> as PartialEq>⟧.eq };
+
+    ghost laws = { laws-law };
+
+    fn eq(&self, other: &Self) -> bool {
+        self.flags == other.flags
+            && self.server_id == other.server_id
+            && self.filename == other.filename
+            && self.pos == other.pos
+            && self.sids == other.sids
+    }
+}
+
+impl Eq for ComBinlogDumpGtidRef<'_> {
+    ghost use Rattle.mysql_repl.specs.contracts.binlog_dump_gtid.ComBinlogDumpGtidEq.TheImpl.Laws.{laws-law};
+
+    ghost laws = { laws-law };
+}
+
+impl Debug for ComBinlogDumpGtidRef<'_> {
+    fn fmt<W: fmt::Write>(&self, f: &mut fmt::Formatter<W>) -> fmt::Result {
+        let filename: RawBytes<'_, U32Bytes> = RawBytes::new(CowSlice::Borrowed(self.filename));
+        f.debug_struct("ComBinlogDumpGtidRef")
+            .field("flags", &self.flags)
+            .field("server_id", &self.server_id)
+            .field("filename", &filename)
+            .field("pos", &self.pos)
+            .field("sids", &self.sids)
+            .finish()
     }
 }
 

@@ -2,6 +2,7 @@
 #![tactic(auto, using(mysql_wire::proofs::Packets::packets))]
 
 ghost use Rattle.std.specs.Prelude.{false, [], ◌≡◌, length, option_map, refl, IfOk, IsOk};
+ghost use Rattle.std.specs.Cmp.Lexicographic.{pointwise};
 ghost use Rattle.mysql_wire.specs.Int.{le_u64, number_of};
 ghost use Rattle.mysql_wire.specs.Reading.{Answers};
 ghost use Rattle.mysql_wire.specs.Seq.{counted, seq};
@@ -11,6 +12,8 @@ ghost use Rattle.mysql_repl.specs.InPlace.{NextItem, StandIn, joined, passed};
 use crate::gno_interval::GnoInterval;
 use mysql_wire::{AnyWidth, FaultOf, LeU64, MyDeserialize, ParseBuf, RawInt};
 use std::alloc::{AllocError, Global};
+use std::fmt;
+use std::fmt::Debug;
 use std::marker::Model;
 
 /// The intervals of a sid, where they lie: the list of [`Sid::intervals`](crate::Sid::intervals) for as long as the packet
@@ -121,6 +124,63 @@ impl<'a> IntervalsRef<'a> {
             intervals.push(interval)?;
         }
         Ok(intervals)
+    }
+}
+
+/// Whether both give the same intervals, one after another.
+fn give_the_same(one: &IntervalsRef<'_>, other: &IntervalsRef<'_>) -> bool
+    ensures value { result ≡ pointwise ⟦<GnoInterval as PartialEq>⟧.eq one.now other.now }
+{
+    let mut others = other.iter();
+    for interval in one.iter() {
+        match others.next() {
+            Some(other) => {
+                if interval != other {
+                    return false;
+                }
+            }
+            None => return false,
+        }
+    }
+    others.next().is_none()
+}
+
+impl Clone for IntervalsRef<'_> {
+    ghost is_clone = { λ p copy. copy ≡ p };
+
+    fn clone(&self) -> Result<Self, AllocError> {
+        Ok(self.iter())
+    }
+}
+
+/// The same intervals, one after another.
+impl PartialEq for IntervalsRef<'_> {
+    ghost use Rattle.std.specs.Cmp.Lexicographic.{lists_per, pointwise};
+    ghost use Rattle.mysql_repl.specs.contracts.gno_interval.GnoIntervalPartialEq.TheImpl.Laws.{laws-law};
+
+    ghost eq = { pointwise ⟦<GnoInterval as PartialEq>⟧.eq };
+
+    ghost laws = { lists_per laws-law };
+
+    fn eq(&self, other: &Self) -> bool {
+        give_the_same(self, other)
+    }
+}
+
+impl Eq for IntervalsRef<'_> {
+    ghost use Rattle.std.specs.Cmp.Lexicographic.{lists_equiv};
+    ghost use Rattle.mysql_repl.specs.contracts.gno_interval.GnoIntervalEq.TheImpl.Laws.{laws-law};
+
+    ghost laws = { lists_equiv laws-law };
+}
+
+impl Debug for IntervalsRef<'_> {
+    fn fmt<W: fmt::Write>(&self, f: &mut fmt::Formatter<W>) -> fmt::Result {
+        let mut list = f.debug_list();
+        for interval in self.iter() {
+            list.entry(&interval);
+        }
+        list.finish()
     }
 }
 

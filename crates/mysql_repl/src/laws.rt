@@ -4,12 +4,13 @@
 //! that begin with `this` speak of the value at hand, and `request_written` makes two calls.
 #![tactic(auto, using(mysql_wire::proofs::Packets::packets, crate::proofs::Fits::plain_fits, crate::proofs::SidFits::sid_fits))]
 
-ghost use Rattle.std.specs.Prelude.{◌≡◌, ◌++◌, ℕ, List, None, Some, Ok, OnErr, OnOk, IsTrue, IsUtf8, ◌↔◌, true, false};
+ghost use Rattle.std.specs.Prelude.{◌≡◌, ◌++◌, ℕ, List, None, Some, Ok, OnErr, OnOk, IsTrue, IsUtf8, ◌↔◌, true, false, Bool};
 ghost use Rattle.mysql_wire.specs.Int.{le_u64, number_of};
 ghost use Rattle.mysql_wire.specs.Seq.{seq};
 ghost use Rattle.mysql_repl.specs.declared.binlog_dump.ComBinlogDump.{ComBinlogDump};
 ghost use Rattle.mysql_repl.specs.declared.binlog_dump_gtid.ComBinlogDumpGtid.{ComBinlogDumpGtid};
 ghost use Rattle.mysql_repl.specs.declared.binlog_request.BinlogRequest.{BinlogRequest};
+ghost use Rattle.mysql_repl.specs.declared.binlog_stream_packet.BinlogStreamPacket.{BinlogStreamPacket};
 ghost use Rattle.mysql_repl.specs.declared.register_slave.ComRegisterSlave.{ComRegisterSlave};
 ghost use Rattle.mysql_repl.specs.declared.semi_sync_ack.SemiSyncAckPacket.{SemiSyncAckPacket};
 ghost use Rattle.mysql_repl.specs.declared.gno_interval.GnoInterval.{GnoInterval};
@@ -18,6 +19,7 @@ ghost use Rattle.mysql_repl.specs.declared.table_dump.ComTableDump.{ComTableDump
 ghost use Rattle.mysql_repl.specs.BinlogDump.{binlog_dump, BinlogDumpFits};
 ghost use Rattle.mysql_repl.specs.BinlogDumpGtid.{gtid_dump, GtidDumpFits, TellsSids, KeepsOthers, flag_bits, with_flags, with_sids};
 ghost use Rattle.mysql_repl.specs.BinlogRequest as request_spec;
+ghost use Rattle.mysql_repl.specs.BinlogStreamPacket.{stream_packet, StreamPacketFits};
 ghost use Rattle.mysql_repl.specs.GnoInterval.{interval};
 ghost use Rattle.mysql_repl.specs.RegisterSlave.{register_slave, RegisterSlaveFits};
 ghost use Rattle.mysql_repl.specs.SemiSyncAck.{semi_sync_ack, SemiSyncAckFits};
@@ -43,9 +45,9 @@ mod values;
 
 pub use values::{
     this_binlog_dump_gtid_round_trips, this_binlog_dump_round_trips,
-    this_gtid_set_text_round_trips, this_register_slave_round_trips,
-    this_semi_sync_ack_round_trips, this_sid_round_trips, this_sid_text_round_trips,
-    this_table_dump_round_trips,
+    this_binlog_stream_packet_round_trips, this_gtid_set_text_round_trips,
+    this_register_slave_round_trips, this_semi_sync_ack_round_trips, this_sid_round_trips,
+    this_sid_text_round_trips, this_table_dump_round_trips,
 };
 
 /// What is written of a registration is read again, whatever follows.
@@ -66,6 +68,13 @@ pub fn binlog_dump_round_trips()
 /// What is written of an acknowledgement is read again, where nothing follows.
 pub fn semi_sync_ack_round_trips()
     ensures spelled { (p : SemiSyncAckPacket) (rest : List ℕ) → SemiSyncAckFits p rest → (semi_sync_ack.form tt).Spells p (semi_sync_ack.bytes p ++ rest) rest }
+{}
+
+/// What is written of a packet of a stream is read again, where nothing follows: with the header of semi-synchronous replication where
+/// that is agreed on, and without it where it is not.
+#[tactic(auto, using(crate::proofs::StreamFits::streams))]
+pub fn binlog_stream_packet_round_trips()
+    ensures spelled { (agreed : Bool) (p : BinlogStreamPacket) (rest : List ℕ) → StreamPacketFits agreed p rest → (stream_packet.form agreed).Spells p (stream_packet.bytes p ++ rest) rest }
 {}
 
 /// What is written of a sid without a tag is read again, whatever follows; and what is written of any sid in the form
@@ -170,6 +179,8 @@ pub fn equal_sids_are_the_same()
     ensures tag { (x y : List ℕ) → IsTrue (⟦<Tag<'static> as PartialEq>⟧.eq x y) ↔ (x ≡ y) }
     ensures interval { (x y : GnoInterval) → IsTrue (⟦<crate::gno_interval::GnoInterval as PartialEq>⟧.eq x y) ↔ (x ≡ y) }
     ensures sid { (x y : Sid) → IsTrue (⟦<crate::sid::Sid<'static> as PartialEq>⟧.eq x y) ↔ (x ≡ y) }
+    ensures intervals { (xs ys : List GnoInterval) → IsTrue (⟦<crate::intervals_ref::IntervalsRef<'static> as PartialEq>⟧.eq xs ys) ↔ (xs ≡ ys) }
+    ensures sids { (xs ys : List Sid) → IsTrue (⟦<crate::sids_ref::SidsRef<'static> as PartialEq>⟧.eq xs ys) ↔ (xs ≡ ys) }
 {}
 
 /// Requests are equal exactly where they are the same.
@@ -181,6 +192,12 @@ pub fn equal_requests_are_the_same()
     ensures gtid_dump { (x y : ComBinlogDumpGtid) → IsTrue (⟦<crate::binlog_dump_gtid::ComBinlogDumpGtid<'static> as PartialEq>⟧.eq x y) ↔ (x ≡ y) }
     ensures request { (x y : BinlogRequest) → IsTrue (⟦<BinlogRequest<'static> as PartialEq>⟧.eq x y) ↔ (x ≡ y) }
     ensures ack { (x y : SemiSyncAckPacket) → IsTrue (⟦<crate::semi_sync_ack::SemiSyncAckPacket<'static> as PartialEq>⟧.eq x y) ↔ (x ≡ y) }
+{}
+
+/// So are packets of a stream.
+#[tactic(auto, using(crate::proofs::EqualRequests::equal_requests))]
+pub fn equal_stream_packets_are_the_same()
+    ensures packet { (x y : BinlogStreamPacket) → IsTrue (⟦<crate::binlog_stream_packet::BinlogStreamPacket<'static> as PartialEq>⟧.eq x y) ↔ (x ≡ y) }
 {}
 
 /// Equal tags hash equally, borrowed or owned.
@@ -228,6 +245,17 @@ pub fn semi_sync_ack_has_no_constant_size() -> Option<usize>
     ensures value { result ≡ None }
 {
     <crate::semi_sync_ack::SemiSyncAckPacket<'static> as MyDeserialize>::SIZE
+}
+
+/// An event that is sent has no constant size, and no packet of a stream has one.
+pub fn binlog_stream_packet_has_no_constant_size() -> (Option<usize>, Option<usize>)
+    ensures event { result.0 ≡ None }
+    ensures packet { result.1 ≡ None }
+{
+    (
+        <crate::binlog_stream_event::BinlogStreamEvent<'static> as MyDeserialize>::SIZE,
+        <crate::binlog_stream_packet::BinlogStreamPacket<'static> as MyDeserialize>::SIZE,
+    )
 }
 
 /// A sid has no constant size.

@@ -1,5 +1,5 @@
 //! What a replica, a recorder or a proxy of binary logs sends: registration, dumps by position and
-//! by GTID set, acknowledgements, and the texts of GTID sets.
+//! by GTID set, acknowledgements, and the texts of GTID sets; and the packets of the stream that it is answered with.
 #![tactic(auto)]
 
 mod binlog_dump;
@@ -7,6 +7,8 @@ mod binlog_dump_gtid;
 mod binlog_dump_gtid_ref;
 mod binlog_dump_ref;
 mod binlog_request;
+mod binlog_stream_event;
+mod binlog_stream_packet;
 mod gno_interval;
 mod gtid_set_text;
 mod gtid_set_written;
@@ -18,6 +20,7 @@ mod merged_intervals;
 mod register_slave;
 mod register_slave_ref;
 mod semi_sync_ack;
+mod semi_sync_header;
 mod server_sids;
 mod sid;
 mod sid_block;
@@ -37,6 +40,10 @@ pub use binlog_dump_gtid::{
 pub use binlog_dump_gtid_ref::ComBinlogDumpGtidRef;
 pub use binlog_dump_ref::ComBinlogDumpRef;
 pub use binlog_request::BinlogRequest;
+pub use binlog_stream_event::{
+    BinlogStreamEvent, BinlogStreamEventHeader, InvalidBinlogStreamEventHeader,
+};
+pub use binlog_stream_packet::BinlogStreamPacket;
 pub use gno_interval::{GnoInterval, InvalidGno};
 pub use gtid_set_text::sids_from_text;
 pub use gtid_set_written::GtidSetText;
@@ -47,6 +54,7 @@ pub use register_slave_ref::ComRegisterSlaveRef;
 pub use semi_sync_ack::{
     InvalidSemiSyncAckPacketPacketHeader, SemiSyncAckPacket, SemiSyncAckPacketPacketHeader,
 };
+pub use semi_sync_header::InvalidSemiSyncHeader;
 pub use sid::{Sid, UUID_LEN};
 pub use sid_ref::SidRef;
 pub use sid_text::InvalidSid;

@@ -17,7 +17,7 @@ use std::marker::Model;
 /// lives, without memory.
 ///
 /// It is read of the same bytes with the same faults but for `Memory`, and in a clause it is that sid.
-#[derive(Drop)]
+#[derive(Debug, Drop)]
 pub struct SidRef<'a> {
     uuid: [u8; UUID_LEN],
     tag: Option<TagRef<'a>>,
@@ -105,6 +105,40 @@ pub(crate) fn read_sid_ref<'s, 'a>(
     } else {
         SidRef::deserialize((), buf)
     }
+}
+
+impl Clone for SidRef<'_> {
+    ghost is_clone = { λ p copy. copy ≡ p };
+
+    fn clone(&self) -> Result<Self, AllocError> {
+        let tag = match &self.tag {
+            Some(tag) => Some(tag.clone()?),
+            None => None,
+        };
+        Ok(SidRef {
+            uuid: self.uuid,
+            tag,
+            intervals: self.intervals.iter(),
+        })
+    }
+}
+
+impl PartialEq for SidRef<'_> {
+    ghost use Rattle.mysql_repl.specs.contracts.sid.SidPartialEq.TheImpl.Laws.{laws-law};
+
+    ghost eq = { ⟦<Sid<'static> as PartialEq>⟧.eq };
+
+    ghost laws = { laws-law };
+
+    fn eq(&self, other: &Self) -> bool {
+        self.uuid == other.uuid && self.tag == other.tag && self.intervals == other.intervals
+    }
+}
+
+impl Eq for SidRef<'_> {
+    ghost use Rattle.mysql_repl.specs.contracts.sid.SidEq.TheImpl.Laws.{laws-law};
+
+    ghost laws = { laws-law };
 }
 
 /// As a [`Sid`], in the form without tags, but for `Memory`: none is taken.

@@ -2,6 +2,7 @@
 #![tactic(auto, using(mysql_wire::proofs::Packets::packets))]
 
 ghost use Rattle.std.specs.Prelude.{false, [], ◌≡◌, length, option_map, IfOk, IsOk};
+ghost use Rattle.std.specs.Cmp.Lexicographic.{pointwise};
 ghost use Rattle.mysql_wire.specs.Reading.{Answers};
 ghost use Rattle.mysql_wire.specs.Seq.{counted};
 ghost use Rattle.mysql_repl.specs.InPlace.{NextItem, StandIn, joined, passed};
@@ -13,6 +14,8 @@ use crate::sid_block::{count_of, layout};
 use crate::sid_ref::{SidRef, read_sid_ref};
 use mysql_wire::{BytesRepr, FaultOf, LeU64, ParseBuf, RawInt, U32Bytes};
 use std::alloc::{AllocError, Global};
+use std::fmt;
+use std::fmt::Debug;
 use std::marker::Model;
 
 /// The sids of a dump, where they lie: the list of [`ComBinlogDumpGtid::sids`](crate::ComBinlogDumpGtid::sids) for as long as
@@ -154,6 +157,63 @@ impl<'a> SidsRef<'a> {
             sids.push(sid.to_sid(alloc)?)?;
         }
         Ok(sids)
+    }
+}
+
+/// Whether both give the same sids, one after another.
+fn give_the_same(one: &SidsRef<'_>, other: &SidsRef<'_>) -> bool
+    ensures value { result ≡ pointwise ⟦<Sid<'static> as PartialEq>⟧.eq one.now other.now }
+{
+    let mut others = other.iter();
+    for sid in one.iter() {
+        match others.next() {
+            Some(other) => {
+                if sid != other {
+                    return false;
+                }
+            }
+            None => return false,
+        }
+    }
+    others.next().is_none()
+}
+
+impl Clone for SidsRef<'_> {
+    ghost is_clone = { λ p copy. copy ≡ p };
+
+    fn clone(&self) -> Result<Self, AllocError> {
+        Ok(self.iter())
+    }
+}
+
+/// The same sids, one after another, in either form.
+impl PartialEq for SidsRef<'_> {
+    ghost use Rattle.std.specs.Cmp.Lexicographic.{lists_per, pointwise};
+    ghost use Rattle.mysql_repl.specs.contracts.sid.SidPartialEq.TheImpl.Laws.{laws-law};
+
+    ghost eq = { pointwise ⟦<Sid<'static> as PartialEq>⟧.eq };
+
+    ghost laws = { lists_per laws-law };
+
+    fn eq(&self, other: &Self) -> bool {
+        give_the_same(self, other)
+    }
+}
+
+impl Eq for SidsRef<'_> {
+    ghost use Rattle.std.specs.Cmp.Lexicographic.{lists_equiv};
+    ghost use Rattle.mysql_repl.specs.contracts.sid.SidEq.TheImpl.Laws.{laws-law};
+
+    ghost laws = { lists_equiv laws-law };
+}
+
+impl Debug for SidsRef<'_> {
+    fn fmt<W: fmt::Write>(&self, f: &mut fmt::Formatter<W>) -> fmt::Result {
+        let mut list = f.debug_list();
+        for sid in self.iter() {
+            list.entry(&sid);
+        }
+        list.finish()
     }
 }
 

@@ -1,4 +1,6 @@
-//! Records of authentication that stay in their packet, beside those that are read of the same bytes.
+//! Records that stay in their packet, beside those that are read of the same bytes.
+//!
+//! `debug_response BYTES`, `debug_gtid BYTES`.
 
 use crate::prelude::*;
 use crate::words::Attributes;
@@ -12,6 +14,11 @@ fn or_lost(is_same: Result<bool>, out: &mut Out) -> bool {
             true
         }
     }
+}
+
+/// Whether a copy of what stays in its packet is the same.
+pub fn is_copied<R: Clone + PartialEq + Drop>(place: &R, out: &mut Out) -> bool {
+    or_lost(is_cloned(out.alloc(), place, place), out)
 }
 
 /// The text of some bytes, with U+FFFD for what is not UTF-8.
@@ -35,19 +42,27 @@ fn texts(alloc: Global, attributes: Option<ConnectAttributesRef<'_>>) -> Result<
     Ok(Some(texts))
 }
 
-/// Whether the bytes of the attributes begin with the first of them.
-fn first_is_in_front(alloc: Global, attributes: Option<ConnectAttributesRef<'_>>) -> bool {
+/// Whether the first of the attributes is the one that the bytes of all begin with, and its copy is the same.
+fn is_first(first: &ConnectAttributeRef<'_>, bytes: &mut ParseBuf<'_>, out: &mut Out) -> bool {
+    let read: Result<ConnectAttributeRef<'_>, Fault> = bytes.parse(());
+    read.is_ok_and(|read| read.key() == first.key()
+        && read.value() == first.value()
+        && read == *first)
+        && is_copied(first, out)
+}
+
+/// Whether the bytes of the attributes begin with the first of them, whose others are other attributes, and their copy is the same.
+fn first_is_in_front(out: &mut Out, attributes: Option<ConnectAttributesRef<'_>>) -> bool {
     let Some(attributes) = attributes else {
         return true;
     };
-    let mut bytes = ParseBuf::new(alloc, attributes.as_bytes());
-    match attributes.iter().next() {
-        Some(first) => {
-            let read: Result<ConnectAttributeRef<'_>, Fault> = bytes.parse(());
-            read.is_ok_and(|read| read.key() == first.key() && read.value() == first.value())
-        }
-        None => bytes.is_empty(),
-    }
+    let mut bytes = ParseBuf::new(out.alloc(), attributes.as_bytes());
+    let mut others = attributes.iter();
+    let is_in_front = match others.next() {
+        Some(first) => is_first(&first, &mut bytes, out) && others != attributes,
+        None => bytes.is_empty() && others == attributes,
+    };
+    is_in_front && is_copied(&attributes, out)
 }
 
 /// Whether both name the same plugin.
@@ -70,6 +85,16 @@ fn is_response(
     Ok(has_attributes && place.to_response(alloc)? == *owned)
 }
 
+/// Whether a copy of a response is that response.
+fn is_copied_response(
+    place: &HandshakeResponseRef<'_>,
+    owned: &HandshakeResponse<'_>,
+    alloc: Global,
+) -> Result<bool> {
+    let copy = counted!(alloc; place.clone())?;
+    Ok(copy.to_response(alloc)? == *owned)
+}
+
 impl<'a> InPlace<HandshakeResponse<'a>, HandshakeResponseRef<'a>> for Connections {
     fn is(place: &HandshakeResponseRef<'a>, owned: &HandshakeResponse<'a>, out: &mut Out) -> bool {
         let plugin = place.auth_plugin();
@@ -81,8 +106,9 @@ impl<'a> InPlace<HandshakeResponse<'a>, HandshakeResponseRef<'a>> for Connection
                 place.auth_plugin_name(),
                 owned.auth_plugin(),
             )
-            && first_is_in_front(out.alloc(), place.connect_attributes())
+            && first_is_in_front(out, place.connect_attributes())
             && or_lost(is_response(place, owned, out.alloc()), out)
+            && or_lost(is_copied_response(place, owned, out.alloc()), out)
     }
 }
 
@@ -113,8 +139,10 @@ fn is_more_data(
             && str::from_utf8(it.value()).is_ok()),
         None => true,
     };
+    let copy = counted!(alloc; place.clone())?;
     Ok(
         place.to_more_data(alloc)? == *owned
+            && copy.to_more_data(alloc)? == *owned
             && place.auth_plugin() == of_name
             && (!are_texts || more_again(place, alloc)? == *owned),
     )
@@ -145,7 +173,8 @@ fn is_change(
         .with_auth_plugin_data(Some(CowSlice::Borrowed(place.auth_plugin_data())))
         .with_database(Some(CowSlice::Borrowed(place.database())))
         .with_more_data(more);
-    Ok(again == *owned && place.to_change(alloc)? == *owned)
+    let copy = counted!(alloc; place.clone())?;
+    Ok(again == *owned && place.to_change(alloc)? == *owned && copy.to_change(alloc)? == *owned)
 }
 
 impl<'a> InPlace<ComChangeUser<'a>, ComChangeUserRef<'a>> for Connections {
@@ -162,6 +191,15 @@ impl<'a> InPlace<AuthSwitchRequest<'a>, AuthSwitchRequestRef<'a>> for Connection
     }
 }
 
+impl<'a> InPlace<AuthNextFactor<'a>, AuthNextFactorRef<'a>> for Connections {
+    fn is(place: &AuthNextFactorRef<'a>, owned: &AuthNextFactor<'a>, out: &mut Out) -> bool {
+        fields!(place, owned; alike auth_plugin, plugin_data, plugin_data_raw)
+            && AuthPlugin::from_bytes(place.auth_plugin_name()) == owned.auth_plugin()
+            && place.to_packet() == *owned
+            && is_copied(place, out)
+    }
+}
+
 impl<'a> InPlace<AuthMoreData<'a>, AuthMoreDataRef<'a>> for Connections {
     fn is(place: &AuthMoreDataRef<'a>, owned: &AuthMoreData<'a>, _out: &mut Out) -> bool {
         fields!(place, owned; alike data) && place.to_packet() == *owned
@@ -173,5 +211,19 @@ impl<'a> InPlace<PublicKeyResponse<'a>, PublicKeyResponseRef<'a>> for Connection
     fn is(place: &PublicKeyResponseRef<'a>, owned: &PublicKeyResponse<'a>, _out: &mut Out) -> bool {
         PublicKeyResponse::new(CowSlice::Borrowed(place.rsa_key())) == *owned
             && place.to_packet() == *owned
+    }
+}
+
+/// A response that stays in its packet, as a person looks at it.
+pub fn debug_response(out: &mut Out, request: &Request<'_>) {
+    if let Some(place) = record::<HandshakeResponseRef<'_>>(out, request, ()) {
+        out.text("debug", &format_args!("{place:?}"))
+    }
+}
+
+/// A dump by GTID set that stays in its packet, as a person looks at it.
+pub fn debug_dump(out: &mut Out, request: &Request<'_>) {
+    if let Some(place) = record::<ComBinlogDumpGtidRef<'_>>(out, request, ()) {
+        out.text("debug", &format_args!("{place:?}"))
     }
 }

@@ -3,6 +3,7 @@
 //! `gtid BYTES`, `gtid_strict BYTES`, `gtid_with_sid BYTES`, `make_gtid SERVER FLAGS POSITION FILENAME SIDS`,
 //! `gtid_of COUNT TAG`, `gtid_of_set TEXT`.
 
+use crate::borrowed::is_copied;
 use crate::prelude::*;
 use crate::sids::{made_sids, numbered_sids, one_sid, show_sid, text_of};
 use mysql_repl::laws::this_binlog_dump_gtid_round_trips;
@@ -46,6 +47,8 @@ fn are_sids(place: &SidsRef<'_>, owned: &[Sid<'_>], out: &mut Out) -> bool {
     });
     are_same
         && left.next().is_none()
+        && (left == *place) == owned.is_empty()
+        && is_copied(place, out)
         && place.left() == owned.len() as u64
         && or_lost(out, listed).is_some_and(|listed| listed.len() == owned.len())
         && are_read_again(place.as_bytes(), owned, out)
@@ -59,6 +62,7 @@ impl InPlace<ComBinlogDumpGtid<'_>, ComBinlogDumpGtidRef<'_>> for Connections {
         or_lost(out, made).is_some_and(|made| made == *owned)
             && fields!(place, owned; alike server_id, flags, filename with filename_raw, pos)
             && are_sids(&place.sids(), owned.sids(), out)
+            && is_copied(place, out)
     }
 }
 

@@ -2,6 +2,7 @@
 //!
 //! `handshake BYTES`, `version TEXT`, `make_handshake CAPABILITIES VERSION SCRAMBLE PLUGIN`, `supported`.
 
+use crate::borrowed::is_copied;
 use crate::plugins::show_plugin;
 use crate::prelude::*;
 use mysql_auth::laws;
@@ -42,11 +43,12 @@ impl Shows<HandshakePacket<'_>> for Connections {
 }
 
 impl InPlace<HandshakePacket<'_>, HandshakePacketRef<'_>> for Connections {
-    fn is(place: &HandshakePacketRef<'_>, owned: &HandshakePacket<'_>, _out: &mut Out) -> bool {
+    fn is(place: &HandshakePacketRef<'_>, owned: &HandshakePacket<'_>, out: &mut Out) -> bool {
         fields!(place, owned; alike protocol_version, server_version with server_version_ref, connection_id,
             scramble_1 with scramble_1_ref, scramble_2 with scramble_2_ref, capabilities, default_collation,
             status_flags, mariadb_ext_capabilities, auth_plugin_name with auth_plugin_name_ref, auth_plugin)
             && place.to_packet() == *owned
+            && is_copied(place, out)
     }
 }
 

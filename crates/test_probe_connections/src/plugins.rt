@@ -1,7 +1,8 @@
 //! Authentication plugins, what they are sent and answer, switches to another, keys, and SSLRequest.
 //!
 //! `plugin BYTES`, `add_data PLUGIN BYTES`, `parsec BYTES`, `plugin_data KIND BYTES`; `auth_switch BYTES`,
-//! `old_switch BYTES`, `auth_more_data BYTES`, `key_request BYTES`, `key BYTES`, `tls BYTES`, `make_switch PLUGIN DATA`,
+//! `old_switch BYTES`, `next_factor BYTES`, `auth_more_data BYTES`, `key_request BYTES`, `key BYTES`, `tls BYTES`,
+//! `make_switch PLUGIN DATA`, `make_factor PLUGIN DATA`,
 //! `make_tls CAPABILITIES SIZE CHARACTER_SET MARIADB`.
 
 use crate::prelude::*;
@@ -45,6 +46,15 @@ impl Shows<AuthPluginData<'_>> for Connections {
 
 impl Shows<AuthSwitchRequest<'_>> for Connections {
     fn show(it: &AuthSwitchRequest<'_>, out: &mut Out) {
+        show_plugin(Some(&it.auth_plugin()), out);
+        out.show("plugin_data", it.plugin_data());
+        out.show("raw", it.plugin_data_raw());
+        anew!(out, it; owned it)
+    }
+}
+
+impl Shows<AuthNextFactor<'_>> for Connections {
+    fn show(it: &AuthNextFactor<'_>, out: &mut Out) {
         show_plugin(Some(&it.auth_plugin()), out);
         out.show("plugin_data", it.plugin_data());
         out.show("raw", it.plugin_data_raw());
@@ -143,6 +153,13 @@ pub fn plugin_data(out: &mut Out, request: &Request<'_>) {
 /// A switch that is made of words, as it is written and read again.
 pub fn make_switch(out: &mut Out, request: &Request<'_>) {
     let packet = AuthSwitchRequest::new(words::name(request.word(1)), words::name(request.word(2)));
+    out.word("made");
+    write_and_read(out, &packet, request, ())
+}
+
+/// A request for the next factor that is made of words, as it is written and read again.
+pub fn make_factor(out: &mut Out, request: &Request<'_>) {
+    let packet = AuthNextFactor::new(words::name(request.word(1)), words::name(request.word(2)));
     out.word("made");
     write_and_read(out, &packet, request, ())
 }

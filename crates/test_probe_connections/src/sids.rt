@@ -2,6 +2,7 @@
 //!
 //! `sid TEXT`, `gtid_set TEXT`, `sid_bytes BYTES`, `make_sid TAG INTERVALS`, `merge_sid TAG INTERVALS`, `interval BYTES`, `check_interval START END`, `tag TEXT`.
 
+use crate::borrowed::is_copied;
 use crate::prelude::*;
 use mysql_repl::laws::{this_sid_round_trips, this_sid_text_round_trips};
 use std::borrow::CowStr;
@@ -58,6 +59,8 @@ fn are_intervals(place: &IntervalsRef<'_>, owned: &[GnoInterval], out: &mut Out)
         .all(|owned| left.next().as_ref() == Some(owned));
     are_same
         && left.next().is_none()
+        && (left == *place) == owned.is_empty()
+        && is_copied(place, out)
         && place.left() == owned.len() as u64
         && place.as_bytes().len() == 16 * owned.len()
         && or_lost(out, listed).is_some_and(|listed| listed.as_slice() == owned)
@@ -71,6 +74,7 @@ impl InPlace<Sid<'_>, SidRef<'_>> for Connections {
         or_lost(out, made).is_some_and(|made| made == *owned)
             && place.uuid() == owned.uuid()
             && are_tags(place.tag(), owned.tag())
+            && is_copied(place, out)
             && are_intervals(&place.intervals(), owned.intervals(), out)
     }
 }

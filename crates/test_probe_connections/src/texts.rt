@@ -6,6 +6,7 @@ use crate::prelude::*;
 pub fn text(out: &mut Out, name: &str) -> bool {
     let is_known = error_texts!(out, name;
         InvalidPublicKeyRequest, InvalidPublicKeyResponse, InvalidAuthMoreDataHeader, InvalidAuthSwitchRequestHeader,
+        InvalidAuthNextFactorHeader, InvalidBinlogStreamEventHeader, InvalidSemiSyncHeader,
         InvalidComChangeUserHeader, InvalidSemiSyncAckPacketPacketHeader, InvalidComRegisterSlaveHeader,
         InvalidComTableDumpHeader, InvalidComBinlogDumpHeader, InvalidComBinlogDumpGtidHeader,
         UnknownColumnType = UnknownColumnType(21), UnknownSessionStateType = UnknownSessionStateType(21),

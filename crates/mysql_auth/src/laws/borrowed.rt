@@ -5,6 +5,7 @@ ghost use Rattle.std.specs.Prelude.{◌≡◌, ℕ, List};
 ghost use Rattle.mysql_wire.specs.Flags.{CapabilityFlags};
 ghost use Rattle.mysql_auth.specs.Attributes.{attribute};
 ghost use Rattle.mysql_auth.specs.AuthMoreData.{auth_more_data};
+ghost use Rattle.mysql_auth.specs.AuthNextFactor.{auth_next_factor};
 ghost use Rattle.mysql_auth.specs.AuthSwitchRequest.{auth_switch_request};
 ghost use Rattle.mysql_auth.specs.ComChangeUser.{change_user, more_data};
 ghost use Rattle.mysql_auth.specs.Handshake.{handshake};
@@ -36,6 +37,11 @@ pub fn borrowed_more_data_reads_more_data()
 /// So is a switch to another plugin.
 pub fn borrowed_auth_switch_requests_read_auth_switch_requests()
     ensures read { (bytes : List ℕ) → (⟦<crate::auth_switch_request_ref::AuthSwitchRequestRef<'static> as MyDeserialize<'static>>⟧.form tt).reads bytes ≡ (auth_switch_request.form tt).reads bytes }
+{}
+
+/// So is a request for the next factor.
+pub fn borrowed_auth_next_factors_read_auth_next_factors()
+    ensures read { (bytes : List ℕ) → (⟦<crate::auth_next_factor_ref::AuthNextFactorRef<'static> as MyDeserialize<'static>>⟧.form tt).reads bytes ≡ (auth_next_factor.form tt).reads bytes }
 {}
 
 /// So is further data of an authentication.

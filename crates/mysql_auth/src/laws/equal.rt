@@ -3,8 +3,10 @@
 
 ghost use Rattle.std.specs.Prelude.{◌≡◌, ◌↔◌, IsTrue};
 ghost use Rattle.mysql_auth.specs.declared.auth_more_data.AuthMoreData.{AuthMoreData};
+ghost use Rattle.mysql_auth.specs.declared.auth_next_factor.AuthNextFactor.{AuthNextFactor};
 ghost use Rattle.mysql_auth.specs.declared.auth_plugin.AuthPlugin.{AuthPlugin};
 ghost use Rattle.mysql_auth.specs.declared.auth_plugin_data.AuthPluginData.{AuthPluginData};
+ghost use Rattle.mysql_auth.specs.declared.auth_reply.AuthReply.{AuthReply};
 ghost use Rattle.mysql_auth.specs.declared.auth_switch_request.AuthSwitchRequest.{AuthSwitchRequest};
 ghost use Rattle.mysql_auth.specs.declared.com_change_user.ComChangeUser.{ComChangeUser};
 ghost use Rattle.mysql_auth.specs.declared.com_change_user_more_data.ComChangeUserMoreData.{ComChangeUserMoreData};
@@ -24,6 +26,8 @@ pub fn equal_server_packets_are_the_same()
     ensures handshake { (x y : HandshakePacket) → IsTrue (⟦<crate::handshake::HandshakePacket<'static> as PartialEq>⟧.eq x y) ↔ (x ≡ y) }
     ensures switch { (x y : AuthSwitchRequest) → IsTrue (⟦<crate::auth_switch_request::AuthSwitchRequest<'static> as PartialEq>⟧.eq x y) ↔ (x ≡ y) }
     ensures more_data { (x y : AuthMoreData) → IsTrue (⟦<crate::auth_more_data::AuthMoreData<'static> as PartialEq>⟧.eq x y) ↔ (x ≡ y) }
+    ensures factor { (x y : AuthNextFactor) → IsTrue (⟦<crate::auth_next_factor::AuthNextFactor<'static> as PartialEq>⟧.eq x y) ↔ (x ≡ y) }
+    ensures reply { (x y : AuthReply) → IsTrue (⟦<crate::auth_reply::AuthReply<'static> as PartialEq>⟧.eq x y) ↔ (x ≡ y) }
     ensures key { (x y : PublicKeyResponse) → IsTrue (⟦<crate::public_key_response::PublicKeyResponse<'static> as PartialEq>⟧.eq x y) ↔ (x ≡ y) }
 {}
 

@@ -6,6 +6,7 @@ ghost use Rattle.std.specs.Prelude.{◌≡◌, ◌++◌, ◌<◌, ◌^◌, [], �
 ghost use Rattle.std.specs.List.{All};
 ghost use Rattle.mysql_repl.specs.BinlogDump.{binlog_dump};
 ghost use Rattle.mysql_repl.specs.BinlogDumpGtid.{gtid_dump};
+ghost use Rattle.mysql_repl.specs.BinlogStreamPacket.{stream_packet, StreamPacketPartsFit};
 ghost use Rattle.mysql_repl.specs.GtidSetText.{read_sids};
 ghost use Rattle.mysql_repl.specs.GtidSetWritten.{set_text};
 ghost use Rattle.mysql_repl.specs.RegisterSlave.{register_slave, hostname, user, password};
@@ -18,6 +19,7 @@ ghost use Rattle.mysql_repl.specs.TableDump.{table_dump, database, table};
 
 use crate::binlog_dump::ComBinlogDump;
 use crate::binlog_dump_gtid::ComBinlogDumpGtid;
+use crate::binlog_stream_packet::BinlogStreamPacket;
 use crate::register_slave::ComRegisterSlave;
 use crate::semi_sync_ack::SemiSyncAckPacket;
 use crate::sid::{Sid, UUID_LEN};
@@ -55,6 +57,17 @@ pub fn this_semi_sync_ack_round_trips(ack: &SemiSyncAckPacket<'_>)
     ensures spelled { (semi_sync_ack.form tt).Spells ack.now (semi_sync_ack.bytes ack.now) [] }
 {
     let _position = ack.position();
+}
+
+/// What is written of this packet of a stream is read again, where nothing follows: with the header of semi-synchronous
+/// replication where that is agreed on, and without it where it is not.
+#[tactic(auto, using(crate::proofs::StreamFits::streams))]
+pub fn this_binlog_stream_packet_round_trips(agreed: bool, packet: &BinlogStreamPacket<'_>)
+    ensures spelled { StreamPacketPartsFit agreed packet.now → (stream_packet.form agreed).Spells packet.now (stream_packet.bytes packet.now) [] }
+{
+    if let BinlogStreamPacket::Event(event) = packet {
+        let _wants_ack = event.wants_ack();
+    }
 }
 
 /// What is written of this sid is read again, whatever follows: where it has no tag, and in the form with tags.

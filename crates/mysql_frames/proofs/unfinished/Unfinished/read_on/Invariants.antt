@@ -1,4 +1,4 @@
-use Rattle.std.proofs.Common.{◌≡◌, ◌+◌, ◌++◌, length}
+use Rattle.std.proofs.Common.{◌≡◌, ◌+◌, ◌++◌, ◌≤◌, length}
 use Rattle.mysql_frames.specs.Unfinished.{held, IsReading}
 use Rattle.mysql_frames.proofs.unfinished.Unfinished.read_on.Given as goal
 
@@ -7,6 +7,7 @@ invariant-frames l = record {
   reading : IsReading l.self;
   first : l.self.first ≡ l.fn.self.first;
   limit : l.self.limit ≡ l.fn.self.limit;
+  less : length l.input.now ≤ length l.fn.input.now;
   kept : held l.self ++ l.input.now ≡ held l.fn.self ++ l.fn.input.now;
 }
 

@@ -1,0 +1,121 @@
+//! What a server says before a login is done.
+#![tactic(auto, using(mysql_wire::proofs::Packets::packets), unfolding(crate::specs::AuthReply::auth_reply))]
+
+ghost use Rattle.std.specs.Prelude.{false, ◌≡◌, [], OnErr};
+ghost use Rattle.mysql_wire.specs.Reading.{Answers, IsTail};
+ghost use Rattle.mysql_auth.specs.AuthReply as spec;
+
+use crate::auth_more_data_ref::AuthMoreDataRef;
+use crate::auth_next_factor_ref::AuthNextFactorRef;
+use crate::auth_switch_request_ref::AuthSwitchRequestRef;
+use crate::old_auth_switch_request::OldAuthSwitchRequest;
+use bitflags::Flags;
+use mysql_wire::{AnyWidth, CapabilityFlags, EofBytes, FaultOf, MyDeserialize, ParseBuf, RawBytes};
+use std::borrow::CowSlice;
+
+/// What a server answers to a handshake response, and to each packet of a plugin after it, until the login is done or
+/// refused. The bytes stay in the payload.
+///
+/// | First byte | Reply |
+/// |---|---|
+/// | `00` | [`OkPacket`](AuthReply::OkPacket) |
+/// | `ff` | [`ErrPacket`](AuthReply::ErrPacket) |
+/// | `fe` | [`OldSwitch`](AuthReply::OldSwitch) where it is the only one, else [`Switch`](AuthReply::Switch) |
+/// | `01` | [`MoreData`](AuthReply::MoreData) |
+/// | `02` | [`NextFactor`](AuthReply::NextFactor) where both sides agreed to `MULTI_FACTOR_AUTHENTICATION` |
+/// | another, or none | [`PluginData`](AuthReply::PluginData) |
+///
+/// A plugin speaks as it likes: MariaDB puts `01` in front of its data only where that begins with `00`, `01`, `fe` or `ff`, and
+/// MySQL, which alone knows of factors, in any case. So no reply has two meanings.
+///
+/// A switch or a factor without the zero of its plugin's name is `UnexpectedEof`. All else is read, without memory.
+#[derive(Clone, Debug, PartialEq, Eq, Drop)]
+pub enum AuthReply<'a> {
+    /// The login is done: the payload of an OK packet.
+    OkPacket(RawBytes<'a, EofBytes>),
+    /// The login is refused: the payload of an error.
+    ErrPacket(RawBytes<'a, EofBytes>),
+    /// Another plugin shall go on.
+    Switch(AuthSwitchRequestRef<'a>),
+    /// The plugin of MySQL before 4.1 shall go on: an [`OldAuthSwitchRequest`].
+    OldSwitch,
+    /// Data of the plugin, after the byte `01`.
+    MoreData(AuthMoreDataRef<'a>),
+    /// The factor is taken, and the next one is asked for.
+    NextFactor(AuthNextFactorRef<'a>),
+    /// Data of the plugin: the whole payload.
+    PluginData(RawBytes<'a, EofBytes>),
+}
+
+/// All that is left.
+#[inline]
+fn all_of<'a>(buf: &mut ParseBuf<'a>) -> RawBytes<'a, EofBytes>
+    ensures value { result ≡ buf.old }
+    ensures rest { buf.new ≡ [] }
+{
+    RawBytes::new(CowSlice::Borrowed(buf.eat_all()))
+}
+
+/// A switch, of which the old one is one byte.
+fn read_switch<'s, 'a>(buf: &mut ParseBuf<'a>) -> Result<AuthReply<'a>, FaultOf<'s>>
+    ensures value { Answers false result buf.new ((spec.switch_reply buf.old).reads buf.old) }
+    ensures tail { OnErr result (IsTail buf.new buf.old) }
+{
+    if buf.len() == 1 {
+        let _request: OldAuthSwitchRequest = buf.parse(())?;
+        return Ok(AuthReply::OldSwitch);
+    }
+    Ok(AuthReply::Switch(buf.parse(())?))
+}
+
+/// A request for the next factor, where both sides know of factors, or a plugin's data.
+fn read_factor<'s, 'a>(
+    capabilities: CapabilityFlags,
+    buf: &mut ParseBuf<'a>,
+) -> Result<AuthReply<'a>, FaultOf<'s>>
+    ensures value { Answers false result buf.new ((spec.factor_reply (spec.asks_factors capabilities)).reads buf.old) }
+    ensures tail { OnErr result (IsTail buf.new buf.old) }
+{
+    if !capabilities.contains(CapabilityFlags::MULTI_FACTOR_AUTHENTICATION) {
+        return Ok(AuthReply::PluginData(all_of(buf)));
+    }
+    Ok(AuthReply::NextFactor(buf.parse(())?))
+}
+
+impl<'de> MyDeserialize<'de> for AuthReply<'de> {
+    const SIZE: Option<usize> = None;
+
+    type Size = AnyWidth;
+
+    /// What both sides can do.
+    type Ctx = CapabilityFlags;
+
+    ghost form = { spec.auth_reply };
+
+    fn deserialize<'s>(
+        capabilities: CapabilityFlags,
+        buf: &mut ParseBuf<'de>,
+    ) -> Result<Self, FaultOf<'s>> {
+        let Some(first) = buf.first() else {
+            return Ok(AuthReply::PluginData(all_of(buf)));
+        };
+        if first == 0x00 {
+            return Ok(AuthReply::OkPacket(all_of(buf)));
+        }
+        if first == 0xff {
+            return Ok(AuthReply::ErrPacket(all_of(buf)));
+        }
+        if first == 0xfe {
+            return read_switch(buf);
+        }
+        if first == 0x01 {
+            return Ok(AuthReply::MoreData(buf.parse(())?));
+        }
+        if first == 0x02 {
+            return read_factor(capabilities, buf);
+        }
+        Ok(AuthReply::PluginData(all_of(buf)))
+    }
+
+    ghost size_is = { spec.size-auth_reply };
+}

@@ -1,0 +1,68 @@
+//! The packets that follow a dump.
+#![tactic(auto, using(mysql_wire::proofs::Packets::packets), unfolding(crate::specs::BinlogStreamPacket::stream_packet))]
+
+ghost use Rattle.mysql_repl.specs.BinlogStreamPacket as spec;
+
+use crate::binlog_stream_event::BinlogStreamEvent;
+use mysql_wire::{AnyWidth, EofBytes, FaultOf, MyDeserialize, ParseBuf, Parts, RawBytes, Sink};
+use std::borrow::CowSlice;
+
+/// A packet of the stream that a server answers a dump with ("Binlog Network Stream").
+///
+/// | First byte | Packet |
+/// |---|---|
+/// | `fe` | [`End`](BinlogStreamPacket::End) |
+/// | `ff` | [`Error`](BinlogStreamPacket::Error) |
+/// | `00` | [`Event`](BinlogStreamPacket::Event), whose context it is passed |
+///
+/// An event that is cut before its own bytes, and an empty packet, are `UnexpectedEof`; a packet that begins with another byte is
+/// `InvalidData`. Reading takes no memory: the bytes stay in the payload.
+#[derive(Clone, Debug, PartialEq, Eq, Drop)]
+pub enum BinlogStreamPacket<'a> {
+    /// An event of the log.
+    Event(BinlogStreamEvent<'a>),
+    /// The stream is at its end, as the dump asked for: the payload of an EOF packet.
+    End(RawBytes<'a, EofBytes>),
+    /// The stream breaks off: the payload of an error.
+    Error(RawBytes<'a, EofBytes>),
+}
+
+impl<'de> MyDeserialize<'de> for BinlogStreamPacket<'de> {
+    const SIZE: Option<usize> = None;
+
+    type Size = AnyWidth;
+
+    /// Whether semi-synchronous replication is agreed on.
+    type Ctx = bool;
+
+    ghost form = { spec.stream_packet.form };
+
+    fn deserialize<'s>(agreed: bool, buf: &mut ParseBuf<'de>) -> Result<Self, FaultOf<'s>> {
+        match buf.first() {
+            Some(0xfe) => {
+                let payload = RawBytes::new(CowSlice::Borrowed(buf.eat_all()));
+                Ok(BinlogStreamPacket::End(payload))
+            }
+            Some(0xff) => {
+                let payload = RawBytes::new(CowSlice::Borrowed(buf.eat_all()));
+                Ok(BinlogStreamPacket::Error(payload))
+            }
+            _ => Ok(BinlogStreamPacket::Event(buf.parse(agreed)?)),
+        }
+    }
+
+    ghost size_is = { spec.size-stream_packet };
+}
+
+impl Parts for BinlogStreamPacket<'_> {
+    ghost bytes = { spec.stream_packet.bytes };
+
+    #[inline(always)]
+    fn put<S: Sink>(&self, sink: &mut S) {
+        match self {
+            BinlogStreamPacket::Event(event) => sink.part(event),
+            BinlogStreamPacket::End(payload) => sink.part(payload),
+            BinlogStreamPacket::Error(payload) => sink.part(payload),
+        }
+    }
+}
