@@ -142,7 +142,8 @@ def ok_body(capabilities):
 # constant fields, by their names
 MARKERS = {"ColumnDefinitionCatalog": b"\x03def", "FixedLengthFieldsLen": b"\x0c", "ErrPacketHeader": b"\xff",
            "SqlStateMarker": b"#", "LocalInfileHeader": b"\xfb", "GtidsEncoding": b"\0", "ComStmtExecuteHeader": b"\x17",
-           "ComStmtSendLongDataHeader": b"\x18", "ComStmtCloseHeader": b"\x19", "IterationCount": b"\1\0\0\0"}
+           "ComStmtSendLongDataHeader": b"\x18", "ComStmtCloseHeader": b"\x19", "ComQueryHeader": b"\3", "ComFieldListHeader": b"\4",
+           "ComSetOptionHeader": b"\x1b", "ComStmtFetchHeader": b"\x1c", "ComStmtResetHeader": b"\x1a", "IterationCount": b"\1\0\0\0"}
 
 
 DESCRIBERS = {

@@ -3,6 +3,7 @@ import describe  # noqa: F401  (it finds the reference decoder)
 
 from reference_decoder.buf import Buf, Eof, Invalid  # noqa: F401
 
+import describe_commands
 import describe_connections
 import describe_forms
 import describe_replies
@@ -10,10 +11,10 @@ import describe_statements
 import describe_values
 
 # the words of each probe that read bytes
-READS = {"replies": [*describe_replies.DESCRIBERS], "statements": [*describe_statements.DESCRIBERS, *describe_values.DESCRIBERS],
+READS = {"replies": [*describe_replies.DESCRIBERS], "statements": [*describe_statements.DESCRIBERS, *describe_values.DESCRIBERS, *describe_commands.DESCRIBERS],
          "connections": [*describe_connections.DESCRIBERS, *describe_forms.DESCRIBERS]}
-DESCRIBERS = {**describe_replies.DESCRIBERS, **describe_statements.DESCRIBERS, **describe_values.DESCRIBERS, **describe_connections.DESCRIBERS,
-              **describe_forms.DESCRIBERS}
+DESCRIBERS = {**describe_replies.DESCRIBERS, **describe_statements.DESCRIBERS, **describe_values.DESCRIBERS, **describe_commands.DESCRIBERS,
+              **describe_connections.DESCRIBERS, **describe_forms.DESCRIBERS}
 
 
 def describer(request):

@@ -1,5 +1,5 @@
 """What each name of reader.rt stands for: a reading, answered what stands after the name there."""
-from . import authentication, replication, replies, statements, values
+from . import authentication, commands, replication, replies, statements, values
 from .buf import Buf, counted, to_the_end
 from .codes import COLUMN_TYPES
 
@@ -95,5 +95,15 @@ READERS = {
     "BinlogStreamEvent": replication.stream_event,
     "BinlogStreamPacket": replication.stream_packet,
     "ComBinlogDumpGtid": lambda b: replication.binlog_dump_gtid(b, False),
+    "Command": commands.command,
+    "ComQueryRef": commands.query,
+    "ComFieldListRef": commands.field_list,
+    "ComSetOption": commands.set_option,
+    "ComStmtReset": commands.stmt_reset,
+    "ComStmtFetch": commands.stmt_fetch,
+    "ComStmtExecuteRef": commands.stmt_execute,
+    "ComStmtBulkExecuteRef": commands.bulk_execute,
+    "UnknownCommand": commands.unknown,
+    "BytesRef": Buf.all,
     "StrictDumpGtid": lambda b: replication.binlog_dump_gtid(b, True),
 }

@@ -197,5 +197,17 @@ pub use Rattle.mysql_repl.specs.SidText
 pub use Rattle.mysql_repl.specs.TableDump
 pub use Rattle.mysql_repl.specs.Tag
 pub use Rattle.mysql_repl.specs.TagString
+pub use Rattle.mysql_commands.specs.After
+pub use Rattle.mysql_commands.specs.AsSent
+pub use Rattle.mysql_commands.specs.BulkExecute
+pub use Rattle.mysql_commands.specs.Command as CommandForm
+pub use Rattle.mysql_commands.specs.FieldList
+pub use Rattle.mysql_commands.specs.Query
+pub use Rattle.mysql_commands.specs.QueryAttributes
+pub use Rattle.mysql_commands.specs.SetOption
+pub use Rattle.mysql_commands.specs.StmtExecute
+pub use Rattle.mysql_commands.specs.StmtFetch
+pub use Rattle.mysql_commands.specs.StmtReset
+pub use Rattle.mysql_commands.specs.Unknown
 pub use Rattle.mysql_frames.specs.FrameReader
 pub use Rattle.mysql_frames.specs.Frames

@@ -5,6 +5,7 @@ mod bitmaps;
 mod borrowed;
 mod builder;
 mod bulk;
+mod commands;
 mod execute;
 mod execute_read;
 mod forms;
@@ -54,12 +55,24 @@ fn of_bulk(out: &mut Out, request: &Request<'_>) -> bool {
             "builder": builder::builder, "writer": builder::writer::writer,)
 }
 
+fn of_commands(out: &mut Out, request: &Request<'_>) -> bool {
+    answers!(Statements, out, request, request.word(0);
+        with () => "com_reset": ComStmtReset, "com_fetch": ComStmtFetch, "com_set_option": ComSetOption, "com_field_list": ComFieldListRef<'_>,
+            "com_execute_ref": ComStmtExecuteRef<'_>, "com_bulk_ref": ComStmtBulkExecuteRef<'_>, "com_unknown": UnknownCommand<'_>, "to_end": BytesRef<'_>,
+        call "command": commands::command, "com_query": commands::query, "new_query": commands::new_query, "set_option": commands::set_option,)
+}
+
 impl Answers for Statements {
     fn answer(out: &mut Out, request: &Request<'_>) -> bool {
         match request.word(0) {
             "marker" => texts::marker(out, request),
             "text" => texts::text(out, request.word(1)),
-            _ => of_statements(out, request) || of_values(out, request) || of_bulk(out, request),
+            _ => {
+                of_statements(out, request)
+                    || of_values(out, request)
+                    || of_bulk(out, request)
+                    || of_commands(out, request)
+            }
         }
     }
 }

@@ -5,6 +5,7 @@ pub use crate::values::{
     AsValue, FromWord, Spelled, SpelledRow, bytes, list, or_memory, refs, rows, same_or_other,
 };
 pub use mysql_bulk::*;
+pub use mysql_commands::*;
 pub use mysql_replies::{Column, ColumnRef};
 pub use mysql_stmt::*;
 pub use mysql_values::*;

@@ -6,7 +6,9 @@ use crate::prelude::*;
 pub fn marker(out: &mut Out, request: &Request<'_>) -> bool {
     answers!(Statements, out, request, request.word(1);
         with () => "ComStmtExecuteHeader": ComStmtExecuteHeader, "IterationCount": IterationCount,
-            "ComStmtSendLongDataHeader": ComStmtSendLongDataHeader, "ComStmtCloseHeader": ComStmtCloseHeader,)
+            "ComStmtSendLongDataHeader": ComStmtSendLongDataHeader, "ComStmtCloseHeader": ComStmtCloseHeader,
+            "ComQueryHeader": ComQueryHeader, "ComFieldListHeader": ComFieldListHeader, "ComSetOptionHeader": ComSetOptionHeader,
+            "ComStmtFetchHeader": ComStmtFetchHeader, "ComStmtResetHeader": ComStmtResetHeader,)
 }
 
 /// The answer, where it is the name of one of these errors. A builder's refusal has the text of what it holds.
@@ -20,7 +22,14 @@ pub fn text(out: &mut Out, name: &str) -> bool {
         ParamsError::NamedForPositional, ParamsError::PositionalForNamed, ParamsError::Memory,
         BulkExecuteRequestBuilderError::Request = BulkExecuteRequestBuilderError::from(BulkExecuteRequestError::NoParams),
         BulkExecuteRequestBuilderError::Params = BulkExecuteRequestBuilderError::from(ParamsError::NamedForPositional),);
-    is_known || text_of_rows(out, name)
+    is_known || text_of_commands(out, name) || text_of_rows(out, name)
+}
+
+/// The same of errors of commands.
+fn text_of_commands(out: &mut Out, name: &str) -> bool {
+    error_texts!(out, name;
+        InvalidComQueryHeader, InvalidComFieldListHeader, InvalidComSetOptionHeader, InvalidComStmtFetchHeader,
+        InvalidComStmtResetHeader, InvalidParameterSetCount, InvalidNewParamsBindFlag,)
 }
 
 /// The same of errors of rows that are bulk executed.

@@ -1,0 +1,3 @@
+pub mod LastPart
+pub mod CommandAgain
+pub mod AttributeViews

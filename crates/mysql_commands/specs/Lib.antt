@@ -1,0 +1,12 @@
+pub mod AsSent
+pub mod After
+pub mod BulkExecute
+pub mod FieldList
+pub mod QueryAttributes
+pub mod Query
+pub mod SetOption
+pub mod StmtExecute
+pub mod StmtFetch
+pub mod StmtReset
+pub mod Unknown
+pub mod Command

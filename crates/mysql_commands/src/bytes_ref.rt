@@ -1,0 +1,116 @@
+//! Bytes that stay in their packet, to its end.
+#![tactic(auto, unfolding(mysql_wire::specs::Writing::saturated))]
+
+ghost use Rattle.std.specs.Prelude.{◌≡◌, refl};
+
+use mysql_wire::{AnyWidth, Buffer, FaultOf, MyDeserialize, MySerialize, ParseBuf};
+use std::alloc::AllocError;
+use std::fmt;
+use std::fmt::Debug;
+use std::marker::Model;
+
+/// Bytes that run to the end of a packet (`string<EOF>`) and stay there: a query's text, a schema's name.
+///
+/// In a clause they are the list of the bytes. Reading and writing take no memory.
+#[derive(Drop)]
+pub struct BytesRef<'a> {
+    bytes: &'a [u8],
+}
+
+impl<'a> Model for BytesRef<'a> {
+    ghost use Rattle.std.specs.Prelude.{ℕ, List};
+
+    ghost Value = { List ℕ };
+
+    ghost view = { λ b. b.bytes.now };
+}
+
+impl<'a> BytesRef<'a> {
+    /// These bytes.
+    #[inline]
+    pub fn new(bytes: &'a [u8]) -> Self
+        ensures value { result ≡ bytes.now }
+    {
+        BytesRef { bytes }
+    }
+
+    /// The bytes, for as long as the packet lives.
+    #[inline]
+    pub fn as_bytes(&self) -> &'a [u8]
+        ensures value { result.now ≡ self.now }
+    {
+        self.bytes
+    }
+}
+
+impl Clone for BytesRef<'_> {
+    ghost is_clone = { λ b copy. copy ≡ b };
+
+    fn clone(&self) -> Result<Self, AllocError> {
+        Ok(BytesRef { bytes: self.bytes })
+    }
+}
+
+impl PartialEq for BytesRef<'_> {
+    ghost use Rattle.std.specs.Prelude.{nat_eq};
+    ghost use Rattle.std.specs.Cmp.Lexicographic.{pointwise};
+    ghost use Rattle.std.proofs.Common.{rules};
+    ghost use Rattle.std.specs.Cmp.Rules.{comparing};
+
+    ghost eq = { pointwise nat_eq };
+
+    ghost laws = { Prim.search (comparing, rules) };
+
+    fn eq(&self, other: &Self) -> bool {
+        self.bytes == other.bytes
+    }
+}
+
+impl Eq for BytesRef<'_> {
+    ghost use Rattle.std.proofs.Common.{rules};
+    ghost use Rattle.std.specs.Cmp.Rules.{comparing};
+
+    ghost laws = { Prim.search (comparing, rules) };
+}
+
+impl Debug for BytesRef<'_> {
+    fn fmt<W: fmt::Write>(&self, f: &mut fmt::Formatter<W>) -> fmt::Result {
+        self.bytes.fmt(f)
+    }
+}
+
+impl<'de> MyDeserialize<'de> for BytesRef<'de> {
+    const SIZE: Option<usize> = None;
+
+    type Size = AnyWidth;
+
+    type Ctx = ();
+
+    ghost use Rattle.mysql_wire.specs.Form.{all_left};
+
+    ghost form = { λ _. all_left };
+
+    #[inline]
+    fn deserialize<'s>(_ctx: (), buf: &mut ParseBuf<'de>) -> Result<Self, FaultOf<'s>> {
+        Ok(BytesRef {
+            bytes: buf.eat_all(),
+        })
+    }
+
+    ghost size_is = { λ _. refl };
+}
+
+impl MySerialize for BytesRef<'_> {
+    ghost bytes = { λ b. b };
+
+    #[inline(always)]
+    fn defined_len(&self) -> usize {
+        self.bytes.len()
+    }
+
+    #[inline(always)]
+    #[tactic(auto, using(mysql_wire::proofs::After::after))]
+    fn append<O: Buffer>(&self, out: &mut O) {
+        out.push_bytes(self.bytes);
+    }
+}

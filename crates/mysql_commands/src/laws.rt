@@ -1,0 +1,13 @@
+//! Laws: functions with nothing in them, whose contracts hold for all values.
+#![tactic(auto)]
+
+ghost use Rattle.std.specs.Prelude.{◌++◌, List, ℕ};
+ghost use Rattle.mysql_wire.specs.Flags.{CapabilityFlags};
+ghost use Rattle.mysql_commands.specs.Command.{command, command_bytes, CommandFits};
+ghost use Rattle.mysql_commands.specs.declared.command.Command.{Command};
+
+/// What is written of a command is read again, under the flags that both sides know.
+#[tactic(auto, using(crate::proofs::CommandAgain::commands_again))]
+pub fn command_round_trips()
+    ensures spelled { (c : CapabilityFlags) (v : Command) (rest : List ℕ) → CommandFits c v rest → (command c).Spells v (command_bytes v ++ rest) rest }
+{}

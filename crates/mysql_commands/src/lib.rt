@@ -1,0 +1,35 @@
+//! Commands: what a client asks of a server once its login is done, by the first byte.
+#![tactic(auto)]
+
+mod as_sent;
+mod bulk_execute;
+mod bytes_ref;
+mod command;
+mod command_reader;
+mod command_writer;
+mod field_list;
+pub mod laws;
+mod named_types;
+mod query;
+mod query_attributes;
+mod set_option;
+mod stmt_execute;
+mod stmt_fetch;
+mod stmt_reset;
+mod unknown;
+
+pub use as_sent::AsSent;
+pub use bulk_execute::ComStmtBulkExecuteRef;
+pub use bytes_ref::BytesRef;
+pub use command::Command;
+pub use field_list::{ComFieldListHeader, ComFieldListRef, InvalidComFieldListHeader};
+pub use query::{ComQueryHeader, ComQueryRef, InvalidComQueryHeader};
+pub use query_attributes::{
+    InvalidNewParamsBindFlag, InvalidParameterSetCount, QueryAttributeRef, QueryAttributesRef,
+    QueryAttributesView,
+};
+pub use set_option::{ComSetOption, ComSetOptionHeader, InvalidComSetOptionHeader, ServerOption};
+pub use stmt_execute::ComStmtExecuteRef;
+pub use stmt_fetch::{ComStmtFetch, ComStmtFetchHeader, InvalidComStmtFetchHeader};
+pub use stmt_reset::{ComStmtReset, ComStmtResetHeader, InvalidComStmtResetHeader};
+pub use unknown::UnknownCommand;

@@ -1,0 +1,112 @@
+//! A query.
+#![tactic(auto, using(mysql_wire::proofs::Packets::packets), unfolding(crate::specs::Query::query))]
+
+ghost use Rattle.std.specs.Prelude.{◌≡◌, None, option_map, refl};
+ghost use Rattle.mysql_commands.specs.AsSent.{value};
+ghost use Rattle.mysql_commands.specs.Query as spec;
+
+use crate::as_sent::AsSent;
+use crate::bytes_ref::BytesRef;
+use crate::query_attributes::QueryAttributesRef;
+use mysql_wire::{
+    AnyWidth, CapabilityFlags, ConstFault, ConstU8, FaultOf, Flags, MyDeserialize, ParseBuf, Parts,
+    Sink, parts,
+};
+use thiserror::Error;
+
+/// The first byte of a query is not `03`.
+#[derive(Clone, Copy, Debug, Default, PartialEq, Eq, Hash, Error)]
+#[error("Invalid header for COM_QUERY")]
+pub struct InvalidComQueryHeader;
+
+impl ConstFault for InvalidComQueryHeader {
+    const MESSAGE: &'static str = "Invalid header for COM_QUERY";
+}
+
+/// The first byte of a query: `03`.
+pub type ComQueryHeader = ConstU8<InvalidComQueryHeader, 0x03>;
+
+/// `COM_QUERY`: a query as text, which stays in the packet.
+///
+/// | Bytes | Field |
+/// |---|---|
+/// | 1 | the byte `03` |
+/// | as many as they take | the attributes, where both sides have CLIENT_QUERY_ATTRIBUTES: [`QueryAttributesRef`] |
+/// | to the end | the text |
+///
+/// Another first byte is `InvalidData`; the attributes have faults of their own. It is written as it was read, byte for byte.
+#[derive(Drop)]
+pub struct ComQueryRef<'a> {
+    attributes: Option<AsSent<'a, QueryAttributesRef<'a>>>,
+    text: BytesRef<'a>,
+}
+
+impl<'a> ComQueryRef<'a> {
+    /// The query of this text, for a session without CLIENT_QUERY_ATTRIBUTES.
+    pub fn new(text: &'a [u8]) -> Self
+        ensures value { result ≡ spec.query_of None text.now }
+    {
+        ComQueryRef {
+            attributes: None,
+            text: BytesRef::new(text),
+        }
+    }
+
+    /// The bytes of the text.
+    #[inline]
+    pub fn text(&self) -> &'a [u8]
+        ensures value { result.now ≡ spec.text self.now }
+    {
+        self.text.as_bytes()
+    }
+
+    /// The attributes, where they stand before the text.
+    #[inline]
+    pub fn attributes(&self) -> Option<&QueryAttributesRef<'a>>
+        ensures value { option_map (λ a. a.now) result ≡ option_map value (spec.sent_attributes self.now) }
+    {
+        match &self.attributes {
+            Some(attributes) => Some(attributes.value()),
+            None => None,
+        }
+    }
+}
+
+impl<'de> MyDeserialize<'de> for ComQueryRef<'de> {
+    const SIZE: Option<usize> = None;
+
+    type Size = AnyWidth;
+
+    /// What both sides can do.
+    type Ctx = CapabilityFlags;
+
+    ghost form = { spec.query.form };
+
+    fn deserialize<'s>(
+        capabilities: CapabilityFlags,
+        buf: &mut ParseBuf<'de>,
+    ) -> Result<Self, FaultOf<'s>> {
+        let _header: ComQueryHeader = buf.parse(())?;
+        let attributes = if capabilities.contains(CapabilityFlags::CLIENT_QUERY_ATTRIBUTES) {
+            Some(buf.parse(())?)
+        } else {
+            None
+        };
+        Ok(ComQueryRef {
+            attributes,
+            text: buf.parse(())?,
+        })
+    }
+
+    ghost size_is = { λ _. unfold spec.query in refl };
+}
+
+impl Parts for ComQueryRef<'_> {
+    ghost bytes = { spec.query.bytes };
+
+    #[inline(always)]
+    fn put<S: Sink>(&self, sink: &mut S) {
+        let header: ComQueryHeader = ConstU8::new();
+        sink.part(&parts!(header, self.attributes, self.text));
+    }
+}
