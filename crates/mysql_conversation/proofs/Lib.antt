@@ -9,3 +9,5 @@ pub mod Turns
 pub mod Order
 pub mod Pipes
 pub mod Stood
+pub mod Sessions
+pub mod SessionEnds

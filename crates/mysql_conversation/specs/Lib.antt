@@ -9,3 +9,5 @@ pub mod Pipelined
 pub mod Order
 pub mod Standing
 pub mod Piped
+pub mod Session
+pub mod SessionSteps

@@ -6,7 +6,7 @@ ghost use Rattle.mysql_conversation.specs.Agreements as spec;
 use bitflags::Flags;
 use mysql_wire::{CapabilityFlags, MariadbCapabilities};
 
-/// What a client and a server agreed on when they connected: the flags that both have.
+/// What a client and a server agreed on when they connected: the flags that both have. Also what one side can do.
 #[derive(Clone, Copy, Debug, PartialEq, Eq)]
 pub struct Agreed {
     /// The capabilities of the protocol.
@@ -16,6 +16,27 @@ pub struct Agreed {
 }
 
 impl Agreed {
+    /// What is agreed on where a server can do this and a client that. A client that sets `CLIENT_LONG_PASSWORD` has none of MariaDB's
+    /// own capabilities, whatever its login says.
+    pub fn on(server: Agreed, client: Agreed) -> Self
+        ensures value { result ≡ spec.agreed_on server client }
+    {
+        let own = if client
+            .capabilities
+            .contains(CapabilityFlags::CLIENT_LONG_PASSWORD)
+        {
+            0
+        } else {
+            server.mariadb_capabilities.bits() & client.mariadb_capabilities.bits()
+        };
+        Agreed {
+            capabilities: CapabilityFlags::from_bits_retain(
+                server.capabilities.bits() & client.capabilities.bits(),
+            ),
+            mariadb_capabilities: MariadbCapabilities::from_bits_retain(own),
+        }
+    }
+
     /// Whether rows end with an OK packet, and definitions with none: `CLIENT_DEPRECATE_EOF`.
     #[inline(always)]
     pub fn deprecates_eof(&self) -> bool
@@ -44,5 +65,16 @@ impl Agreed {
     {
         self.capabilities
             .contains(CapabilityFlags::MULTI_FACTOR_AUTHENTICATION)
+    }
+
+    /// Whether packets stand in compressed packets once the client is logged in.
+    #[inline(always)]
+    pub fn compresses(&self) -> bool
+        ensures value { result ≡ spec.compresses self.now }
+    {
+        self.capabilities.contains(CapabilityFlags::CLIENT_COMPRESS)
+            || self
+                .capabilities
+                .contains(CapabilityFlags::CLIENT_ZSTD_COMPRESSION_ALGORITHM)
     }
 }

@@ -21,6 +21,12 @@ pub enum Format {
 /// Which packet it is.
 #[derive(Clone, Copy, Debug, PartialEq, Eq)]
 pub enum Kind {
+    /// The server's greeting, the initial handshake.
+    Handshake,
+    /// A request to go on in TLS.
+    SslRequest,
+    /// The client's response to the greeting.
+    Login,
     /// Of the server, while a client logs in or changes its user: a switch of the plugin.
     AuthSwitch,
     /// A switch to the old plugin, the byte `fe` alone.

@@ -9,7 +9,9 @@ ghost use Rattle.mysql_conversation.specs.Conversation.{IsConversation};
 ghost use Rattle.mysql_conversation.specs.Pipelined.{Numbered, IsPipelined, IsPipelinedBeginning, numbered};
 ghost use Rattle.mysql_conversation.specs.Order.{IsInterleaved};
 ghost use Rattle.mysql_conversation.specs.Piped.{PipeTaken, place};
+ghost use Rattle.mysql_conversation.specs.Session.{SessionTaken, IsSessionBeginning};
 ghost use Rattle.mysql_conversation.specs.declared.pipeline.Pipeline as pipeline;
+ghost use Rattle.mysql_conversation.specs.declared.session.Session as session;
 ghost use Rattle.mysql_conversation.specs.declared.conversation.Conversation as conversation;
 ghost use Rattle.mysql_conversation.specs.declared.kind.Kind as kind;
 ghost use Rattle.mysql_conversation.specs.declared.kind.Opening as start;
@@ -49,4 +51,10 @@ pub fn a_pipelined_packet_is_of_one_kind()
 /// before the command whose exchange it belongs to.
 pub fn a_pipelined_conversation_is_interleaved()
     ensures { (a : agreement.Agreed) (o : start.Opening) (items : List Numbered) → IsPipelined a o items → IsInterleaved a o items }
+{}
+
+/// What a session has taken is the beginning of one.
+#[tactic(auto, using(crate::proofs::SessionEnds::taken_is_beginning))]
+pub fn what_a_session_took_is_a_beginning()
+    ensures { (c : session.Session) (items : List Numbered) → SessionTaken c items → IsSessionBeginning items }
 {}

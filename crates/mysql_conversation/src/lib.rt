@@ -11,6 +11,7 @@ mod kind;
 pub mod laws;
 mod payload;
 mod pipeline;
+mod session;
 mod state;
 mod step;
 
@@ -18,3 +19,4 @@ pub use agreed::Agreed;
 pub use conversation::Conversation;
 pub use kind::{Format, Kind, Opening, Side, Unexpected};
 pub use pipeline::{Pipeline, Refusal};
+pub use session::Session;

@@ -1,7 +1,7 @@
 //! Commands that come before the answers to earlier ones.
 
 ghost use Rattle.std.specs.VecDeque.{deque_capacity, deque_len};
-ghost use Rattle.std.specs.Prelude.{true, ◌≡◌, ◌↔◌, ◌≤◌, ◌<◌, false, IfOk, IfErr, OnErr, IsTrue, List, [], ◌∷◌, ◌++◌, ℕ, ◌-◌, ◌^◌, ◌⊎◌, length, Some, None};
+ghost use Rattle.std.specs.Prelude.{true, ◌≡◌, ◌≢◌, ◌↔◌, ◌≤◌, ◌<◌, false, IfOk, IfErr, OnErr, IsTrue, List, [], ◌∷◌, ◌++◌, ℕ, ◌-◌, ◌^◌, ◌⊎◌, length, Some, None};
 ghost use Rattle.mysql_conversation.specs.Machine as machine;
 ghost use Rattle.mysql_conversation.specs.Standing as spec;
 ghost use Rattle.mysql_conversation.specs.Piped.{stands};
@@ -30,6 +30,10 @@ pub enum Refusal {
     Full,
     /// There is no memory for a command that waits.
     Memory,
+    /// It goes on in TLS, so that the bytes are not ours: of a session alone.
+    Encrypted,
+    /// Both sides agreed on compression, so that the bytes behind the login are not ours: of a session alone.
+    Compressed,
 }
 
 /// Whether a command waits.
@@ -128,6 +132,8 @@ impl Pipeline {
         ensures full { IfErr result (λ why. why ≡ refusal.Full → (from ≡ side.Client) × (((machine.is_due self.old.state ≡ true) × (self.old.limit ≤ length self.old.waiting.items)) ⊎ (self.old.last ≡ 2 ^ 64 - 1))) }
         // The packet would have to wait, and there is no room for it.
         ensures memory { IfErr result (λ why. why ≡ refusal.Memory → (from ≡ side.Client) × (machine.is_due self.old.state ≡ true) × (deque_capacity self.old.waiting ≤ deque_len self.old.waiting)) }
+        // (the others are of a session alone)
+        ensures ours { IfErr result (λ why. (why ≢ refusal.Encrypted) × (why ≢ refusal.Compressed)) }
         ensures err { OnErr result (stands self.new ≡ stands self.old) }
         ensures agreed { self.new.agreed ≡ self.old.agreed }
         ensures opening { self.new.opening ≡ self.old.opening }
@@ -145,6 +151,7 @@ impl Pipeline {
         ensures refused { IfErr result (λ why. why ≡ refusal.Unexpected → spec.pipe_step self.old.agreed (stands self.old) side.Client payload.now ≡ None) }
         ensures full { IfErr result (λ why. why ≡ refusal.Full → ((machine.is_due self.old.state ≡ true) × (self.old.limit ≤ length self.old.waiting.items)) ⊎ (self.old.last ≡ 2 ^ 64 - 1)) }
         ensures memory { IfErr result (λ why. why ≡ refusal.Memory → (machine.is_due self.old.state ≡ true) × (deque_capacity self.old.waiting ≤ deque_len self.old.waiting)) }
+        ensures ours { IfErr result (λ why. (why ≢ refusal.Encrypted) × (why ≢ refusal.Compressed)) }
         ensures err { OnErr result (stands self.new ≡ stands self.old) }
         ensures agreed { self.new.agreed ≡ self.old.agreed }
         ensures opening { self.new.opening ≡ self.old.opening }
@@ -194,6 +201,7 @@ impl Pipeline {
         ensures refused { IfErr result (λ why. why ≡ refusal.Unexpected → spec.early (stands self.old) (spec.command_of payload.now) ≡ None) }
         ensures full { IfErr result (λ why. why ≡ refusal.Full → (self.old.limit ≤ length self.old.waiting.items) ⊎ (self.old.last ≡ 2 ^ 64 - 1)) }
         ensures memory { IfErr result (λ why. why ≡ refusal.Memory → (length self.old.waiting.items < self.old.limit) × (deque_capacity self.old.waiting ≤ deque_len self.old.waiting)) }
+        ensures ours { IfErr result (λ why. (why ≢ refusal.Encrypted) × (why ≢ refusal.Compressed)) }
         ensures err { OnErr result (stands self.new ≡ stands self.old) }
         ensures agreed { self.new.agreed ≡ self.old.agreed }
         ensures opening { self.new.opening ≡ self.old.opening }
