@@ -1,0 +1,344 @@
+-- What the grammar allows, the machine takes.
+use Rattle.mysql_conversation.specs.declared.agreed.Agreed.{Agreed}
+use Rattle.std.proofs.Common.{◌≡◌, ◌≢◌, ℕ, ◌<◌, zero, suc, List, [], ◌∷◌, ◌++◌, ◌⊎◌, inl, inr, Option, Some, None, refl, sym, ap, subst, ◌∙◌, Bool, true, false, arith}
+use Rattle.std.specs.Prelude.{not}
+use Rattle.mysql_wire.specs.Flags.{StatusFlags}
+use Rattle.mysql_prepared.specs.Stmt.{num_columns, num_params}
+use Rattle.mysql_conversation.specs.Parts.{nothing, never, one, ◌followed_by◌, ◌or◌, for_some, times, many, broken}
+use Rattle.mysql_conversation.specs.Payloads.{has_more, opens_cursor, first_is, IsOk, IsEnd, IsOldEnd, IsInfileRequest, IsCount, IsRow, IsPrepared, IsError, is_report, is_one_byte, asks_cursor}
+use Rattle.mysql_conversation.specs.Agreements.{deprecates_eof}
+use Rattle.mysql_conversation.specs.Conversation as c
+use Rattle.mysql_conversation.specs.Conversation.{Packet, sent, served, answering, answered, ending, format_of, authentication_kind, commands, inside}
+use Rattle.mysql_conversation.specs.Machine.{entrance, step, client_step, serve, rests, error_kind, Run, answers, reply_step, infile_step, infile_reply_step, line_step, last_step, prepared_step, command_step, begun, acknowledgement_step, authentication_step, ok_status, definitions_end_step, columns_step, enter, defined, counted, less, define, ended, line_of, reply_of}
+use Rattle.mysql_conversation.proofs.Classes.{ok_status_of, reply_ok, reply_infile, reply_count, line_row, line_end, old_end_of_is, statement_at_of, chosen, some_is, eqb_is, zero_is_no_end}
+use Rattle.mysql_conversation.proofs.States.{step_listens}
+use Rattle.mysql_conversation.specs.declared.state.After.{After}
+use Rattle.mysql_conversation.specs.declared.state.After.TheVariants as after
+use Rattle.mysql_conversation.specs.declared.state.Answer.{Answer}
+use Rattle.mysql_conversation.specs.declared.state.Answer.TheVariants as answer
+use Rattle.mysql_conversation.specs.declared.state.Request.{Request}
+use Rattle.mysql_conversation.specs.declared.state.Request.TheVariants.{Query, Execution, Cursor}
+use Rattle.mysql_conversation.specs.declared.kind.Format.{Format}
+use Rattle.mysql_conversation.specs.declared.kind.Format.TheVariants.{Text, Binary}
+use Rattle.mysql_conversation.specs.declared.kind.Kind.{Kind}
+use Rattle.mysql_conversation.specs.declared.kind.Kind.TheVariants as kind
+use Rattle.mysql_conversation.specs.declared.state.Line.{Line}
+use Rattle.mysql_conversation.specs.declared.state.Line.TheVariants as line
+use Rattle.mysql_conversation.specs.declared.state.Reply.{Reply}
+use Rattle.mysql_conversation.specs.declared.state.Reply.TheVariants as reply
+use Rattle.mysql_conversation.specs.declared.kind.Opening.{Opening}
+use Rattle.mysql_conversation.specs.declared.kind.Opening.TheVariants as opened_at
+use Rattle.mysql_conversation.specs.declared.kind.Side.{Side}
+use Rattle.mysql_conversation.specs.declared.kind.Side.TheVariants.{Client, Server}
+use Rattle.mysql_conversation.specs.declared.state.State.{State}
+use Rattle.mysql_conversation.specs.declared.state.State.TheVariants as state
+
+-- the part leads from a state to another
+abbrev pub Leads : Agreed → State → (List Packet → List Packet → Type 0) → State → Type 0
+Leads a s f m = (items rest : List Packet) (t : State) → f items rest → Run a m rest t → Run a s items t
+
+server_step : (a : Agreed) (s : State) (p : List ℕ) (k : Kind) (m : State) → first_is 0xff p ≡ false → serve a s p ≡ Some (k, m) → step a s Server p ≡ Some (k, m)
+server_step a s p k m f e = rw f e
+
+pub lead_served : (a : Agreed) (s : State) (kind : Kind) (P : List ℕ → Type 0) (m : State)
+    → ((p : List ℕ) → P p → serve a s p ≡ Some (kind, m)) → Leads a s (served kind P) m
+lead_served a s kind P m e items rest t h r =
+    let x = h.0 in
+    let found : step a s x.from x.payload ≡ Some (x.kind, m) = rw (h.1.0, h.1.1) (server_step a s x.payload kind m h.1.2 (e x.payload h.1.3)) in
+    subst (λ xs. Run a s xs t) (sym h.2) (m, found, r)
+
+pub lead_sent : (a : Agreed) (s : State) (kind : Kind) (P : List ℕ → Type 0) (m : State)
+    → ((p : List ℕ) → P p → client_step s p ≡ Some (kind, m)) → Leads a s (sent kind P) m
+lead_sent a s kind P m e items rest t h r =
+    let x = h.0 in
+    let found : step a s x.from x.payload ≡ Some (x.kind, m) = rw (h.1.0, h.1.1) (e x.payload h.1.2) in
+    subst (λ xs. Run a s xs t) (sym h.2) (m, found, r)
+
+pub lead_then : (a : Agreed) (s : State) (f g : List Packet → List Packet → Type 0) (m u : State)
+    → Leads a s f m → Leads a m g u → Leads a s (f followed_by g) u
+lead_then a s f g m u x y items rest t h r = x items h.0 t h.1 (y h.0 rest t h.2 r)
+
+pub lead_or : (a : Agreed) (s : State) (f g : List Packet → List Packet → Type 0) (m : State)
+    → Leads a s f m → Leads a s g m → Leads a s (f or g) m
+lead_or a s f g m x y items rest t (inl h) r = x items rest t h r
+lead_or a s f g m x y items rest t (inr h) r = y items rest t h r
+
+pub lead_nothing : (a : Agreed) (s : State) → Leads a s nothing s
+lead_nothing a s items rest t h r = subst (λ xs. Run a s xs t) (sym h) r
+
+pub lead_never : (a : Agreed) (s m : State) → Leads a s never m
+lead_never a s m items rest t h r = absurd h
+
+pub lead_some : (a : Agreed) (s : State) (f : ℕ → List Packet → List Packet → Type 0) (m : State)
+    → ((n : ℕ) → Leads a s (f n) m) → Leads a s (for_some f) m
+lead_some a s f m x items rest t h r = x h.0 items rest t h.1 r
+
+pub lead_times : (a : Agreed) (s : State) (f : List Packet → List Packet → Type 0) (n : ℕ)
+    → Leads a s f s → Leads a s (times n f) s
+lead_times a s f zero x items rest t h r = subst (λ xs. Run a s xs t) (sym h) r
+lead_times a s f (suc n) x items rest t h r = x items h.0 t h.1 (lead_times a s f n x h.0 rest t h.2 r)
+
+pub lead_many : (a : Agreed) (s : State) (f : List Packet → List Packet → Type 0)
+    → Leads a s f s → Leads a s (many f) s
+lead_many a s f x items rest t h r = lead_times a s f h.0 x items rest t h.1 r
+
+-- ---- the parts of a result
+
+lead_ok : (a : Agreed) (r : Request) (more : Bool) → Leads a (state.Reply r) (c.ok a more) (ended r more)
+lead_ok a r more = lead_served a (state.Reply r) kind.Ok (IsOk a more) (ended r more) (λ p h. ap (reply_step (deprecates_eof a) r) (reply_ok a more p h))
+
+lead_infile_ok : (a : Agreed) (r : Request) (more : Bool) → Leads a (state.InfileReply r) (c.ok a more) (ended r more)
+lead_infile_ok a r more = lead_served a (state.InfileReply r) kind.Ok (IsOk a more) (ended r more) (λ p h. ap (infile_reply_step r) (reply_ok a more p h))
+
+lead_loaded : (a : Agreed) (r : Request) → Leads a (state.Reply r) c.loaded (state.InfileReply r)
+lead_loaded a r =
+    lead_then a _ _ _ (state.Infile r) _
+    (lead_served a (state.Reply r) kind.LocalInfile IsInfileRequest (state.Infile r) (λ p h. ap (reply_step (deprecates_eof a) r) (reply_infile a p h)))
+    (lead_then a _ _ _ (state.Infile r) _
+    (lead_many a (state.Infile r) c.infile_content (lead_sent a (state.Infile r) kind.InfileContent _ (state.Infile r) content))
+    (lead_sent a (state.Infile r) kind.InfileEnd _ (state.InfileReply r) (λ p h. ap (infile_step r) h)))
+  where
+    content : (p : List ℕ) → p ≢ [] → infile_step r p ≡ Some (kind.InfileContent, state.Infile r)
+    content [] h = absurd (h refl)
+    content (b ∷ bytes) h = refl
+
+lead_definition : (a : Agreed) (n : ℕ) (b : After) → Leads a (state.Definitions n b) c.definition (less (deprecates_eof a) n b)
+lead_definition a n b = lead_served a (state.Definitions n b) kind.Column _ (less (deprecates_eof a) n b) (λ p h. refl)
+
+-- so many definitions, and one
+lead_all : (a : Agreed) (n : ℕ) (b : After) → Leads a (state.Definitions n b) (times (suc n) c.definition) (defined (deprecates_eof a) b)
+lead_all a zero b items rest t h r = lead_definition a zero b items h.0 t h.1 (subst (λ xs. Run a (defined (deprecates_eof a) b) xs t) (sym h.2) r)
+lead_all a (suc n) b items rest t h r = lead_definition a (suc n) b items h.0 t h.1 (lead_all a n b h.0 rest t h.2 r)
+
+lead_columns_end : (a : Agreed) (r : Request) (d : Bool) → Leads a (defined d (after.Rows r)) (c.columns_end a r d) (state.Rows r)
+lead_columns_end a Query true = lead_nothing a (state.Rows Query)
+lead_columns_end a Query false = lead_served a (state.DefinitionsEnd (after.Rows Query)) kind.Eof _ (state.Rows Query) (λ p h. ap (definitions_end_step (after.Rows Query)) (old_end_of_is a h.0 p h.1))
+lead_columns_end a Execution true = lead_nothing a (state.Rows Execution)
+lead_columns_end a Execution false = lead_served a (state.DefinitionsEnd (after.Rows Execution)) kind.Eof _ (state.Rows Execution) (λ p h. ap (definitions_end_step (after.Rows Execution)) (old_end_of_is a h.0 p h.1))
+lead_columns_end a Cursor true = lead_nothing a (state.Rows Cursor)
+lead_columns_end a Cursor false = lead_served a (state.DefinitionsEnd (after.Rows Cursor)) kind.Eof _ (state.Rows Cursor)
+    (λ p h. ap (definitions_end_step (after.Rows Cursor)) (old_end_of_is a h.0 p h.1) ∙ rw h.2 refl)
+
+lead_cursor : (a : Agreed) (more : Bool)
+    → Leads a (state.DefinitionsEnd (after.Rows Cursor)) (served kind.Eof (λ p. (status : StatusFlags) × IsOldEnd a status p × (opens_cursor status ≡ true) × (has_more status ≡ more))) (ended Cursor more)
+lead_cursor a more = lead_served a (state.DefinitionsEnd (after.Rows Cursor)) kind.Eof _ (ended Cursor more)
+    (λ p h. ap (definitions_end_step (after.Rows Cursor)) (old_end_of_is a h.0 p h.1) ∙ rw (h.2, h.3) refl)
+
+lead_row : (a : Agreed) (r : Request) → Leads a (state.Rows r) (c.row a (format_of r)) (state.Rows r)
+lead_row a r = lead_served a (state.Rows r) (kind.Row (format_of r)) (IsRow a (format_of r)) (state.Rows r) (λ p h. ap (line_step (deprecates_eof a) r) (line_row a (format_of r) p h))
+
+lead_end : (a : Agreed) (r : Request) (more : Bool) → Leads a (state.Rows r) (c.end a more) (ended r more)
+lead_end a r more = lead_served a (state.Rows r) (ending (deprecates_eof a)) (IsEnd a more) (ended r more) (λ p h. ap (line_step (deprecates_eof a) r) (line_end a (format_of r) more p h))
+
+lead_count : (a : Agreed) (r : Request) (n : ℕ) (follow : Bool) → Leads a (state.Reply r) (c.count a n follow) (counted (deprecates_eof a) n follow (after.Rows r))
+lead_count a r n follow = lead_served a (state.Reply r) (kind.ColumnCount n follow) (IsCount a n follow) (counted (deprecates_eof a) n follow (after.Rows r)) (λ p h. ap (reply_step (deprecates_eof a) r) (reply_count a n follow p h))
+
+lead_columns_of : (a : Agreed) (r : Request) (n : ℕ) → Leads a (state.Reply r) (c.columns a n) (defined (deprecates_eof a) (after.Rows r))
+lead_columns_of a r zero items rest t (inl h) run = let none : 0 < 0 = h.1.1.3.2 in absurd (omega arith)
+lead_columns_of a r zero items rest t (inr h) run = let none : 0 < 0 = h.1.3.2 in absurd (omega arith)
+lead_columns_of a r (suc n) items rest t (inl h) run = lead_count a r (suc n) true items h.0 t h.1 (lead_all a n (after.Rows r) h.0 rest t h.2 run)
+lead_columns_of a r (suc n) items rest t (inr h) run = lead_count a r (suc n) false items rest t h run
+
+lead_rows : (a : Agreed) (r : Request) (more : Bool) → Leads a (state.Reply r) (c.rows a r more) (ended r more)
+lead_rows a r more = lead_some a _ _ _ (λ n.
+    lead_then a _ _ _ (defined (deprecates_eof a) (after.Rows r)) _ (lead_columns_of a r n)
+    (lead_then a _ _ _ (state.Rows r) _ (lead_columns_end a r (deprecates_eof a))
+    (lead_then a _ _ _ (state.Rows r) _ (lead_many a (state.Rows r) (c.row a (format_of r)) (lead_row a r)) (lead_end a r more))))
+
+lead_opened : (a : Agreed) (r : Request) (d more : Bool) → deprecates_eof a ≡ d → Leads a (state.Reply r) (c.opened a r d more) (ended r more)
+lead_opened a Query d more e = lead_never a _ _
+lead_opened a Execution d more e = lead_never a _ _
+lead_opened a Cursor true more e = lead_never a _ _
+lead_opened a Cursor false more e = lead_some a _ _ _ (λ n.
+    lead_then a _ _ _ (state.DefinitionsEnd (after.Rows Cursor)) _
+    (subst (λ d. Leads a (state.Reply Cursor) (c.columns a n) (defined d (after.Rows Cursor))) e (lead_columns_of a Cursor n))
+    (lead_cursor a more))
+
+lead_result : (a : Agreed) (r : Request) (more : Bool) → Leads a (state.Reply r) (c.result a r more) (ended r more)
+lead_result a r more =
+    lead_or a _ _ _ _ (lead_ok a r more)
+    (lead_or a _ _ _ _ (lead_then a _ _ _ (state.InfileReply r) _ (lead_loaded a r) (lead_infile_ok a r more))
+    (lead_or a _ _ _ _ (lead_rows a r more) (lead_opened a r (deprecates_eof a) more refl)))
+
+lead_results : (a : Agreed) (r : Request) → Leads a (state.Reply r) (c.results a r) state.Rest
+lead_results a r = lead_then a _ _ _ (state.Reply r) _ (lead_many a (state.Reply r) (c.result a r true) (lead_result a r true)) (lead_result a r false)
+
+-- ---- the other answers
+
+lead_definitions_end : (a : Agreed) (d : Bool) (b : After) (m : State) → enter b ≡ m → ((status : StatusFlags) → definitions_end_step b (Some status) ≡ Some (kind.Eof, m)) → Leads a (defined d b) (c.definitions_end a d) m
+lead_definitions_end a true b m e g = subst (λ m. Leads a (enter b) nothing m) e (lead_nothing a (enter b))
+lead_definitions_end a false b m e g = lead_served a (state.DefinitionsEnd b) kind.Eof _ m (λ p h. ap (definitions_end_step b) (old_end_of_is a h.0 p h.1) ∙ g h.0)
+
+lead_columns : (a : Agreed) (n : ℕ) → Leads a (enter (after.Columns n)) (c.definitions a n) state.Rest
+lead_columns a zero = lead_nothing a state.Rest
+lead_columns a (suc n) = lead_then a _ _ _ (defined (deprecates_eof a) after.Rest) _ (lead_all a n after.Rest) (lead_definitions_end a (deprecates_eof a) after.Rest state.Rest refl (λ status. refl))
+
+lead_params : (a : Agreed) (n columns : ℕ) → Leads a (define n (after.Columns columns)) (c.definitions a n) (enter (after.Columns columns))
+lead_params a zero columns = lead_nothing a (enter (after.Columns columns))
+lead_params a (suc n) columns = lead_then a _ _ _ (defined (deprecates_eof a) (after.Columns columns)) _ (lead_all a n (after.Columns columns))
+    (lead_definitions_end a (deprecates_eof a) (after.Columns columns) (enter (after.Columns columns)) refl (λ status. refl))
+
+prepared_step_of : (a : Agreed) (columns params : ℕ) (p : List ℕ) → IsPrepared columns params p → serve a state.Prepared p ≡ Some (kind.PrepareOk columns params, define params (after.Columns columns))
+prepared_step_of a columns params p h = ap prepared_step (statement_at_of h.0 p h.1 h.2) ∙ rw (h.3, h.4) refl
+
+lead_prepared : (a : Agreed) → Leads a state.Prepared (c.prepared a) state.Rest
+lead_prepared a = lead_some a _ _ _ (λ columns. lead_some a _ _ _ (λ params.
+    lead_then a _ _ _ (define params (after.Columns columns)) _
+    (lead_served a state.Prepared (kind.PrepareOk columns params) (IsPrepared columns params) _ (λ p h. prepared_step_of a columns params p h))
+    (lead_then a _ _ _ (enter (after.Columns columns)) _ (lead_params a params columns) (lead_columns a columns))))
+
+lead_fetched : (a : Agreed) → Leads a state.Fetch (many (c.row a Binary) followed_by c.any_end a) state.Rest
+lead_fetched a =
+    lead_then a _ _ _ state.Fetch _
+    (lead_many a state.Fetch (c.row a Binary) (lead_served a state.Fetch (kind.Row Binary) (IsRow a Binary) state.Fetch (λ p h. ap (last_step (deprecates_eof a) (kind.Row Binary) state.Fetch) (line_row a Binary p h))))
+    (lead_or a _ _ _ _ (at_end true) (at_end false))
+  where
+    at_end : (more : Bool) → Leads a state.Fetch (c.end a more) state.Rest
+    at_end more = lead_served a state.Fetch (ending (deprecates_eof a)) (IsEnd a more) state.Rest (λ p h. ap (last_step (deprecates_eof a) (kind.Row Binary) state.Fetch) (line_end a Binary more p h))
+
+lead_acknowledged : (a : Agreed) → Leads a state.Acknowledgement (c.any_ok a or c.any_end a) state.Rest
+lead_acknowledged a =
+    lead_or a _ _ _ _ (lead_or a _ _ _ _ (acknowledged_ok true) (acknowledged_ok false)) (lead_or a _ _ _ _ (acknowledged_end true) (acknowledged_end false))
+  where
+    acknowledged_ok : (more : Bool) → Leads a state.Acknowledgement (c.ok a more) state.Rest
+    acknowledged_ok more = lead_served a state.Acknowledgement kind.Ok (IsOk a more) state.Rest
+        (λ p h. ap (λ l. acknowledgement_step (deprecates_eof a) l (reply_of a p)) (line_row a Text p (zero_is_no_end (deprecates_eof a) p h.0)) ∙ ap (acknowledgement_step (deprecates_eof a) (Some line.Row)) (reply_ok a more p h))
+
+    acknowledged_end : (more : Bool) → Leads a state.Acknowledgement (c.end a more) state.Rest
+    acknowledged_end more = lead_served a state.Acknowledgement (ending (deprecates_eof a)) (IsEnd a more) state.Rest
+        (λ p h. ap (λ l. acknowledgement_step (deprecates_eof a) l (reply_of a p)) (line_end a Text more p h))
+
+lead_fields : (a : Agreed) → Leads a state.Fields (many (c.field a) followed_by c.any_end a) state.Rest
+lead_fields a =
+    lead_then a _ _ _ state.Fields _
+    (lead_many a state.Fields (c.field a) (lead_served a state.Fields kind.Column (IsRow a Text) state.Fields (λ p h. ap (last_step (deprecates_eof a) kind.Column state.Fields) (line_row a Text p h))))
+    (lead_or a _ _ _ _ (at_end true) (at_end false))
+  where
+    at_end : (more : Bool) → Leads a state.Fields (c.end a more) state.Rest
+    at_end more = lead_served a state.Fields (ending (deprecates_eof a)) (IsEnd a more) state.Rest (λ p h. ap (last_step (deprecates_eof a) kind.Column state.Fields) (line_end a Text more p h))
+
+lead_events : (a : Agreed) → Leads a state.Events (c.events a) state.Rest
+lead_events a =
+    lead_then a _ _ _ state.Events _
+    (lead_many a state.Events (c.event or c.ack) (lead_or a _ _ _ _
+    (lead_served a state.Events kind.BinlogEvent _ state.Events (λ p h. ap (last_step (deprecates_eof a) kind.BinlogEvent state.Events) (line_row a Binary p h)))
+    (lead_sent a state.Events kind.SemiSyncAck _ state.Events (λ p h. rw h refl))))
+    (lead_or a _ _ _ _ (at_end true) (at_end false))
+  where
+    at_end : (more : Bool) → Leads a state.Events (c.end a more) state.Rest
+    at_end more = lead_served a state.Events (ending (deprecates_eof a)) (IsEnd a more) state.Rest (λ p h. ap (last_step (deprecates_eof a) kind.BinlogEvent state.Events) (line_end a Binary more p h))
+
+-- ---- authentication
+
+asked_step : (a : Agreed) (b : Bool) (p : List ℕ) (k : Kind) → k ≡ authentication_kind a p → first_is 0xff p ≡ false → first_is 0 p ≡ false → step a (state.Authentication b) Server p ≡ Some (k, state.Authentication true)
+asked_step a b p k e f z = rw (f, z) (ap (λ (k : Kind). Some (k, state.Authentication true)) (sym e))
+
+lead_asked : (a : Agreed) (b : Bool) → Leads a (state.Authentication b) (c.asked a) (state.Authentication true)
+lead_asked a b items rest t h r =
+    let x = h.0 in
+    let found : step a (state.Authentication b) x.from x.payload ≡ Some (x.kind, state.Authentication true) =
+    subst (λ side. step a (state.Authentication b) side x.payload ≡ Some (x.kind, state.Authentication true)) (sym h.1.0) (asked_step a b x.payload x.kind h.1.1 h.1.2 h.1.3) in
+    subst (λ xs. Run a (state.Authentication b) xs t) (sym h.2) (state.Authentication true, found, r)
+
+lead_auth_data : (a : Agreed) → Leads a (state.Authentication true) c.auth_data (state.Authentication false)
+lead_auth_data a = lead_sent a (state.Authentication true) kind.AuthData _ (state.Authentication false) (λ p h. refl)
+
+lead_auth_ok : (a : Agreed) (b more : Bool) → Leads a (state.Authentication b) (c.ok a more) state.Rest
+lead_auth_ok a b more = lead_served a (state.Authentication b) kind.Ok (IsOk a more) state.Rest (λ p h. rw (h.0, ok_status_of a h.1 p h.2) refl)
+
+lead_any_ok : (a : Agreed) (b : Bool) → Leads a (state.Authentication b) (c.any_ok a) state.Rest
+lead_any_ok a b = lead_or a _ _ _ _ (lead_auth_ok a b true) (lead_auth_ok a b false)
+
+-- the rounds that are left, and the OK packet
+lead_rounds : (a : Agreed) (b : Bool) (n : ℕ) → Leads a (state.Authentication b) (times n (c.asked a followed_by (nothing or c.auth_data)) followed_by c.any_ok a) state.Rest
+lead_rounds a b zero items rest t h r = lead_any_ok a b items rest t (subst (λ xs. c.any_ok a xs rest) (sym h.1) h.2) r
+lead_rounds a b (suc n) items rest t h r = lead_asked a b items h.1.1.0 t h.1.1.1 (elim h.1.1.2 [
+  | inl e ↦ lead_rounds a true n h.1.1.0 rest t (h.0, subst (λ xs. times n (c.asked a followed_by (nothing or c.auth_data)) xs h.0) (sym e) h.1.2, h.2) r
+  | inr d ↦ lead_auth_data a h.1.1.0 h.1.0 t d (lead_rounds a false n h.1.0 rest t (h.0, h.1.2, h.2) r)
+])
+
+pub lead_authentication : (a : Agreed) (b : Bool) → Leads a (state.Authentication b) (c.authentication a) state.Rest
+lead_authentication a b items rest t h r = lead_rounds a b h.1.0 items rest t (h.0, h.1.1, h.2) r
+
+-- ---- errors
+
+error_step : (a : Agreed) (s : State) (x : Packet) → rests s ≡ false → x.from ≡ Server → x.kind ≡ kind.Error → IsError a x.payload → step a s x.from x.payload ≡ Some (x.kind, state.Rest)
+error_step a s x n f k e = rw (f, k, e.0, e.1, n) refl
+
+lead_error : (a : Agreed) (s : State) → rests s ≡ false → Leads a s (c.error a) state.Rest
+lead_error a s n items rest t h r = subst (λ xs. Run a s xs t) (sym h.2) (state.Rest, error_step a s h.0 n h.1.0 h.1.1 h.1.2, r)
+
+unasked_step : (a : Agreed) (x : Packet) → x.from ≡ Server → x.kind ≡ kind.UnaskedError → IsError a x.payload → step a state.Rest x.from x.payload ≡ Some (x.kind, state.Rest)
+unasked_step a x f k e = rw (f, k, e.0, e.1) refl
+
+lead_unasked : (a : Agreed) → Leads a state.Rest (c.unasked_error a) state.Rest
+lead_unasked a items rest t h r = subst (λ xs. Run a state.Rest xs t) (sym h.2) (state.Rest, unasked_step a h.0 h.1.0 h.1.1 h.1.2, r)
+
+-- ---- exchanges
+
+command_begins : (code : ℕ) (cursor : Bool) (p : List ℕ) → first_is code p ≡ true → asks_cursor p ≡ cursor → command_step p ≡ begun code (answering code cursor)
+command_begins code cursor [] h g = absurd cc
+command_begins code cursor (x ∷ bytes) h g = ap (λ b. begun x (answering x b)) g ∙ ap (λ n. begun n (answering n cursor)) (eqb_is x code h)
+
+lead_command : (a : Agreed) (code : ℕ) (cursor : Bool) (r : Answer) → answering code cursor ≡ Some r → Leads a state.Rest (c.command code cursor) (answers r)
+lead_command a code cursor r e = lead_sent a state.Rest (kind.Command code) _ (answers r) (λ p h. command_begins code cursor p h.0 h.1 ∙ ap (begun code) e)
+
+lead_answer : (a : Agreed) (r : Answer) → Leads a (answers r) (answered a (Some r)) state.Rest
+lead_answer a (answer.Results r) = lead_results a r
+lead_answer a answer.Prepared = lead_prepared a
+lead_answer a answer.Rows = lead_fetched a
+lead_answer a answer.Acknowledgement = lead_acknowledged a
+lead_answer a answer.Text = lead_served a state.Text kind.Statistics _ state.Rest (λ p h. refl)
+lead_answer a answer.Fields = lead_fields a
+lead_answer a answer.Authentication = lead_authentication a false
+lead_answer a answer.Events = lead_events a
+lead_answer a answer.Nothing = lead_nothing a state.Rest
+lead_answer a answer.Refusal = lead_error a state.Refusal refl
+
+lead_answered : (a : Agreed) (code : ℕ) (cursor : Bool) (r : Option Answer) → answering code cursor ≡ r → Leads a state.Rest (c.command code cursor followed_by answered a r) state.Rest
+lead_answered a code cursor None e = λ items rest t h r. absurd h.2
+lead_answered a code cursor (Some r) e = lead_then a _ _ _ (answers r) _ (lead_command a code cursor r e) (lead_answer a r)
+
+lead_exchange : (a : Agreed) → Leads a state.Rest (c.exchange a) state.Rest
+lead_exchange a = lead_some a _ _ _ (λ code. lead_or a _ _ _ _ (lead_answered a code true (answering code true) refl) (lead_answered a code false (answering code false) refl))
+
+-- ---- runs of a list and then another, and what is broken off
+
+pub run_join : (a : Agreed) (s : State) (xs : List Packet) (m : State) (ys : List Packet) (t : State) → Run a s xs m → Run a m ys t → Run a s (xs ++ ys) t
+run_join a s [] m ys t x y = subst (λ s. Run a s ys t) (sym x) y
+run_join a s (x ∷ xs) m ys t u y = (u.0, u.1, run_join a u.0 xs m ys t u.2 y)
+
+pub run_part : (a : Agreed) (s : State) (xs ys : List Packet) (t : State) → Run a s (xs ++ ys) t → (m : State) × Run a s xs m × Run a m ys t
+run_part a s [] ys t r = (s, refl, r)
+run_part a s (x ∷ xs) ys t r = let h = run_part a r.0 xs ys t r.2 in (h.0, (r.0, r.1, h.1), h.2)
+
+-- an exchange runs where a packet inside of it is taken
+pub inside_runs : (a : Agreed) (s : State) (x : Packet) (m : State) → c.IsInside x → step a s x.from x.payload ≡ Some (x.kind, m) → rests s ≡ false
+inside_runs a s x m i h = not_true (rests s) (sym (step_listens a s x.from x.payload x.kind m h).1 ∙ i)
+  where
+    not_true : (b : Bool) → not b ≡ true → b ≡ false
+    not_true true h = absurd cc
+    not_true false h = refl
+
+lead_broken : (a : Agreed) (s : State) (f : List Packet → List Packet → Type 0) → Leads a s f state.Rest → Leads a s (broken f c.IsInside (c.error a)) state.Rest
+lead_broken a s f l items rest t h r =
+    let whole = l (h.0 ++ h.1 ∷ h.2) [] state.Rest h.5 refl in
+    let cut = run_part a s h.0 (h.1 ∷ h.2) state.Rest whole in
+    let n = inside_runs a cut.0 h.1 cut.2.0 h.4 cut.2.1 in
+    let err = h.7 in
+    let last : Run a cut.0 h.3 t = subst (λ xs. Run a cut.0 xs t) (sym err.2) (state.Rest, error_step a cut.0 err.0 n err.1.0 err.1.1 err.1.2, r) in
+    subst (λ xs. Run a s xs t) (sym h.6) (run_join a s h.0 cut.0 h.3 t cut.1 last)
+
+lead_unless_broken : (a : Agreed) (s : State) (f : List Packet → List Packet → Type 0) → Leads a s f state.Rest → Leads a s (c.unless_broken a f) state.Rest
+lead_unless_broken a s f l = lead_or a s f (broken f c.IsInside (c.error a)) state.Rest l (lead_broken a s f l)
+
+lead_opening : (a : Agreed) (o : Opening) → Leads a (entrance o) (c.opening a o) state.Rest
+lead_opening a opened_at.Login = lead_unless_broken a (state.Authentication false) (c.authentication a) (lead_authentication a false)
+lead_opening a opened_at.Commands = lead_nothing a state.Rest
+
+lead_exchanges : (a : Agreed) → Leads a state.Rest (c.exchanges a) state.Rest
+lead_exchanges a = lead_many a state.Rest _ (lead_or a _ _ _ _ (lead_unless_broken a state.Rest (c.exchange a) (lead_exchange a)) (lead_unasked a))
+
+-- each conversation is answered by its kinds, and leaves the machine at rest
+pub conversation_runs : (a : Agreed) (o : Opening) (items : List Packet) → c.conversation a o items [] → Run a (entrance o) items state.Rest
+conversation_runs a o items h = lead_then a (entrance o) (c.opening a o) (c.exchanges a) state.Rest state.Rest (lead_opening a o) (lead_exchanges a) items [] state.Rest h refl

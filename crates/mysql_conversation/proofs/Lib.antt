@@ -1,0 +1,13 @@
+pub mod States
+pub mod Begun
+pub mod Classes
+pub mod Ends
+pub mod Leads
+pub mod Tails
+pub mod Faults
+pub mod Turns
+pub mod Order
+pub mod Pipes
+pub mod Stood
+pub mod Sessions
+pub mod SessionEnds

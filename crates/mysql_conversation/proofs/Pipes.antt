@@ -1,0 +1,469 @@
+-- Commands that come early, and the machine with commands that wait.
+use Rattle.mysql_conversation.specs.declared.agreed.Agreed.{Agreed}
+use Rattle.std.proofs.Common.{◌≡◌, ℕ, ◌+◌, List, [], ◌∷◌, ◌++◌, ◌⊎◌, inl, inr, Option, Some, None, refl, sym, ap, subst, ◌∙◌, Bool, true, false, cond}
+use Rattle.std.specs.Prelude.{◌&&◌, not}
+use Rattle.mysql_conversation.specs.Conversation.{Packet}
+use Rattle.mysql_conversation.specs.Conversation.{asks, commands, inside}
+use Rattle.mysql_conversation.specs.Machine.{take_step, Takes, rests, listens, is_due}
+use Rattle.mysql_conversation.specs.Taken.{packet}
+use Rattle.mysql_conversation.specs.Pipelined.{Numbered, packets, is_client, is_command, counted, AreNumbered, passes, ArePassed, Early}
+use Rattle.mysql_conversation.specs.Standing.{Standing, standing, command_of, kind_of, begin, wait, waits, settle, push, early, aside, in_turn, served, pipe_step, step_of, Steps, PipeRun}
+use Rattle.mysql_conversation.proofs.Classes.{some_is, chosen}
+use Rattle.mysql_conversation.proofs.States.{Turn, turn, due_of, due_runs, rests_is, take_listens, inside_command}
+use Rattle.mysql_conversation.proofs.Turns.{command_step, rest_step_is, kind_is_command, begin_listens, running_kind, no_aside, command_kind, rest_plain}
+use Rattle.mysql_conversation.specs.declared.kind.Kind.{Kind}
+use Rattle.mysql_conversation.specs.declared.kind.Kind.TheVariants as kind
+use Rattle.mysql_conversation.specs.declared.kind.Side.{Side}
+use Rattle.mysql_conversation.specs.declared.kind.Side.TheVariants.{Client, Server}
+use Rattle.mysql_conversation.specs.declared.state.State.{State}
+use Rattle.mysql_conversation.specs.declared.state.State.TheVariants as state
+use Rattle.mysql_conversation.specs.declared.state.Command.{Command}
+use Rattle.mysql_conversation.specs.declared.pipeline.Waiting.{Waiting}
+
+abbrev pub Outcome : Type 0
+Outcome = Kind × ℕ × Standing
+
+abbrev outcome : Kind → ℕ → Standing → Option Outcome
+outcome k n w = Some (k, n, w)
+
+-- no exchange runs, and no command waits
+abbrev pub Over : Standing → Type 0
+Over t = (t.state ≡ state.Rest) × (t.waiting ≡ [])
+
+pub which : (b : Bool) → (b ≡ true) ⊎ (b ≡ false)
+which true = inl refl
+which false = inr refl
+
+both : (x y : Bool) → (x && y) ≡ true → (x ≡ true) × (y ≡ true)
+both true true h = (refl, refl)
+both true false h = absurd cc
+both false y h = absurd cc
+
+not_both : (x y : Bool) → (x && y) ≡ false → y ≡ true → x ≡ false
+not_both true y h e = absurd cc
+not_both false y h e = refl
+
+not_true : (b : Bool) → not b ≡ true → b ≡ false
+not_true true h = absurd cc
+not_true false h = refl
+
+client_is : (s : Side) → is_client s ≡ true → s ≡ Client
+client_is Client h = refl
+client_is Server h = absurd cc
+
+pub side_is : (s : Side) → (s ≡ Client) ⊎ (s ≡ Server)
+side_is Client = inl refl
+side_is Server = inr refl
+
+waits_more : (q : List Waiting) (n : Waiting) → waits (q ++ n ∷ []) ≡ true
+waits_more [] n = refl
+waits_more (m ∷ q) n = refl
+
+-- ---- exchanges that begin
+
+-- a command taken where it came: it waits, or its exchange begins
+abbrev after : Standing → Command → Standing
+after w c = cond (is_due w.state) (push w c) (standing (begin c) (w.last + 1) (w.last + 1) w.waiting)
+
+settle_more_at : (m : State) (i l : ℕ) (q : List Waiting) (c : Command) → Turn m → listens m ≡ false → settle m i (l + 1) (q ++ wait c (l + 1) ∷ []) ≡ after (settle m i l q) c
+settle_more_at m i l [] c (inl e) h = rw e refl
+settle_more_at m i l [] c (inr (inl a)) h = absurd cc
+settle_more_at m i l [] c (inr (inr a)) h = rw (a.0, a.1) refl
+settle_more_at m i l (n ∷ q) c (inl e) h = rw e (settle_more_at (begin n.command) n.number l q c (turn (begin n.command)) (begin_listens n.command))
+settle_more_at m i l (n ∷ q) c (inr (inl a)) h = absurd cc
+settle_more_at m i l (n ∷ q) c (inr (inr a)) h = rw (a.1, a.0) refl
+
+settle_more : (m : State) (i l : ℕ) (q : List Waiting) (c : Command) → listens m ≡ false → settle m i (l + 1) (q ++ wait c (l + 1) ∷ []) ≡ after (settle m i l q) c
+settle_more m i l q c h = settle_more_at m i l q c (turn m) h
+
+settle_last : (m : State) (i l : ℕ) (q : List Waiting) → (settle m i l q).last ≡ l
+settle_last m i l [] = refl
+settle_last m i l (n ∷ q) = elim (which (rests m)) [
+  | inl e ↦ rw e (settle_last (begin n.command) n.number l q)
+  | inr e ↦ rw e refl
+]
+
+-- who settles is asked no more and no less
+settle_listens : (m : State) (i l : ℕ) (q : List Waiting) → listens (settle m i l q).state ≡ listens m
+settle_listens m i l [] = refl
+settle_listens m i l (n ∷ q) = elim (which (rests m)) [
+  | inl e ↦ rw e (settle_listens (begin n.command) n.number l q ∙ begin_listens n.command ∙ sym (ap listens (rests_is m e)))
+  | inr e ↦ rw e refl
+]
+
+pub settle_stays : (m : State) (i l : ℕ) (q : List Waiting) → rests m ≡ false → settle m i l q ≡ standing m i l q
+settle_stays m i l [] h = refl
+settle_stays m i l (n ∷ q) h = rw h refl
+
+-- ---- steps and what they say
+
+served_back : (d : Agreed) (w : Standing) (p : List ℕ) (k : Kind) (n : ℕ) (v : Standing) (r : Option (Kind × State))
+    → take_step d w.state Server p ≡ r → served w r ≡ outcome k n v
+    → (m : State) × (take_step d w.state Server p ≡ Some (k, m)) × ((listens m && waits w.waiting) ≡ false) × (w.number ≡ n) × (settle m w.number w.last w.waiting ≡ v)
+served_back d w p k n v None e h = absurd cc
+served_back d w p k n v (Some x) e h = elim (chosen (listens x.1 && waits w.waiting) _ _ _ h) [
+  | inl a ↦ absurd cc
+  | inr a ↦ (let o = some_is a.1 in
+      (x.1, e ∙ ap (λ (k : Kind). Some (k, x.1)) (ap (λ (o : Outcome). o.0) o), a.0, ap (λ (o : Outcome). o.1) o, ap (λ (o : Outcome). o.2) o))
+]
+
+server_back : (d : Agreed) (w : Standing) (x : Numbered) (v : Standing) → x.packet.from ≡ Server → Steps d w x v
+    → (m : State) × (take_step d w.state Server x.packet.payload ≡ Some (x.packet.kind, m)) × ((listens m && waits w.waiting) ≡ false) × (w.number ≡ x.number) × (settle m w.number w.last w.waiting ≡ v)
+server_back d w x v f h = served_back d w x.packet.payload x.packet.kind x.number v (take_step d w.state Server x.packet.payload) refl
+    (subst (λ side. pipe_step d w side x.packet.payload ≡ outcome x.packet.kind x.number v) f h)
+
+pub server_next : (d : Agreed) (w : Standing) (x : Numbered) (m : State) (v : Standing) → x.packet.from ≡ Server
+    → take_step d w.state Server x.packet.payload ≡ Some (x.packet.kind, m) → (listens m && waits w.waiting) ≡ false → w.number ≡ x.number → settle m w.number w.last w.waiting ≡ v → Steps d w x v
+server_next d w x m v f e h n z =
+    let a : pipe_step d w x.packet.from x.packet.payload ≡ outcome x.packet.kind w.number (settle m w.number w.last w.waiting) = rw (f, e, h) refl in
+    a ∙ ap (λ n. outcome x.packet.kind n (settle m w.number w.last w.waiting)) n ∙ ap (λ v. outcome x.packet.kind x.number v) z
+
+-- the packet is this command
+abbrev IsOf : Numbered → Command → Type 0
+IsOf x c = (x.packet.from ≡ Client) × (command_of x.packet.payload ≡ Some c) × (kind_of c ≡ x.packet.kind)
+
+taken_early : (d : Agreed) (w : Standing) (x : Numbered) (c : Command) → is_due w.state ≡ true → IsOf x c → x.number ≡ w.last + 1 → Steps d w x (push w c)
+taken_early d w x c sp h n =
+    let a : pipe_step d w x.packet.from x.packet.payload ≡ outcome (kind_of c) (w.last + 1) (push w c) = rw (h.0, sp, no_aside d w.state x.packet.payload c sp h.1, h.1) refl in
+    a ∙ ap (λ k. outcome k (w.last + 1) (push w c)) h.2 ∙ ap (λ n. outcome x.packet.kind n (push w c)) (sym n)
+
+pub rest_step : (d : Agreed) (i l : ℕ) (q : List Waiting) (p : List ℕ) (c : Command) → command_of p ≡ Some c
+    → pipe_step d (standing state.Rest i l q) Client p ≡ outcome (kind_of c) (l + 1) (standing (begin c) (l + 1) (l + 1) q)
+rest_step d i l q p c e = ap (λ r. in_turn (standing state.Rest i l q) r) (rest_step_is d p) ∙ ap (λ r. in_turn (standing state.Rest i l q) (command_step r)) e
+
+taken_at_rest : (d : Agreed) (w : Standing) (x : Numbered) (c : Command) → w.state ≡ state.Rest → IsOf x c → x.number ≡ w.last + 1
+    → Steps d w x (standing (begin c) (w.last + 1) (w.last + 1) w.waiting)
+taken_at_rest d w x c s h n =
+    let v = standing (begin c) (w.last + 1) (w.last + 1) w.waiting in
+    let a : pipe_step d w Client x.packet.payload ≡ outcome (kind_of c) (w.last + 1) v =
+    subst (λ s. pipe_step d (standing s w.number w.last w.waiting) Client x.packet.payload ≡ outcome (kind_of c) (w.last + 1) v) (sym s) (rest_step d w.number w.last w.waiting x.packet.payload c h.1) in
+    let b : pipe_step d w x.packet.from x.packet.payload ≡ outcome (kind_of c) (w.last + 1) v = subst (λ side. pipe_step d w side x.packet.payload ≡ outcome (kind_of c) (w.last + 1) v) (sym h.0) a in
+    b ∙ ap (λ k. outcome k (w.last + 1) v) h.2 ∙ ap (λ n. outcome x.packet.kind n v) (sym n)
+
+-- what a command says of the step that took it
+abbrev Began : Standing → List ℕ → Kind → ℕ → Standing → Type 0
+Began w p k n v = (c : Command) × (command_of p ≡ Some c) × (kind_of c ≡ k) × (w.last + 1 ≡ n) × (after w c ≡ v)
+
+began_early : (w : Standing) (p : List ℕ) (k : Kind) (n : ℕ) (v : Standing) (r : Option Command) → is_due w.state ≡ true → command_of p ≡ r → early w r ≡ outcome k n v → Began w p k n v
+began_early w p k n v None sp e h = absurd cc
+began_early w p k n v (Some c) sp e h =
+    let o = some_is h in
+    let a : after w c ≡ push w c = rw sp refl in
+    (c, e, ap (λ (o : Outcome). o.0) o, ap (λ (o : Outcome). o.1) o, a ∙ ap (λ (o : Outcome). o.2) o)
+
+began_at_rest : (i l : ℕ) (q : List Waiting) (p : List ℕ) (k : Kind) (n : ℕ) (v : Standing) (r : Option Command) → command_of p ≡ r → in_turn (standing state.Rest i l q) (command_step r) ≡ outcome k n v → Began (standing state.Rest i l q) p k n v
+began_at_rest i l q p k n v None e h = absurd cc
+began_at_rest i l q p k n v (Some c) e h =
+    let o = some_is h in
+    (c, e, ap (λ (o : Outcome). o.0) o, ap (λ (o : Outcome). o.1) o, ap (λ (o : Outcome). o.2) o)
+
+-- what a packet of a file says
+loaded_back : (d : Agreed) (w : Standing) (p : List ℕ) (k : Kind) (n : ℕ) (v : Standing) (r : Option (Kind × State))
+    → rests w.state ≡ false → take_step d w.state Client p ≡ r → in_turn w r ≡ outcome k n v
+    → (m : State) × (take_step d w.state Client p ≡ Some (k, m)) × (w.number ≡ n) × (standing m w.number w.last w.waiting ≡ v)
+loaded_back d w p k n v None rs e h = absurd cc
+loaded_back d w p k n v (Some x) rs e h =
+    let g : outcome x.0 w.number (standing x.1 w.number w.last w.waiting) ≡ outcome k n v = subst (λ b. cond b (outcome x.0 (w.last + 1) (standing x.1 (w.last + 1) (w.last + 1) w.waiting)) (outcome x.0 w.number (standing x.1 w.number w.last w.waiting)) ≡ outcome k n v) rs h in
+    let o = some_is g in
+    (x.1, e ∙ ap (λ (k : Kind). Some (k, x.1)) (ap (λ (o : Outcome). o.0) o), ap (λ (o : Outcome). o.1) o, ap (λ (o : Outcome). o.2) o)
+
+-- the client is_due in its turn, and no command comes early
+client_turn : (d : Agreed) (w : Standing) (p : List ℕ) (o : Option Outcome) → is_due w.state ≡ false → pipe_step d w Client p ≡ o → in_turn w (take_step d w.state Client p) ≡ o
+client_turn d w p o sp h = subst (λ b. cond b (aside w (take_step d w.state Client p) (command_of p)) (in_turn w (take_step d w.state Client p)) ≡ o) sp h
+
+client_due : (d : Agreed) (w : Standing) (p : List ℕ) (o : Option Outcome) → is_due w.state ≡ true → pipe_step d w Client p ≡ o → aside w (take_step d w.state Client p) (command_of p) ≡ o
+client_due d w p o sp h = subst (λ b. cond b (aside w (take_step d w.state Client p) (command_of p)) (in_turn w (take_step d w.state Client p)) ≡ o) sp h
+
+client_rest : (d : Agreed) (w : Standing) (p : List ℕ) (k : Kind) (n : ℕ) (v : Standing) → w.state ≡ state.Rest → pipe_step d w Client p ≡ outcome k n v → Began w p k n v
+client_rest d w p k n v e h =
+    subst (λ s. Began (standing s w.number w.last w.waiting) p k n v) (sym e)
+    (began_at_rest w.number w.last w.waiting p k n v (command_of p) refl
+    (sym (ap (λ r. in_turn (standing state.Rest w.number w.last w.waiting) r) (rest_step_is d p)) ∙ subst (λ s. pipe_step d (standing s w.number w.last w.waiting) Client p ≡ outcome k n v) e h))
+
+-- a command that comes while the server is to speak
+command_due : (d : Agreed) (w : Standing) (p : List ℕ) (k : Kind) (n : ℕ) (v : Standing) (r : Option (Kind × State))
+    → is_due w.state ≡ true → take_step d w.state Client p ≡ r → commands k ≡ true → aside w r (command_of p) ≡ outcome k n v → Began w p k n v
+command_due d w p k n v None sp e c h = began_early w p k n v (command_of p) sp refl h
+command_due d w p k n v (Some x) sp e c h = elim (chosen (waits w.waiting) _ _ _ h) [
+  | inl a ↦ absurd cc
+  | inr a ↦ (let o : x.0 ≡ k = ap (λ (o : Outcome). o.0) (some_is a.1) in
+      let no : commands x.0 ≡ false = running_kind d w.state p x.0 x.1 (due_runs w.state sp).0 e in absurd cc)
+]
+
+-- and a packet of the client that is none
+abbrev Aside : Agreed → Standing → List ℕ → Kind → ℕ → Standing → Type 0
+Aside d w p k n v = (m : State) × (take_step d w.state Client p ≡ Some (k, m)) × (waits w.waiting ≡ false) × (w.number ≡ n) × (standing m w.number w.last w.waiting ≡ v)
+
+aside_due : (d : Agreed) (w : Standing) (p : List ℕ) (k : Kind) (n : ℕ) (v : Standing) (r : Option (Kind × State))
+    → is_due w.state ≡ true → take_step d w.state Client p ≡ r → commands k ≡ false → aside w r (command_of p) ≡ outcome k n v → Aside d w p k n v
+aside_due d w p k n v None sp e c h =
+    let b = began_early w p k n v (command_of p) sp refl h in
+    let yes : commands k ≡ true = ap commands (sym b.2) ∙ kind_is_command b.0 in absurd cc
+aside_due d w p k n v (Some x) sp e c h = elim (chosen (waits w.waiting) _ _ _ h) [
+  | inl a ↦ absurd cc
+  | inr a ↦ (let o = some_is a.1 in
+      (x.1, e ∙ ap (λ (k : Kind). Some (k, x.1)) (ap (λ (o : Outcome). o.0) o), a.0, ap (λ (o : Outcome). o.1) o, ap (λ (o : Outcome). o.2) o))
+]
+
+command_back_at : (d : Agreed) (w : Standing) (p : List ℕ) (k : Kind) (n : ℕ) (v : Standing) → Turn w.state → commands k ≡ true → pipe_step d w Client p ≡ outcome k n v
+    → Began w p k n v × (listens w.state ≡ false)
+command_back_at d w p k n v (inl e) c h = (client_rest d w p k n v e h, ap listens e)
+command_back_at d w p k n v (inr (inl a)) c h =
+    let b = loaded_back d w p k n v (take_step d w.state Client p) a.1 refl (client_turn d w p (outcome k n v) a.2 h) in
+    let no : commands k ≡ false = running_kind d w.state p k b.0 a.1 b.1 in absurd cc
+command_back_at d w p k n v (inr (inr a)) c h = (command_due d w p k n v (take_step d w.state Client p) a.0 refl c (client_due d w p (outcome k n v) a.0 h), a.2)
+
+by_client : (d : Agreed) (w : Standing) (x : Numbered) (v : Standing) → x.packet.from ≡ Client → Steps d w x v → pipe_step d w Client x.packet.payload ≡ outcome x.packet.kind x.number v
+by_client d w x v f h = subst (λ side. pipe_step d w side x.packet.payload ≡ outcome x.packet.kind x.number v) f h
+
+command_back : (d : Agreed) (w : Standing) (x : Numbered) (v : Standing) → is_command x.packet ≡ true → Steps d w x v
+    → (x.packet.from ≡ Client) × (Began w x.packet.payload x.packet.kind x.number v × (listens w.state ≡ false))
+command_back d w x v h e =
+    let b = both (is_client x.packet.from) (commands x.packet.kind) h in
+    let f : x.packet.from ≡ Client = client_is x.packet.from b.0 in
+    (f, command_back_at d w x.packet.payload x.packet.kind x.number v (turn w.state) b.1 (by_client d w x v f e))
+
+-- ---- whether the client is asked
+
+command_asks : (k : Kind) → commands k ≡ true → asks k ≡ false
+command_asks (kind.Command code) h = refl
+command_asks _ h = absurd cc
+
+after_listens : (w : Standing) (c : Command) (k : Kind) (v : Standing) → listens w.state ≡ false → kind_of c ≡ k → after w c ≡ v → listens v.state ≡ asks k
+after_listens w c k v l e h = elim (which (is_due w.state)) [
+  | inl sp ↦ (let a : push w c ≡ v = sym (after_early w c sp) ∙ h in ap (λ (w : Standing). listens w.state) (sym a) ∙ l ∙ sym (command_asks k (ap commands (sym e) ∙ kind_is_command c)))
+  | inr sp ↦ (let a : standing (begin c) (w.last + 1) (w.last + 1) w.waiting ≡ v = after_rest w c sp ∙ h in ap (λ (w : Standing). listens w.state) (sym a) ∙ begin_listens c ∙ sym (command_asks k (ap commands (sym e) ∙ kind_is_command c)))
+]
+  where
+    after_early : (w : Standing) (c : Command) → is_due w.state ≡ true → after w c ≡ push w c
+    after_early w c h = rw h refl
+
+    after_rest : (w : Standing) (c : Command) → is_due w.state ≡ false → standing (begin c) (w.last + 1) (w.last + 1) w.waiting ≡ after w c
+    after_rest w c h = rw h refl
+
+client_listens : (d : Agreed) (w : Standing) (p : List ℕ) (k : Kind) (n : ℕ) (v : Standing) → Turn w.state → pipe_step d w Client p ≡ outcome k n v → listens v.state ≡ asks k
+client_listens d w p k n v (inl e) h =
+    let b = client_rest d w p k n v e h in after_listens w b.0 k v (ap listens e) b.2 b.4
+client_listens d w p k n v (inr (inl a)) h =
+    let b = loaded_back d w p k n v (take_step d w.state Client p) a.1 refl (client_turn d w p (outcome k n v) a.2 h) in
+    ap (λ (w : Standing). listens w.state) (sym b.3) ∙ (take_listens d w.state Client p k b.0 b.1).0
+client_listens d w p k n v (inr (inr a)) h = elim (which (commands k)) [
+  | inl c ↦ (let b = command_due d w p k n v (take_step d w.state Client p) a.0 refl c (client_due d w p (outcome k n v) a.0 h) in after_listens w b.0 k v a.2 b.2 b.4)
+  | inr c ↦ (let b = aside_due d w p k n v (take_step d w.state Client p) a.0 refl c (client_due d w p (outcome k n v) a.0 h) in
+      ap (λ (w : Standing). listens w.state) (sym b.4) ∙ (take_listens d w.state Client p k b.0 b.1).0)
+]
+
+-- the client is asked after a packet just where its kind says so
+steps_listens : (d : Agreed) (w : Standing) (x : Numbered) (v : Standing) → Steps d w x v → listens v.state ≡ asks x.packet.kind
+steps_listens d w x v h = elim (side_is x.packet.from) [
+  | inl f ↦ client_listens d w x.packet.payload x.packet.kind x.number v (turn w.state) (by_client d w x v f h)
+  | inr f ↦ (let b = server_back d w x v f h in
+      ap (λ (w : Standing). listens w.state) (sym b.4) ∙ settle_listens b.0 w.number w.last w.waiting ∙ (take_listens d w.state Server x.packet.payload x.packet.kind b.0 b.1).0)
+]
+
+-- ---- a command that comes sooner
+
+swap : (d : Agreed) (w : Standing) (y x : Numbered) (u v : Standing) → listens w.state ≡ false → y.packet.from ≡ Server → passes y.packet.kind ≡ true → is_command x.packet ≡ true → Steps d w y u → Steps d u x v
+    → (mid : Standing) × Steps d w x mid × Steps d mid y v
+swap d w y x u v lw f ps cmd a b =
+    let s = server_back d w y u f a in
+    let m = s.0 in
+    let z : settle m w.number w.last w.waiting ≡ u = s.4 in
+    let cb = command_back d u x v cmd b in
+    let c = cb.1.0.0 in
+    let nl : listens m ≡ false = sym (settle_listens m w.number w.last w.waiting) ∙ ap (λ (w : Standing). listens w.state) z ∙ cb.1.1 in
+    let i : not (rests w.state) ≡ true = sym (take_listens d w.state Server y.packet.payload y.packet.kind m s.1).1 ∙ (both (not (asks y.packet.kind)) (inside y.packet.kind) ps).1 in
+    let sp : is_due w.state ≡ true = due_of w.state (not_true (rests w.state) i) lw in
+    let lasts : w.last ≡ u.last = sym (settle_last m w.number w.last w.waiting) ∙ ap (λ (w : Standing). w.last) z in
+    let n : x.number ≡ w.last + 1 = sym cb.1.0.3 ∙ ap (λ n. n + 1) (sym lasts) in
+    let same : settle m w.number (w.last + 1) (w.waiting ++ wait c (w.last + 1) ∷ []) ≡ v =
+    settle_more m w.number w.last w.waiting c nl ∙ ap (λ w. after w c) z ∙ cb.1.0.4 in (
+      push w c,
+      taken_early d w x c sp (cb.0, cb.1.0.1, cb.1.0.2) n,
+      server_next d (push w c) y m v f s.1 (rw nl refl) s.3 same,
+    )
+
+passed_asks : (k : Kind) → passes k ≡ true → asks k ≡ false
+passed_asks k h = not_true (asks k) (both (not (asks k)) (inside k) h).0
+
+sooner : (d : Agreed) (w : Standing) (x : Numbered) (front back : List Numbered) (t : Standing) → listens w.state ≡ false → is_command x.packet ≡ true → ArePassed front
+    → PipeRun d w (front ++ x ∷ back) t → PipeRun d w (x ∷ front ++ back) t
+sooner d w x [] back t l c f r = r
+sooner d w x (y ∷ front) back t l c f r =
+    let quiet : listens r.0.state ≡ false = steps_listens d w y r.0 r.1 ∙ passed_asks y.packet.kind f.1 in
+    let h = sooner d r.0 x front back t quiet c f.2 r.2 in
+    let s = swap d w y x r.0 h.0 l f.0 f.1 c r.1 h.1 in
+    (s.0, s.1, (h.0, s.2, h.2))
+
+command_kind_asks : (x : Packet) → is_command x ≡ true → asks x.kind ≡ false
+command_kind_asks x h = command_asks x.kind (both (is_client x.from) (commands x.kind) h).1
+
+pub early_runs : (d : Agreed) (w : Standing) (b : Bool) (items others : List Numbered) (t : Standing) → listens w.state ≡ b → Early b items others → PipeRun d w others t → PipeRun d w items t
+early_runs d w b [] others t l h r = subst (λ xs. PipeRun d w xs t) h r
+early_runs d w b (x ∷ items) others t l (inl h) r =
+    let q : PipeRun d w (x ∷ h.0) t = subst (λ xs. PipeRun d w xs t) h.1 r in
+    (q.0, q.1, early_runs d q.0 (asks x.packet.kind) items h.0 t (steps_listens d w x q.0 q.1) h.2 q.2)
+early_runs d w b (x ∷ items) others t l (inr h) r =
+    let q : PipeRun d w (h.0 ++ x ∷ h.1) t = subst (λ xs. PipeRun d w xs t) h.4 r in
+    let z = sooner d w x h.0 h.1 t (l ∙ h.6) h.2 h.3 q in
+    (z.0, z.1, early_runs d z.0 false items (h.0 ++ h.1) t (steps_listens d w x z.0 z.1 ∙ command_kind_asks x.packet h.2) h.5 z.2)
+
+-- ---- commands put back to their turn
+
+-- where the server is to speak, no command comes
+abbrev InTurn : Agreed → Standing → List Numbered → Standing → Type 0
+InTurn d w [] t = w ≡ t
+InTurn d w (x ∷ xs) t = (mid : Standing) × Steps d w x mid × (is_due w.state ≡ true → commands x.packet.kind ≡ false) × InTurn d mid xs t
+
+rest_is : (s : State) → Turn s → listens s ≡ false → is_due s ≡ false → s ≡ state.Rest
+rest_is s (inl e) l p = e
+rest_is s (inr (inl a)) l p = absurd cc
+rest_is s (inr (inr a)) l p = absurd cc
+
+after_early : (w : Standing) (c : Command) → is_due w.state ≡ true → push w c ≡ after w c
+after_early w c h = rw h refl
+
+after_rest : (w : Standing) (c : Command) → is_due w.state ≡ false → standing (begin c) (w.last + 1) (w.last + 1) w.waiting ≡ after w c
+after_rest w c h = rw h refl
+
+-- behind a command that waits no packet of the client is taken but commands
+server_then : (d : Agreed) (w : Standing) (c : Command) (y : Numbered) (v : Standing) → is_due w.state ≡ true → commands y.packet.kind ≡ false → Steps d (push w c) y v → y.packet.from ≡ Server
+server_then d w c y v sp nc h = elim (side_is y.packet.from) [
+  | inl f ↦ (let b = aside_due d (push w c) y.packet.payload y.packet.kind y.number v (take_step d w.state Client y.packet.payload) sp refl nc (client_due d (push w c) y.packet.payload (outcome y.packet.kind y.number v) sp (by_client d (push w c) y v f h)) in
+      let some : waits (w.waiting ++ wait c (w.last + 1) ∷ []) ≡ true = waits_more w.waiting (wait c (w.last + 1)) in absurd (cc (b.2, some)))
+  | inr f ↦ f
+]
+
+passed : (d : Agreed) (s : State) (p : List ℕ) (k : Kind) (m : State) → rests s ≡ false → listens m ≡ false → take_step d s Server p ≡ Some (k, m) → passes k ≡ true
+passed d s p k m n l h =
+    let t = take_listens d s Server p k m h in
+    let a : asks k ≡ false = sym t.0 ∙ l in
+    let i : inside k ≡ true = t.1 ∙ ap not n in
+    rw (a, i) refl
+
+-- a command that waits may come where its turn is
+later : (d : Agreed) (w : Standing) (c : Command) (x : Numbered) (others : List Numbered) (t : Standing) → is_due w.state ≡ true → IsOf x c → x.number ≡ w.last + 1
+    → InTurn d (push w c) others t → Over t
+    → (front : List Numbered) × (back : List Numbered) × ArePassed front × (others ≡ front ++ back) × InTurn d w (front ++ x ∷ back) t
+later d w c x [] t sp of n h o = let no : is_due w.state ≡ false = ap (λ (t : Standing). is_due t.state) h ∙ ap is_due o.0 in absurd cc
+later d w c x (y ∷ ys) t sp of n h o =
+    let f : y.packet.from ≡ Server = server_then d w c y h.0 sp (h.2 sp) h.1 in
+    let s = server_back d (push w c) y h.0 f h.1 in
+    let m = s.0 in
+    let nl : listens m ≡ false = not_both (listens m) (waits (w.waiting ++ wait c (w.last + 1) ∷ [])) s.2 (waits_more w.waiting (wait c (w.last + 1))) in
+    let ps : passes y.packet.kind ≡ true = passed d w.state y.packet.payload y.packet.kind m (due_runs w.state sp).0 nl s.1 in
+    let u = settle m w.number w.last w.waiting in
+    let st : Steps d w y u = server_next d w y m u f s.1 (rw nl refl) s.3 refl in
+    let z : after u c ≡ h.0 = sym (settle_more m w.number w.last w.waiting c nl) ∙ s.4 in
+    let n' : x.number ≡ u.last + 1 = n ∙ ap (λ n. n + 1) (sym (settle_last m w.number w.last w.waiting)) in
+    elim (which (is_due u.state)) [
+      | inl e ↦ (let r = later d u c x ys t e of n' (subst (λ w. InTurn d w ys t) (sym (after_early u c e ∙ z)) h.3) o in
+          (y ∷ r.0, r.1, (f, ps, r.2), ap (λ xs. y ∷ xs) r.3, (u, st, h.2, r.4)))
+      | inr e ↦ (let rest : u.state ≡ state.Rest = rest_is u.state (turn u.state) (settle_listens m w.number w.last w.waiting ∙ nl) e in
+          let b : Steps d u x h.0 = subst (λ v. Steps d u x v) (after_rest u c e ∙ z) (taken_at_rest d u x c rest of n') in
+          (y ∷ [], ys, (f, ps, tt), refl, (u, st, h.2, (h.0, b, (λ k. absurd cc), h.3))))
+    ]
+
+command_is : (x : Numbered) (c : Command) → IsOf x c → is_command x.packet ≡ true
+command_is x c h = rw h.0 (ap commands (sym h.2) ∙ kind_is_command c)
+
+-- a packet of the server is no command
+server_kind : (d : Agreed) (w : Standing) (x : Numbered) (v : Standing) → rests w.state ≡ false → x.packet.from ≡ Server → Steps d w x v → commands x.packet.kind ≡ false
+server_kind d w x v n f h =
+    let b = server_back d w x v f h in
+    inside_command x.packet.kind ((take_listens d w.state Server x.packet.payload x.packet.kind b.0 b.1).1 ∙ ap not n)
+
+-- a command that came early, or a packet in its turn
+abbrev CameEarly : Agreed → Standing → Numbered → Standing → Type 0
+CameEarly d w x v = (is_due w.state ≡ true) × (x.packet.from ≡ Client) × Began w x.packet.payload x.packet.kind x.number v
+
+came : (d : Agreed) (w : Standing) (x : Numbered) (v : Standing) → Steps d w x v → CameEarly d w x v ⊎ (is_due w.state ≡ true → commands x.packet.kind ≡ false)
+came d w x v h = elim (which (is_due w.state)) [
+  | inr sp ↦ inr (λ k. absurd cc)
+  | inl sp ↦ elim (side_is x.packet.from) [
+    | inr f ↦ inr (λ k. server_kind d w x v (due_runs w.state sp).0 f h)
+    | inl f ↦ elim (which (commands x.packet.kind)) [
+      | inr c ↦ inr (λ k. c)
+      | inl c ↦ inl (sp, f, command_due d w x.packet.payload x.packet.kind x.number v (take_step d w.state Client x.packet.payload) sp refl c (client_due d w x.packet.payload (outcome x.packet.kind x.number v) sp (by_client d w x v f h)))
+    ]
+  ]
+]
+
+pub run_early : (d : Agreed) (w : Standing) (items : List Numbered) (t : Standing) → PipeRun d w items t → Over t → (others : List Numbered) × Early (listens w.state) items others × InTurn d w others t
+run_early d w [] t r o = ([], refl, r)
+run_early d w (x ∷ items) t r o =
+    let h = run_early d r.0 items t r.2 o in
+    let asked : listens r.0.state ≡ asks x.packet.kind = steps_listens d w x r.0 r.1 in
+    elim (came d w x r.0 r.1) [
+      | inl e ↦ (let sp = e.0 in let b = e.2 in
+          let of : IsOf x b.0 = (e.1, b.1, b.2) in
+          let l = later d w b.0 x h.0 t sp of (sym b.3) (subst (λ w. InTurn d w h.0 t) (sym (after_early w b.0 sp ∙ b.4)) h.2) o in
+          let cmd = command_is x b.0 of in
+          let g : Early false items h.0 = subst (λ b. Early b items h.0) (asked ∙ command_kind_asks x.packet cmd) h.1 in
+          (l.0 ++ x ∷ l.1, inr (l.0, l.1, cmd, l.2, refl, subst (λ xs. Early false items xs) l.3 g, (due_runs w.state sp).1), l.4))
+      | inr q ↦ (x ∷ h.0, inl (h.0, refl, subst (λ b. Early b items h.0) asked h.1), (r.0, r.1, q, h.2))
+    ]
+
+-- ---- the machine with no command that waits
+
+abbrev alone : State → ℕ → Standing
+alone s n = standing s n n []
+
+abbrev Plainly : Agreed → State → ℕ → Packet → ℕ → Standing → Type 0
+Plainly d s n x j v = (m : State) × (take_step d s x.from x.payload ≡ Some (x.kind, m)) × (j ≡ counted n x) × (alone m (counted n x) ≡ v)
+
+plain_client : (d : Agreed) (s : State) (n : ℕ) (p : List ℕ) (k : Kind) (j : ℕ) (v : Standing) → Turn s → pipe_step d (alone s n) Client p ≡ outcome k j v → (is_due s ≡ true → commands k ≡ false) → Plainly d s n (packet Client p k) j v
+plain_client d s n p k j v (inl e) h t =
+    let b = client_rest d (alone s n) p k j v e h in
+    let st : take_step d s Client p ≡ Some (k, begin b.0) = rest_plain d s p b.0 k e b.1 b.2 in
+    let ck : commands k ≡ true = ap commands (sym b.2) ∙ kind_is_command b.0 in
+    let z : alone (begin b.0) (n + 1) ≡ v = after_rest (alone s n) b.0 (ap is_due e) ∙ b.4 in
+    (begin b.0, st, rw ck (sym b.3), rw ck z)
+plain_client d s n p k j v (inr (inl a)) h t =
+    let b = loaded_back d (alone s n) p k j v (take_step d s Client p) a.1 refl (client_turn d (alone s n) p (outcome k j v) a.2 h) in
+    let ck : commands k ≡ false = running_kind d s p k b.0 a.1 b.1 in
+    (b.0, b.1, rw ck (sym b.2), rw ck b.3)
+plain_client d s n p k j v (inr (inr a)) h t =
+    let ck : commands k ≡ false = t a.0 in
+    let b = aside_due d (alone s n) p k j v (take_step d s Client p) a.0 refl ck (client_due d (alone s n) p (outcome k j v) a.0 h) in
+    (b.0, b.1, rw ck (sym b.3), rw ck b.4)
+
+plain_at : (d : Agreed) (s : State) (n : ℕ) (side : Side) (p : List ℕ) (k : Kind) (j : ℕ) (v : Standing) → pipe_step d (alone s n) side p ≡ outcome k j v → (is_due s ≡ true → commands k ≡ false) → Plainly d s n (packet side p k) j v
+plain_at d s n Client p k j v h t = plain_client d s n p k j v (turn s) h t
+plain_at d s n Server p k j v h t =
+    let b = served_back d (alone s n) p k j v (take_step d s Server p) refl h in
+    (b.0, b.1, sym b.3, b.4)
+
+pub in_turn_plain : (d : Agreed) (s : State) (n : ℕ) (others : List Numbered) (t : Standing) → InTurn d (alone s n) others t → Over t → Takes d s (packets others) state.Rest × AreNumbered n others
+in_turn_plain d s n [] t h o = (ap (λ (t : Standing). t.state) h ∙ o.0, tt)
+in_turn_plain d s n (x ∷ xs) t h o =
+    let b = plain_at d s n x.packet.from x.packet.payload x.packet.kind x.number h.0 h.1 h.2 in
+    let r = in_turn_plain d b.0 (counted n x.packet) xs t (subst (λ w. InTurn d w xs t) (sym b.3) h.3) o in
+    ((b.0, b.1, r.0), (b.2, r.1))
+
+next_client : (d : Agreed) (s : State) (n : ℕ) (p : List ℕ) (k : Kind) (m : State) → Turn s → take_step d s Client p ≡ Some (k, m) → pipe_step d (alone s n) Client p ≡ outcome k (counted n (packet Client p k)) (alone m (counted n (packet Client p k)))
+next_client d s n p k m (inl e) h =
+    let c : commands k ≡ true = command_kind d s p k m e h in
+    rw (ap is_due e, h, ap rests e, c) refl
+next_client d s n p k m (inr (inl a)) h =
+    let c : commands k ≡ false = running_kind d s p k m a.1 h in
+    rw (a.2, h, a.1, c) refl
+next_client d s n p k m (inr (inr a)) h =
+    let c : commands k ≡ false = running_kind d s p k m a.1 h in
+    rw (a.0, h, c) refl
+
+nothing_waits : (b : Bool) → (b && false) ≡ false
+nothing_waits true = refl
+nothing_waits false = refl
+
+plain_next : (d : Agreed) (s : State) (n : ℕ) (side : Side) (p : List ℕ) (k : Kind) (m : State) → take_step d s side p ≡ Some (k, m) → pipe_step d (alone s n) side p ≡ outcome k (counted n (packet side p k)) (alone m (counted n (packet side p k)))
+plain_next d s n Client p k m h = next_client d s n p k m (turn s) h
+plain_next d s n Server p k m h = rw (h, nothing_waits (listens m)) refl
+
+pub run_in_turn : (d : Agreed) (s : State) (n : ℕ) (others : List Numbered) → Takes d s (packets others) state.Rest → AreNumbered n others → (t : Standing) × PipeRun d (alone s n) others t × Over t
+run_in_turn d s n [] r a = (alone s n, refl, (r, refl))
+run_in_turn d s n (x ∷ xs) r a =
+    let c = counted n x.packet in
+    let h = run_in_turn d r.0 c xs r.2 a.1 in
+    let st : Steps d (alone s n) x (alone r.0 c) = plain_next d s n x.packet.from x.packet.payload x.packet.kind r.0 r.1 ∙ ap (λ j. outcome x.packet.kind j (alone r.0 c)) (sym a.0) in
+    (h.0, (alone r.0 c, st, h.1), h.2)

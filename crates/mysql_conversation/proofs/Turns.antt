@@ -1,0 +1,90 @@
+-- What commands do, and what packets of the client that are none.
+use Rattle.std.proofs.Common.{◌≡◌, ℕ, ◌+◌, List, [], ◌∷◌, ◌++◌, ◌⊎◌, inl, inr, Option, Some, None, refl, sym, ap, subst, ◌∙◌, Bool, true, false, cond}
+use Rattle.std.proofs.lemmas.Bool.{eqb-true}
+use Rattle.std.specs.Prelude.{◌==◌, not}
+use Rattle.mysql_conversation.specs.Payloads.{first_is, asks_cursor}
+use Rattle.mysql_conversation.specs.Conversation.{answering, asks, commands, inside}
+use Rattle.mysql_conversation.specs.Machine.{take_step, client_step, rests, listens, is_due, answers, begun, ack_step}
+use Rattle.mysql_conversation.specs.Machine as machine
+use Rattle.mysql_conversation.specs.Standing.{kind_of, begin, command_of, known}
+use Rattle.mysql_conversation.proofs.Classes.{some_is, chosen, first_unlike}
+use Rattle.mysql_conversation.proofs.States.{take_listens, answers_listens, inside_command}
+use Rattle.mysql_conversation.specs.declared.agreed.Agreed.{Agreed}
+use Rattle.mysql_conversation.specs.declared.state.Answer.{Answer}
+use Rattle.mysql_conversation.specs.declared.state.Command.{Command}
+use Rattle.mysql_conversation.specs.declared.kind.Kind.{Kind}
+use Rattle.mysql_conversation.specs.declared.kind.Kind.TheVariants as kind
+use Rattle.mysql_conversation.specs.declared.kind.Side.TheVariants.{Client, Server}
+use Rattle.mysql_conversation.specs.declared.state.State.{State}
+use Rattle.mysql_conversation.specs.declared.state.State.TheVariants as state
+
+-- a command at rest
+abbrev pub command_step : Option Command → Option (Kind × State)
+command_step None = None
+command_step (Some c) = Some (kind_of c, begin c)
+
+known_begun : (code : ℕ) (r : Option Answer) → begun code r ≡ command_step (known code r)
+known_begun code None = refl
+known_begun code (Some r) = refl
+
+pub rest_command : (p : List ℕ) → machine.command_step p ≡ command_step (command_of p)
+rest_command [] = refl
+rest_command (code ∷ bytes) = known_begun code (answering code (asks_cursor (code ∷ bytes)))
+
+pub rest_step_is : (d : Agreed) (p : List ℕ) → take_step d state.Rest Client p ≡ command_step (command_of p)
+rest_step_is d p = rest_command p
+
+pub kind_is_command : (c : Command) → commands (kind_of c) ≡ true
+kind_is_command c = refl
+
+pub begin_listens : (c : Command) → listens (begin c) ≡ false
+begin_listens c = answers_listens c.answer
+
+-- what the client says while an exchange runs is no command
+pub running_kind : (d : Agreed) (s : State) (p : List ℕ) (k : Kind) (m : State) → rests s ≡ false → take_step d s Client p ≡ Some (k, m) → commands k ≡ false
+running_kind d s p k m n h = inside_command k ((take_listens d s Client p k m h).1 ∙ ap not n)
+
+-- no command begins as an acknowledgement does
+no_ack : (p : List ℕ) (c : Command) → command_of p ≡ Some c → first_is 0xef p ≡ false
+no_ack [] c h = absurd cc
+no_ack (code ∷ bytes) c h = not_ef code (code == 0xef) refl h
+  where
+    none : (x : ℕ) → x ≡ 0xef → known x (answering x (asks_cursor (code ∷ bytes))) ≡ None
+    none x e = subst (λ x. known x (answering x (asks_cursor (code ∷ bytes))) ≡ None) (sym e) refl
+
+    not_ef : (x : ℕ) (b : Bool) → (x == 0xef) ≡ b → known x (answering x (asks_cursor (code ∷ bytes))) ≡ Some c → b ≡ false
+    not_ef x false e h = refl
+    not_ef x true e h = let n = none x (eqb-true x 0xef e) in absurd (cc (n, h))
+
+ack_refused : (p : List ℕ) (c : Command) → command_of p ≡ Some c → ack_step p ≡ None
+ack_refused p c h = rw (no_ack p c h) refl
+
+-- where the server is to speak, a command is no packet of the exchange
+pub no_aside : (d : Agreed) (s : State) (p : List ℕ) (c : Command) → is_due s ≡ true → command_of p ≡ Some c → take_step d s Client p ≡ None
+no_aside d state.Rest p c h e = absurd cc
+no_aside d (state.Authentication true) p c h e = absurd cc
+no_aside d (state.Authentication false) p c h e = refl
+no_aside d (state.Reply r) p c h e = refl
+no_aside d (state.Infile r) p c h e = absurd cc
+no_aside d (state.InfileReply r) p c h e = refl
+no_aside d (state.Definitions n b) p c h e = refl
+no_aside d (state.DefinitionsEnd b) p c h e = refl
+no_aside d (state.Rows r) p c h e = refl
+no_aside d state.Prepared p c h e = refl
+no_aside d state.Fetch p c h e = refl
+no_aside d state.Acknowledgement p c h e = refl
+no_aside d state.Text p c h e = refl
+no_aside d state.Fields p c h e = refl
+no_aside d state.Events p c h e = ack_refused p c e
+no_aside d state.Refusal p c h e = refl
+
+kind_at : (k : Kind) (m : State) (r : Option Command) → command_step r ≡ Some (k, m) → commands k ≡ true
+kind_at k m None h = absurd cc
+kind_at k m (Some c) h = ap (λ (o : Kind × State). commands o.0) (some_is (sym h))
+
+pub command_kind : (d : Agreed) (s : State) (p : List ℕ) (k : Kind) (m : State) → s ≡ state.Rest → take_step d s Client p ≡ Some (k, m) → commands k ≡ true
+command_kind d s p k m e h = kind_at k m (command_of p) (sym (rest_step_is d p) ∙ subst (λ s. take_step d s Client p ≡ Some (k, m)) e h)
+
+pub rest_plain : (d : Agreed) (s : State) (p : List ℕ) (c : Command) (k : Kind) → s ≡ state.Rest → command_of p ≡ Some c → kind_of c ≡ k → take_step d s Client p ≡ Some (k, begin c)
+rest_plain d s p c k e h g =
+    subst (λ s. take_step d s Client p ≡ Some (k, begin c)) (sym e) (rest_step_is d p ∙ ap command_step h ∙ ap (λ (k : Kind). Some (k, begin c)) g)

@@ -1,0 +1,31 @@
+use Rattle.std.proofs.Common.{◌≡◌, Some, None, List, [], ◌∷◌, ◌++◌, sym, ◌∙◌, subst}
+use Rattle.mysql_conversation.specs.Standing.{pipe_step}
+use Rattle.mysql_conversation.specs.Piped.{stands, place}
+use Rattle.mysql_conversation.proofs.Stood.{pipe_one_more, pipe_refused, run_stays, lift_ok, lift_err}
+use Rattle.mysql_conversation.proofs.pipeline.Pipeline.next.Goals as goal
+
+pub returns-in-Client-clause-taken : goal.returns-in-Client-clause-taken
+returns-in-Client-clause-taken c = lift_ok c.take_client.result
+    (λ x h items r. run_stays _ _ _ _ (items ++ place c.args.from c.args.payload.now x.0 x.1 ∷ []) (stands c.take_client.new.self) c.take_client.ensures.agreed c.take_client.ensures.opening
+    (pipe_one_more _ _ items (stands c.args.self.now) c.args.from c.args.payload.now x.0 x.1 (stands c.take_client.new.self) r
+    (subst (λ side. pipe_step c.args.self.now.agreed (stands c.args.self.now) side c.args.payload.now ≡ Some (x.0, x.1, stands c.take_client.new.self)) (sym c.in-Client.is) h)))
+    c.take_client.ensures.taken
+
+pub returns-in-Client-clause-refused : goal.returns-in-Client-clause-refused
+returns-in-Client-clause-refused c = lift_err c.take_client.result
+    (λ why h items k n e r. pipe_refused _ _ items (stands c.args.self.now) (place c.args.from c.args.payload.now k n) r
+    (subst (λ side. pipe_step c.args.self.now.agreed (stands c.args.self.now) side c.args.payload.now ≡ None) (sym c.in-Client.is) (h e)))
+    c.take_client.ensures.refused
+
+pub returns-in-Server-clause-taken : goal.returns-in-Server-clause-taken
+returns-in-Server-clause-taken c = lift_ok c.take_server.result
+    (λ x h items r. run_stays _ _ _ _ (items ++ place c.args.from c.args.payload.now x.0 x.1 ∷ []) (stands c.take_server.new.self) c.take_server.ensures.agreed c.take_server.ensures.opening
+    (pipe_one_more _ _ items (stands c.args.self.now) c.args.from c.args.payload.now x.0 x.1 (stands c.take_server.new.self) r
+    (subst (λ side. pipe_step c.args.self.now.agreed (stands c.args.self.now) side c.args.payload.now ≡ Some (x.0, x.1, stands c.take_server.new.self)) (sym c.in-Server.is) h)))
+    c.take_server.ensures.taken
+
+pub returns-in-Server-clause-refused : goal.returns-in-Server-clause-refused
+returns-in-Server-clause-refused c = lift_err c.take_server.result
+    (λ why h items k n e r. pipe_refused _ _ items (stands c.args.self.now) (place c.args.from c.args.payload.now k n) r
+    (subst (λ side. pipe_step c.args.self.now.agreed (stands c.args.self.now) side c.args.payload.now ≡ None) (sym c.in-Server.is) h.1))
+    c.take_server.ensures.refused

@@ -1,0 +1,310 @@
+-- Which packets are a conversation: the pages of the protocol, as a grammar of whole lists of packets.
+use Rattle.std.specs.Prelude.{◌≡◌, ◌≢◌, ◌⊎◌, ℕ, zero, suc, List, [], ◌∷◌, ◌++◌, Bool, true, false, Option, Some, None, ◌==◌, ◌&&◌, if◌then◌else◌}
+use Rattle.mysql_wire.specs.Flags.{StatusFlags}
+use Rattle.mysql_conversation.specs.Agreements.{deprecates_eof, asks_factors}
+use Rattle.mysql_conversation.specs.Parts.{nothing, never, one, ◌followed_by◌, ◌or◌, for_some, times, many, broken}
+use Rattle.mysql_conversation.specs.Payloads.{has_more, opens_cursor, first_is, IsOk, IsEnd, IsOldEnd, IsInfileRequest, IsCount, IsRow, IsPrepared, IsError, is_report, is_one_byte, asks_cursor}
+use Rattle.mysql_conversation.specs.declared.agreed.Agreed.{Agreed}
+use Rattle.mysql_conversation.specs.declared.state.Answer.{Answer}
+use Rattle.mysql_conversation.specs.declared.state.Answer.TheVariants as answer
+use Rattle.mysql_conversation.specs.declared.state.Request.{Request}
+use Rattle.mysql_conversation.specs.declared.state.Request.TheVariants.{Query, Execution, Cursor}
+use Rattle.mysql_conversation.specs.declared.kind.Format.{Format}
+use Rattle.mysql_conversation.specs.declared.kind.Format.TheVariants.{Text, Binary}
+use Rattle.mysql_conversation.specs.declared.kind.Kind.{Kind}
+use Rattle.mysql_conversation.specs.declared.kind.Kind.TheVariants as kind
+use Rattle.mysql_conversation.specs.declared.kind.Opening.{Opening}
+use Rattle.mysql_conversation.specs.declared.kind.Opening.TheVariants as opened_at
+use Rattle.mysql_conversation.specs.declared.kind.Side.{Side}
+use Rattle.mysql_conversation.specs.declared.kind.Side.TheVariants.{Client, Server}
+
+-- a packet: who sent it, its payload, and which packet it is
+pub record Packet : Type 0 where
+  pub from : Side
+  pub payload : List ℕ
+  pub kind : Kind
+
+-- a part of a conversation
+abbrev pub Part : Type 1
+Part = List Packet → List Packet → Type 0
+
+-- a packet of the client of this kind, whose payload is such
+abbrev pub sent : Kind → (List ℕ → Type 0) → Part
+sent kind P = one (λ x. (x.from ≡ Client) × (x.kind ≡ kind) × P x.payload)
+
+-- a packet of the server of this kind, which is no error, and whose payload is such
+abbrev pub served : Kind → (List ℕ → Type 0) → Part
+served kind P = one (λ x. (x.from ≡ Server) × (x.kind ≡ kind) × (first_is 0xff x.payload ≡ false) × P x.payload)
+
+abbrev pub error : Agreed → Part
+error a = one (λ x. (x.from ≡ Server) × (x.kind ≡ kind.Error) × IsError a x.payload)
+
+-- ---- the packets
+
+abbrev pub ok : Agreed → Bool → Part
+ok a more = served kind.Ok (IsOk a more)
+
+abbrev pub row : Agreed → Format → Part
+row a format = served (kind.Row format) (IsRow a format)
+
+-- how an end is spelled
+abbrev pub ending : Bool → Kind
+ending true = kind.OkTerminator
+ending false = kind.Eof
+
+abbrev pub end : Agreed → Bool → Part
+end a more = served (ending (deprecates_eof a)) (IsEnd a more)
+
+abbrev pub infile_request : Part
+infile_request = served kind.LocalInfile IsInfileRequest
+
+abbrev pub infile_content : Part
+infile_content = sent kind.InfileContent (λ p. p ≢ [])
+
+abbrev pub infile_end : Part
+infile_end = sent kind.InfileEnd (λ p. p ≡ [])
+
+abbrev pub count : Agreed → ℕ → Bool → Part
+count a n follow = served (kind.ColumnCount n follow) (IsCount a n follow)
+
+abbrev pub definition : Part
+definition = served kind.Column (λ p. Unit {0})
+
+abbrev pub prepared_ok : ℕ → ℕ → Part
+prepared_ok columns params = served (kind.PrepareOk columns params) (IsPrepared columns params)
+
+-- the definition of a field, which begins as no end does
+abbrev pub field : Agreed → Part
+field a = served kind.Column (IsRow a Text)
+
+abbrev pub text : Part
+text = served kind.Statistics (λ p. Unit {0})
+
+-- ---- results
+
+-- how the rows that are asked for are spelled
+abbrev pub format_of : Request → Format
+format_of Query = Text
+format_of Execution = Binary
+format_of Cursor = Binary
+
+-- the EOF packet after definitions, where it isn't deprecated
+abbrev pub definitions_end : Agreed → Bool → Part
+definitions_end a true = nothing
+definitions_end a false = served kind.Eof (λ p. (status : StatusFlags) × IsOldEnd a status p)
+
+-- the same of a result whose rows follow: no cursor is open, or none was asked for
+abbrev pub columns_end : Agreed → Request → Bool → Part
+columns_end a Query deprecates = definitions_end a deprecates
+columns_end a Execution deprecates = definitions_end a deprecates
+columns_end a Cursor true = nothing
+columns_end a Cursor false = served kind.Eof (λ p. (status : StatusFlags) × IsOldEnd a status p × (opens_cursor status ≡ false))
+
+-- definitions of so many columns or parameters. Of none there is nothing, not even an end
+abbrev pub definitions : Agreed → ℕ → Part
+definitions a zero = nothing
+definitions a (suc n) = times (suc n) definition followed_by definitions_end a (deprecates_eof a)
+
+-- a local file: the server asks for it, the client sends it, and then an empty packet
+abbrev pub loaded : Part
+loaded = infile_request followed_by many infile_content followed_by infile_end
+
+-- a count of columns, and their definitions where it says that they follow
+abbrev pub columns : Agreed → ℕ → Part
+columns a n = (count a n true followed_by times n definition) or count a n false
+
+-- columns and rows
+abbrev pub rows : Agreed → Request → Bool → Part
+rows a request more =
+    for_some (λ n. columns a n followed_by columns_end a request (deprecates_eof a) followed_by many (row a (format_of request)) followed_by end a more)
+
+-- Columns, and no rows: the cursor that was asked for is open. Where EOF packets are deprecated, these are rows of which there are none.
+abbrev pub opened : Agreed → Request → Bool → Bool → Part
+opened a Query deprecates more = never
+opened a Execution deprecates more = never
+opened a Cursor true more = never
+opened a Cursor false more =
+    for_some (λ n. columns a n
+    followed_by served kind.Eof (λ p. (status : StatusFlags) × IsOldEnd a status p × (opens_cursor status ≡ true) × (has_more status ≡ more)))
+
+-- a result, whose last packet says whether more come
+abbrev pub result : Agreed → Request → Bool → Part
+result a request more = ok a more or (loaded followed_by ok a more) or rows a request more or opened a request (deprecates_eof a) more
+
+-- results, of which only the last says that no more come
+abbrev pub results : Agreed → Request → Part
+results a request = many (result a request true) followed_by result a request false
+
+-- ---- the other answers
+
+abbrev pub prepared : Agreed → Part
+prepared a = for_some (λ columns. for_some (λ params. prepared_ok columns params followed_by definitions a params followed_by definitions a columns))
+
+abbrev pub any_ok : Agreed → Part
+any_ok a = ok a true or ok a false
+
+abbrev pub any_end : Agreed → Part
+any_end a = end a true or end a false
+
+-- ---- authentication
+
+-- what the server says before it is done, by the first byte: a switch of the plugin, or of fe alone to the old one, more data, a
+-- next factor where these are agreed on, and else what its plugin says
+abbrev pub authentication_kind : Agreed → List ℕ → Kind
+authentication_kind a p =
+    if first_is 0xfe p then (if is_one_byte p then kind.OldAuthSwitch else kind.AuthSwitch)
+    else (if first_is 1 p then kind.AuthMoreData
+    else (if first_is 2 p && asks_factors a then kind.AuthNextFactor
+    else kind.AuthPluginData))
+
+abbrev pub asked : Agreed → Part
+asked a = one (λ x. (x.from ≡ Server) × (x.kind ≡ authentication_kind a x.payload) × (first_is 0xff x.payload ≡ false) × (first_is 0 x.payload ≡ false))
+
+-- what the client answers, in its plugin's words
+abbrev pub auth_data : Part
+auth_data = sent kind.AuthData (λ p. Unit {0})
+
+-- the server speaks, and the client may answer, until an OK packet
+abbrev pub authentication : Agreed → Part
+authentication a = many (asked a followed_by (nothing or auth_data)) followed_by any_ok a
+
+-- ---- a stream of events
+
+abbrev pub event : Part
+event = served kind.BinlogEvent (λ p. first_is 0 p ≡ true)
+
+abbrev pub ack : Part
+ack = sent kind.SemiSyncAck (λ p. first_is 0xef p ≡ true)
+
+abbrev pub events : Agreed → Part
+events a = many (event or ack) followed_by any_end a
+
+-- ---- commands
+
+-- what asks for the results of an execution
+abbrev pub execution : Bool → Request
+execution true = Cursor
+execution false = Execution
+
+-- what answers a command with this first byte, if it is one
+abbrev pub answering : ℕ → Bool → Option Answer
+answering code cursor =
+    if code == 0x03 then Some (answer.Results Query)  -- COM_QUERY
+    else (if code == 0x17 then Some (answer.Results (execution cursor))  -- COM_STMT_EXECUTE
+    else (if code == 0x16 then Some answer.Prepared  -- COM_STMT_PREPARE
+    else (if code == 0x1c then Some answer.Rows  -- COM_STMT_FETCH
+    else (if code == 0x19 then Some answer.Nothing  -- COM_STMT_CLOSE
+    else (if code == 0x18 then Some answer.Nothing  -- COM_STMT_SEND_LONG_DATA
+    else (if code == 0x01 then Some answer.Nothing  -- COM_QUIT
+    else (if code == 0x0e then Some answer.Acknowledgement  -- COM_PING
+    else (if code == 0x02 then Some answer.Acknowledgement  -- COM_INIT_DB
+    else (if code == 0x1a then Some answer.Acknowledgement  -- COM_STMT_RESET
+    else (if code == 0x1b then Some answer.Acknowledgement  -- COM_SET_OPTION
+    else (if code == 0x1f then Some answer.Acknowledgement  -- COM_RESET_CONNECTION
+    else (if code == 0x09 then Some answer.Text  -- COM_STATISTICS
+    else (if code == 0x0a then Some (answer.Results Query)  -- COM_PROCESS_INFO
+    else (if code == 0xfa then Some (answer.Results Execution)  -- COM_STMT_BULK_EXECUTE
+    else (if code == 0x04 then Some answer.Fields  -- COM_FIELD_LIST
+    else (if code == 0x05 then Some answer.Acknowledgement  -- COM_CREATE_DB
+    else (if code == 0x06 then Some answer.Acknowledgement  -- COM_DROP_DB
+    else (if code == 0x07 then Some answer.Acknowledgement  -- COM_REFRESH
+    else (if code == 0x08 then Some answer.Acknowledgement  -- COM_SHUTDOWN
+    else (if code == 0x0c then Some answer.Acknowledgement  -- COM_PROCESS_KILL
+    else (if code == 0x0d then Some answer.Acknowledgement  -- COM_DEBUG
+    else (if code == 0x15 then Some answer.Acknowledgement  -- COM_REGISTER_SLAVE
+    else (if code == 0x11 then Some answer.Authentication  -- COM_CHANGE_USER
+    else (if code == 0x12 then Some answer.Events  -- COM_BINLOG_DUMP
+    else (if code == 0x1e then Some answer.Events  -- COM_BINLOG_DUMP_GTID
+    else (if code == 0xef then None  -- an acknowledgement of an event
+    else Some answer.Refusal))))))))))))))))))))))))))
+
+abbrev pub command : ℕ → Bool → Part
+command code cursor = sent (kind.Command code) (λ p. (first_is code p ≡ true) × (asks_cursor p ≡ cursor))
+
+abbrev pub answered : Agreed → Option Answer → Part
+answered a None = never
+answered a (Some (answer.Results request)) = results a request
+answered a (Some answer.Prepared) = prepared a
+answered a (Some answer.Rows) = many (row a Binary) followed_by any_end a
+answered a (Some answer.Acknowledgement) = any_ok a or any_end a
+answered a (Some answer.Text) = text
+answered a (Some answer.Fields) = many (field a) followed_by any_end a
+answered a (Some answer.Authentication) = authentication a
+answered a (Some answer.Events) = events a
+answered a (Some answer.Nothing) = nothing
+answered a (Some answer.Refusal) = error a
+
+-- a command and all that answers it
+abbrev pub exchange_of : Agreed → ℕ → Bool → Part
+exchange_of a code cursor = command code cursor followed_by answered a (answering code cursor)
+
+abbrev pub exchange : Agreed → Part
+exchange a = for_some (λ code. exchange_of a code true or exchange_of a code false)
+
+-- ---- conversations
+
+abbrev pub commands : Kind → Bool
+commands (kind.Command code) = true
+commands _ = false
+
+-- a packet inside of an exchange
+abbrev pub inside : Kind → Bool
+inside (kind.Command code) = false
+inside kind.UnaskedError = false
+inside _ = true
+
+abbrev pub IsInside : Packet → Type 0
+IsInside x = inside x.kind ≡ true
+
+-- in place of any packet inside of it there may be an error, which ends the part
+abbrev pub unless_broken : Agreed → Part → Part
+unless_broken a part = part or broken part IsInside (error a)
+
+-- an error between two exchanges: the server ends the connection
+abbrev pub unasked_error : Agreed → Part
+unasked_error a = one (λ x. (x.from ≡ Server) × (x.kind ≡ kind.UnaskedError) × IsError a x.payload)
+
+abbrev pub exchanges : Agreed → Part
+exchanges a = many (unless_broken a (exchange a) or unasked_error a)
+
+abbrev pub opening : Agreed → Opening → Part
+opening a opened_at.Login = unless_broken a (authentication a)
+opening a opened_at.Commands = nothing
+
+abbrev pub conversation : Agreed → Opening → Part
+conversation a o = opening a o followed_by exchanges a
+
+-- ---- reports of progress
+
+abbrev pub IsReport : Agreed → Packet → Type 0
+IsReport a x = (x.from ≡ Server) × (x.kind ≡ kind.ProgressReport) × (is_report a x.payload ≡ true)
+
+-- the client may answer a packet of this kind by one that is no command
+abbrev pub asks : Kind → Bool
+asks kind.AuthSwitch = true
+asks kind.OldAuthSwitch = true
+asks kind.AuthMoreData = true
+asks kind.AuthNextFactor = true
+asks kind.AuthPluginData = true
+asks kind.LocalInfile = true
+asks kind.InfileContent = true
+asks _ = false
+
+-- a packet inside of an exchange comes next
+abbrev pub InsideIsNext : List Packet → Type 0
+InsideIsNext [] = ⊥
+InsideIsNext (x ∷ xs) = IsInside x
+
+-- The packets are these others, and reports of progress, each inside of an exchange, where the client is not asked.
+abbrev pub Reported : Agreed → Bool → List Packet → List Packet → Type 0
+Reported a is_asked [] others = others ≡ []
+Reported a is_asked (x ∷ items) others =
+    (IsReport a x × (is_asked ≡ false) × InsideIsNext others × Reported a false items others)
+    ⊎ ((more : List Packet) × (others ≡ x ∷ more) × Reported a (asks x.kind) items more)
+
+abbrev pub IsConversation : Agreed → Opening → List Packet → Type 0
+IsConversation a o items = (others : List Packet) × conversation a o others [] × Reported a false items others
+
+-- the beginning of a conversation
+abbrev pub IsBeginning : Agreed → Opening → List Packet → Type 0
+IsBeginning a o items = (more : List Packet) × IsConversation a o (items ++ more)

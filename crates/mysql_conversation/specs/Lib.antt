@@ -1,0 +1,13 @@
+pub mod Agreements
+pub mod Parts
+pub mod Payloads
+pub mod Conversation
+pub mod Machine
+pub mod Taken
+pub mod History
+pub mod Pipelined
+pub mod Order
+pub mod Standing
+pub mod Piped
+pub mod Session
+pub mod SessionSteps

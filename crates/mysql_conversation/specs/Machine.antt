@@ -1,0 +1,309 @@
+-- The machine: what each packet is in each state, and the state after it.
+use Rattle.std.specs.Prelude.{◌≡◌, ℕ, ◌<◌, zero, suc, List, [], ◌∷◌, Bool, true, false, Option, Some, None, Result, Ok, Err, nat_lt, ◌&&◌, if◌then◌else◌}
+use Rattle.mysql_wire.specs.Flags.{StatusFlags}
+use Rattle.mysql_wire.specs.Reading.{Reading}
+use Rattle.mysql_replies.specs.ColumnCount.{column_count, count, metadata_follows}
+use Rattle.mysql_replies.specs.OkPacket.{status_flags}
+use Rattle.mysql_replies.specs.declared.column_count.ColumnCount.{ColumnCount}
+use Rattle.mysql_replies.specs.declared.ok_packet.OkPacketDeserializer.{OkPacketDeserializer}
+use Rattle.mysql_prepared.specs.Stmt.{stmt, num_columns, num_params}
+use Rattle.mysql_prepared.specs.declared.stmt.StmtPacket.{StmtPacket}
+use Rattle.mysql_conversation.specs.Agreements.{deprecates_eof}
+use Rattle.mysql_conversation.specs.Payloads.{has_more, opens_cursor, first_is, ok_form, terminator_form, old_end_form, looks_like_end, is_report, asks_cursor}
+use Rattle.mysql_conversation.specs.Conversation.{Packet, answering, authentication_kind, ending, format_of}
+use Rattle.mysql_conversation.specs.declared.agreed.Agreed.{Agreed}
+use Rattle.mysql_conversation.specs.declared.state.After.{After}
+use Rattle.mysql_conversation.specs.declared.state.After.TheVariants as after
+use Rattle.mysql_conversation.specs.declared.state.Answer.{Answer}
+use Rattle.mysql_conversation.specs.declared.state.Answer.TheVariants as answer
+use Rattle.mysql_conversation.specs.declared.state.Request.{Request}
+use Rattle.mysql_conversation.specs.declared.state.Request.TheVariants.{Query, Execution, Cursor}
+use Rattle.mysql_conversation.specs.declared.state.Line.{Line}
+use Rattle.mysql_conversation.specs.declared.state.Line.TheVariants as line
+use Rattle.mysql_conversation.specs.declared.state.Reply.{Reply}
+use Rattle.mysql_conversation.specs.declared.state.Reply.TheVariants as reply
+use Rattle.mysql_conversation.specs.declared.state.State.{State}
+use Rattle.mysql_conversation.specs.declared.state.State.TheVariants as state
+use Rattle.mysql_conversation.specs.declared.kind.Format.{Format}
+use Rattle.mysql_conversation.specs.declared.kind.Format.TheVariants.{Text, Binary}
+use Rattle.mysql_conversation.specs.declared.kind.Kind.{Kind}
+use Rattle.mysql_conversation.specs.declared.kind.Kind.TheVariants as kind
+use Rattle.mysql_conversation.specs.declared.kind.Opening.{Opening}
+use Rattle.mysql_conversation.specs.declared.kind.Opening.TheVariants as opened_at
+use Rattle.mysql_conversation.specs.declared.kind.Side.{Side}
+use Rattle.mysql_conversation.specs.declared.kind.Side.TheVariants.{Client, Server}
+
+-- ---- what a payload is
+
+-- the status of a packet that was read
+abbrev pub status_in : {T : Type 0} → Reading (OkPacketDeserializer T) → Option StatusFlags
+status_in (Ok x) = Some (status_flags x.0.0)
+status_in (Err e) = None
+
+unfoldable pub ok_status : Agreed → List ℕ → Option StatusFlags
+ok_status a p = status_in ((ok_form a).reads p)
+
+unfoldable pub old_end_status : Agreed → List ℕ → Option StatusFlags
+old_end_status a p = status_in ((old_end_form a).reads p)
+
+unfoldable pub terminator_status : Agreed → List ℕ → Option StatusFlags
+terminator_status a p = status_in ((terminator_form a).reads p)
+
+abbrev pub end_status : Agreed → Bool → List ℕ → Option StatusFlags
+end_status a true p = terminator_status a p
+end_status a false p = old_end_status a p
+
+abbrev pub ok_of : Option StatusFlags → Option Reply
+ok_of None = None
+ok_of (Some status) = Some (reply.Ok (has_more status))
+
+abbrev pub count_in : Reading ColumnCount → Option ColumnCount
+count_in (Ok x) = Some x.0
+count_in (Err e) = None
+
+unfoldable pub count_at : Agreed → List ℕ → Option ColumnCount
+count_at a p = count_in ((column_count.form a.mariadb_capabilities).reads p)
+
+abbrev pub columns_of : Option ColumnCount → Option Reply
+columns_of None = None
+columns_of (Some c) = if nat_lt 0 (count c) then Some (reply.Columns (count c) (metadata_follows c)) else None
+
+abbrev pub reply_of : Agreed → List ℕ → Option Reply
+reply_of a p =
+    if first_is 0x00 p then ok_of (ok_status a p)
+    else (if first_is 0xfb p then Some reply.Infile
+    else columns_of (count_at a p))
+
+abbrev pub end_of : Option StatusFlags → Option Line
+end_of None = None
+end_of (Some status) = Some (line.End (has_more status))
+
+-- what a row may be, and no end is
+abbrev pub row_of : Format → List ℕ → Option Line
+row_of Text p = Some line.Row
+row_of Binary p = if first_is 0 p then Some line.Row else None
+
+abbrev pub line_of : Agreed → Format → List ℕ → Option Line
+line_of a format p =
+    if looks_like_end (deprecates_eof a) p then end_of (end_status a (deprecates_eof a) p)
+    else row_of format p
+
+abbrev pub old_end_of : Agreed → List ℕ → Option StatusFlags
+old_end_of a p = if looks_like_end false p then old_end_status a p else None
+
+abbrev pub statement_in : Reading StmtPacket → Option StmtPacket
+statement_in (Ok x) = Some x.0
+statement_in (Err e) = None
+
+unfoldable pub statement_at : List ℕ → Option StmtPacket
+statement_at p = statement_in ((stmt.form tt).reads p)
+
+-- ---- the states
+
+-- where a conversation begins
+abbrev pub entrance : Opening → State
+entrance opened_at.Login = state.Authentication false
+entrance opened_at.Commands = state.Rest
+
+-- behind definitions
+abbrev pub enter : After → State
+enter (after.Rows r) = state.Rows r
+enter (after.Columns zero) = state.Rest
+enter (after.Columns (suc n)) = state.Definitions n after.Rest
+enter after.Rest = state.Rest
+
+-- behind the last of some definitions
+abbrev pub defined : Bool → After → State
+defined true b = enter b
+defined false b = state.DefinitionsEnd b
+
+-- behind a definition after which so many come
+abbrev pub less : Bool → ℕ → After → State
+less deprecates zero b = defined deprecates b
+less deprecates (suc n) b = state.Definitions n b
+
+-- where so many definitions come
+abbrev pub define : ℕ → After → State
+define zero b = enter b
+define (suc n) b = state.Definitions n b
+
+-- where a result ends
+abbrev pub ended : Request → Bool → State
+ended r true = state.Reply r
+ended r false = state.Rest
+
+-- where an answer begins
+abbrev pub answers : Answer → State
+answers (answer.Results r) = state.Reply r
+answers answer.Prepared = state.Prepared
+answers answer.Rows = state.Fetch
+answers answer.Acknowledgement = state.Acknowledgement
+answers answer.Text = state.Text
+answers answer.Fields = state.Fields
+answers answer.Authentication = state.Authentication false
+answers answer.Events = state.Events
+answers answer.Nothing = state.Rest
+answers answer.Refusal = state.Refusal
+
+-- ---- the steps
+
+abbrev pub begun : ℕ → Option Answer → Option (Kind × State)
+begun code None = None
+begun code (Some a) = Some (kind.Command code, answers a)
+
+abbrev pub command_step : List ℕ → Option (Kind × State)
+command_step [] = None
+command_step (code ∷ bytes) = begun code (answering code (asks_cursor (code ∷ bytes)))
+
+abbrev pub infile_step : Request → List ℕ → Option (Kind × State)
+infile_step r [] = Some (kind.InfileEnd, state.InfileReply r)
+infile_step r (b ∷ bytes) = Some (kind.InfileContent, state.Infile r)
+
+abbrev pub answer_step : Bool → Option (Kind × State)
+answer_step true = Some (kind.AuthData, state.Authentication false)
+answer_step false = None
+
+abbrev pub ack_step : List ℕ → Option (Kind × State)
+ack_step p = if first_is 0xef p then Some (kind.SemiSyncAck, state.Events) else None
+
+abbrev pub client_step : State → List ℕ → Option (Kind × State)
+client_step state.Rest p = command_step p
+client_step (state.Authentication is_asked) p = answer_step is_asked
+client_step (state.Infile r) p = infile_step r p
+client_step (state.Reply r) p = None
+client_step (state.InfileReply r) p = None
+client_step (state.Definitions n b) p = None
+client_step (state.DefinitionsEnd b) p = None
+client_step (state.Rows r) p = None
+client_step state.Prepared p = None
+client_step state.Fetch p = None
+client_step state.Acknowledgement p = None
+client_step state.Text p = None
+client_step state.Fields p = None
+client_step state.Events p = ack_step p
+client_step state.Refusal p = None
+
+-- behind a count
+abbrev pub counted : Bool → ℕ → Bool → After → State
+counted deprecates n true b = define n b
+counted deprecates n false b = defined deprecates b
+
+abbrev pub logged_in : Option StatusFlags → Option (Kind × State)
+logged_in None = None
+logged_in (Some status) = Some (kind.Ok, state.Rest)
+
+abbrev pub authentication_step : Agreed → List ℕ → Option StatusFlags → Option (Kind × State)
+authentication_step a p status =
+    if first_is 0 p then logged_in status
+    else Some (authentication_kind a p, state.Authentication true)
+
+abbrev pub reply_step : Bool → Request → Option Reply → Option (Kind × State)
+reply_step deprecates r None = None
+reply_step deprecates r (Some (reply.Ok more)) = Some (kind.Ok, ended r more)
+reply_step deprecates r (Some reply.Infile) = Some (kind.LocalInfile, state.Infile r)
+reply_step deprecates r (Some (reply.Columns n follow)) = Some (kind.ColumnCount n follow, counted deprecates n follow (after.Rows r))
+
+abbrev pub infile_reply_step : Request → Option Reply → Option (Kind × State)
+infile_reply_step r None = None
+infile_reply_step r (Some (reply.Ok more)) = Some (kind.Ok, ended r more)
+infile_reply_step r (Some reply.Infile) = None
+infile_reply_step r (Some (reply.Columns n follow)) = None
+
+-- behind the EOF packet of a result's definitions: the rows, or nothing of it where the cursor that was asked for is open
+abbrev pub columns_step : StatusFlags → Request → Option (Kind × State)
+columns_step status Query = Some (kind.Eof, state.Rows Query)
+columns_step status Execution = Some (kind.Eof, state.Rows Execution)
+columns_step status Cursor = if opens_cursor status then Some (kind.Eof, ended Cursor (has_more status)) else Some (kind.Eof, state.Rows Cursor)
+
+abbrev pub definitions_end_step : After → Option StatusFlags → Option (Kind × State)
+definitions_end_step b None = None
+definitions_end_step (after.Rows r) (Some status) = columns_step status r
+definitions_end_step (after.Columns n) (Some status) = Some (kind.Eof, enter (after.Columns n))
+definitions_end_step after.Rest (Some status) = Some (kind.Eof, state.Rest)
+
+abbrev pub line_step : Bool → Request → Option Line → Option (Kind × State)
+line_step deprecates r None = None
+line_step deprecates r (Some line.Row) = Some (kind.Row (format_of r), state.Rows r)
+line_step deprecates r (Some (line.End more)) = Some (ending deprecates, ended r more)
+
+-- a packet of this kind and what goes on in this state, or the end
+abbrev pub last_step : Bool → Kind → State → Option Line → Option (Kind × State)
+last_step deprecates k s None = None
+last_step deprecates k s (Some line.Row) = Some (k, s)
+last_step deprecates k s (Some (line.End more)) = Some (ending deprecates, state.Rest)
+
+abbrev pub prepared_step : Option StmtPacket → Option (Kind × State)
+prepared_step None = None
+prepared_step (Some s) = Some (kind.PrepareOk (num_columns s) (num_params s), define (num_params s) (after.Columns (num_columns s)))
+
+abbrev pub acknowledgement_step : Bool → Option Line → Option Reply → Option (Kind × State)
+acknowledgement_step deprecates (Some (line.End more)) r = Some (ending deprecates, state.Rest)
+acknowledgement_step deprecates (Some line.Row) (Some (reply.Ok more)) = Some (kind.Ok, state.Rest)
+acknowledgement_step deprecates (Some line.Row) (Some reply.Infile) = None
+acknowledgement_step deprecates (Some line.Row) (Some (reply.Columns n follow)) = None
+acknowledgement_step deprecates (Some line.Row) None = None
+acknowledgement_step deprecates None r = None
+
+-- a packet of the server that is no error
+abbrev pub serve : Agreed → State → List ℕ → Option (Kind × State)
+serve a state.Rest p = None
+serve a (state.Authentication is_asked) p = authentication_step a p (ok_status a p)
+serve a (state.Infile r) p = None
+serve a (state.Reply r) p = reply_step (deprecates_eof a) r (reply_of a p)
+serve a (state.InfileReply r) p = infile_reply_step r (reply_of a p)
+serve a (state.Definitions n b) p = Some (kind.Column, less (deprecates_eof a) n b)
+serve a (state.DefinitionsEnd b) p = definitions_end_step b (old_end_of a p)
+serve a (state.Rows r) p = line_step (deprecates_eof a) r (line_of a (format_of r) p)
+serve a state.Prepared p = prepared_step (statement_at p)
+serve a state.Fetch p = last_step (deprecates_eof a) (kind.Row Binary) state.Fetch (line_of a Binary p)
+serve a state.Acknowledgement p = acknowledgement_step (deprecates_eof a) (line_of a Text p) (reply_of a p)
+serve a state.Text p = Some (kind.Statistics, state.Rest)
+serve a state.Fields p = last_step (deprecates_eof a) kind.Column state.Fields (line_of a Text p)
+serve a state.Events p = last_step (deprecates_eof a) kind.BinlogEvent state.Events (line_of a Binary p)
+serve a state.Refusal p = None
+
+-- ---- whose turn it is
+
+-- no exchange runs
+abbrev pub rests : State → Bool
+rests state.Rest = true
+rests _ = false
+
+-- the client may answer by a packet that is no command
+abbrev pub listens : State → Bool
+listens (state.Authentication is_asked) = is_asked
+listens (state.Infile r) = true
+listens _ = false
+
+-- the server is to speak, and a packet of the client is not its answer
+abbrev pub is_due : State → Bool
+is_due state.Rest = false
+is_due (state.Authentication true) = false
+is_due (state.Authentication false) = true
+is_due (state.Infile r) = false
+is_due _ = true
+
+-- an error in an exchange, or in none
+abbrev pub error_kind : Bool → Kind
+error_kind true = kind.UnaskedError
+error_kind false = kind.Error
+
+-- which packet it is, if it is no report of progress, and the state after it
+abbrev pub step : Agreed → State → Side → List ℕ → Option (Kind × State)
+step a s Client p = client_step s p
+step a s Server p = if first_is 0xff p then (if is_report a p then None else Some (error_kind (rests s), state.Rest)) else serve a s p
+
+-- from a state the machine takes these packets, answers their kinds, and is in this state then
+abbrev pub Run : Agreed → State → List Packet → State → Type 0
+Run a s [] t = s ≡ t
+Run a s (x ∷ xs) t = (mid : State) × (step a s x.from x.payload ≡ Some (x.kind, mid)) × Run a mid xs t
+
+-- which packet it is, and the state after it
+abbrev pub take_step : Agreed → State → Side → List ℕ → Option (Kind × State)
+take_step a s Client p = step a s Client p
+take_step a s Server p = if is_report a p && is_due s then Some (kind.ProgressReport, s) else step a s Server p
+
+-- the same of packets among which may be reports
+abbrev pub Takes : Agreed → State → List Packet → State → Type 0
+Takes a s [] t = s ≡ t
+Takes a s (x ∷ xs) t = (mid : State) × (take_step a s x.from x.payload ≡ Some (x.kind, mid)) × Takes a mid xs t

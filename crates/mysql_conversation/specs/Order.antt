@@ -1,0 +1,23 @@
+-- The order of packets in a pipelined conversation.
+use Rattle.mysql_conversation.specs.declared.agreed.Agreed.{Agreed}
+use Rattle.std.specs.Prelude.{◌≡◌, ◌≤◌, ℕ, List, [], ◌∷◌, Bool, true, false, if◌then◌else◌}
+use Rattle.mysql_conversation.specs.Conversation.{IsConversation}
+use Rattle.mysql_conversation.specs.declared.kind.Opening.{Opening}
+use Rattle.mysql_conversation.specs.Pipelined.{Numbered, packets, is_client, counted}
+
+abbrev pub from_client : List Numbered → List Numbered
+from_client [] = []
+from_client (x ∷ xs) = if is_client x.packet.from then x ∷ from_client xs else from_client xs
+
+abbrev pub from_server : List Numbered → List Numbered
+from_server [] = []
+from_server (x ∷ xs) = if is_client x.packet.from then from_server xs else x ∷ from_server xs
+
+-- where n commands came before, no packet stands before the command whose exchange it belongs to
+abbrev pub FollowCommands : ℕ → List Numbered → Type 0
+FollowCommands n [] = Unit {0}
+FollowCommands n (x ∷ xs) = (x.number ≤ counted n x.packet) × FollowCommands (counted n x.packet) xs
+
+-- the packets of each side are those of a conversation, in their order, and none stands before its command
+abbrev pub IsInterleaved : Agreed → Opening → List Numbered → Type 0
+IsInterleaved a o items = (others : List Numbered) × IsConversation a o (packets others) × (from_client items ≡ from_client others) × (from_server items ≡ from_server others) × FollowCommands 0 items

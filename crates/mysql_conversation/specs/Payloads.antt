@@ -1,0 +1,115 @@
+-- What a payload says of itself.
+use Rattle.std.specs.Prelude.{◌≡◌, ℕ, zero, suc, ◌<◌, List, [], ◌∷◌, length, Bool, true, false, ◌==◌, nat_lt, not, bit_and, ◌&&◌, if◌then◌else◌}
+use Rattle.mysql_wire.specs.FlagMasks.{SERVER_MORE_RESULTS_EXISTS, SERVER_STATUS_CURSOR_EXISTS}
+use Rattle.mysql_wire.specs.Flags.{StatusFlags, has}
+use Rattle.mysql_wire.specs.Form.{Form}
+use Rattle.mysql_replies.specs.ColumnCount.{column_count, count, metadata_follows}
+use Rattle.mysql_replies.specs.OkKind.{common_ok_body, terminator_body, old_eof_body}
+use Rattle.mysql_replies.specs.OkPacket.{ok_packet, status_flags}
+use Rattle.mysql_replies.specs.declared.column_count.ColumnCount.{ColumnCount}
+use Rattle.mysql_replies.specs.declared.ok_packet.OkPacketDeserializer.{OkPacketDeserializer}
+use Rattle.mysql_replies.specs.declared.ok_kind.CommonOkPacket.{CommonOkPacket}
+use Rattle.mysql_replies.specs.declared.ok_kind.ResultSetTerminator.{ResultSetTerminator}
+use Rattle.mysql_replies.specs.declared.ok_kind.OldEofPacket.{OldEofPacket}
+use Rattle.mysql_prepared.specs.Stmt.{stmt, num_columns, num_params}
+use Rattle.mysql_prepared.specs.declared.stmt.StmtPacket.{StmtPacket}
+use Rattle.mysql_conversation.specs.Agreements.{deprecates_eof, reports_progress}
+use Rattle.mysql_conversation.specs.declared.agreed.Agreed.{Agreed}
+use Rattle.mysql_conversation.specs.declared.kind.Format.{Format}
+use Rattle.mysql_conversation.specs.declared.kind.Format.TheVariants.{Text, Binary}
+
+-- more results come
+abbrev pub has_more : StatusFlags → Bool
+has_more status = has status.0 SERVER_MORE_RESULTS_EXISTS
+
+-- A cursor is open, where no more results come: the results of a routine have their rows, whatever the flag says.
+abbrev pub opens_cursor : StatusFlags → Bool
+opens_cursor status = has status.0 SERVER_STATUS_CURSOR_EXISTS && not (has_more status)
+
+abbrev pub first_is : ℕ → List ℕ → Bool
+first_is b [] = false
+first_is b (x ∷ xs) = x == b
+
+-- ---- OK packets and ends, as the forms of the packets spell them
+
+abbrev pub ok_form : Agreed → Form (OkPacketDeserializer CommonOkPacket)
+ok_form a = ok_packet 0 (common_ok_body a.capabilities)
+
+abbrev pub terminator_form : Agreed → Form (OkPacketDeserializer ResultSetTerminator)
+terminator_form a = ok_packet 0xfe (terminator_body a.capabilities)
+
+abbrev pub old_end_form : Agreed → Form (OkPacketDeserializer OldEofPacket)
+old_end_form a = ok_packet 0xfe (old_eof_body a.capabilities)
+
+-- the payload is such a packet, with this status; bytes may follow it
+abbrev pub SpelledWith : {T : Type 0} → Form (OkPacketDeserializer T) → StatusFlags → List ℕ → Type 0
+SpelledWith {T} form status p = (ok : OkPacketDeserializer T) × (rest : List ℕ) × form.Spells ok p rest × (status_flags ok.0 ≡ status)
+
+-- the payload is an OK packet, whose status says that more results come or not
+abbrev pub IsOk : Agreed → Bool → List ℕ → Type 0
+IsOk a more p = (first_is 0 p ≡ true) × (status : StatusFlags) × SpelledWith (ok_form a) status p × (has_more status ≡ more)
+
+-- fe, and fewer bytes than a row has that begins so
+abbrev pub end_below : Bool → ℕ
+end_below true = 0xffffff
+end_below false = 9
+
+abbrev pub looks_like_end : Bool → List ℕ → Bool
+looks_like_end deprecates p = if first_is 0xfe p then nat_lt (length p) (end_below deprecates) else false
+
+-- the end of rows with this status
+abbrev pub EndsWith : Agreed → Bool → StatusFlags → List ℕ → Type 0
+EndsWith a true status p = SpelledWith (terminator_form a) status p
+EndsWith a false status p = SpelledWith (old_end_form a) status p
+
+abbrev pub IsEnd : Agreed → Bool → List ℕ → Type 0
+IsEnd a more p =
+    (looks_like_end (deprecates_eof a) p ≡ true)
+    × (status : StatusFlags) × EndsWith a (deprecates_eof a) status p × (has_more status ≡ more)
+
+-- the EOF packet after definitions
+abbrev pub IsOldEnd : Agreed → StatusFlags → List ℕ → Type 0
+IsOldEnd a status p = (looks_like_end false p ≡ true) × SpelledWith (old_end_form a) status p
+
+-- ---- the others
+
+abbrev pub IsInfileRequest : List ℕ → Type 0
+IsInfileRequest p = first_is 0xfb p ≡ true
+
+-- a count of columns, of which there is one at least, and whether their definitions follow
+abbrev pub IsCount : Agreed → ℕ → Bool → List ℕ → Type 0
+IsCount a n follow p =
+    (first_is 0 p ≡ false) × (first_is 0xfb p ≡ false) × (0 < n)
+    × (c : ColumnCount) × (rest : List ℕ) × (column_count.form a.mariadb_capabilities).Spells c p rest × (count c ≡ n) × (metadata_follows c ≡ follow)
+
+-- a row of text begins as no end does, and one in binary with 00
+abbrev pub IsRow : Agreed → Format → List ℕ → Type 0
+IsRow a Text p = looks_like_end (deprecates_eof a) p ≡ false
+IsRow a Binary p = first_is 0 p ≡ true
+
+abbrev pub IsPrepared : ℕ → ℕ → List ℕ → Type 0
+IsPrepared columns params p =
+    (s : StmtPacket) × (rest : List ℕ) × (stmt.form tt).Spells s p rest × (num_columns s ≡ columns) × (num_params s ≡ params)
+
+-- ff and the code ffff, where progress reports are agreed on
+abbrev pub begins_with_ff : ℕ → List ℕ → Bool
+begins_with_ff zero p = true
+begins_with_ff (suc n) [] = false
+begins_with_ff (suc n) (b ∷ p) = b == 0xff && begins_with_ff n p
+
+unfoldable pub is_report : Agreed → List ℕ → Bool
+is_report a p = reports_progress a && begins_with_ff 3 p
+
+abbrev pub IsError : Agreed → List ℕ → Type 0
+IsError a p = (first_is 0xff p ≡ true) × (is_report a p ≡ false)
+
+-- one byte and no more
+abbrev pub is_one_byte : List ℕ → Bool
+is_one_byte [] = false
+is_one_byte (b ∷ []) = true
+is_one_byte (b ∷ c ∷ p) = false
+
+-- an execution asks for a cursor: one of the three low bits of the flags, which are the sixth byte
+abbrev pub asks_cursor : List ℕ → Bool
+asks_cursor (code ∷ a ∷ b ∷ c ∷ d ∷ flags ∷ p) = not (bit_and flags 7 == 0)
+asks_cursor _ = false

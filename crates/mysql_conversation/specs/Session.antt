@@ -1,0 +1,97 @@
+-- Whole sessions: the greeting, the login, and the conversation that follows them.
+use Rattle.std.specs.Prelude.{◌≡◌, ◌⊎◌, ℕ, List, [], ◌∷◌, ◌++◌, Bool, true, false}
+use Rattle.mysql_wire.specs.FlagMasks.{CLIENT_SSL}
+use Rattle.mysql_wire.specs.Flags.{has}
+use Rattle.mysql_auth.specs.Handshake.{handshake}
+use Rattle.mysql_auth.specs.Handshake as greeting
+use Rattle.mysql_auth.specs.SslRequest.{ssl_request}
+use Rattle.mysql_auth.specs.SslRequest as head
+use Rattle.mysql_auth.specs.declared.handshake.HandshakePacket.{HandshakePacket}
+use Rattle.mysql_auth.specs.declared.ssl_request.SslRequest.{SslRequest}
+use Rattle.mysql_conversation.specs.Agreements.{agreed_on, compresses}
+use Rattle.mysql_conversation.specs.Payloads.{first_is}
+use Rattle.mysql_conversation.specs.Piped.{PipeTaken}
+use Rattle.mysql_conversation.specs.Pipelined.{Numbered, IsPipelined}
+use Rattle.mysql_conversation.specs.declared.agreed.Agreed.{Agreed}
+use Rattle.mysql_conversation.specs.declared.kind.Kind.{Kind}
+use Rattle.mysql_conversation.specs.declared.kind.Kind.TheVariants as kind
+use Rattle.mysql_conversation.specs.declared.kind.Opening.TheVariants.{Login}
+use Rattle.mysql_conversation.specs.declared.kind.Side.{Side}
+use Rattle.mysql_conversation.specs.declared.kind.Side.TheVariants.{Client, Server}
+use Rattle.mysql_conversation.specs.declared.session.Phase.{Phase}
+use Rattle.mysql_conversation.specs.declared.session.Phase.TheVariants as phase
+use Rattle.mysql_conversation.specs.declared.session.Session.{Session}
+
+-- what a server can do, by its greeting, and a client, by the 32 bytes that its login begins with
+abbrev pub server_of : HandshakePacket → Agreed
+server_of h = record { capabilities = record { 0 = greeting.capabilities h; 1 = record {} }; mariadb_capabilities = greeting.mariadb_ext_capabilities h }
+
+abbrev pub client_of : SslRequest → Agreed
+client_of r = record { capabilities = head.capabilities r; mariadb_capabilities = head.mariadb_capabilities r }
+
+-- the client asks to go on in TLS
+abbrev pub asks_tls : SslRequest → Bool
+asks_tls r = has (head.capabilities r).0 CLIENT_SSL
+
+-- a packet of no command's exchange, of this side and kind
+abbrev pub IsOf : Side → Kind → Numbered → Type 0
+IsOf side k x = (x.packet.from ≡ side) × (x.packet.kind ≡ k) × (x.number ≡ 0)
+
+-- the greeting of a server that can do this
+abbrev pub IsGreeting : Agreed → Numbered → Type 0
+IsGreeting server x = IsOf Server kind.Handshake x × (first_is 0xff x.packet.payload ≡ false)
+    × (h : HandshakePacket) × (rest : List ℕ) × (handshake.form tt).Spells h x.packet.payload rest × (server_of h ≡ server)
+
+-- an error in its place
+abbrev pub IsGreetingError : Numbered → Type 0
+IsGreetingError x = IsOf Server kind.UnaskedError x × (first_is 0xff x.packet.payload ≡ true)
+
+-- the payload begins as a login of such a client
+abbrev pub BeginsAs : SslRequest → List ℕ → Type 0
+BeginsAs r p = (rest : List ℕ) × (ssl_request.form tt).Spells r p rest
+
+-- a request to go on in TLS
+abbrev pub IsSslRequest : Numbered → Type 0
+IsSslRequest x = IsOf Client kind.SslRequest x × (r : SslRequest) × BeginsAs r x.packet.payload × (asks_tls r ≡ true)
+
+-- in TLS a login has the flag by which that was asked for
+abbrev pub MayLogIn : Bool → SslRequest → Type 0
+MayLogIn true r = Unit {0}
+MayLogIn false r = asks_tls r ≡ false
+
+-- a login of a client that can do this
+abbrev pub IsLogin : Bool → Agreed → Numbered → Type 0
+IsLogin tls client x = IsOf Client kind.Login x × (r : SslRequest) × BeginsAs r x.packet.payload × MayLogIn tls r × (client_of r ≡ client)
+
+-- what comes before the login: the greeting, and the request for TLS where that is asked for
+abbrev pub Before : Agreed → Bool → List Numbered → Type 0
+Before server false items = (x : Numbered) × (items ≡ x ∷ []) × IsGreeting server x
+Before server true items = (x : Numbered) × (y : Numbered) × (items ≡ x ∷ y ∷ []) × IsGreeting server x × IsSslRequest y
+
+-- the login of a client, behind what comes before it; both sides agree on no compression
+abbrev pub IsLoggedIn : Agreed → List Numbered → Numbered → Type 0
+IsLoggedIn a front x =
+    (server : Agreed) × (client : Agreed) × (tls : Bool) × Before server tls front × IsLogin tls client x × (agreed_on server client ≡ a) × (compresses a ≡ false)
+
+-- an error in place of the greeting; or the greeting, the login, and a conversation under what both agreed on
+abbrev pub IsSession : List Numbered → Type 0
+IsSession items =
+    ((x : Numbered) × (items ≡ x ∷ []) × IsGreetingError x)
+    ⊎ ((a : Agreed) × (front : List Numbered) × (x : Numbered) × (rest : List Numbered) × (items ≡ front ++ x ∷ rest) × IsLoggedIn a front x × IsPipelined a Login rest)
+
+-- the beginning of a session
+abbrev pub IsSessionBeginning : List Numbered → Type 0
+IsSessionBeginning items = (more : List Numbered) × IsSession (items ++ more)
+
+-- these packets, of these kinds and numbers, are what it has taken
+abbrev pub TakenIn : Phase → List Numbered → Type 0
+TakenIn phase.Greeting items = items ≡ []
+TakenIn phase.Refused items = (x : Numbered) × (items ≡ x ∷ []) × IsGreetingError x
+TakenIn (phase.Login server) items = Before server false items
+TakenIn (phase.Encrypted server) items = Before server true items
+TakenIn (phase.InTls server) items = Before server true items
+TakenIn (phase.Commands p) items =
+    (front : List Numbered) × (x : Numbered) × (rest : List Numbered) × (items ≡ front ++ x ∷ rest) × IsLoggedIn p.agreed front x × (p.opening ≡ Login) × PipeTaken p rest
+
+abbrev pub SessionTaken : Session → List Numbered → Type 0
+SessionTaken s items = TakenIn s.phase items

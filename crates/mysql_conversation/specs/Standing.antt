@@ -1,0 +1,99 @@
+-- The machine with commands that wait.
+use Rattle.mysql_conversation.specs.declared.agreed.Agreed.{Agreed}
+use Rattle.std.specs.Prelude.{◌≡◌, ℕ, ◌+◌, List, [], ◌∷◌, ◌++◌, Bool, true, false, Option, Some, None, ◌&&◌, if◌then◌else◌}
+use Rattle.mysql_conversation.specs.Conversation.{answering}
+use Rattle.mysql_conversation.specs.Machine.{take_step, answers, rests, listens, is_due, entrance}
+use Rattle.mysql_conversation.specs.Payloads.{asks_cursor}
+use Rattle.mysql_conversation.specs.declared.kind.Opening.{Opening}
+use Rattle.mysql_conversation.specs.Pipelined.{Numbered}
+use Rattle.mysql_conversation.specs.declared.kind.Kind.{Kind}
+use Rattle.mysql_conversation.specs.declared.kind.Kind.TheVariants as kind
+use Rattle.mysql_conversation.specs.declared.kind.Side.{Side}
+use Rattle.mysql_conversation.specs.declared.kind.Side.TheVariants.{Client, Server}
+use Rattle.mysql_conversation.specs.declared.state.State.{State}
+use Rattle.mysql_conversation.specs.declared.state.State.TheVariants as state
+use Rattle.mysql_conversation.specs.declared.state.Command.{Command}
+use Rattle.mysql_conversation.specs.declared.state.Answer.{Answer}
+use Rattle.mysql_conversation.specs.declared.pipeline.Waiting.{Waiting}
+
+-- the state of the exchange that runs, its number, that of the last command, and the commands that wait
+pub record Standing : Type 0 where
+  pub state : State
+  pub number : ℕ
+  pub last : ℕ
+  pub waiting : List Waiting
+
+abbrev pub standing : State → ℕ → ℕ → List Waiting → Standing
+standing s i l q = record { state = s; number = i; last = l; waiting = q }
+
+-- ---- commands
+
+abbrev pub known : ℕ → Option Answer → Option Command
+known code None = None
+known code (Some answer) = Some (record { code = code; answer = answer })
+
+-- the command that a payload is, if it is one
+abbrev pub command_of : List ℕ → Option Command
+command_of [] = None
+command_of (code ∷ bytes) = known code (answering code (asks_cursor (code ∷ bytes)))
+
+abbrev pub kind_of : Command → Kind
+kind_of c = kind.Command c.code
+
+abbrev pub begin : Command → State
+begin c = answers c.answer
+
+abbrev pub wait : Command → ℕ → Waiting
+wait c n = record { command = c; number = n }
+
+abbrev pub waits : List Waiting → Bool
+waits [] = false
+waits (n ∷ q) = true
+
+-- where an exchange is over, the next begins that waits
+abbrev pub settle : State → ℕ → ℕ → List Waiting → Standing
+settle s i l [] = standing s i l []
+settle s i l (n ∷ q) = if rests s then settle (begin n.command) n.number l q else standing s i l (n ∷ q)
+
+-- ---- the steps
+
+abbrev pub push : Standing → Command → Standing
+push w c = standing w.state w.number (w.last + 1) (w.waiting ++ wait c (w.last + 1) ∷ [])
+
+abbrev pub early : Standing → Option Command → Option (Kind × ℕ × Standing)
+early w None = None
+early w (Some c) = Some (kind_of c, w.last + 1, push w c)
+
+-- a packet that is no command stands behind all commands that came
+abbrev pub aside : Standing → Option (Kind × State) → Option Command → Option (Kind × ℕ × Standing)
+aside w None c = early w c
+aside w (Some (k, m)) c = if waits w.waiting then None else Some (k, w.number, standing m w.number w.last w.waiting)
+
+abbrev pub in_turn : Standing → Option (Kind × State) → Option (Kind × ℕ × Standing)
+in_turn w None = None
+in_turn w (Some (k, m)) =
+    if rests w.state then Some (k, w.last + 1, standing m (w.last + 1) (w.last + 1) w.waiting)
+    else Some (k, w.number, standing m w.number w.last w.waiting)
+
+-- nothing is asked of the client where its next packets are commands that came
+abbrev pub served : Standing → Option (Kind × State) → Option (Kind × ℕ × Standing)
+served w None = None
+served w (Some (k, m)) = if listens m && waits w.waiting then None else Some (k, w.number, settle m w.number w.last w.waiting)
+
+-- which packet it is, the number of its exchange, and how it stands after it
+abbrev pub pipe_step : Agreed → Standing → Side → List ℕ → Option (Kind × ℕ × Standing)
+pipe_step a w Client p = if is_due w.state then aside w (take_step a w.state Client p) (command_of p) else in_turn w (take_step a w.state Client p)
+pipe_step a w Server p = served w (take_step a w.state Server p)
+
+abbrev pub step_of : Agreed → Standing → Numbered → Option (Kind × ℕ × Standing)
+step_of a w x = pipe_step a w x.packet.from x.packet.payload
+
+abbrev pub Steps : Agreed → Standing → Numbered → Standing → Type 0
+Steps a w x m = step_of a w x ≡ Some (x.packet.kind, x.number, m)
+
+abbrev pub PipeRun : Agreed → Standing → List Numbered → Standing → Type 0
+PipeRun a w [] t = w ≡ t
+PipeRun a w (x ∷ xs) t = (mid : Standing) × Steps a w x mid × PipeRun a mid xs t
+
+abbrev pub start : Opening → Standing
+start o = standing (entrance o) 0 0 []

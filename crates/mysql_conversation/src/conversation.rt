@@ -1,0 +1,63 @@
+//! Which packet comes next.
+
+ghost use Rattle.std.specs.Prelude.{◌≡◌, ◌↔◌, IfOk, OnErr, IsTrue, List, [], ◌∷◌, ◌++◌};
+
+use crate::agreed::Agreed;
+use crate::kind::{Kind, Opening, Side, Unexpected};
+use crate::state::State;
+use crate::step::{entrance, rests, take_step};
+use std::alloc::Global;
+
+/// Which packets a client and a server exchange that agreed on something: it is fed each payload, and tells which packet it is.
+///
+/// It takes no memory. Each command is answered before the next one comes; where commands come before the answers to earlier ones,
+/// [`Pipeline`](crate::Pipeline) tells them apart.
+#[derive(Drop)]
+pub struct Conversation {
+    pub(crate) alloc: Global,
+    pub(crate) agreed: Agreed,
+    pub(crate) opening: Opening,
+    pub(crate) state: State,
+}
+
+impl Conversation {
+    ghost use Rattle.mysql_conversation.specs.Conversation.{Packet, IsConversation, IsBeginning};
+    ghost use Rattle.mysql_conversation.specs.History.{Taken};
+    ghost use Rattle.mysql_conversation.specs.Taken.{packet};
+    ghost use Rattle.mysql_conversation.specs.declared.kind.Kind as declared;
+
+    /// One of which no packet has come. It begins after the login, or between two commands of a connection that is taken up later.
+    pub fn new(alloc: Global, agreed: Agreed, opening: Opening) -> Self
+        ensures taken { Taken result [] }
+        ensures agreed { result.agreed ≡ agreed }
+        ensures opening { result.opening ≡ opening }
+    {
+        Conversation {
+            alloc,
+            agreed,
+            opening,
+            state: entrance(opening),
+        }
+    }
+
+    /// Whether the last exchange is over.
+    pub fn is_at_rest(&self) -> bool
+        ensures { (items : List Packet) → Taken self.now items → IsTrue result ↔ IsConversation self.now.agreed self.now.opening items }
+    {
+        rests(&self.state)
+    }
+
+    /// Which packet it is. A refusal changes nothing.
+    #[inline]
+    pub fn next(&mut self, from: Side, payload: &[u8]) -> Result<Kind, Unexpected>
+        // What was taken has now this packet, of this kind, at its end.
+        ensures taken { IfOk result (λ kind. (items : List Packet) → Taken self.old items → Taken self.new (items ++ packet from payload.now kind ∷ [])) }
+        // Of no kind does the packet go on with what was taken.
+        ensures refused { OnErr result ((items : List Packet) (kind : declared.Kind) → Taken self.old items → IsBeginning self.old.agreed self.old.opening (items ++ packet from payload.now kind ∷ []) → ⊥) }
+        ensures err { OnErr result (self.new ≡ self.old) }
+        ensures agreed { self.new.agreed ≡ self.old.agreed }
+        ensures opening { self.new.opening ≡ self.old.opening }
+    {
+        take_step(self.alloc, self.agreed, &mut self.state, from, payload)
+    }
+}

@@ -1,0 +1,22 @@
+//! Conversations: which packet comes next.
+//!
+//! Which packet a payload is hangs on who sends it, on what both sides agreed on, and on all that came before. [`Conversation`] is fed
+//! each payload of both sides, and tells of which kind it is, exactly where the grammar of the protocol goes on with it. [`Pipeline`]
+//! does the same where a client sends commands before the answers to earlier ones.
+#![tactic(auto)]
+
+mod agreed;
+mod conversation;
+mod kind;
+pub mod laws;
+mod payload;
+mod pipeline;
+mod session;
+mod state;
+mod step;
+
+pub use agreed::Agreed;
+pub use conversation::Conversation;
+pub use kind::{Format, Kind, Opening, Side, Unexpected};
+pub use pipeline::{Pipeline, Refusal};
+pub use session::Session;

@@ -1,0 +1,287 @@
+//! What a payload is.
+
+ghost use Rattle.std.specs.Prelude.{◌≡◌, true, false, Some, None, IsTrue};
+ghost use Rattle.mysql_conversation.specs.declared.state.Line.TheVariants.{Row};
+ghost use Rattle.mysql_conversation.specs.Machine as spec;
+ghost use Rattle.mysql_conversation.specs.Conversation as grammar;
+ghost use Rattle.mysql_conversation.specs.Payloads as payloads;
+ghost use Rattle.mysql_conversation.specs.Standing as standing;
+
+use crate::agreed::Agreed;
+use crate::kind::{Format, Kind};
+use crate::state::{Answer, Command, Line, Reply, Request};
+use bitflags::Flags;
+use mysql_prepared::StmtPacket;
+use mysql_replies::{
+    ColumnCount, CommonOkPacket, OkPacketRefDeserializer, OldEofPacket, ResultSetTerminator,
+};
+use mysql_wire::{FaultOf, ParseBuf, StatusFlags};
+use std::alloc::Global;
+
+#[inline(always)]
+pub(crate) fn has_more(status: StatusFlags) -> bool
+    ensures { result ≡ payloads.has_more status }
+{
+    status.contains(StatusFlags::SERVER_MORE_RESULTS_EXISTS)
+}
+
+#[inline(always)]
+pub(crate) fn opens_cursor(status: StatusFlags) -> bool
+    ensures { result ≡ payloads.opens_cursor status }
+{
+    status.contains(StatusFlags::SERVER_STATUS_CURSOR_EXISTS) && !has_more(status)
+}
+
+#[inline(always)]
+pub(crate) fn first_is(byte: u8, payload: &[u8]) -> bool
+    ensures { result ≡ payloads.first_is byte payload.now }
+{
+    match payload.first() {
+        Some(first) => *first == byte,
+        None => false,
+    }
+}
+
+/// Whether the first byte says that it is a row, among rows.
+#[inline(always)]
+pub(crate) fn is_row_by_first(format: Format, payload: &[u8]) -> bool
+    ensures { IsTrue result → (payloads.first_is 0xff payload.now ≡ false) × (payloads.first_is 0xfe payload.now ≡ false) × (spec.row_of format payload.now ≡ Some Row) }
+{
+    match payload.first() {
+        Some(first) => match format {
+            Format::Text => *first < 0xfe,
+            Format::Binary => *first == 0,
+        },
+        None => false,
+    }
+}
+
+/// Whether it is a report of progress, where those are agreed on.
+#[tactic(auto, unfolding(crate::specs::Payloads::is_report))]
+#[inline(always)]
+pub(crate) fn is_report(agreed: Agreed, payload: &[u8]) -> bool
+    ensures { result ≡ payloads.is_report agreed payload.now }
+{
+    agreed.reports_progress()
+        && match payload {
+            [first, second, third, ..] => *first == 0xff && *second == 0xff && *third == 0xff,
+            _ => false,
+        }
+}
+
+#[inline(always)]
+fn is_one_byte(payload: &[u8]) -> bool
+    ensures { result ≡ payloads.is_one_byte payload.now }
+{
+    matches!(payload, [_])
+}
+
+/// Whether an execution asks for a cursor.
+#[inline(always)]
+fn asks_cursor(payload: &[u8]) -> bool
+    ensures { result ≡ payloads.asks_cursor payload.now }
+{
+    match payload {
+        [_, _, _, _, _, flags, ..] => *flags & 7 != 0,
+        _ => false,
+    }
+}
+
+#[inline(always)]
+fn looks_like_end(deprecates: bool, payload: &[u8]) -> bool
+    ensures { result ≡ payloads.looks_like_end deprecates payload.now }
+{
+    let below = if deprecates { 0xff_ffff } else { 9 };
+    first_is(0xfe, payload) && payload.len() < below
+}
+
+#[tactic(auto, using(crate::proofs::Faults::faults), unfolding(crate::specs::Machine::ok_status))]
+pub(crate) fn ok_status(alloc: Global, agreed: Agreed, payload: &[u8]) -> Option<StatusFlags>
+    ensures { result ≡ spec.ok_status agreed payload.now }
+{
+    let mut buf = ParseBuf::new(alloc, payload);
+    let read: Result<OkPacketRefDeserializer<CommonOkPacket>, FaultOf> = buf.parse(
+        agreed.capabilities,
+    );
+    match read {
+        Ok(ok) => Some(ok.into_inner().status_flags()),
+        Err(_) => None,
+    }
+}
+
+#[tactic(auto, using(crate::proofs::Faults::faults), unfolding(crate::specs::Machine::old_end_status))]
+fn old_end_status(alloc: Global, agreed: Agreed, payload: &[u8]) -> Option<StatusFlags>
+    ensures { result ≡ spec.old_end_status agreed payload.now }
+{
+    let mut buf = ParseBuf::new(alloc, payload);
+    let read: Result<OkPacketRefDeserializer<OldEofPacket>, FaultOf> = buf.parse(
+        agreed.capabilities,
+    );
+    match read {
+        Ok(ok) => Some(ok.into_inner().status_flags()),
+        Err(_) => None,
+    }
+}
+
+#[tactic(auto, using(crate::proofs::Faults::faults), unfolding(crate::specs::Machine::terminator_status))]
+fn terminator_status(alloc: Global, agreed: Agreed, payload: &[u8]) -> Option<StatusFlags>
+    ensures { result ≡ spec.terminator_status agreed payload.now }
+{
+    let mut buf = ParseBuf::new(alloc, payload);
+    let read: Result<OkPacketRefDeserializer<ResultSetTerminator>, FaultOf> = buf.parse(
+        agreed.capabilities,
+    );
+    match read {
+        Ok(ok) => Some(ok.into_inner().status_flags()),
+        Err(_) => None,
+    }
+}
+
+#[tactic(auto, using(crate::proofs::Faults::faults), unfolding(crate::specs::Machine::count_at))]
+fn count_at(alloc: Global, agreed: Agreed, payload: &[u8]) -> Option<ColumnCount>
+    ensures { result ≡ spec.count_at agreed payload.now }
+{
+    let mut buf = ParseBuf::new(alloc, payload);
+    let read: Result<ColumnCount, FaultOf> = buf.parse(agreed.mariadb_capabilities);
+    match read {
+        Ok(count) => Some(count),
+        Err(_) => None,
+    }
+}
+
+#[tactic(auto, using(crate::proofs::Faults::faults), unfolding(crate::specs::Machine::statement_at))]
+pub(crate) fn statement_at(alloc: Global, payload: &[u8]) -> Option<StmtPacket>
+    ensures { result ≡ spec.statement_at payload.now }
+{
+    let mut buf = ParseBuf::new(alloc, payload);
+    let read: Result<StmtPacket, FaultOf> = buf.parse(());
+    match read {
+        Ok(statement) => Some(statement),
+        Err(_) => None,
+    }
+}
+
+#[inline(always)]
+pub(crate) fn reply_of(alloc: Global, agreed: Agreed, payload: &[u8]) -> Option<Reply>
+    ensures { result ≡ spec.reply_of agreed payload.now }
+{
+    if first_is(0, payload) {
+        return Some(Reply::Ok(has_more(ok_status(alloc, agreed, payload)?)));
+    }
+    if first_is(0xfb, payload) {
+        return Some(Reply::Infile);
+    }
+    let columns = count_at(alloc, agreed, payload)?;
+    if 0 < columns.count() {
+        Some(Reply::Columns(columns.count(), columns.metadata_follows()))
+    } else {
+        None
+    }
+}
+
+#[inline(always)]
+pub(crate) fn old_end_of(alloc: Global, agreed: Agreed, payload: &[u8]) -> Option<StatusFlags>
+    ensures { result ≡ spec.old_end_of agreed payload.now }
+{
+    if looks_like_end(false, payload) {
+        old_end_status(alloc, agreed, payload)
+    } else {
+        None
+    }
+}
+
+#[inline(always)]
+fn end_status(
+    alloc: Global,
+    agreed: Agreed,
+    deprecates: bool,
+    payload: &[u8],
+) -> Option<StatusFlags>
+    ensures { result ≡ spec.end_status agreed deprecates payload.now }
+{
+    if deprecates {
+        terminator_status(alloc, agreed, payload)
+    } else {
+        old_end_status(alloc, agreed, payload)
+    }
+}
+
+#[inline(always)]
+pub(crate) fn line_of(alloc: Global, agreed: Agreed, format: Format, payload: &[u8]) -> Option<Line>
+    ensures { result ≡ spec.line_of agreed format payload.now }
+{
+    let deprecates = agreed.deprecates_eof();
+    if looks_like_end(deprecates, payload) {
+        let status = end_status(alloc, agreed, deprecates, payload)?;
+        return Some(Line::End(has_more(status)));
+    }
+    match format {
+        Format::Text => Some(Line::Row),
+        Format::Binary => {
+            if first_is(0, payload) {
+                Some(Line::Row)
+            } else {
+                None
+            }
+        }
+    }
+}
+
+/// What the server says before a client is logged in, by the first byte.
+#[inline(always)]
+pub(crate) fn authentication_kind(agreed: Agreed, payload: &[u8]) -> Kind
+    ensures { result ≡ grammar.authentication_kind agreed payload.now }
+{
+    if first_is(0xfe, payload) {
+        return if is_one_byte(payload) {
+            Kind::OldAuthSwitch
+        } else {
+            Kind::AuthSwitch
+        };
+    }
+    if first_is(1, payload) {
+        return Kind::AuthMoreData;
+    }
+    if first_is(2, payload) && agreed.asks_factors() {
+        return Kind::AuthNextFactor;
+    }
+    Kind::AuthPluginData
+}
+
+/// What answers a command with this first byte, if it is one.
+#[inline(always)]
+fn answering(code: u8, cursor: bool) -> Option<Answer>
+    ensures { result ≡ grammar.answering code cursor }
+{
+    match code {
+        0x03 | 0x0a => Some(Answer::Results(Request::Query)),
+        0x17 => Some(Answer::Results(if cursor {
+            Request::Cursor
+        } else {
+            Request::Execution
+        })),
+        0xfa => Some(Answer::Results(Request::Execution)),
+        0x16 => Some(Answer::Prepared),
+        0x1c => Some(Answer::Rows),
+        0x19 | 0x18 | 0x01 => Some(Answer::Nothing),
+        0x0e | 0x02 | 0x1a | 0x1b | 0x1f | 0x05 | 0x06 | 0x07 | 0x08 | 0x0c | 0x0d | 0x15 => {
+            Some(Answer::Acknowledgement)
+        }
+        0x09 => Some(Answer::Text),
+        0x04 => Some(Answer::Fields),
+        0x11 => Some(Answer::Authentication),
+        0x12 | 0x1e => Some(Answer::Events),
+        0xef => None,
+        _ => Some(Answer::Refusal),
+    }
+}
+
+/// The command that a payload is, if it is one.
+#[inline(always)]
+pub(crate) fn command_of(payload: &[u8]) -> Option<Command>
+    ensures { result ≡ standing.command_of payload.now }
+{
+    let code = *payload.first()?;
+    let answer = answering(code, asks_cursor(payload))?;
+    Some(Command { code, answer })
+}

@@ -1,0 +1,248 @@
+//! Commands that come before the answers to earlier ones.
+
+ghost use Rattle.std.specs.VecDeque.{deque_capacity, deque_len};
+ghost use Rattle.std.specs.Prelude.{true, ◌≡◌, ◌≢◌, ◌↔◌, ◌≤◌, ◌<◌, false, IfOk, IfErr, OnErr, IsTrue, List, [], ◌∷◌, ◌++◌, ℕ, ◌-◌, ◌^◌, ◌⊎◌, length, Some, None};
+ghost use Rattle.mysql_conversation.specs.Machine as machine;
+ghost use Rattle.mysql_conversation.specs.Standing as spec;
+ghost use Rattle.mysql_conversation.specs.Piped.{stands};
+
+use crate::agreed::Agreed;
+use crate::kind::{Kind, Opening, Side};
+use crate::payload::command_of;
+use crate::state::{Command, State};
+use crate::step::{answers, entrance, is_due, listens, rests, take_sent, take_step};
+use std::alloc::Global;
+use std::collections::VecDeque;
+
+/// A command that waits, and its number.
+#[derive(Clone, Copy, Debug, PartialEq, Eq)]
+pub(crate) struct Waiting {
+    pub(crate) command: Command,
+    pub(crate) number: u64,
+}
+
+/// Why a packet is not taken.
+#[derive(Clone, Copy, Debug, PartialEq, Eq)]
+pub enum Refusal {
+    /// It doesn't come here.
+    Unexpected,
+    /// As many commands wait as may.
+    Full,
+    /// There is no memory for a command that waits.
+    Memory,
+    /// It goes on in TLS, so that the bytes are not ours: of a session alone.
+    Encrypted,
+    /// Both sides agreed on compression, so that the bytes behind the login are not ours: of a session alone.
+    Compressed,
+}
+
+/// Whether a command waits.
+#[inline(always)]
+fn waits(waiting: &VecDeque<Waiting>) -> bool
+    ensures { result ≡ spec.waits waiting.now.items }
+{
+    match waiting.front() {
+        Some(_) => true,
+        None => false,
+    }
+}
+
+/// A conversation in which commands may come before the answers to earlier ones.
+///
+/// As many commands wait as its limit, and no more memory is taken than they need: 24 bytes for each. With a limit of 0 it takes none,
+/// and tells of early commands by [`Refusal::Full`].
+#[derive(Drop)]
+pub struct Pipeline {
+    pub(crate) alloc: Global,
+    pub(crate) agreed: Agreed,
+    pub(crate) opening: Opening,
+    pub(crate) limit: usize,
+    pub(crate) state: State,
+    pub(crate) number: u64,
+    pub(crate) last: u64,
+    pub(crate) waiting: VecDeque<Waiting>,
+}
+
+impl Pipeline {
+    ghost use Rattle.mysql_conversation.specs.Pipelined.{Numbered, IsPipelined, IsPipelinedBeginning};
+    ghost use Rattle.mysql_conversation.specs.Piped.{PipeTaken, place};
+    ghost use Rattle.mysql_conversation.specs.declared.kind.Kind as declared;
+    ghost use Rattle.mysql_conversation.specs.declared.kind.Side.TheVariants as side;
+    ghost use Rattle.mysql_conversation.specs.declared.pipeline.Refusal.TheVariants as refusal;
+
+    /// One of which no packet has come, where as many commands may wait as the limit.
+    pub fn new(alloc: Global, agreed: Agreed, opening: Opening, limit: usize) -> Self
+        ensures taken { PipeTaken result [] }
+        ensures agreed { result.agreed ≡ agreed }
+        ensures opening { result.opening ≡ opening }
+        ensures limit { result.limit ≡ limit }
+    {
+        Pipeline {
+            alloc,
+            agreed,
+            opening,
+            limit,
+            state: entrance(opening),
+            number: 0,
+            last: 0,
+            waiting: VecDeque::new(alloc),
+        }
+    }
+
+    /// Whether the last exchange is over.
+    pub fn is_at_rest(&self) -> bool
+        ensures { (items : List Numbered) → PipeTaken self.now items → IsTrue result ↔ IsPipelined self.now.agreed self.now.opening items }
+    {
+        rests(&self.state) && !waits(&self.waiting)
+    }
+
+    /// How many commands wait for the server to come to them.
+    pub fn waiting(&self) -> usize
+        ensures { result ≡ length self.now.waiting.items }
+    {
+        self.waiting.len()
+    }
+
+    /// Where an exchange is over, the next begins that waits.
+    fn settle(&mut self)
+        ensures settled { stands self.new ≡ spec.settle self.old.state self.old.number self.old.last self.old.waiting.items }
+        ensures agreed { self.new.agreed ≡ self.old.agreed }
+        ensures opening { self.new.opening ≡ self.old.opening }
+        ensures limit { self.new.limit ≡ self.old.limit }
+    {
+        while rests(&self.state) {
+            match self.waiting.pop_front() {
+                Some(next) => {
+                    self.state = answers(next.command.answer);
+                    self.number = next.number;
+                }
+                None => break,
+            }
+        }
+    }
+
+    /// Which packet it is, and the number of the command whose exchange it belongs to: the first is 1.
+    pub fn next(&mut self, from: Side, payload: &[u8]) -> Result<(Kind, u64), Refusal>
+        // What was taken has now this packet, of this kind and number, at its end.
+        ensures taken { IfOk result (λ x. (items : List Numbered) → PipeTaken self.old items → PipeTaken self.new (items ++ place from payload.now x.0 x.1 ∷ [])) }
+        // Of no kind and number does the packet go on with what was taken.
+        ensures refused { IfErr result (λ why. (items : List Numbered) (kind : declared.Kind) (number : ℕ) → why ≡ refusal.Unexpected → PipeTaken self.old items
+            → IsPipelinedBeginning self.old.agreed self.old.opening (items ++ place from payload.now kind number ∷ []) → ⊥) }
+        // The packet would have to wait, and as many commands wait as may; or 2^64 - 1 commands came.
+        ensures full { IfErr result (λ why. why ≡ refusal.Full → (from ≡ side.Client) × (((machine.is_due self.old.state ≡ true) × (self.old.limit ≤ length self.old.waiting.items)) ⊎ (self.old.last ≡ 2 ^ 64 - 1))) }
+        // The packet would have to wait, and there is no room for it.
+        ensures memory { IfErr result (λ why. why ≡ refusal.Memory → (from ≡ side.Client) × (machine.is_due self.old.state ≡ true) × (deque_capacity self.old.waiting ≤ deque_len self.old.waiting)) }
+        // (the others are of a session alone)
+        ensures ours { IfErr result (λ why. (why ≢ refusal.Encrypted) × (why ≢ refusal.Compressed)) }
+        ensures err { OnErr result (stands self.new ≡ stands self.old) }
+        ensures agreed { self.new.agreed ≡ self.old.agreed }
+        ensures opening { self.new.opening ≡ self.old.opening }
+        ensures limit { self.new.limit ≡ self.old.limit }
+    {
+        match from {
+            Side::Client => self.take_client(payload),
+            Side::Server => self.take_server(payload),
+        }
+    }
+
+    /// A packet of the client.
+    fn take_client(&mut self, payload: &[u8]) -> Result<(Kind, u64), Refusal>
+        ensures taken { IfOk result (λ x. spec.pipe_step self.old.agreed (stands self.old) side.Client payload.now ≡ Some (x.0, x.1, stands self.new)) }
+        ensures refused { IfErr result (λ why. why ≡ refusal.Unexpected → spec.pipe_step self.old.agreed (stands self.old) side.Client payload.now ≡ None) }
+        ensures full { IfErr result (λ why. why ≡ refusal.Full → ((machine.is_due self.old.state ≡ true) × (self.old.limit ≤ length self.old.waiting.items)) ⊎ (self.old.last ≡ 2 ^ 64 - 1)) }
+        ensures memory { IfErr result (λ why. why ≡ refusal.Memory → (machine.is_due self.old.state ≡ true) × (deque_capacity self.old.waiting ≤ deque_len self.old.waiting)) }
+        ensures ours { IfErr result (λ why. (why ≢ refusal.Encrypted) × (why ≢ refusal.Compressed)) }
+        ensures err { OnErr result (stands self.new ≡ stands self.old) }
+        ensures agreed { self.new.agreed ≡ self.old.agreed }
+        ensures opening { self.new.opening ≡ self.old.opening }
+        ensures limit { self.new.limit ≡ self.old.limit }
+    {
+        let mut state = self.state;
+        let taken = take_sent(self.agreed, &mut state, payload);
+        if is_due(&self.state) {
+            return match taken {
+                Ok(kind) => self.set_aside(kind, state),
+                Err(_) => self.push(payload),
+            };
+        }
+        let Ok(kind) = taken else {
+            return Err(Refusal::Unexpected);
+        };
+        if rests(&self.state) {
+            let Some(number) = self.last.checked_add(1) else {
+                return Err(Refusal::Full);
+            };
+            self.last = number;
+            self.number = number;
+        }
+        self.state = state;
+        Ok((kind, self.number))
+    }
+
+    /// A packet of the client that is no command, while the server is to speak. It stands behind all commands that came.
+    fn set_aside(&mut self, kind: Kind, state: State) -> Result<(Kind, u64), Refusal>
+        ensures taken { IfOk result (λ x. spec.waits self.old.waiting.items ≡ false × (x.0 ≡ kind) × (x.1 ≡ self.old.number) × (stands self.new ≡ spec.standing state self.old.number self.old.last self.old.waiting.items)) }
+        ensures refused { IfErr result (λ why. (why ≡ refusal.Unexpected) × (spec.waits self.old.waiting.items ≡ true)) }
+        ensures err { OnErr result (stands self.new ≡ stands self.old) }
+        ensures agreed { self.new.agreed ≡ self.old.agreed }
+        ensures opening { self.new.opening ≡ self.old.opening }
+        ensures limit { self.new.limit ≡ self.old.limit }
+    {
+        if waits(&self.waiting) {
+            return Err(Refusal::Unexpected);
+        }
+        self.state = state;
+        Ok((kind, self.number))
+    }
+
+    /// A command that comes before the answers to earlier ones.
+    fn push(&mut self, payload: &[u8]) -> Result<(Kind, u64), Refusal>
+        ensures taken { IfOk result (λ x. spec.early (stands self.old) (spec.command_of payload.now) ≡ Some (x.0, x.1, stands self.new)) }
+        ensures refused { IfErr result (λ why. why ≡ refusal.Unexpected → spec.early (stands self.old) (spec.command_of payload.now) ≡ None) }
+        ensures full { IfErr result (λ why. why ≡ refusal.Full → (self.old.limit ≤ length self.old.waiting.items) ⊎ (self.old.last ≡ 2 ^ 64 - 1)) }
+        ensures memory { IfErr result (λ why. why ≡ refusal.Memory → (length self.old.waiting.items < self.old.limit) × (deque_capacity self.old.waiting ≤ deque_len self.old.waiting)) }
+        ensures ours { IfErr result (λ why. (why ≢ refusal.Encrypted) × (why ≢ refusal.Compressed)) }
+        ensures err { OnErr result (stands self.new ≡ stands self.old) }
+        ensures agreed { self.new.agreed ≡ self.old.agreed }
+        ensures opening { self.new.opening ≡ self.old.opening }
+        ensures limit { self.new.limit ≡ self.old.limit }
+    {
+        let Some(command) = command_of(payload) else {
+            return Err(Refusal::Unexpected);
+        };
+        if self.waiting.len() >= self.limit {
+            return Err(Refusal::Full);
+        }
+        let Some(number) = self.last.checked_add(1) else {
+            return Err(Refusal::Full);
+        };
+        if self.waiting.push_back(Waiting { command, number }).is_err() {
+            return Err(Refusal::Memory);
+        }
+        self.last = number;
+        Ok((Kind::Command(command.code), number))
+    }
+
+    /// A packet of the server.
+    fn take_server(&mut self, payload: &[u8]) -> Result<(Kind, u64), Refusal>
+        ensures taken { IfOk result (λ x. spec.pipe_step self.old.agreed (stands self.old) side.Server payload.now ≡ Some (x.0, x.1, stands self.new)) }
+        ensures refused { IfErr result (λ why. (why ≡ refusal.Unexpected) × (spec.pipe_step self.old.agreed (stands self.old) side.Server payload.now ≡ None)) }
+        ensures err { OnErr result (stands self.new ≡ stands self.old) }
+        ensures agreed { self.new.agreed ≡ self.old.agreed }
+        ensures opening { self.new.opening ≡ self.old.opening }
+        ensures limit { self.new.limit ≡ self.old.limit }
+    {
+        let mut state = self.state;
+        let taken = take_step(self.alloc, self.agreed, &mut state, Side::Server, payload);
+        let Ok(kind) = taken else {
+            return Err(Refusal::Unexpected);
+        };
+        if listens(&state) && waits(&self.waiting) {
+            return Err(Refusal::Unexpected);
+        }
+        let number = self.number;
+        self.state = state;
+        self.settle();
+        Ok((kind, number))
+    }
+}

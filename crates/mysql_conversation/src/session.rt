@@ -1,0 +1,231 @@
+//! Whole sessions.
+
+ghost use Rattle.std.specs.Prelude.{◌≡◌, ◌↔◌, ◌⊎◌, ◌≤◌, ◌-◌, ◌^◌, IfOk, IfErr, OnErr, IsTrue, List, [], ◌∷◌, ◌++◌, ℕ, true, false, None, Some, length, not, ◌&&◌};
+ghost use Rattle.std.specs.VecDeque.{deque_capacity, deque_len};
+ghost use Rattle.mysql_auth.specs.declared.ssl_request.SslRequest as login_head;
+ghost use Rattle.mysql_conversation.specs.Agreements.{agreed_on, compresses};
+ghost use Rattle.mysql_conversation.specs.Machine.{is_due};
+ghost use Rattle.mysql_conversation.specs.Payloads as payloads;
+ghost use Rattle.mysql_conversation.specs.Session as sessions;
+ghost use Rattle.mysql_conversation.specs.SessionSteps.{greeting_at, login_at};
+
+use crate::agreed::Agreed;
+use crate::kind::{Kind, Opening, Side};
+use crate::payload::first_is;
+use crate::pipeline::{Pipeline, Refusal};
+use bitflags::Flags;
+use mysql_auth::{HandshakePacketRef, SslRequest};
+use mysql_wire::{CapabilityFlags, FaultOf, ParseBuf};
+use std::alloc::Global;
+
+/// What comes next in a session, and what the server can do.
+#[derive(Drop)]
+pub(crate) enum Phase {
+    /// The greeting, or an error in its place.
+    Greeting,
+    /// Nothing: there was an error in place of the greeting.
+    Refused,
+    /// The login, or a request to go on in TLS.
+    Login(Agreed),
+    /// Nothing that is ours: it goes on in TLS.
+    Encrypted(Agreed),
+    /// The login, which the caller has deciphered.
+    InTls(Agreed),
+    /// The conversation that follows the login.
+    Commands(Pipeline),
+}
+
+/// A session from the server's greeting on: it is fed each payload of both sides, and tells which packet it is.
+///
+/// The greeting and the login say what both sides agreed on; from there on it is a [`Pipeline`].
+#[derive(Drop)]
+pub struct Session {
+    alloc: Global,
+    limit: usize,
+    pub(crate) phase: Phase,
+}
+
+/// What a server can do, where the payload is its greeting.
+#[tactic(auto, using(crate::proofs::Faults::faults), unfolding(crate::specs::SessionSteps::greeting_at))]
+fn greeting(alloc: Global, payload: &[u8]) -> Option<Agreed>
+    ensures { result ≡ greeting_at payload.now }
+{
+    let mut buf = ParseBuf::new(alloc, payload);
+    let read: Result<HandshakePacketRef<'_>, FaultOf> = buf.parse(());
+    match read {
+        Ok(packet) => Some(Agreed {
+            capabilities: packet.capabilities(),
+            mariadb_capabilities: packet.mariadb_ext_capabilities(),
+        }),
+        Err(_) => None,
+    }
+}
+
+/// The 32 bytes that a login begins with.
+#[tactic(auto, using(crate::proofs::Faults::faults), unfolding(crate::specs::SessionSteps::login_at))]
+fn login(alloc: Global, payload: &[u8]) -> Option<SslRequest>
+    ensures { result ≡ login_at payload.now }
+{
+    let mut buf = ParseBuf::new(alloc, payload);
+    let read: Result<SslRequest, FaultOf> = buf.parse(());
+    match read {
+        Ok(head) => Some(head),
+        Err(_) => None,
+    }
+}
+
+/// Whether a login asks to go on in TLS. In TLS each has the flag that does.
+fn asks_tls(in_tls: bool, head: &SslRequest) -> bool
+    ensures { result ≡ not in_tls && sessions.asks_tls head.now }
+{
+    !in_tls && head.capabilities().contains(CapabilityFlags::CLIENT_SSL)
+}
+
+/// What a client can do.
+fn client_of(head: &SslRequest) -> Agreed
+    ensures { result ≡ sessions.client_of head.now }
+{
+    Agreed {
+        capabilities: head.capabilities(),
+        mariadb_capabilities: head.mariadb_capabilities(),
+    }
+}
+
+impl Session {
+    ghost use Rattle.mysql_conversation.specs.Pipelined.{Numbered};
+    ghost use Rattle.mysql_conversation.specs.Piped.{place};
+    ghost use Rattle.mysql_conversation.specs.Session.{IsSession, IsSessionBeginning, SessionTaken, MayLogIn, client_of};
+    ghost use Rattle.mysql_conversation.specs.SessionSteps.{GreetedAs, AnsweredAs};
+    ghost use Rattle.mysql_conversation.specs.declared.agreed.Agreed as agreement;
+    ghost use Rattle.mysql_conversation.specs.declared.kind.Kind as declared;
+    ghost use Rattle.mysql_conversation.specs.declared.kind.Side.TheVariants as side;
+    ghost use Rattle.mysql_conversation.specs.declared.pipeline.Pipeline as pipe;
+    ghost use Rattle.mysql_conversation.specs.declared.pipeline.Refusal.TheVariants as refusal;
+    ghost use Rattle.mysql_conversation.specs.declared.session.Phase.TheVariants as phase;
+
+    /// One of which no packet has come, in which as many commands may wait as the limit.
+    pub fn new(alloc: Global, limit: usize) -> Self
+        ensures taken { SessionTaken result [] }
+    {
+        Session {
+            alloc,
+            limit,
+            phase: Phase::Greeting,
+        }
+    }
+
+    /// What both sides agreed on, once the client has sent its login.
+    pub fn agreed(&self) -> Option<Agreed> {
+        match &self.phase {
+            Phase::Commands(pipeline) => Some(pipeline.agreed),
+            _ => None,
+        }
+    }
+
+    /// Whether all that was asked for is answered.
+    pub fn is_at_rest(&self) -> bool
+        ensures { (items : List Numbered) → SessionTaken self.now items → IsTrue result ↔ IsSession items }
+    {
+        match &self.phase {
+            Phase::Commands(pipeline) => pipeline.is_at_rest(),
+            Phase::Refused => true,
+            _ => false,
+        }
+    }
+
+    /// Says that what comes is deciphered, after a request to go on in TLS.
+    pub fn decipher(&mut self)
+        ensures stays { (items : List Numbered) → SessionTaken self.old items → SessionTaken self.new items }
+    {
+        if let Phase::Encrypted(server) = &self.phase {
+            self.phase = Phase::InTls(*server);
+        }
+    }
+
+    /// Which packet it is, and the number of the command whose exchange it belongs to: 0 before the first command.
+    pub fn next(&mut self, from: Side, payload: &[u8]) -> Result<(Kind, u64), Refusal>
+        // What was taken has now this packet, of this kind and number, at its end.
+        ensures taken { IfOk result (λ x. (items : List Numbered) → SessionTaken self.old items → SessionTaken self.new (items ++ place from payload.now x.0 x.1 ∷ [])) }
+        // Of no kind and number does the packet go on with what was taken.
+        ensures refused { IfErr result (λ why. (items : List Numbered) (kind : declared.Kind) (number : ℕ) → why ≡ refusal.Unexpected → SessionTaken self.old items
+            → IsSessionBeginning (items ++ place from payload.now kind number ∷ []) → ⊥) }
+        // A request to go on in TLS came, and nothing says that what comes is deciphered.
+        ensures encrypted { IfErr result (λ why. why ≡ refusal.Encrypted → (server : agreement.Agreed) × (self.old.phase ≡ phase.Encrypted server)) }
+        // It is a login, by which both sides agree on compression.
+        ensures compressed { IfErr result (λ why. why ≡ refusal.Compressed → (server : agreement.Agreed) × (head : login_head.SslRequest) × (login_at payload.now ≡ Some head) × (compresses (agreed_on server (client_of head)) ≡ true)) }
+        // As a pipeline's.
+        ensures full { IfErr result (λ why. why ≡ refusal.Full → (p : pipe.Pipeline) × (self.old.phase ≡ phase.Commands p) × (from ≡ side.Client) × (((is_due p.state ≡ true) × (p.limit ≤ length p.waiting.items)) ⊎ (p.last ≡ 2 ^ 64 - 1))) }
+        ensures memory { IfErr result (λ why. why ≡ refusal.Memory → (p : pipe.Pipeline) × (self.old.phase ≡ phase.Commands p) × (from ≡ side.Client) × (is_due p.state ≡ true) × (deque_capacity p.waiting ≤ deque_len p.waiting)) }
+        ensures err { OnErr result ((items : List Numbered) → SessionTaken self.old items → SessionTaken self.new items) }
+    {
+        match &mut self.phase {
+            Phase::Commands(pipeline) => pipeline.next(from, payload),
+            Phase::Greeting => match from {
+                Side::Server => self.greeted(payload),
+                Side::Client => Err(Refusal::Unexpected),
+            },
+            Phase::Refused => Err(Refusal::Unexpected),
+            Phase::Encrypted(_) => Err(Refusal::Encrypted),
+            Phase::Login(server) => match from {
+                Side::Server => Err(Refusal::Unexpected),
+                Side::Client => {
+                    let server = *server;
+                    self.answered(server, false, payload)
+                }
+            },
+            Phase::InTls(server) => match from {
+                Side::Server => Err(Refusal::Unexpected),
+                Side::Client => {
+                    let server = *server;
+                    self.answered(server, true, payload)
+                }
+            },
+        }
+    }
+
+    /// The greeting, or an error in its place.
+    fn greeted(&mut self, payload: &[u8]) -> Result<(Kind, u64), Refusal>
+        ensures taken { IfOk result (λ x. (x.1 ≡ 0) × GreetedAs payload.now x.0 self.new.phase) }
+        ensures refused { IfErr result (λ why. (why ≡ refusal.Unexpected) × (payloads.first_is 0xff payload.now ≡ false) × (greeting_at payload.now ≡ None)) }
+        ensures err { OnErr result (self.new ≡ self.old) }
+    {
+        if first_is(0xff, payload) {
+            self.phase = Phase::Refused;
+            return Ok((Kind::UnaskedError, 0));
+        }
+        match greeting(self.alloc, payload) {
+            Some(server) => {
+                self.phase = Phase::Login(server);
+                Ok((Kind::Handshake, 0))
+            }
+            None => Err(Refusal::Unexpected),
+        }
+    }
+
+    /// The answer to the greeting.
+    fn answered(
+        &mut self,
+        server: Agreed,
+        in_tls: bool,
+        payload: &[u8],
+    ) -> Result<(Kind, u64), Refusal>
+        ensures taken { IfOk result (λ x. (x.1 ≡ 0) × AnsweredAs server in_tls payload.now x.0 self.new.phase) }
+        ensures refused { IfErr result (λ why. ((why ≡ refusal.Unexpected) × (login_at payload.now ≡ None))
+            ⊎ ((why ≡ refusal.Compressed) × (head : login_head.SslRequest) × (login_at payload.now ≡ Some head) × (compresses (agreed_on server (client_of head)) ≡ true))) }
+        ensures err { OnErr result (self.new ≡ self.old) }
+    {
+        let Some(head) = login(self.alloc, payload) else {
+            return Err(Refusal::Unexpected);
+        };
+        if asks_tls(in_tls, &head) {
+            self.phase = Phase::Encrypted(server);
+            return Ok((Kind::SslRequest, 0));
+        }
+        let agreed = Agreed::on(server, client_of(&head));
+        if agreed.compresses() {
+            return Err(Refusal::Compressed);
+        }
+        self.phase = Phase::Commands(Pipeline::new(self.alloc, agreed, Opening::Login, self.limit));
+        Ok((Kind::Login, 0))
+    }
+}

@@ -1,0 +1,555 @@
+//! The machine: the kind of a packet, and the state after it.
+
+ghost use Rattle.std.specs.Prelude.{◌≡◌, IfSome, IfNone, IfOk, OnErr, Some, None};
+ghost use Rattle.mysql_conversation.specs.Conversation as grammar;
+ghost use Rattle.mysql_conversation.specs.Machine as spec;
+ghost use Rattle.mysql_conversation.specs.declared.state.State.TheVariants as spec_state;
+ghost use Rattle.mysql_conversation.specs.declared.kind.Side.TheVariants.{Client, Server};
+
+use crate::agreed::Agreed;
+use crate::kind::{Format, Kind, Opening, Side, Unexpected};
+use crate::payload::{
+    authentication_kind, command_of, first_is, has_more, is_report, is_row_by_first, line_of,
+    ok_status, old_end_of, opens_cursor, reply_of, statement_at,
+};
+use crate::state::{After, Answer, Line, Reply, Request, State, format_of};
+use mysql_wire::StatusFlags;
+use std::alloc::Global;
+
+/// Where a conversation begins.
+#[inline(always)]
+pub(crate) fn entrance(opening: Opening) -> State
+    ensures { result ≡ spec.entrance opening }
+{
+    match opening {
+        Opening::Login => State::Authentication(false),
+        Opening::Commands => State::Rest,
+    }
+}
+
+/// Behind definitions.
+#[inline(always)]
+fn enter(after: After) -> State
+    ensures { result ≡ spec.enter after }
+{
+    match after {
+        After::Rows(request) => State::Rows(request),
+        After::Columns(columns) => match columns.checked_sub(1) {
+            Some(left) => State::Definitions(left, After::Rest),
+            None => State::Rest,
+        },
+        After::Rest => State::Rest,
+    }
+}
+
+/// Where so many definitions come.
+#[inline(always)]
+fn define(count: u64, after: After) -> State
+    ensures { result ≡ spec.define count after }
+{
+    match count.checked_sub(1) {
+        Some(left) => State::Definitions(left, after),
+        None => enter(after),
+    }
+}
+
+/// Behind a definition after which so many come.
+#[inline(always)]
+fn less(deprecates: bool, left: u64, after: After) -> State
+    ensures { result ≡ spec.less deprecates left after }
+{
+    match left.checked_sub(1) {
+        Some(left) => State::Definitions(left, after),
+        None if deprecates => enter(after),
+        None => State::DefinitionsEnd(after),
+    }
+}
+
+/// Where a result ends.
+#[inline(always)]
+fn ended(request: Request, more: bool) -> State
+    ensures { result ≡ spec.ended request more }
+{
+    if more {
+        State::Reply(request)
+    } else {
+        State::Rest
+    }
+}
+
+/// Where an answer begins.
+#[inline(always)]
+pub(crate) fn answers(answer: Answer) -> State
+    ensures { result ≡ spec.answers answer }
+{
+    match answer {
+        Answer::Results(request) => State::Reply(request),
+        Answer::Prepared => State::Prepared,
+        Answer::Rows => State::Fetch,
+        Answer::Acknowledgement => State::Acknowledgement,
+        Answer::Text => State::Text,
+        Answer::Fields => State::Fields,
+        Answer::Authentication => State::Authentication(false),
+        Answer::Events => State::Events,
+        Answer::Nothing => State::Rest,
+        Answer::Refusal => State::Refusal,
+    }
+}
+
+/// How an end is spelled.
+#[inline(always)]
+fn ending(deprecates: bool) -> Kind
+    ensures { result ≡ grammar.ending deprecates }
+{
+    if deprecates {
+        Kind::OkTerminator
+    } else {
+        Kind::Eof
+    }
+}
+
+/// A command.
+#[inline(always)]
+#[tactic(auto, using(crate::proofs::Turns::rest_command))]
+fn command_step(state: &mut State, payload: &[u8]) -> Option<Kind>
+    ensures some { IfSome result (λ kind. spec.command_step payload.now ≡ Some (kind, state.new)) }
+    ensures none { IfNone result ((spec.command_step payload.now ≡ None) × (state.new ≡ state.old)) }
+{
+    let command = command_of(payload)?;
+    *state = answers(command.answer);
+    Some(Kind::Command(command.code))
+}
+
+/// A part of a file, or its end.
+#[inline(always)]
+fn infile_step(state: &mut State, request: Request, payload: &[u8]) -> Option<Kind>
+    requires { state.old ≡ spec_state.Infile request }
+    ensures some { IfSome result (λ kind. spec.infile_step request payload.now ≡ Some (kind, state.new)) }
+    ensures none { IfNone result ((spec.infile_step request payload.now ≡ None) × (state.new ≡ state.old)) }
+{
+    if payload.is_empty() {
+        *state = State::InfileReply(request);
+        Some(Kind::InfileEnd)
+    } else {
+        Some(Kind::InfileContent)
+    }
+}
+
+/// What the client answers while it logs in.
+#[inline(always)]
+fn answer_step(state: &mut State, asked: bool) -> Option<Kind>
+    ensures some { IfSome result (λ kind. spec.answer_step asked ≡ Some (kind, state.new)) }
+    ensures none { IfNone result ((spec.answer_step asked ≡ None) × (state.new ≡ state.old)) }
+{
+    if asked {
+        *state = State::Authentication(false);
+        Some(Kind::AuthData)
+    } else {
+        None
+    }
+}
+
+/// An acknowledgement of an event.
+#[inline(always)]
+fn ack_step(state: &State, payload: &[u8]) -> Option<Kind>
+    requires { state.now ≡ spec_state.Events }
+    ensures some { IfSome result (λ kind. spec.ack_step payload.now ≡ Some (kind, state.now)) }
+    ensures none { IfNone result (spec.ack_step payload.now ≡ None) }
+{
+    if first_is(0xef, payload) {
+        Some(Kind::SemiSyncAck)
+    } else {
+        None
+    }
+}
+
+/// A packet of the client.
+#[inline(always)]
+fn client_step(state: &mut State, payload: &[u8]) -> Option<Kind>
+    ensures some { IfSome result (λ kind. spec.client_step state.old payload.now ≡ Some (kind, state.new)) }
+    ensures none { IfNone result ((spec.client_step state.old payload.now ≡ None) × (state.new ≡ state.old)) }
+{
+    match *state {
+        State::Rest => command_step(state, payload),
+        State::Authentication(asked) => answer_step(state, asked),
+        State::Infile(request) => infile_step(state, request, payload),
+        State::Events => ack_step(state, payload),
+        _ => None,
+    }
+}
+
+/// Behind a count.
+#[inline(always)]
+fn counted(deprecates: bool, count: u64, follow: bool, after: After) -> State
+    ensures { result ≡ spec.counted deprecates count follow after }
+{
+    if follow {
+        define(count, after)
+    } else if deprecates {
+        enter(after)
+    } else {
+        State::DefinitionsEnd(after)
+    }
+}
+
+/// What the server says while a client logs in, if it is no error.
+#[inline(always)]
+fn authentication_step(
+    alloc: Global,
+    agreed: Agreed,
+    state: &mut State,
+    payload: &[u8],
+) -> Option<Kind>
+    ensures some { IfSome result (λ kind. spec.authentication_step agreed payload.now (spec.ok_status agreed payload.now) ≡ Some (kind, state.new)) }
+    ensures none { IfNone result ((spec.authentication_step agreed payload.now (spec.ok_status agreed payload.now) ≡ None) × (state.new ≡ state.old)) }
+{
+    if first_is(0, payload) {
+        return match ok_status(alloc, agreed, payload) {
+            Some(_) => {
+                *state = State::Rest;
+                Some(Kind::Ok)
+            }
+            None => None,
+        };
+    }
+    *state = State::Authentication(true);
+    Some(authentication_kind(agreed, payload))
+}
+
+/// The first packet of a result.
+#[inline(always)]
+fn reply_step(
+    state: &mut State,
+    deprecates: bool,
+    request: Request,
+    reply: Option<Reply>,
+) -> Option<Kind>
+    ensures some { IfSome result (λ kind. spec.reply_step deprecates request reply ≡ Some (kind, state.new)) }
+    ensures none { IfNone result ((spec.reply_step deprecates request reply ≡ None) × (state.new ≡ state.old)) }
+{
+    match reply? {
+        Reply::Ok(more) => {
+            *state = ended(request, more);
+            Some(Kind::Ok)
+        }
+        Reply::Infile => {
+            *state = State::Infile(request);
+            Some(Kind::LocalInfile)
+        }
+        Reply::Columns(count, follow) => {
+            *state = counted(deprecates, count, follow, After::Rows(request));
+            Some(Kind::ColumnCount(count, follow))
+        }
+    }
+}
+
+/// What answers a file.
+#[inline(always)]
+fn infile_reply_step(state: &mut State, request: Request, reply: Option<Reply>) -> Option<Kind>
+    ensures some { IfSome result (λ kind. spec.infile_reply_step request reply ≡ Some (kind, state.new)) }
+    ensures none { IfNone result ((spec.infile_reply_step request reply ≡ None) × (state.new ≡ state.old)) }
+{
+    match reply? {
+        Reply::Ok(more) => {
+            *state = ended(request, more);
+            Some(Kind::Ok)
+        }
+        _ => None,
+    }
+}
+
+/// Behind the EOF packet of a result's definitions.
+#[inline(always)]
+fn columns_step(state: &mut State, status: StatusFlags, request: Request) -> Kind
+    ensures { spec.columns_step status request ≡ Some (result, state.new) }
+{
+    *state = if matches!(request, Request::Cursor) && opens_cursor(status) {
+        ended(Request::Cursor, has_more(status))
+    } else {
+        State::Rows(request)
+    };
+    Kind::Eof
+}
+
+/// The EOF packet after definitions.
+#[inline(always)]
+fn definitions_end_step(
+    state: &mut State,
+    after: After,
+    status: Option<StatusFlags>,
+) -> Option<Kind>
+    ensures some { IfSome result (λ kind. spec.definitions_end_step after status ≡ Some (kind, state.new)) }
+    ensures none { IfNone result ((spec.definitions_end_step after status ≡ None) × (state.new ≡ state.old)) }
+{
+    let status = status?;
+    match after {
+        After::Rows(request) => Some(columns_step(state, status, request)),
+        After::Columns(_) => {
+            *state = enter(after);
+            Some(Kind::Eof)
+        }
+        After::Rest => {
+            *state = State::Rest;
+            Some(Kind::Eof)
+        }
+    }
+}
+
+/// A row, or the end.
+#[inline(always)]
+fn line_step(
+    state: &mut State,
+    deprecates: bool,
+    request: Request,
+    line: Option<Line>,
+) -> Option<Kind>
+    requires { state.old ≡ spec_state.Rows request }
+    ensures some { IfSome result (λ kind. spec.line_step deprecates request line ≡ Some (kind, state.new)) }
+    ensures none { IfNone result ((spec.line_step deprecates request line ≡ None) × (state.new ≡ state.old)) }
+{
+    match line? {
+        Line::Row => Some(Kind::Row(format_of(request))),
+        Line::End(more) => {
+            *state = ended(request, more);
+            Some(ending(deprecates))
+        }
+    }
+}
+
+/// A packet of this kind, after which the same may come, or the end.
+#[inline(always)]
+fn last_step(state: &mut State, deprecates: bool, kind: Kind, line: Option<Line>) -> Option<Kind>
+    ensures some { IfSome result (λ found. spec.last_step deprecates kind state.old line ≡ Some (found, state.new)) }
+    ensures none { IfNone result ((spec.last_step deprecates kind state.old line ≡ None) × (state.new ≡ state.old)) }
+{
+    match line? {
+        Line::Row => Some(kind),
+        Line::End(_) => {
+            *state = State::Rest;
+            Some(ending(deprecates))
+        }
+    }
+}
+
+/// What answers a statement to be prepared.
+#[inline(always)]
+fn prepared_step(alloc: Global, state: &mut State, payload: &[u8]) -> Option<Kind>
+    ensures some { IfSome result (λ kind. spec.prepared_step (spec.statement_at payload.now) ≡ Some (kind, state.new)) }
+    ensures none { IfNone result ((spec.prepared_step (spec.statement_at payload.now) ≡ None) × (state.new ≡ state.old)) }
+{
+    let statement = statement_at(alloc, payload)?;
+    let columns = statement.num_columns();
+    let params = statement.num_params();
+    *state = define(u64::from(params), After::Columns(u64::from(columns)));
+    Some(Kind::PrepareOk(columns, params))
+}
+
+/// An OK packet, or an end.
+#[inline(always)]
+fn acknowledgement_step(
+    state: &mut State,
+    deprecates: bool,
+    line: Option<Line>,
+    reply: Option<Reply>,
+) -> Option<Kind>
+    ensures some { IfSome result (λ kind. spec.acknowledgement_step deprecates line reply ≡ Some (kind, state.new)) }
+    ensures none { IfNone result ((spec.acknowledgement_step deprecates line reply ≡ None) × (state.new ≡ state.old)) }
+{
+    let kind = match line? {
+        Line::End(_) => ending(deprecates),
+        Line::Row => match reply? {
+            Reply::Ok(_) => Kind::Ok,
+            _ => return None,
+        },
+    };
+    *state = State::Rest;
+    Some(kind)
+}
+
+/// A packet of the server that is no error.
+#[inline(always)]
+fn serve(alloc: Global, agreed: Agreed, state: &mut State, payload: &[u8]) -> Option<Kind>
+    ensures some { IfSome result (λ kind. spec.serve agreed state.old payload.now ≡ Some (kind, state.new)) }
+    ensures none { IfNone result ((spec.serve agreed state.old payload.now ≡ None) × (state.new ≡ state.old)) }
+{
+    let deprecates = agreed.deprecates_eof();
+    match *state {
+        State::Rest | State::Infile(_) | State::Refusal => None,
+        State::Authentication(_) => authentication_step(alloc, agreed, state, payload),
+        State::Reply(request) => {
+            reply_step(state, deprecates, request, reply_of(alloc, agreed, payload))
+        }
+        State::InfileReply(request) => {
+            infile_reply_step(state, request, reply_of(alloc, agreed, payload))
+        }
+        State::Definitions(left, after) => {
+            *state = less(deprecates, left, after);
+            Some(Kind::Column)
+        }
+        State::DefinitionsEnd(after) => {
+            definitions_end_step(state, after, old_end_of(alloc, agreed, payload))
+        }
+        State::Rows(request) => line_step(
+            state,
+            deprecates,
+            request,
+            line_of(alloc, agreed, format_of(request), payload),
+        ),
+        State::Prepared => prepared_step(alloc, state, payload),
+        State::Fetch => last_step(
+            state,
+            deprecates,
+            Kind::Row(Format::Binary),
+            line_of(alloc, agreed, Format::Binary, payload),
+        ),
+        State::Acknowledgement => acknowledgement_step(
+            state,
+            deprecates,
+            line_of(alloc, agreed, Format::Text, payload),
+            reply_of(alloc, agreed, payload),
+        ),
+        State::Text => {
+            *state = State::Rest;
+            Some(Kind::Statistics)
+        }
+        State::Fields => last_step(
+            state,
+            deprecates,
+            Kind::Column,
+            line_of(alloc, agreed, Format::Text, payload),
+        ),
+        State::Events => last_step(
+            state,
+            deprecates,
+            Kind::BinlogEvent,
+            line_of(alloc, agreed, Format::Binary, payload),
+        ),
+    }
+}
+
+/// Whether no exchange runs.
+#[inline(always)]
+pub(crate) fn rests(state: &State) -> bool
+    ensures { result ≡ spec.rests state.now }
+{
+    matches!(state, State::Rest)
+}
+
+/// Whether the client may answer by a packet that is no command.
+#[inline(always)]
+pub(crate) fn listens(state: &State) -> bool
+    ensures { result ≡ spec.listens state.now }
+{
+    match state {
+        State::Authentication(asked) => *asked,
+        State::Infile(_) => true,
+        _ => false,
+    }
+}
+
+/// Whether the server is to speak, and a packet of the client is not its answer.
+#[inline(always)]
+pub(crate) fn is_due(state: &State) -> bool
+    ensures { result ≡ spec.is_due state.now }
+{
+    match state {
+        State::Authentication(asked) => !*asked,
+        State::Rest | State::Infile(_) => false,
+        _ => true,
+    }
+}
+
+/// An error in an exchange, or in none.
+#[inline(always)]
+fn error_kind(rests: bool) -> Kind
+    ensures { result ≡ spec.error_kind rests }
+{
+    if rests {
+        Kind::UnaskedError
+    } else {
+        Kind::Error
+    }
+}
+
+/// A packet of the server.
+#[inline(always)]
+#[tactic(auto, using(crate::proofs::Begun::no_report))]
+fn server_step(alloc: Global, agreed: Agreed, state: &mut State, payload: &[u8]) -> Option<Kind>
+    ensures some { IfSome result (λ kind. spec.take_step agreed state.old Server payload.now ≡ Some (kind, state.new)) }
+    ensures none { IfNone result ((spec.take_step agreed state.old Server payload.now ≡ None) × (state.new ≡ state.old)) }
+{
+    if first_is(0xff, payload) {
+        if is_report(agreed, payload) {
+            return if is_due(state) {
+                Some(Kind::ProgressReport)
+            } else {
+                None
+            };
+        }
+        let kind = error_kind(rests(state));
+        *state = State::Rest;
+        return Some(kind);
+    }
+    serve(alloc, agreed, state, payload)
+}
+
+/// Which packet of the server it is; the state is then the one after it.
+// (a call, which a row doesn't pay for)
+#[inline(never)]
+fn take_served(
+    alloc: Global,
+    agreed: Agreed,
+    state: &mut State,
+    payload: &[u8],
+) -> Result<Kind, Unexpected>
+    ensures ok { IfOk result (λ kind. spec.take_step agreed state.old Server payload.now ≡ Some (kind, state.new)) }
+    ensures err { OnErr result ((spec.take_step agreed state.old Server payload.now ≡ None) × (state.new ≡ state.old)) }
+{
+    match server_step(alloc, agreed, state, payload) {
+        Some(kind) => Ok(kind),
+        None => Err(Unexpected),
+    }
+}
+
+/// Which packet of the client it is; the state is then the one after it.
+#[inline(never)]
+pub(crate) fn take_sent(
+    agreed: Agreed,
+    state: &mut State,
+    payload: &[u8],
+) -> Result<Kind, Unexpected>
+    ensures ok { IfOk result (λ kind. spec.take_step agreed state.old Client payload.now ≡ Some (kind, state.new)) }
+    ensures err { OnErr result ((spec.take_step agreed state.old Client payload.now ≡ None) × (state.new ≡ state.old)) }
+{
+    match client_step(state, payload) {
+        Some(kind) => Ok(kind),
+        None => Err(Unexpected),
+    }
+}
+
+/// Which packet it is; the state is then the one after it. Rows are told here, by their first byte.
+#[inline(always)]
+#[tactic(auto, using(crate::proofs::Begun::no_report))]
+pub(crate) fn take_step(
+    alloc: Global,
+    agreed: Agreed,
+    state: &mut State,
+    from: Side,
+    payload: &[u8],
+) -> Result<Kind, Unexpected>
+    ensures ok { IfOk result (λ kind. spec.take_step agreed state.old from payload.now ≡ Some (kind, state.new)) }
+    ensures err { OnErr result ((spec.take_step agreed state.old from payload.now ≡ None) × (state.new ≡ state.old)) }
+{
+    match from {
+        Side::Client => take_sent(agreed, state, payload),
+        Side::Server => {
+            if let State::Rows(request) = *state {
+                let format = format_of(request);
+                if is_row_by_first(format, payload) {
+                    return Ok(Kind::Row(format));
+                }
+            }
+            take_served(alloc, agreed, state, payload)
+        }
+    }
+}
