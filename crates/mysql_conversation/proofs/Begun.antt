@@ -1,7 +1,7 @@
 -- Each list that the machine takes is the beginning of a conversation, and each beginning is taken.
 use Rattle.std.specs.Prelude.{◌&&◌, ◌==◌, not}
 use Rattle.std.proofs.Common.{◌≡◌, ◌≢◌, ℕ, zero, suc, List, [], ◌∷◌, ◌++◌, ◌⊎◌, inl, inr, Option, Some, None, Result, Ok, Err, IfOk, OnErr, refl, sym, ap, subst, ◌∙◌, Bool, true, false, cond}
-use Rattle.mysql_conversation.specs.Agreements.{reports_progress}
+use Rattle.mysql_conversation.specs.Agreements.{Agreed, reports_progress}
 use Rattle.mysql_conversation.specs.Parts.{nothing, broken, many}
 use Rattle.mysql_conversation.specs.Payloads.{first_is, IsError, is_report, begins_with_ff}
 use Rattle.mysql_conversation.specs.Conversation as c
@@ -13,7 +13,6 @@ use Rattle.mysql_conversation.proofs.States.{which_rests, due_of, due_runs, entr
 use Rattle.mysql_conversation.proofs.Ends.{to_come, short_report}
 use Rattle.mysql_conversation.proofs.Leads.{conversation_runs, inside_runs}
 use Rattle.mysql_conversation.proofs.Tails.{tail_of, back_serve, back_command, back_content, back_answer, back_ack, many_more}
-use Rattle.mysql_conversation.specs.declared.agreed.Agreed.{Agreed}
 use Rattle.mysql_conversation.specs.declared.kind.Kind.{Kind}
 use Rattle.mysql_conversation.specs.declared.kind.Kind.TheVariants as kind
 use Rattle.mysql_conversation.specs.declared.kind.Opening.{Opening}

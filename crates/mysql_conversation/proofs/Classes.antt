@@ -1,20 +1,19 @@
 -- What a payload says of itself is what the machine takes it for.
-use Rattle.mysql_conversation.specs.declared.agreed.Agreed.{Agreed}
 use Rattle.std.proofs.Common.{◌≡◌, ◌≢◌, ℕ, ◌<◌, ◌≤◌, zero, suc, List, [], ◌∷◌, ◌⊎◌, inl, inr, Option, Some, None, Result, Ok, Err, refl, sym, ap, subst, ◌∙◌, Bool, true, false, cond, arith}
 use Rattle.std.proofs.lemmas.Bool.{eqb-true, eq-eqb}
-use Rattle.std.specs.Prelude.{◌==◌, nat_lt}
+use Rattle.std.specs.Prelude.{◌==◌, ◌&&◌, nat_lt}
 use Rattle.mysql_wire.specs.Flags.{StatusFlags}
 use Rattle.mysql_wire.specs.Form.{Form}
 use Rattle.mysql_wire.specs.Reading.{Reading}
 use Rattle.mysql_replies.specs.OkPacket.{status_flags}
 use Rattle.mysql_replies.specs.declared.ok_packet.OkPacketDeserializer.{OkPacketDeserializer}
-use Rattle.mysql_prepared.specs.Stmt.{stmt, num_columns, num_params}
-use Rattle.mysql_prepared.specs.declared.stmt.StmtPacket.{StmtPacket}
+use Rattle.mysql_prepared.specs.StmtWithMetadata.{stmt_with_metadata}
+use Rattle.mysql_prepared.specs.declared.stmt_with_metadata.StmtPacketWithMetadata.{StmtPacketWithMetadata}
 use Rattle.std.proofs.lemmas.Bool.{lt-ltb, ltb-true}
 use Rattle.mysql_replies.specs.ColumnCount.{column_count, count, metadata_follows}
 use Rattle.mysql_replies.specs.declared.column_count.ColumnCount.{ColumnCount}
-use Rattle.mysql_conversation.specs.Agreements.{deprecates_eof}
-use Rattle.mysql_conversation.specs.Payloads.{has_more, opens_cursor, first_is, ok_form, terminator_form, old_end_form, looks_like_end, SpelledWith, IsOk, EndsWith, IsEnd, IsOldEnd, IsInfileRequest, IsCount, IsRow, IsPrepared}
+use Rattle.mysql_conversation.specs.Agreements.{Agreed, deprecates_eof}
+use Rattle.mysql_conversation.specs.Payloads.{begins_ok, has_more, opens_cursor, first_is, ok_form, terminator_form, old_end_form, looks_like_end, SpelledWith, IsOk, EndsWith, IsEnd, IsOldEnd, IsInfileRequest, IsCount, IsRow, IsPrepared}
 use Rattle.mysql_conversation.specs.Machine.{status_in, ok_status, old_end_status, terminator_status, end_status, ok_of, count_in, count_at, columns_of, reply_of, end_of, row_of, line_of, old_end_of, statement_in, statement_at}
 use Rattle.mysql_conversation.specs.declared.kind.Format.{Format}
 use Rattle.mysql_conversation.specs.declared.kind.Format.TheVariants.{Text, Binary}
@@ -72,30 +71,31 @@ unfolding terminator_status
 end_status_is a true status p h = spelled_status (terminator_form a) status p ((terminator_form a).reads p) refl h
 end_status_is a false status p h = old_end_status_is a status p h
 
-count_read : (a : Agreed) (c : ColumnCount) (p : List ℕ) (r : Reading ColumnCount) → (column_count.form a.mariadb_capabilities).reads p ≡ r → count_in r ≡ Some c
-    → (rest : List ℕ) × (column_count.form a.mariadb_capabilities).Spells c p rest
-count_read a c p (Ok x) e h = (x.1, subst (λ v. (column_count.form a.mariadb_capabilities).Spells v p x.1) (some_is h) ((column_count.form a.mariadb_capabilities).found x.0 p x.1 e))
+count_read : (a : Agreed) (c : ColumnCount) (p : List ℕ) (r : Reading ColumnCount) → (column_count.form a).reads p ≡ r → count_in r ≡ Some c
+    → (rest : List ℕ) × (column_count.form a).Spells c p rest
+count_read a c p (Ok x) e h = (x.1, subst (λ v. (column_count.form a).Spells v p x.1) (some_is h) ((column_count.form a).found x.0 p x.1 e))
 count_read a c p (Err d) e h = absurd cc
 
-pub count_at_of : (a : Agreed) (c : ColumnCount) (p rest : List ℕ) → (column_count.form a.mariadb_capabilities).Spells c p rest → count_at a p ≡ Some c
+pub count_at_of : (a : Agreed) (c : ColumnCount) (p rest : List ℕ) → (column_count.form a).Spells c p rest → count_at a p ≡ Some c
 unfolding count_at
-count_at_of a c p rest s = ap count_in ((column_count.form a.mariadb_capabilities).only c p rest s)
+count_at_of a c p rest s = ap count_in ((column_count.form a).only c p rest s)
 
-pub count_at_is : (a : Agreed) (c : ColumnCount) (p : List ℕ) → count_at a p ≡ Some c → (rest : List ℕ) × (column_count.form a.mariadb_capabilities).Spells c p rest
+pub count_at_is : (a : Agreed) (c : ColumnCount) (p : List ℕ) → count_at a p ≡ Some c → (rest : List ℕ) × (column_count.form a).Spells c p rest
 unfolding count_at
-count_at_is a c p h = count_read a c p ((column_count.form a.mariadb_capabilities).reads p) refl h
+count_at_is a c p h = count_read a c p ((column_count.form a).reads p) refl h
 
-statement_read : (s : StmtPacket) (p : List ℕ) (r : Reading StmtPacket) → (stmt.form tt).reads p ≡ r → statement_in r ≡ Some s → (rest : List ℕ) × (stmt.form tt).Spells s p rest
-statement_read s p (Ok x) e h = (x.1, subst (λ v. (stmt.form tt).Spells v p x.1) (some_is h) ((stmt.form tt).found x.0 p x.1 e))
-statement_read s p (Err d) e h = absurd cc
+statement_read : (a : Agreed) (s : StmtPacketWithMetadata) (p : List ℕ) (r : Reading StmtPacketWithMetadata) → (stmt_with_metadata.form a.mysql).reads p ≡ r → statement_in r ≡ Some s
+    → (rest : List ℕ) × (stmt_with_metadata.form a.mysql).Spells s p rest
+statement_read a s p (Ok x) e h = (x.1, subst (λ v. (stmt_with_metadata.form a.mysql).Spells v p x.1) (some_is h) ((stmt_with_metadata.form a.mysql).found x.0 p x.1 e))
+statement_read a s p (Err d) e h = absurd cc
 
-pub statement_at_of : (s : StmtPacket) (p rest : List ℕ) → (stmt.form tt).Spells s p rest → statement_at p ≡ Some s
+pub statement_at_of : (a : Agreed) (s : StmtPacketWithMetadata) (p rest : List ℕ) → (stmt_with_metadata.form a.mysql).Spells s p rest → statement_at a p ≡ Some s
 unfolding statement_at
-statement_at_of s p rest h = ap statement_in ((stmt.form tt).only s p rest h)
+statement_at_of a s p rest h = ap statement_in ((stmt_with_metadata.form a.mysql).only s p rest h)
 
-pub statement_at_is : (s : StmtPacket) (p : List ℕ) → statement_at p ≡ Some s → (rest : List ℕ) × (stmt.form tt).Spells s p rest
+pub statement_at_is : (a : Agreed) (s : StmtPacketWithMetadata) (p : List ℕ) → statement_at a p ≡ Some s → (rest : List ℕ) × (stmt_with_metadata.form a.mysql).Spells s p rest
 unfolding statement_at
-statement_at_is s p h = statement_read s p ((stmt.form tt).reads p) refl h
+statement_at_is a s p h = statement_read a s p ((stmt_with_metadata.form a.mysql).reads p) refl h
 
 -- ---- replies
 
@@ -118,11 +118,11 @@ ReplyMeans a (reply.Ok more) p = IsOk a more p
 ReplyMeans a reply.Infile p = IsInfileRequest p
 ReplyMeans a (reply.Columns n follow) p = IsCount a n follow p
 
-ok_means : (a : Agreed) (p : List ℕ) (s : Option StatusFlags) (r : Reply) → first_is 0 p ≡ true → ok_status a p ≡ s → ok_of s ≡ Some r → ReplyMeans a r p
+ok_means : (a : Agreed) (p : List ℕ) (s : Option StatusFlags) (r : Reply) → begins_ok a p ≡ true → ok_status a p ≡ s → ok_of s ≡ Some r → ReplyMeans a r p
 ok_means a p None r z e h = absurd cc
 ok_means a p (Some status) r z e h = subst (λ r. ReplyMeans a r p) (some_is h) (z, status, ok_status_is a status p e, refl)
 
-count_means : (a : Agreed) (p : List ℕ) (c : Option ColumnCount) (r : Reply) → first_is 0 p ≡ false → first_is 0xfb p ≡ false → count_at a p ≡ c → columns_of c ≡ Some r → ReplyMeans a r p
+count_means : (a : Agreed) (p : List ℕ) (c : Option ColumnCount) (r : Reply) → begins_ok a p ≡ false → first_is 0xfb p ≡ false → count_at a p ≡ c → columns_of c ≡ Some r → ReplyMeans a r p
 count_means a p None r z f e h = absurd cc
 count_means a p (Some c) r z f e h = elim (chosen (nat_lt 0 (count c)) _ _ _ h) [
   | inl g ↦ (let s = count_at_is a c p e in subst (λ r. ReplyMeans a r p) (some_is g.1) (z, f, ltb-true 0 (count c) g.0, c, s.0, s.1, refl, refl))
@@ -130,7 +130,7 @@ count_means a p (Some c) r z f e h = elim (chosen (nat_lt 0 (count c)) _ _ _ h) 
 ]
 
 pub reply_means : (a : Agreed) (p : List ℕ) (r : Reply) → reply_of a p ≡ Some r → ReplyMeans a r p
-reply_means a p r h = elim (chosen (first_is 0 p) _ _ _ h) [
+reply_means a p r h = elim (chosen (begins_ok a p) _ _ _ h) [
   | inl z ↦ ok_means a p (ok_status a p) r z.0 refl z.1
   | inr z ↦ elim (chosen (first_is 0xfb p) _ _ _ z.1) [
     | inl f ↦ subst (λ r. ReplyMeans a r p) (some_is f.1) f.0
@@ -139,6 +139,14 @@ reply_means a p r h = elim (chosen (first_is 0 p) _ _ _ h) [
 ]
 
 -- ---- lines
+
+both : (x y : Bool) → (x && y) ≡ true → x ≡ true
+both true y h = refl
+both false y h = absurd cc
+
+-- what begins as an OK packet begins with 00
+pub ok_is_zero : (a : Agreed) (p : List ℕ) → begins_ok a p ≡ true → first_is 0 p ≡ true
+ok_is_zero a p h = both (first_is 0 p) _ h
 
 pub zero_is_no_end : (deprecates : Bool) (p : List ℕ) → first_is 0 p ≡ true → looks_like_end deprecates p ≡ false
 zero_is_no_end deprecates p h = rw (first_unlike 0 0xfe p h refl) refl

@@ -1,10 +1,9 @@
 -- Packets with which each part of an answer may go on.
-use Rattle.mysql_conversation.specs.declared.agreed.Agreed.{Agreed}
 use Rattle.std.proofs.Common.{◌≡◌, ◌≢◌, ℕ, ◌<◌, zero, suc, List, [], ◌∷◌, ◌++◌, ◌⊎◌, inl, inr, Option, Some, None, Result, Ok, Err, refl, sym, ap, subst, ◌∙◌, Bool, true, false, cond, arith}
-use Rattle.std.specs.Prelude.{◌&&◌}
+use Rattle.std.specs.Prelude.{◌&&◌, not}
 use Rattle.mysql_wire.specs.Flags.{StatusFlags}
 use Rattle.mysql_wire.specs.Form.{bytes, number}
-use Rattle.mysql_wire.specs.Int.{raw}
+use Rattle.mysql_wire.specs.Int.{raw, raw_int}
 use Rattle.mysql_wire.specs.Constant.{const_byte}
 use Rattle.mysql_wire.specs.ConstantValue.{coded}
 use Rattle.mysql_wire.specs.LenEnc.{lenenc, lenenc_string}
@@ -13,9 +12,11 @@ use Rattle.mysql_replies.specs.OkPacket.{ok_packet, ok_header, status_flags, pac
 use Rattle.mysql_replies.specs.OkKind.{ok_end, ok_tail, tracks, body_of}
 use Rattle.mysql_replies.specs.declared.ok_packet.OkPacketDeserializer.{OkPacketDeserializer}
 use Rattle.mysql_prepared.specs.Stmt.{stmt, stmt_packet_of}
+use Rattle.mysql_prepared.specs.StmtWithMetadata.{stmt_with_metadata, sends_metadata}
+use Rattle.mysql_prepared.specs.declared.stmt_with_metadata.StmtPacketWithMetadata.{StmtPacketWithMetadata}
 use Rattle.mysql_conversation.specs.Parts.{nothing, never, one, ◌followed_by◌, ◌or◌, for_some, times, many}
 use Rattle.mysql_conversation.specs.Payloads.{ok_form, old_end_form, terminator_form, SpelledWith, EndsWith, looks_like_end, first_is, is_report, IsOk, IsEnd, IsOldEnd, IsPrepared, opens_cursor}
-use Rattle.mysql_conversation.specs.Agreements.{deprecates_eof, reports_progress}
+use Rattle.mysql_conversation.specs.Agreements.{Agreed, deprecates_eof, has_optional_metadata, reports_progress}
 use Rattle.mysql_conversation.specs.Conversation as c
 use Rattle.mysql_conversation.specs.Conversation.{Packet, served, ending, format_of, inside, authentication_kind}
 use Rattle.mysql_conversation.specs.Machine.{rests}
@@ -52,7 +53,7 @@ abbrev terminator_bytes : List ℕ
 terminator_bytes = 0xfe ∷ 0 ∷ 0 ∷ 0 ∷ 0 ∷ 0 ∷ 0 ∷ []
 
 abbrev statement_bytes : List ℕ
-statement_bytes = 0 ∷ 0 ∷ 0 ∷ 0 ∷ 0 ∷ 0 ∷ 0 ∷ 0 ∷ 0 ∷ 0 ∷ 0 ∷ 0 ∷ []
+statement_bytes = 0 ∷ 0 ∷ 0 ∷ 0 ∷ 0 ∷ 0 ∷ 0 ∷ 0 ∷ 0 ∷ 0 ∷ 0 ∷ 0 ∷ 1 ∷ []
 
 abbrev plain : StatusFlags
 plain = record { 0 = 0; 1 = record {} }
@@ -69,9 +70,23 @@ terminator_reads : (a : Agreed) → (terminator_form a).reads terminator_bytes �
 unfolding ok_packet ok_header ok_end ok_tail bytes number raw coded lenenc lenenc_string
 terminator_reads a = rw tracks_nothing refl
 
-statement_reads : (stmt.form tt).reads statement_bytes ≡ Ok (stmt_packet_of 0 0 0 0, [])
-unfolding stmt bytes number raw const_byte skip
-statement_reads = refl
+-- a statement of no columns and parameters, and the byte under the flag
+abbrev statement : Bool → StmtPacketWithMetadata
+statement true = record { packet = stmt_packet_of 0 0 0 0; metadata = Some (raw_int 1) }
+statement false = record { packet = stmt_packet_of 0 0 0 0; metadata = None }
+
+abbrev left : Bool → List ℕ
+left true = []
+left false = 1 ∷ []
+
+statement_reads : (a : Agreed) (b : Bool) → sends_metadata a.mysql ≡ b → (stmt_with_metadata.form a.mysql).reads statement_bytes ≡ Ok (statement b, left b)
+unfolding stmt_with_metadata stmt bytes number raw const_byte skip
+statement_reads a true e = rw e refl
+statement_reads a false e = rw e refl
+
+statement_is : (a : Agreed) (b : Bool) → sends_metadata a.mysql ≡ b → IsPrepared a 0 0 true statement_bytes
+statement_is a true e = (statement true, left true, (stmt_with_metadata.form a.mysql).found (statement true) statement_bytes (left true) (statement_reads a true e), refl, refl, refl)
+statement_is a false e = (statement false, left false, (stmt_with_metadata.form a.mysql).found (statement false) statement_bytes (left false) (statement_reads a false e), refl, refl, refl)
 
 -- an OK packet, an old end, and the end of rows
 ok_spelled : (a : Agreed) → SpelledWith (ok_form a) plain ok_bytes
@@ -85,7 +100,7 @@ end_bytes a true = (terminator_bytes, refl, refl, (deserialized (body_of 0 0 pla
 end_bytes a false = (old_end_bytes, refl, refl, old_end_spelled a)
 
 ok_then : (a : Agreed) (rest : List Packet) → c.ok a false (packet Server ok_bytes kind.Ok ∷ rest) rest
-ok_then a rest = serving kind.Ok (IsOk a false) ok_bytes rest rest refl refl (refl, plain, ok_spelled a, refl)
+ok_then a rest = serving kind.Ok (IsOk a false) ok_bytes rest rest refl refl (ap not (tracks_nothing (has_optional_metadata a)), plain, ok_spelled a, refl)
 
 -- a packet inside of an exchange
 abbrev pub Inside : Packet → Type 0
@@ -186,10 +201,10 @@ to_come a (state.Definitions n b) h =
 to_come a (state.DefinitionsEnd b) h = old_end_comes a b
 to_come a (state.Rows r) h = let e = rows_end a r in (e.0, [], e.1, e.2)
 to_come a state.Prepared h = (
-  packet Server statement_bytes (kind.PrepareOk 0 0),
+  packet Server statement_bytes (kind.PrepareOk 0 0 true),
   [],
   refl,
-  (0, (0, ([], serving (kind.PrepareOk 0 0) (IsPrepared 0 0) statement_bytes [] [] refl refl (stmt_packet_of 0 0 0 0, [], (stmt.form tt).found _ statement_bytes [] statement_reads, refl, refl), ([], refl, refl)))),
+  (0, (0, inl ([], serving (kind.PrepareOk 0 0 true) (IsPrepared a 0 0 true) statement_bytes [] [] refl refl (statement_is a (sends_metadata a.mysql) refl), ([], refl, refl)))),
 )
 to_come a state.Fetch h = let e = end_then a [] in (e.0, [], e.1, (_, many_none (c.row a Binary) _, inr e.2))
 to_come a state.Acknowledgement h = (packet Server ok_bytes kind.Ok, [], refl, inl (inr (ok_then a [])))

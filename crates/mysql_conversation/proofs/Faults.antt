@@ -5,7 +5,7 @@ use Rattle.mysql_wire.specs.Reading.{Reading, Faults}
 use Rattle.mysql_wire.specs.declared.fault.FaultOf.{FaultOf}
 use Rattle.mysql_wire.specs.declared.fault.FaultOf.TheVariants as fault
 use Rattle.mysql_replies.specs.declared.ok_packet.OkPacketDeserializer.{OkPacketDeserializer}
-use Rattle.mysql_prepared.specs.declared.stmt.StmtPacket.{StmtPacket}
+use Rattle.mysql_prepared.specs.declared.stmt_with_metadata.StmtPacketWithMetadata.{StmtPacketWithMetadata}
 use Rattle.mysql_replies.specs.declared.column_count.ColumnCount.{ColumnCount}
 use Rattle.mysql_auth.specs.declared.handshake.HandshakePacket.{HandshakePacket}
 use Rattle.mysql_auth.specs.declared.ssl_request.SslRequest.{SslRequest}
@@ -24,7 +24,7 @@ count-fault (fault.InvalidData text) read h = ap count_in h
 count-fault (fault.InvalidInput text) read h = ap count_in h
 count-fault fault.Memory read h = absurd cc
 
-pub statement-fault : (e : FaultOf) (read : Reading StmtPacket) → Faults false e read → statement_in read ≡ None
+pub statement-fault : (e : FaultOf) (read : Reading StmtPacketWithMetadata) → Faults false e read → statement_in read ≡ None
 statement-fault fault.UnexpectedEof read h = ap statement_in h
 statement-fault (fault.InvalidData text) read h = ap statement_in h
 statement-fault (fault.InvalidInput text) read h = ap statement_in h

@@ -1,16 +1,14 @@
 -- What the grammar allows, the machine takes.
-use Rattle.mysql_conversation.specs.declared.agreed.Agreed.{Agreed}
 use Rattle.std.proofs.Common.{◌≡◌, ◌≢◌, ℕ, ◌<◌, zero, suc, List, [], ◌∷◌, ◌++◌, ◌⊎◌, inl, inr, Option, Some, None, refl, sym, ap, subst, ◌∙◌, Bool, true, false, arith}
 use Rattle.std.specs.Prelude.{not}
 use Rattle.mysql_wire.specs.Flags.{StatusFlags}
-use Rattle.mysql_prepared.specs.Stmt.{num_columns, num_params}
 use Rattle.mysql_conversation.specs.Parts.{nothing, never, one, ◌followed_by◌, ◌or◌, for_some, times, many, broken}
 use Rattle.mysql_conversation.specs.Payloads.{has_more, opens_cursor, first_is, IsOk, IsEnd, IsOldEnd, IsInfileRequest, IsCount, IsRow, IsPrepared, IsError, is_report, is_one_byte, asks_cursor}
-use Rattle.mysql_conversation.specs.Agreements.{deprecates_eof}
+use Rattle.mysql_conversation.specs.Agreements.{Agreed, deprecates_eof}
 use Rattle.mysql_conversation.specs.Conversation as c
 use Rattle.mysql_conversation.specs.Conversation.{Packet, sent, served, answering, answered, ending, format_of, authentication_kind, commands, inside}
-use Rattle.mysql_conversation.specs.Machine.{entrance, step, client_step, serve, rests, error_kind, Run, answers, reply_step, infile_step, infile_reply_step, line_step, last_step, prepared_step, command_step, begun, acknowledgement_step, authentication_step, ok_status, definitions_end_step, columns_step, enter, defined, counted, less, define, ended, line_of, reply_of}
-use Rattle.mysql_conversation.proofs.Classes.{ok_status_of, reply_ok, reply_infile, reply_count, line_row, line_end, old_end_of_is, statement_at_of, chosen, some_is, eqb_is, zero_is_no_end}
+use Rattle.mysql_conversation.specs.Machine.{entrance, step, client_step, serve, rests, error_kind, Run, answers, reply_step, infile_step, infile_reply_step, line_step, last_step, prepared_by, prepared_step, command_step, begun, acknowledgement_step, authentication_step, ok_status, definitions_end_step, columns_step, enter, defined, counted, less, define, ended, line_of, reply_of}
+use Rattle.mysql_conversation.proofs.Classes.{ok_status_of, reply_ok, reply_infile, reply_count, line_row, line_end, old_end_of_is, statement_at_of, chosen, some_is, eqb_is, zero_is_no_end, ok_is_zero}
 use Rattle.mysql_conversation.proofs.States.{step_listens}
 use Rattle.mysql_conversation.specs.declared.state.After.{After}
 use Rattle.mysql_conversation.specs.declared.state.After.TheVariants as after
@@ -178,14 +176,18 @@ lead_params a zero columns = lead_nothing a (enter (after.Columns columns))
 lead_params a (suc n) columns = lead_then a _ _ _ (defined (deprecates_eof a) (after.Columns columns)) _ (lead_all a n (after.Columns columns))
     (lead_definitions_end a (deprecates_eof a) (after.Columns columns) (enter (after.Columns columns)) refl (λ status. refl))
 
-prepared_step_of : (a : Agreed) (columns params : ℕ) (p : List ℕ) → IsPrepared columns params p → serve a state.Prepared p ≡ Some (kind.PrepareOk columns params, define params (after.Columns columns))
-prepared_step_of a columns params p h = ap prepared_step (statement_at_of h.0 p h.1 h.2) ∙ rw (h.3, h.4) refl
+prepared_step_of : (a : Agreed) (columns params : ℕ) (follow : Bool) (p : List ℕ) → IsPrepared a columns params follow p → serve a state.Prepared p ≡ Some (kind.PrepareOk columns params follow, prepared_by follow columns params)
+prepared_step_of a columns params follow p h = ap prepared_step (statement_at_of a h.0 p h.1 h.2) ∙ rw (h.3, h.4, h.5) refl
+
+lead_prepared_ok : (a : Agreed) (columns params : ℕ) (follow : Bool) → Leads a state.Prepared (c.prepared_ok a columns params follow) (prepared_by follow columns params)
+lead_prepared_ok a columns params follow = lead_served a state.Prepared (kind.PrepareOk columns params follow) (IsPrepared a columns params follow) (prepared_by follow columns params) (λ p h. prepared_step_of a columns params follow p h)
 
 lead_prepared : (a : Agreed) → Leads a state.Prepared (c.prepared a) state.Rest
-lead_prepared a = lead_some a _ _ _ (λ columns. lead_some a _ _ _ (λ params.
-    lead_then a _ _ _ (define params (after.Columns columns)) _
-    (lead_served a state.Prepared (kind.PrepareOk columns params) (IsPrepared columns params) _ (λ p h. prepared_step_of a columns params p h))
-    (lead_then a _ _ _ (enter (after.Columns columns)) _ (lead_params a params columns) (lead_columns a columns))))
+lead_prepared a = lead_some a _ _ _ (λ columns. lead_some a _ _ _ (λ params. lead_or a _ _ _ _
+    (lead_then a _ _ _ (define params (after.Columns columns)) _
+    (lead_prepared_ok a columns params true)
+    (lead_then a _ _ _ (enter (after.Columns columns)) _ (lead_params a params columns) (lead_columns a columns)))
+    (lead_prepared_ok a columns params false)))
 
 lead_fetched : (a : Agreed) → Leads a state.Fetch (many (c.row a Binary) followed_by c.any_end a) state.Rest
 lead_fetched a =
@@ -202,7 +204,7 @@ lead_acknowledged a =
   where
     acknowledged_ok : (more : Bool) → Leads a state.Acknowledgement (c.ok a more) state.Rest
     acknowledged_ok more = lead_served a state.Acknowledgement kind.Ok (IsOk a more) state.Rest
-        (λ p h. ap (λ l. acknowledgement_step (deprecates_eof a) l (reply_of a p)) (line_row a Text p (zero_is_no_end (deprecates_eof a) p h.0)) ∙ ap (acknowledgement_step (deprecates_eof a) (Some line.Row)) (reply_ok a more p h))
+        (λ p h. ap (λ l. acknowledgement_step (deprecates_eof a) l (reply_of a p)) (line_row a Text p (zero_is_no_end (deprecates_eof a) p (ok_is_zero a p h.0))) ∙ ap (acknowledgement_step (deprecates_eof a) (Some line.Row)) (reply_ok a more p h))
 
     acknowledged_end : (more : Bool) → Leads a state.Acknowledgement (c.end a more) state.Rest
     acknowledged_end more = lead_served a state.Acknowledgement (ending (deprecates_eof a)) (IsEnd a more) state.Rest

@@ -1,5 +1,5 @@
 -- Of each side the packets stay in their order, and none comes before its command.
-use Rattle.mysql_conversation.specs.declared.agreed.Agreed.{Agreed}
+use Rattle.mysql_conversation.specs.Agreements.{Agreed}
 use Rattle.std.proofs.Common.{◌≡◌, ◌≤◌, ℕ, ◌+◌, List, [], ◌∷◌, ◌++◌, ◌⊎◌, inl, inr, refl, sym, ap, subst, ◌∙◌, Bool, true, false, arith}
 use Rattle.std.specs.Prelude.{◌&&◌, if◌then◌else◌}
 use Rattle.mysql_conversation.specs.Conversation.{Packet, commands, asks}

@@ -9,13 +9,12 @@ use Rattle.mysql_wire.specs.ConstantValue.{coded}
 use Rattle.mysql_wire.specs.Skip.{skip}
 use Rattle.mysql_auth.specs.SslRequest.{ssl_request, request_of}
 use Rattle.mysql_auth.specs.declared.ssl_request.SslRequest.{SslRequest}
-use Rattle.mysql_conversation.specs.Agreements.{agreed_on, compresses}
+use Rattle.mysql_conversation.specs.Agreements.{Agreed, agreed_on, compresses}
 use Rattle.mysql_conversation.specs.Piped.{place, stands}
 use Rattle.mysql_conversation.specs.Pipelined.{Numbered, IsPipelined}
 use Rattle.mysql_conversation.specs.Session.{client_of, MayLogIn, IsLogin, Before, IsLoggedIn, IsSession, IsSessionBeginning, TakenIn}
 use Rattle.mysql_conversation.specs.Standing.{start}
 use Rattle.mysql_conversation.proofs.Stood.{run_is_beginning}
-use Rattle.mysql_conversation.specs.declared.agreed.Agreed.{Agreed}
 use Rattle.mysql_conversation.specs.declared.kind.Kind.TheVariants as kind
 use Rattle.mysql_conversation.specs.declared.kind.Opening.TheVariants.{Login}
 use Rattle.mysql_conversation.specs.declared.kind.Side.TheVariants.{Client, Server}
@@ -48,7 +47,7 @@ logged_in server tls items f = (
   f,
   ((refl, refl, refl), nothing_asked, ([], (ssl_request.form tt).found nothing_asked zeros [] zeros_read), may tls, refl),
   refl,
-  none_agreed server.capabilities.0,
+  none_agreed server.mysql.0,
 )
 
 login_goes_on : (server : Agreed) (tls : Bool) (items : List Numbered) → Before server tls items → IsSessionBeginning items

@@ -6,14 +6,13 @@ use Rattle.mysql_auth.specs.Handshake.{handshake}
 use Rattle.mysql_auth.specs.SslRequest.{ssl_request}
 use Rattle.mysql_auth.specs.declared.handshake.HandshakePacket.{HandshakePacket}
 use Rattle.mysql_auth.specs.declared.ssl_request.SslRequest.{SslRequest}
-use Rattle.mysql_conversation.specs.Agreements.{agreed_on, compresses}
+use Rattle.mysql_conversation.specs.Agreements.{Agreed, agreed_on, compresses}
 use Rattle.mysql_conversation.specs.Payloads.{first_is}
 use Rattle.mysql_conversation.specs.Piped.{PipeTaken, place}
 use Rattle.mysql_conversation.specs.Pipelined.{Numbered, IsPipelined, IsPipelinedBeginning}
 use Rattle.mysql_conversation.specs.Session.{server_of, client_of, asks_tls, IsOf, IsGreeting, IsGreetingError, BeginsAs, IsSslRequest, MayLogIn, IsLogin, Before, IsLoggedIn, IsSession, IsSessionBeginning, TakenIn}
 use Rattle.mysql_conversation.specs.SessionSteps.{greeting_in, greeting_at, login_in, login_at, GreetedAs, AnsweredAs, IsNewPipeline}
 use Rattle.mysql_conversation.proofs.Classes.{some_is}
-use Rattle.mysql_conversation.specs.declared.agreed.Agreed.{Agreed}
 use Rattle.mysql_conversation.specs.declared.kind.Kind.{Kind}
 use Rattle.mysql_conversation.specs.declared.kind.Kind.TheVariants as kind
 use Rattle.mysql_conversation.specs.declared.kind.Opening.TheVariants.{Login}

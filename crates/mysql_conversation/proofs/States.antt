@@ -3,13 +3,13 @@ use Rattle.std.proofs.Common.{◌≡◌, ℕ, zero, suc, List, [], ◌∷◌, �
 use Rattle.std.specs.Prelude.{◌&&◌, not}
 use Rattle.mysql_wire.specs.Flags.{StatusFlags}
 use Rattle.mysql_prepared.specs.Stmt.{num_columns, num_params}
-use Rattle.mysql_prepared.specs.declared.stmt.StmtPacket.{StmtPacket}
-use Rattle.mysql_conversation.specs.Agreements.{deprecates_eof, asks_factors}
-use Rattle.mysql_conversation.specs.Payloads.{first_is, is_one_byte, is_report, asks_cursor, opens_cursor, has_more}
+use Rattle.mysql_prepared.specs.StmtWithMetadata.{packet_of}
+use Rattle.mysql_prepared.specs.declared.stmt_with_metadata.StmtPacketWithMetadata.{StmtPacketWithMetadata}
+use Rattle.mysql_conversation.specs.Agreements.{Agreed, deprecates_eof, asks_factors}
+use Rattle.mysql_conversation.specs.Payloads.{first_is, begins_ok, definitions_follow, is_one_byte, is_report, asks_cursor, opens_cursor, has_more}
 use Rattle.mysql_conversation.specs.Conversation.{answering, asks, commands, inside, ending, format_of, authentication_kind}
-use Rattle.mysql_conversation.specs.Machine.{entrance, step, take_step, client_step, serve, rests, listens, is_due, error_kind, answers, begun, command_step, infile_step, answer_step, ack_step, logged_in, authentication_step, reply_step, infile_reply_step, columns_step, definitions_end_step, line_step, last_step, prepared_step, acknowledgement_step, enter, defined, less, define, counted, ended, reply_of, line_of, old_end_of, statement_at, ok_status}
+use Rattle.mysql_conversation.specs.Machine.{entrance, step, take_step, client_step, serve, rests, listens, is_due, error_kind, answers, begun, command_step, infile_step, answer_step, ack_step, logged_in, authentication_step, reply_step, infile_reply_step, columns_step, definitions_end_step, line_step, last_step, prepared_by, prepared_step, acknowledgement_step, enter, defined, less, define, counted, ended, reply_of, line_of, old_end_of, statement_at, ok_status}
 use Rattle.mysql_conversation.proofs.Classes.{chosen, some_is}
-use Rattle.mysql_conversation.specs.declared.agreed.Agreed.{Agreed}
 use Rattle.mysql_conversation.specs.declared.kind.Format.TheVariants.{Text, Binary}
 use Rattle.mysql_conversation.specs.declared.kind.Kind.{Kind}
 use Rattle.mysql_conversation.specs.declared.kind.Kind.TheVariants as kind
@@ -155,7 +155,7 @@ fits_status None = tt
 fits_status (Some status) = (refl, refl)
 
 fits_authentication : (a : Agreed) (p : List ℕ) (status : Option StatusFlags) → Fits (authentication_step a p status)
-fits_authentication a p status = fits_cond (first_is 0 p) _ _ (fits_status status) (sym (kind_asks a p), kind_inside a p)
+fits_authentication a p status = fits_cond (begins_ok a p) _ _ (fits_status status) (fits_cond (first_is 0 p) _ _ tt (sym (kind_asks a p), kind_inside a p))
 
 fits_reply : (d : Bool) (r : Request) (x : Option Reply) → Fits (reply_step d r x)
 fits_reply d r None = tt
@@ -192,9 +192,13 @@ fits_last d k s None h i = tt
 fits_last d k s (Some line.Row) h i = (h, i)
 fits_last d k s (Some (line.End more)) h i = fits_end d state.Rest refl
 
-fits_prepared : (s : Option StmtPacket) → Fits (prepared_step s)
+prepared_listens : (follow : Bool) (columns params : ℕ) → listens (prepared_by follow columns params) ≡ false
+prepared_listens true columns params = define_listens params (after.Columns columns)
+prepared_listens false columns params = refl
+
+fits_prepared : (s : Option StmtPacketWithMetadata) → Fits (prepared_step s)
 fits_prepared None = tt
-fits_prepared (Some s) = (define_listens (num_params s) (after.Columns (num_columns s)), refl)
+fits_prepared (Some s) = (prepared_listens (definitions_follow s) (num_columns (packet_of s)) (num_params (packet_of s)), refl)
 
 fits_acknowledgement : (d : Bool) (l : Option Line) (r : Option Reply) → Fits (acknowledgement_step d l r)
 fits_acknowledgement d (Some (line.End more)) r = fits_end d state.Rest refl
@@ -213,7 +217,7 @@ fits_serve a (state.InfileReply r) p = fits_infile_reply r (reply_of a p)
 fits_serve a (state.Definitions n b) p = (less_listens (deprecates_eof a) n b, refl)
 fits_serve a (state.DefinitionsEnd b) p = fits_definitions_end b (old_end_of a p)
 fits_serve a (state.Rows r) p = fits_line (deprecates_eof a) r (line_of a (format_of r) p)
-fits_serve a state.Prepared p = fits_prepared (statement_at p)
+fits_serve a state.Prepared p = fits_prepared (statement_at a p)
 fits_serve a state.Fetch p = fits_last (deprecates_eof a) (kind.Row Binary) state.Fetch (line_of a Binary p) refl refl
 fits_serve a state.Acknowledgement p = fits_acknowledgement (deprecates_eof a) (line_of a Text p) (reply_of a p)
 fits_serve a state.Text p = (refl, refl)

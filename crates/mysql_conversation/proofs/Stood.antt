@@ -1,5 +1,5 @@
 -- Each list that the machine with commands that wait takes is the beginning of a pipelined conversation, and each beginning is taken.
-use Rattle.mysql_conversation.specs.declared.agreed.Agreed.{Agreed}
+use Rattle.mysql_conversation.specs.Agreements.{Agreed}
 use Rattle.std.proofs.Common.{◌≡◌, ℕ, ◌+◌, zero, suc, List, [], ◌∷◌, ◌++◌, ◌⊎◌, inl, inr, Option, Some, None, refl, sym, ap, subst, ◌∙◌, Bool, true, false}
 use Rattle.std.specs.Prelude.{◌&&◌, not, Result, Ok, Err, IfOk, IfErr}
 use Rattle.mysql_conversation.specs.Conversation.{Packet, IsConversation, asks}

@@ -2,16 +2,16 @@
 use Rattle.std.proofs.Common.{◌≡◌, ◌≢◌, ℕ, ◌<◌, zero, suc, List, [], ◌∷◌, ◌++◌, ◌⊎◌, inl, inr, Option, Some, None, refl, sym, ap, subst, ◌∙◌, Bool, true, false, cond, arith}
 use Rattle.mysql_wire.specs.Flags.{StatusFlags}
 use Rattle.mysql_prepared.specs.Stmt.{num_columns, num_params}
-use Rattle.mysql_prepared.specs.declared.stmt.StmtPacket.{StmtPacket}
-use Rattle.mysql_conversation.specs.Agreements.{deprecates_eof}
+use Rattle.mysql_prepared.specs.StmtWithMetadata.{packet_of}
+use Rattle.mysql_prepared.specs.declared.stmt_with_metadata.StmtPacketWithMetadata.{StmtPacketWithMetadata}
+use Rattle.mysql_conversation.specs.Agreements.{Agreed, deprecates_eof}
 use Rattle.mysql_conversation.specs.Parts.{nothing, never, one, ◌followed_by◌, ◌or◌, for_some, times, many, broken}
-use Rattle.mysql_conversation.specs.Payloads.{has_more, opens_cursor, first_is, IsOk, IsEnd, IsOldEnd, IsInfileRequest, IsCount, IsRow, IsPrepared, IsError, asks_cursor}
+use Rattle.mysql_conversation.specs.Payloads.{begins_ok, definitions_follow, has_more, opens_cursor, first_is, IsOk, IsEnd, IsOldEnd, IsInfileRequest, IsCount, IsRow, IsPrepared, IsError, asks_cursor}
 use Rattle.mysql_conversation.specs.Conversation as c
 use Rattle.mysql_conversation.specs.Conversation.{Packet, sent, served, answering, answered, ending, format_of, authentication_kind}
-use Rattle.mysql_conversation.specs.Machine.{step, client_step, serve, answers, reply_step, infile_step, infile_reply_step, line_step, last_step, prepared_step, command_step, begun, acknowledgement_step, logged_in, authentication_step, answer_step, ack_step, definitions_end_step, columns_step, enter, defined, counted, less, define, ended, line_of, reply_of, old_end_of, statement_at, ok_status}
+use Rattle.mysql_conversation.specs.Machine.{step, client_step, serve, answers, reply_step, infile_step, infile_reply_step, line_step, last_step, prepared_by, prepared_step, command_step, begun, acknowledgement_step, logged_in, authentication_step, answer_step, ack_step, definitions_end_step, columns_step, enter, defined, counted, less, define, ended, line_of, reply_of, old_end_of, statement_at, ok_status}
 use Rattle.mysql_conversation.specs.Taken.{packet}
 use Rattle.mysql_conversation.proofs.Classes.{reply_means, line_means, old_end_means, statement_at_is, ok_status_is, chosen, some_is, eqb_refl}
-use Rattle.mysql_conversation.specs.declared.agreed.Agreed.{Agreed}
 use Rattle.mysql_conversation.specs.declared.state.After.{After}
 use Rattle.mysql_conversation.specs.declared.state.After.TheVariants as after
 use Rattle.mysql_conversation.specs.declared.state.Answer.{Answer}
@@ -288,7 +288,7 @@ one_round : (a : Agreed) (p : List ℕ) (items rest : List Packet) → first_is 
 one_round a p items rest e z t =
     (t.2.0, many_more (round a) _ t.0 t.2.0 (items, (packet Server p (authentication_kind a p), (refl, refl, e, z), refl), t.1) t.2.1, t.2.2)
 
-authenticated : (a : Agreed) (p : List ℕ) (status : StatusFlags) (items rest : List Packet) → items ≡ rest → first_is 0xff p ≡ false → first_is 0 p ≡ true → ok_status a p ≡ Some status → c.authentication a (packet Server p kind.Ok ∷ items) rest
+authenticated : (a : Agreed) (p : List ℕ) (status : StatusFlags) (items rest : List Packet) → items ≡ rest → first_is 0xff p ≡ false → begins_ok a p ≡ true → ok_status a p ≡ Some status → c.authentication a (packet Server p kind.Ok ∷ items) rest
 authenticated a p status items rest t e z w = (_, many_none (round a) _, any_ok_of a (has_more status) p items rest t e (z, status, ok_status_is a status p w, refl))
 
 -- where the client was asked, and does not answer
@@ -297,15 +297,18 @@ unanswered a true items rest h = (items, inl refl, h)
 unanswered a false items rest h = h
 
 back_ok_status : (a : Agreed) (b : Bool) (p : List ℕ) (status : Option StatusFlags) (k : Kind) (m : State) (items rest : List Packet)
-    → first_is 0xff p ≡ false → first_is 0 p ≡ true → ok_status a p ≡ status → logged_in status ≡ Some (k, m) → tail_of a m items rest → tail_of a (state.Authentication b) (packet Server p k ∷ items) rest
+    → first_is 0xff p ≡ false → begins_ok a p ≡ true → ok_status a p ≡ status → logged_in status ≡ Some (k, m) → tail_of a m items rest → tail_of a (state.Authentication b) (packet Server p k ∷ items) rest
 back_ok_status a b p None k m items rest e z w h t = absurd cc
 back_ok_status a b p (Some status) k m items rest e z w h t = back a (state.Authentication b) Server p _ k _ m items rest h (λ t. unanswered a b _ rest (authenticated a p status items rest t e z w)) t
 
 back_authentication : (a : Agreed) (b : Bool) (p : List ℕ) (k : Kind) (m : State) (items rest : List Packet)
     → first_is 0xff p ≡ false → authentication_step a p (ok_status a p) ≡ Some (k, m) → tail_of a m items rest → tail_of a (state.Authentication b) (packet Server p k ∷ items) rest
-back_authentication a b p k m items rest e h t = elim (chosen (first_is 0 p) _ _ _ h) [
+back_authentication a b p k m items rest e h t = elim (chosen (begins_ok a p) _ _ _ h) [
   | inl z ↦ back_ok_status a b p (ok_status a p) k m items rest e z.0 refl z.1 t
-  | inr z ↦ back a (state.Authentication b) Server p _ k _ m items rest z.1 (λ t. unanswered a b _ rest (one_round a p items rest e z.0 t)) t
+  | inr o ↦ elim (chosen (first_is 0 p) _ _ _ o.1) [
+    | inl z ↦ absurd cc
+    | inr z ↦ back a (state.Authentication b) Server p _ k _ m items rest z.1 (λ t. unanswered a b _ rest (one_round a p items rest e z.0 t)) t
+  ]
 ]
 
 -- what the client answers, one step back
@@ -328,12 +331,24 @@ params_columns : (a : Agreed) (params columns : ℕ) (items rest : List Packet) 
 params_columns a zero columns items rest t = (items, refl, entered a (after.Columns columns) items rest t)
 params_columns a (suc n) columns items rest t = (t.2.0, (t.0, t.1, t.2.1), t.2.2)
 
-back_prepared : (a : Agreed) (p : List ℕ) (r : Option StmtPacket) (k : Kind) (m : State) (items rest : List Packet)
-    → first_is 0xff p ≡ false → statement_at p ≡ r → prepared_step r ≡ Some (k, m) → tail_of a m items rest → tail_of a state.Prepared (packet Server p k ∷ items) rest
+by_following : (a : Agreed) (s : StmtPacketWithMetadata) (p : List ℕ) (follow : Bool) (items rest : List Packet) → first_is 0xff p ≡ false → statement_at a p ≡ Some s → definitions_follow s ≡ follow
+    → tail_of a (prepared_by follow (num_columns (packet_of s)) (num_params (packet_of s))) items rest
+    → c.prepared a (packet Server p (kind.PrepareOk (num_columns (packet_of s)) (num_params (packet_of s)) follow) ∷ items) rest
+by_following a s p true items rest e w f t =
+    let spelled = statement_at_is a s p w in
+    let columns = num_columns (packet_of s) in
+    let params = num_params (packet_of s) in
+    (columns, (params, inl (items, serving (kind.PrepareOk columns params true) (IsPrepared a columns params true) p items items refl e (s, spelled.0, spelled.1, refl, refl, f), params_columns a params columns items rest t)))
+by_following a s p false items rest e w f t =
+    let spelled = statement_at_is a s p w in
+    let columns = num_columns (packet_of s) in
+    let params = num_params (packet_of s) in
+    (columns, (params, inr (serving (kind.PrepareOk columns params false) (IsPrepared a columns params false) p items rest t e (s, spelled.0, spelled.1, refl, refl, f))))
+
+back_prepared : (a : Agreed) (p : List ℕ) (r : Option StmtPacketWithMetadata) (k : Kind) (m : State) (items rest : List Packet)
+    → first_is 0xff p ≡ false → statement_at a p ≡ r → prepared_step r ≡ Some (k, m) → tail_of a m items rest → tail_of a state.Prepared (packet Server p k ∷ items) rest
 back_prepared a p None k m items rest e w h t = absurd cc
-back_prepared a p (Some s) k m items rest e w h t = back a state.Prepared Server p _ k _ m items rest h
-    (λ t. let spelled = statement_at_is s p w in
-    (num_columns s, (num_params s, (items, serving (kind.PrepareOk (num_columns s) (num_params s)) (IsPrepared (num_columns s) (num_params s)) p items items refl e (s, spelled.0, spelled.1, refl, refl), params_columns a (num_params s) (num_columns s) items rest t)))) t
+back_prepared a p (Some s) k m items rest e w h t = back a state.Prepared Server p _ k _ m items rest h (by_following a s p (definitions_follow s) items rest e w refl) t
 
 -- a packet of the server that is no error, one step back
 pub back_serve : (a : Agreed) (s : State) (p : List ℕ) (k : Kind) (m : State) (items rest : List Packet)
@@ -346,7 +361,7 @@ back_serve a (state.InfileReply r) p k m items rest e h t = back_infile_reply a 
 back_serve a (state.Definitions n b) p k m items rest e h t = back a (state.Definitions n b) Server p _ k _ m items rest h (back_less a n b p items rest e) t
 back_serve a (state.DefinitionsEnd b) p k m items rest e h t = back_definitions_end a b p (old_end_of a p) k m items rest e refl h t
 back_serve a (state.Rows r) p k m items rest e h t = back_line a r p (line_of a (format_of r) p) k m items rest e refl h t
-back_serve a state.Prepared p k m items rest e h t = back_prepared a p (statement_at p) k m items rest e refl h t
+back_serve a state.Prepared p k m items rest e h t = back_prepared a p (statement_at a p) k m items rest e refl h t
 back_serve a state.Fetch p k m items rest e h t = back_fetch a p (line_of a Binary p) k m items rest e refl h t
 back_serve a state.Acknowledgement p k m items rest e h t = back_acknowledgement a p (line_of a Text p) (reply_of a p) k m items rest e refl refl h t
 back_serve a state.Text p k m items rest e h t = back a state.Text Server p _ k _ m items rest h (λ t. serving kind.Statistics _ p items rest t e tt) t

@@ -9,7 +9,7 @@ use Rattle.mysql_conversation.specs.Machine as machine
 use Rattle.mysql_conversation.specs.Standing.{kind_of, begin, command_of, known}
 use Rattle.mysql_conversation.proofs.Classes.{some_is, chosen, first_unlike}
 use Rattle.mysql_conversation.proofs.States.{take_listens, answers_listens, inside_command}
-use Rattle.mysql_conversation.specs.declared.agreed.Agreed.{Agreed}
+use Rattle.mysql_conversation.specs.Agreements.{Agreed}
 use Rattle.mysql_conversation.specs.declared.state.Answer.{Answer}
 use Rattle.mysql_conversation.specs.declared.state.Command.{Command}
 use Rattle.mysql_conversation.specs.declared.kind.Kind.{Kind}

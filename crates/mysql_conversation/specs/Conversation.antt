@@ -1,10 +1,9 @@
 -- Which packets are a conversation: the pages of the protocol, as a grammar of whole lists of packets.
 use Rattle.std.specs.Prelude.{◌≡◌, ◌≢◌, ◌⊎◌, ℕ, zero, suc, List, [], ◌∷◌, ◌++◌, Bool, true, false, Option, Some, None, ◌==◌, ◌&&◌, if◌then◌else◌}
 use Rattle.mysql_wire.specs.Flags.{StatusFlags}
-use Rattle.mysql_conversation.specs.Agreements.{deprecates_eof, asks_factors}
+use Rattle.mysql_conversation.specs.Agreements.{Agreed, deprecates_eof, asks_factors}
 use Rattle.mysql_conversation.specs.Parts.{nothing, never, one, ◌followed_by◌, ◌or◌, for_some, times, many, broken}
 use Rattle.mysql_conversation.specs.Payloads.{has_more, opens_cursor, first_is, IsOk, IsEnd, IsOldEnd, IsInfileRequest, IsCount, IsRow, IsPrepared, IsError, is_report, is_one_byte, asks_cursor}
-use Rattle.mysql_conversation.specs.declared.agreed.Agreed.{Agreed}
 use Rattle.mysql_conversation.specs.declared.state.Answer.{Answer}
 use Rattle.mysql_conversation.specs.declared.state.Answer.TheVariants as answer
 use Rattle.mysql_conversation.specs.declared.state.Request.{Request}
@@ -70,8 +69,8 @@ count a n follow = served (kind.ColumnCount n follow) (IsCount a n follow)
 abbrev pub definition : Part
 definition = served kind.Column (λ p. Unit {0})
 
-abbrev pub prepared_ok : ℕ → ℕ → Part
-prepared_ok columns params = served (kind.PrepareOk columns params) (IsPrepared columns params)
+abbrev pub prepared_ok : Agreed → ℕ → ℕ → Bool → Part
+prepared_ok a columns params follow = served (kind.PrepareOk columns params follow) (IsPrepared a columns params follow)
 
 -- the definition of a field, which begins as no end does
 abbrev pub field : Agreed → Part
@@ -137,8 +136,12 @@ results a request = many (result a request true) followed_by result a request fa
 
 -- ---- the other answers
 
+-- a prepared statement, and where they follow the definitions of its parameters and of its columns
 abbrev pub prepared : Agreed → Part
-prepared a = for_some (λ columns. for_some (λ params. prepared_ok columns params followed_by definitions a params followed_by definitions a columns))
+prepared a =
+    for_some (λ columns. for_some (λ params.
+    (prepared_ok a columns params true followed_by definitions a params followed_by definitions a columns)
+    or prepared_ok a columns params false))
 
 abbrev pub any_ok : Agreed → Part
 any_ok a = ok a true or ok a false

@@ -6,12 +6,12 @@ use Rattle.mysql_replies.specs.ColumnCount.{column_count, count, metadata_follow
 use Rattle.mysql_replies.specs.OkPacket.{status_flags}
 use Rattle.mysql_replies.specs.declared.column_count.ColumnCount.{ColumnCount}
 use Rattle.mysql_replies.specs.declared.ok_packet.OkPacketDeserializer.{OkPacketDeserializer}
-use Rattle.mysql_prepared.specs.Stmt.{stmt, num_columns, num_params}
-use Rattle.mysql_prepared.specs.declared.stmt.StmtPacket.{StmtPacket}
-use Rattle.mysql_conversation.specs.Agreements.{deprecates_eof}
-use Rattle.mysql_conversation.specs.Payloads.{has_more, opens_cursor, first_is, ok_form, terminator_form, old_end_form, looks_like_end, is_report, asks_cursor}
+use Rattle.mysql_prepared.specs.Stmt.{num_columns, num_params}
+use Rattle.mysql_prepared.specs.StmtWithMetadata.{stmt_with_metadata, packet_of}
+use Rattle.mysql_prepared.specs.declared.stmt_with_metadata.StmtPacketWithMetadata.{StmtPacketWithMetadata}
+use Rattle.mysql_conversation.specs.Agreements.{Agreed, deprecates_eof}
+use Rattle.mysql_conversation.specs.Payloads.{has_more, opens_cursor, first_is, begins_ok, definitions_follow, ok_form, terminator_form, old_end_form, looks_like_end, is_report, asks_cursor}
 use Rattle.mysql_conversation.specs.Conversation.{Packet, answering, authentication_kind, ending, format_of}
-use Rattle.mysql_conversation.specs.declared.agreed.Agreed.{Agreed}
 use Rattle.mysql_conversation.specs.declared.state.After.{After}
 use Rattle.mysql_conversation.specs.declared.state.After.TheVariants as after
 use Rattle.mysql_conversation.specs.declared.state.Answer.{Answer}
@@ -62,7 +62,7 @@ count_in (Ok x) = Some x.0
 count_in (Err e) = None
 
 unfoldable pub count_at : Agreed → List ℕ → Option ColumnCount
-count_at a p = count_in ((column_count.form a.mariadb_capabilities).reads p)
+count_at a p = count_in ((column_count.form a).reads p)
 
 abbrev pub columns_of : Option ColumnCount → Option Reply
 columns_of None = None
@@ -70,7 +70,7 @@ columns_of (Some c) = if nat_lt 0 (count c) then Some (reply.Columns (count c) (
 
 abbrev pub reply_of : Agreed → List ℕ → Option Reply
 reply_of a p =
-    if first_is 0x00 p then ok_of (ok_status a p)
+    if begins_ok a p then ok_of (ok_status a p)
     else (if first_is 0xfb p then Some reply.Infile
     else columns_of (count_at a p))
 
@@ -91,12 +91,12 @@ line_of a format p =
 abbrev pub old_end_of : Agreed → List ℕ → Option StatusFlags
 old_end_of a p = if looks_like_end false p then old_end_status a p else None
 
-abbrev pub statement_in : Reading StmtPacket → Option StmtPacket
+abbrev pub statement_in : Reading StmtPacketWithMetadata → Option StmtPacketWithMetadata
 statement_in (Ok x) = Some x.0
 statement_in (Err e) = None
 
-unfoldable pub statement_at : List ℕ → Option StmtPacket
-statement_at p = statement_in ((stmt.form tt).reads p)
+unfoldable pub statement_at : Agreed → List ℕ → Option StmtPacketWithMetadata
+statement_at a p = statement_in ((stmt_with_metadata.form a.mysql).reads p)
 
 -- ---- the states
 
@@ -194,8 +194,9 @@ logged_in (Some status) = Some (kind.Ok, state.Rest)
 
 abbrev pub authentication_step : Agreed → List ℕ → Option StatusFlags → Option (Kind × State)
 authentication_step a p status =
-    if first_is 0 p then logged_in status
-    else Some (authentication_kind a p, state.Authentication true)
+    if begins_ok a p then logged_in status
+    else (if first_is 0 p then None
+    else Some (authentication_kind a p, state.Authentication true))
 
 abbrev pub reply_step : Bool → Request → Option Reply → Option (Kind × State)
 reply_step deprecates r None = None
@@ -232,9 +233,18 @@ last_step deprecates k s None = None
 last_step deprecates k s (Some line.Row) = Some (k, s)
 last_step deprecates k s (Some (line.End more)) = Some (ending deprecates, state.Rest)
 
-abbrev pub prepared_step : Option StmtPacket → Option (Kind × State)
+-- where the definitions of a statement follow, or do not
+abbrev pub prepared_by : Bool → ℕ → ℕ → State
+prepared_by true columns params = define params (after.Columns columns)
+prepared_by false columns params = state.Rest
+
+abbrev pub prepared_step : Option StmtPacketWithMetadata → Option (Kind × State)
 prepared_step None = None
-prepared_step (Some s) = Some (kind.PrepareOk (num_columns s) (num_params s), define (num_params s) (after.Columns (num_columns s)))
+prepared_step (Some s) =
+    Some (
+      kind.PrepareOk (num_columns (packet_of s)) (num_params (packet_of s)) (definitions_follow s),
+      prepared_by (definitions_follow s) (num_columns (packet_of s)) (num_params (packet_of s)),
+    )
 
 abbrev pub acknowledgement_step : Bool → Option Line → Option Reply → Option (Kind × State)
 acknowledgement_step deprecates (Some (line.End more)) r = Some (ending deprecates, state.Rest)
@@ -254,7 +264,7 @@ serve a (state.InfileReply r) p = infile_reply_step r (reply_of a p)
 serve a (state.Definitions n b) p = Some (kind.Column, less (deprecates_eof a) n b)
 serve a (state.DefinitionsEnd b) p = definitions_end_step b (old_end_of a p)
 serve a (state.Rows r) p = line_step (deprecates_eof a) r (line_of a (format_of r) p)
-serve a state.Prepared p = prepared_step (statement_at p)
+serve a state.Prepared p = prepared_step (statement_at a p)
 serve a state.Fetch p = last_step (deprecates_eof a) (kind.Row Binary) state.Fetch (line_of a Binary p)
 serve a state.Acknowledgement p = acknowledgement_step (deprecates_eof a) (line_of a Text p) (reply_of a p)
 serve a state.Text p = Some (kind.Statistics, state.Rest)

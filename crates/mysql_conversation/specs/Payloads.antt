@@ -1,5 +1,5 @@
 -- What a payload says of itself.
-use Rattle.std.specs.Prelude.{◌≡◌, ℕ, zero, suc, ◌<◌, List, [], ◌∷◌, length, Bool, true, false, ◌==◌, nat_lt, not, bit_and, ◌&&◌, if◌then◌else◌}
+use Rattle.std.specs.Prelude.{◌≡◌, ℕ, zero, suc, ◌<◌, List, [], ◌∷◌, length, Bool, true, false, Option, Some, None, ◌==◌, nat_lt, not, bit_and, ◌&&◌, if◌then◌else◌}
 use Rattle.mysql_wire.specs.FlagMasks.{SERVER_MORE_RESULTS_EXISTS, SERVER_STATUS_CURSOR_EXISTS}
 use Rattle.mysql_wire.specs.Flags.{StatusFlags, has}
 use Rattle.mysql_wire.specs.Form.{Form}
@@ -11,10 +11,10 @@ use Rattle.mysql_replies.specs.declared.ok_packet.OkPacketDeserializer.{OkPacket
 use Rattle.mysql_replies.specs.declared.ok_kind.CommonOkPacket.{CommonOkPacket}
 use Rattle.mysql_replies.specs.declared.ok_kind.ResultSetTerminator.{ResultSetTerminator}
 use Rattle.mysql_replies.specs.declared.ok_kind.OldEofPacket.{OldEofPacket}
-use Rattle.mysql_prepared.specs.Stmt.{stmt, num_columns, num_params}
-use Rattle.mysql_prepared.specs.declared.stmt.StmtPacket.{StmtPacket}
-use Rattle.mysql_conversation.specs.Agreements.{deprecates_eof, reports_progress}
-use Rattle.mysql_conversation.specs.declared.agreed.Agreed.{Agreed}
+use Rattle.mysql_prepared.specs.Stmt.{num_columns, num_params}
+use Rattle.mysql_prepared.specs.StmtWithMetadata.{stmt_with_metadata, packet_of, metadata_of}
+use Rattle.mysql_prepared.specs.declared.stmt_with_metadata.StmtPacketWithMetadata.{StmtPacketWithMetadata}
+use Rattle.mysql_conversation.specs.Agreements.{Agreed, deprecates_eof, has_optional_metadata, reports_progress}
 use Rattle.mysql_conversation.specs.declared.kind.Format.{Format}
 use Rattle.mysql_conversation.specs.declared.kind.Format.TheVariants.{Text, Binary}
 
@@ -30,16 +30,21 @@ abbrev pub first_is : ℕ → List ℕ → Bool
 first_is b [] = false
 first_is b (x ∷ xs) = x == b
 
+-- It begins as an OK packet: with 00, and under optional metadata in seven bytes at least, which each OK packet has. What is
+-- shorter there is a count whose definitions are left out.
+abbrev pub begins_ok : Agreed → List ℕ → Bool
+begins_ok a p = first_is 0 p && not (has_optional_metadata a && nat_lt (length p) 7)
+
 -- ---- OK packets and ends, as the forms of the packets spell them
 
 abbrev pub ok_form : Agreed → Form (OkPacketDeserializer CommonOkPacket)
-ok_form a = ok_packet 0 (common_ok_body a.capabilities)
+ok_form a = ok_packet 0 (common_ok_body a.mysql)
 
 abbrev pub terminator_form : Agreed → Form (OkPacketDeserializer ResultSetTerminator)
-terminator_form a = ok_packet 0xfe (terminator_body a.capabilities)
+terminator_form a = ok_packet 0xfe (terminator_body a.mysql)
 
 abbrev pub old_end_form : Agreed → Form (OkPacketDeserializer OldEofPacket)
-old_end_form a = ok_packet 0xfe (old_eof_body a.capabilities)
+old_end_form a = ok_packet 0xfe (old_eof_body a.mysql)
 
 -- the payload is such a packet, with this status; bytes may follow it
 abbrev pub SpelledWith : {T : Type 0} → Form (OkPacketDeserializer T) → StatusFlags → List ℕ → Type 0
@@ -47,7 +52,7 @@ SpelledWith {T} form status p = (ok : OkPacketDeserializer T) × (rest : List �
 
 -- the payload is an OK packet, whose status says that more results come or not
 abbrev pub IsOk : Agreed → Bool → List ℕ → Type 0
-IsOk a more p = (first_is 0 p ≡ true) × (status : StatusFlags) × SpelledWith (ok_form a) status p × (has_more status ≡ more)
+IsOk a more p = (begins_ok a p ≡ true) × (status : StatusFlags) × SpelledWith (ok_form a) status p × (has_more status ≡ more)
 
 -- fe, and fewer bytes than a row has that begins so
 abbrev pub end_below : Bool → ℕ
@@ -79,17 +84,26 @@ IsInfileRequest p = first_is 0xfb p ≡ true
 -- a count of columns, of which there is one at least, and whether their definitions follow
 abbrev pub IsCount : Agreed → ℕ → Bool → List ℕ → Type 0
 IsCount a n follow p =
-    (first_is 0 p ≡ false) × (first_is 0xfb p ≡ false) × (0 < n)
-    × (c : ColumnCount) × (rest : List ℕ) × (column_count.form a.mariadb_capabilities).Spells c p rest × (count c ≡ n) × (metadata_follows c ≡ follow)
+    (begins_ok a p ≡ false) × (first_is 0xfb p ≡ false) × (0 < n)
+    × (c : ColumnCount) × (rest : List ℕ) × (column_count.form a).Spells c p rest × (count c ≡ n) × (metadata_follows c ≡ follow)
 
 -- a row of text begins as no end does, and one in binary with 00
 abbrev pub IsRow : Agreed → Format → List ℕ → Type 0
 IsRow a Text p = looks_like_end (deprecates_eof a) p ≡ false
 IsRow a Binary p = first_is 0 p ≡ true
 
-abbrev pub IsPrepared : ℕ → ℕ → List ℕ → Type 0
-IsPrepared columns params p =
-    (s : StmtPacket) × (rest : List ℕ) × (stmt.form tt).Spells s p rest × (num_columns s ≡ columns) × (num_params s ≡ params)
+-- the definitions of a prepared statement follow where no byte says otherwise
+abbrev pub follow : Option ℕ → Bool
+follow None = true
+follow (Some byte) = not (byte == 0)
+
+abbrev pub definitions_follow : StmtPacketWithMetadata → Bool
+definitions_follow s = follow (metadata_of s)
+
+abbrev pub IsPrepared : Agreed → ℕ → ℕ → Bool → List ℕ → Type 0
+IsPrepared a columns params follows p =
+    (s : StmtPacketWithMetadata) × (rest : List ℕ) × (stmt_with_metadata.form a.mysql).Spells s p rest
+    × (num_columns (packet_of s) ≡ columns) × (num_params (packet_of s) ≡ params) × (definitions_follow s ≡ follows)
 
 -- ff and the code ffff, where progress reports are agreed on
 abbrev pub begins_with_ff : ℕ → List ℕ → Bool

@@ -1,5 +1,5 @@
 -- Conversations in which commands come before the answers to earlier ones.
-use Rattle.mysql_conversation.specs.declared.agreed.Agreed.{Agreed}
+use Rattle.mysql_conversation.specs.Agreements.{Agreed}
 use Rattle.std.specs.Prelude.{◌≡◌, ◌⊎◌, ℕ, ◌+◌, List, [], ◌∷◌, ◌++◌, Bool, true, false, not, ◌&&◌, if◌then◌else◌}
 use Rattle.mysql_conversation.specs.Conversation.{Packet, IsConversation, commands, inside, asks}
 use Rattle.mysql_conversation.specs.declared.kind.Opening.{Opening}

@@ -8,11 +8,10 @@ use Rattle.mysql_auth.specs.SslRequest.{ssl_request}
 use Rattle.mysql_auth.specs.SslRequest as head
 use Rattle.mysql_auth.specs.declared.handshake.HandshakePacket.{HandshakePacket}
 use Rattle.mysql_auth.specs.declared.ssl_request.SslRequest.{SslRequest}
-use Rattle.mysql_conversation.specs.Agreements.{agreed_on, compresses}
+use Rattle.mysql_conversation.specs.Agreements.{Agreed, agreed_on, compresses}
 use Rattle.mysql_conversation.specs.Payloads.{first_is}
 use Rattle.mysql_conversation.specs.Piped.{PipeTaken}
 use Rattle.mysql_conversation.specs.Pipelined.{Numbered, IsPipelined}
-use Rattle.mysql_conversation.specs.declared.agreed.Agreed.{Agreed}
 use Rattle.mysql_conversation.specs.declared.kind.Kind.{Kind}
 use Rattle.mysql_conversation.specs.declared.kind.Kind.TheVariants as kind
 use Rattle.mysql_conversation.specs.declared.kind.Opening.TheVariants.{Login}
@@ -24,10 +23,10 @@ use Rattle.mysql_conversation.specs.declared.session.Session.{Session}
 
 -- what a server can do, by its greeting, and a client, by the 32 bytes that its login begins with
 abbrev pub server_of : HandshakePacket → Agreed
-server_of h = record { capabilities = record { 0 = greeting.capabilities h; 1 = record {} }; mariadb_capabilities = greeting.mariadb_ext_capabilities h }
+server_of h = record { mysql = record { 0 = greeting.capabilities h; 1 = record {} }; mariadb = greeting.mariadb_ext_capabilities h }
 
 abbrev pub client_of : SslRequest → Agreed
-client_of r = record { capabilities = head.capabilities r; mariadb_capabilities = head.mariadb_capabilities r }
+client_of r = record { mysql = head.capabilities r; mariadb = head.mariadb_capabilities r }
 
 -- the client asks to go on in TLS
 abbrev pub asks_tls : SslRequest → Bool

@@ -1,5 +1,5 @@
 -- The machine with commands that wait.
-use Rattle.mysql_conversation.specs.declared.agreed.Agreed.{Agreed}
+use Rattle.mysql_conversation.specs.Agreements.{Agreed}
 use Rattle.std.specs.Prelude.{◌≡◌, ℕ, ◌+◌, List, [], ◌∷◌, ◌++◌, Bool, true, false, Option, Some, None, ◌&&◌, if◌then◌else◌}
 use Rattle.mysql_conversation.specs.Conversation.{answering}
 use Rattle.mysql_conversation.specs.Machine.{take_step, answers, rests, listens, is_due, entrance}

@@ -2,10 +2,10 @@
 
 ghost use Rattle.std.specs.Prelude.{◌≡◌, ◌↔◌, IfOk, OnErr, IsTrue, List, [], ◌∷◌, ◌++◌};
 
-use crate::agreed::Agreed;
 use crate::kind::{Kind, Opening, Side, Unexpected};
 use crate::state::State;
 use crate::step::{entrance, rests, take_step};
+use mysql_replies::SessionCapabilities;
 use std::alloc::Global;
 
 /// Which packets a client and a server exchange that agreed on something: it is fed each payload, and tells which packet it is.
@@ -15,7 +15,7 @@ use std::alloc::Global;
 #[derive(Drop)]
 pub struct Conversation {
     pub(crate) alloc: Global,
-    pub(crate) agreed: Agreed,
+    pub(crate) agreed: SessionCapabilities,
     pub(crate) opening: Opening,
     pub(crate) state: State,
 }
@@ -27,7 +27,7 @@ impl Conversation {
     ghost use Rattle.mysql_conversation.specs.declared.kind.Kind as declared;
 
     /// One of which no packet has come. It begins after the login, or between two commands of a connection that is taken up later.
-    pub fn new(alloc: Global, agreed: Agreed, opening: Opening) -> Self
+    pub fn new(alloc: Global, agreed: SessionCapabilities, opening: Opening) -> Self
         ensures taken { Taken result [] }
         ensures agreed { result.agreed ≡ agreed }
         ensures opening { result.opening ≡ opening }

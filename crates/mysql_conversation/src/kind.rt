@@ -65,8 +65,8 @@ pub enum Kind {
     OkTerminator,
     /// A row.
     Row(Format),
-    /// A prepared statement: the counts of its columns and of its parameters.
-    PrepareOk(u16, u16),
+    /// A prepared statement: the counts of its columns and of its parameters, and whether their definitions follow.
+    PrepareOk(u16, u16, bool),
     /// The text that answers `COM_STATISTICS`.
     Statistics,
     /// An event of a stream.

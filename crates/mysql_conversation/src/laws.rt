@@ -1,7 +1,7 @@
 //! Laws over conversations.
 
 ghost use Rattle.std.specs.Prelude.{◌≡◌, ℕ, List, [], ◌∷◌, ◌++◌};
-ghost use Rattle.mysql_conversation.specs.declared.agreed.Agreed as agreement;
+ghost use Rattle.mysql_conversation.specs.Agreements as agreement;
 ghost use Rattle.mysql_conversation.specs.Conversation.{Packet, IsBeginning};
 ghost use Rattle.mysql_conversation.specs.History.{Taken};
 ghost use Rattle.mysql_conversation.specs.Taken.{packet};

@@ -15,7 +15,7 @@ mod session;
 mod state;
 mod step;
 
-pub use agreed::Agreed;
+pub use agreed::agreed_on;
 pub use conversation::Conversation;
 pub use kind::{Format, Kind, Opening, Side, Unexpected};
 pub use pipeline::{Pipeline, Refusal};

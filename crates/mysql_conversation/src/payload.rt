@@ -7,13 +7,14 @@ ghost use Rattle.mysql_conversation.specs.Conversation as grammar;
 ghost use Rattle.mysql_conversation.specs.Payloads as payloads;
 ghost use Rattle.mysql_conversation.specs.Standing as standing;
 
-use crate::agreed::Agreed;
+use crate::agreed::{asks_factors, deprecates_eof, has_optional_metadata, reports_progress};
 use crate::kind::{Format, Kind};
 use crate::state::{Answer, Command, Line, Reply, Request};
 use bitflags::Flags;
-use mysql_prepared::StmtPacket;
+use mysql_prepared::StmtPacketWithMetadata;
 use mysql_replies::{
     ColumnCount, CommonOkPacket, OkPacketRefDeserializer, OldEofPacket, ResultSetTerminator,
+    SessionCapabilities,
 };
 use mysql_wire::{FaultOf, ParseBuf, StatusFlags};
 use std::alloc::Global;
@@ -59,14 +60,23 @@ pub(crate) fn is_row_by_first(format: Format, payload: &[u8]) -> bool
 /// Whether it is a report of progress, where those are agreed on.
 #[tactic(auto, unfolding(crate::specs::Payloads::is_report))]
 #[inline(always)]
-pub(crate) fn is_report(agreed: Agreed, payload: &[u8]) -> bool
+pub(crate) fn is_report(agreed: SessionCapabilities, payload: &[u8]) -> bool
     ensures { result ≡ payloads.is_report agreed payload.now }
 {
-    agreed.reports_progress()
+    reports_progress(agreed)
         && match payload {
             [first, second, third, ..] => *first == 0xff && *second == 0xff && *third == 0xff,
             _ => false,
         }
+}
+
+/// Whether it begins as an OK packet: with 00, and under optional metadata in seven bytes at least. A shorter payload is a count
+/// whose definitions are left out.
+#[inline(always)]
+pub(crate) fn begins_ok(agreed: SessionCapabilities, payload: &[u8]) -> bool
+    ensures { result ≡ payloads.begins_ok agreed payload.now }
+{
+    first_is(0, payload) && !(has_optional_metadata(agreed) && payload.len() < 7)
 }
 
 #[inline(always)]
@@ -96,13 +106,15 @@ fn looks_like_end(deprecates: bool, payload: &[u8]) -> bool
 }
 
 #[tactic(auto, using(crate::proofs::Faults::faults), unfolding(crate::specs::Machine::ok_status))]
-pub(crate) fn ok_status(alloc: Global, agreed: Agreed, payload: &[u8]) -> Option<StatusFlags>
+pub(crate) fn ok_status(
+    alloc: Global,
+    agreed: SessionCapabilities,
+    payload: &[u8],
+) -> Option<StatusFlags>
     ensures { result ≡ spec.ok_status agreed payload.now }
 {
     let mut buf = ParseBuf::new(alloc, payload);
-    let read: Result<OkPacketRefDeserializer<CommonOkPacket>, FaultOf> = buf.parse(
-        agreed.capabilities,
-    );
+    let read: Result<OkPacketRefDeserializer<CommonOkPacket>, FaultOf> = buf.parse(agreed.mysql);
     match read {
         Ok(ok) => Some(ok.into_inner().status_flags()),
         Err(_) => None,
@@ -110,13 +122,11 @@ pub(crate) fn ok_status(alloc: Global, agreed: Agreed, payload: &[u8]) -> Option
 }
 
 #[tactic(auto, using(crate::proofs::Faults::faults), unfolding(crate::specs::Machine::old_end_status))]
-fn old_end_status(alloc: Global, agreed: Agreed, payload: &[u8]) -> Option<StatusFlags>
+fn old_end_status(alloc: Global, agreed: SessionCapabilities, payload: &[u8]) -> Option<StatusFlags>
     ensures { result ≡ spec.old_end_status agreed payload.now }
 {
     let mut buf = ParseBuf::new(alloc, payload);
-    let read: Result<OkPacketRefDeserializer<OldEofPacket>, FaultOf> = buf.parse(
-        agreed.capabilities,
-    );
+    let read: Result<OkPacketRefDeserializer<OldEofPacket>, FaultOf> = buf.parse(agreed.mysql);
     match read {
         Ok(ok) => Some(ok.into_inner().status_flags()),
         Err(_) => None,
@@ -124,12 +134,16 @@ fn old_end_status(alloc: Global, agreed: Agreed, payload: &[u8]) -> Option<Statu
 }
 
 #[tactic(auto, using(crate::proofs::Faults::faults), unfolding(crate::specs::Machine::terminator_status))]
-fn terminator_status(alloc: Global, agreed: Agreed, payload: &[u8]) -> Option<StatusFlags>
+fn terminator_status(
+    alloc: Global,
+    agreed: SessionCapabilities,
+    payload: &[u8],
+) -> Option<StatusFlags>
     ensures { result ≡ spec.terminator_status agreed payload.now }
 {
     let mut buf = ParseBuf::new(alloc, payload);
     let read: Result<OkPacketRefDeserializer<ResultSetTerminator>, FaultOf> = buf.parse(
-        agreed.capabilities,
+        agreed.mysql,
     );
     match read {
         Ok(ok) => Some(ok.into_inner().status_flags()),
@@ -138,11 +152,11 @@ fn terminator_status(alloc: Global, agreed: Agreed, payload: &[u8]) -> Option<St
 }
 
 #[tactic(auto, using(crate::proofs::Faults::faults), unfolding(crate::specs::Machine::count_at))]
-fn count_at(alloc: Global, agreed: Agreed, payload: &[u8]) -> Option<ColumnCount>
+fn count_at(alloc: Global, agreed: SessionCapabilities, payload: &[u8]) -> Option<ColumnCount>
     ensures { result ≡ spec.count_at agreed payload.now }
 {
     let mut buf = ParseBuf::new(alloc, payload);
-    let read: Result<ColumnCount, FaultOf> = buf.parse(agreed.mariadb_capabilities);
+    let read: Result<ColumnCount, FaultOf> = buf.parse(agreed);
     match read {
         Ok(count) => Some(count),
         Err(_) => None,
@@ -150,11 +164,15 @@ fn count_at(alloc: Global, agreed: Agreed, payload: &[u8]) -> Option<ColumnCount
 }
 
 #[tactic(auto, using(crate::proofs::Faults::faults), unfolding(crate::specs::Machine::statement_at))]
-pub(crate) fn statement_at(alloc: Global, payload: &[u8]) -> Option<StmtPacket>
-    ensures { result ≡ spec.statement_at payload.now }
+pub(crate) fn statement_at(
+    alloc: Global,
+    agreed: SessionCapabilities,
+    payload: &[u8],
+) -> Option<StmtPacketWithMetadata>
+    ensures { result ≡ spec.statement_at agreed payload.now }
 {
     let mut buf = ParseBuf::new(alloc, payload);
-    let read: Result<StmtPacket, FaultOf> = buf.parse(());
+    let read: Result<StmtPacketWithMetadata, FaultOf> = buf.parse(agreed.mysql);
     match read {
         Ok(statement) => Some(statement),
         Err(_) => None,
@@ -162,10 +180,10 @@ pub(crate) fn statement_at(alloc: Global, payload: &[u8]) -> Option<StmtPacket>
 }
 
 #[inline(always)]
-pub(crate) fn reply_of(alloc: Global, agreed: Agreed, payload: &[u8]) -> Option<Reply>
+pub(crate) fn reply_of(alloc: Global, agreed: SessionCapabilities, payload: &[u8]) -> Option<Reply>
     ensures { result ≡ spec.reply_of agreed payload.now }
 {
-    if first_is(0, payload) {
+    if begins_ok(agreed, payload) {
         return Some(Reply::Ok(has_more(ok_status(alloc, agreed, payload)?)));
     }
     if first_is(0xfb, payload) {
@@ -180,7 +198,11 @@ pub(crate) fn reply_of(alloc: Global, agreed: Agreed, payload: &[u8]) -> Option<
 }
 
 #[inline(always)]
-pub(crate) fn old_end_of(alloc: Global, agreed: Agreed, payload: &[u8]) -> Option<StatusFlags>
+pub(crate) fn old_end_of(
+    alloc: Global,
+    agreed: SessionCapabilities,
+    payload: &[u8],
+) -> Option<StatusFlags>
     ensures { result ≡ spec.old_end_of agreed payload.now }
 {
     if looks_like_end(false, payload) {
@@ -193,7 +215,7 @@ pub(crate) fn old_end_of(alloc: Global, agreed: Agreed, payload: &[u8]) -> Optio
 #[inline(always)]
 fn end_status(
     alloc: Global,
-    agreed: Agreed,
+    agreed: SessionCapabilities,
     deprecates: bool,
     payload: &[u8],
 ) -> Option<StatusFlags>
@@ -207,10 +229,15 @@ fn end_status(
 }
 
 #[inline(always)]
-pub(crate) fn line_of(alloc: Global, agreed: Agreed, format: Format, payload: &[u8]) -> Option<Line>
+pub(crate) fn line_of(
+    alloc: Global,
+    agreed: SessionCapabilities,
+    format: Format,
+    payload: &[u8],
+) -> Option<Line>
     ensures { result ≡ spec.line_of agreed format payload.now }
 {
-    let deprecates = agreed.deprecates_eof();
+    let deprecates = deprecates_eof(agreed);
     if looks_like_end(deprecates, payload) {
         let status = end_status(alloc, agreed, deprecates, payload)?;
         return Some(Line::End(has_more(status)));
@@ -229,7 +256,7 @@ pub(crate) fn line_of(alloc: Global, agreed: Agreed, format: Format, payload: &[
 
 /// What the server says before a client is logged in, by the first byte.
 #[inline(always)]
-pub(crate) fn authentication_kind(agreed: Agreed, payload: &[u8]) -> Kind
+pub(crate) fn authentication_kind(agreed: SessionCapabilities, payload: &[u8]) -> Kind
     ensures { result ≡ grammar.authentication_kind agreed payload.now }
 {
     if first_is(0xfe, payload) {
@@ -242,7 +269,7 @@ pub(crate) fn authentication_kind(agreed: Agreed, payload: &[u8]) -> Kind
     if first_is(1, payload) {
         return Kind::AuthMoreData;
     }
-    if first_is(2, payload) && agreed.asks_factors() {
+    if first_is(2, payload) && asks_factors(agreed) {
         return Kind::AuthNextFactor;
     }
     Kind::AuthPluginData

@@ -6,11 +6,11 @@ ghost use Rattle.mysql_conversation.specs.Machine as machine;
 ghost use Rattle.mysql_conversation.specs.Standing as spec;
 ghost use Rattle.mysql_conversation.specs.Piped.{stands};
 
-use crate::agreed::Agreed;
 use crate::kind::{Kind, Opening, Side};
 use crate::payload::command_of;
 use crate::state::{Command, State};
 use crate::step::{answers, entrance, is_due, listens, rests, take_sent, take_step};
+use mysql_replies::SessionCapabilities;
 use std::alloc::Global;
 use std::collections::VecDeque;
 
@@ -54,7 +54,7 @@ fn waits(waiting: &VecDeque<Waiting>) -> bool
 #[derive(Drop)]
 pub struct Pipeline {
     pub(crate) alloc: Global,
-    pub(crate) agreed: Agreed,
+    pub(crate) agreed: SessionCapabilities,
     pub(crate) opening: Opening,
     pub(crate) limit: usize,
     pub(crate) state: State,
@@ -71,7 +71,7 @@ impl Pipeline {
     ghost use Rattle.mysql_conversation.specs.declared.pipeline.Refusal.TheVariants as refusal;
 
     /// One of which no packet has come, where as many commands may wait as the limit.
-    pub fn new(alloc: Global, agreed: Agreed, opening: Opening, limit: usize) -> Self
+    pub fn new(alloc: Global, agreed: SessionCapabilities, opening: Opening, limit: usize) -> Self
         ensures taken { PipeTaken result [] }
         ensures agreed { result.agreed ≡ agreed }
         ensures opening { result.opening ≡ opening }

@@ -9,12 +9,13 @@ ghost use Rattle.mysql_conversation.specs.Payloads as payloads;
 ghost use Rattle.mysql_conversation.specs.Session as sessions;
 ghost use Rattle.mysql_conversation.specs.SessionSteps.{greeting_at, login_at};
 
-use crate::agreed::Agreed;
+use crate::agreed::{agreed_on, compresses};
 use crate::kind::{Kind, Opening, Side};
 use crate::payload::first_is;
 use crate::pipeline::{Pipeline, Refusal};
 use bitflags::Flags;
 use mysql_auth::{HandshakePacketRef, SslRequest};
+use mysql_replies::SessionCapabilities;
 use mysql_wire::{CapabilityFlags, FaultOf, ParseBuf};
 use std::alloc::Global;
 
@@ -26,11 +27,11 @@ pub(crate) enum Phase {
     /// Nothing: there was an error in place of the greeting.
     Refused,
     /// The login, or a request to go on in TLS.
-    Login(Agreed),
+    Login(SessionCapabilities),
     /// Nothing that is ours: it goes on in TLS.
-    Encrypted(Agreed),
+    Encrypted(SessionCapabilities),
     /// The login, which the caller has deciphered.
-    InTls(Agreed),
+    InTls(SessionCapabilities),
     /// The conversation that follows the login.
     Commands(Pipeline),
 }
@@ -47,15 +48,15 @@ pub struct Session {
 
 /// What a server can do, where the payload is its greeting.
 #[tactic(auto, using(crate::proofs::Faults::faults), unfolding(crate::specs::SessionSteps::greeting_at))]
-fn greeting(alloc: Global, payload: &[u8]) -> Option<Agreed>
+fn greeting(alloc: Global, payload: &[u8]) -> Option<SessionCapabilities>
     ensures { result ≡ greeting_at payload.now }
 {
     let mut buf = ParseBuf::new(alloc, payload);
     let read: Result<HandshakePacketRef<'_>, FaultOf> = buf.parse(());
     match read {
-        Ok(packet) => Some(Agreed {
-            capabilities: packet.capabilities(),
-            mariadb_capabilities: packet.mariadb_ext_capabilities(),
+        Ok(packet) => Some(SessionCapabilities {
+            mysql: packet.capabilities(),
+            mariadb: packet.mariadb_ext_capabilities(),
         }),
         Err(_) => None,
     }
@@ -82,12 +83,12 @@ fn asks_tls(in_tls: bool, head: &SslRequest) -> bool
 }
 
 /// What a client can do.
-fn client_of(head: &SslRequest) -> Agreed
+fn client_of(head: &SslRequest) -> SessionCapabilities
     ensures { result ≡ sessions.client_of head.now }
 {
-    Agreed {
-        capabilities: head.capabilities(),
-        mariadb_capabilities: head.mariadb_capabilities(),
+    SessionCapabilities {
+        mysql: head.capabilities(),
+        mariadb: head.mariadb_capabilities(),
     }
 }
 
@@ -96,7 +97,7 @@ impl Session {
     ghost use Rattle.mysql_conversation.specs.Piped.{place};
     ghost use Rattle.mysql_conversation.specs.Session.{IsSession, IsSessionBeginning, SessionTaken, MayLogIn, client_of};
     ghost use Rattle.mysql_conversation.specs.SessionSteps.{GreetedAs, AnsweredAs};
-    ghost use Rattle.mysql_conversation.specs.declared.agreed.Agreed as agreement;
+    ghost use Rattle.mysql_conversation.specs.Agreements as agreement;
     ghost use Rattle.mysql_conversation.specs.declared.kind.Kind as declared;
     ghost use Rattle.mysql_conversation.specs.declared.kind.Side.TheVariants as side;
     ghost use Rattle.mysql_conversation.specs.declared.pipeline.Pipeline as pipe;
@@ -115,7 +116,7 @@ impl Session {
     }
 
     /// What both sides agreed on, once the client has sent its login.
-    pub fn agreed(&self) -> Option<Agreed> {
+    pub fn agreed(&self) -> Option<SessionCapabilities> {
         match &self.phase {
             Phase::Commands(pipeline) => Some(pipeline.agreed),
             _ => None,
@@ -205,7 +206,7 @@ impl Session {
     /// The answer to the greeting.
     fn answered(
         &mut self,
-        server: Agreed,
+        server: SessionCapabilities,
         in_tls: bool,
         payload: &[u8],
     ) -> Result<(Kind, u64), Refusal>
@@ -221,8 +222,8 @@ impl Session {
             self.phase = Phase::Encrypted(server);
             return Ok((Kind::SslRequest, 0));
         }
-        let agreed = Agreed::on(server, client_of(&head));
-        if agreed.compresses() {
+        let agreed = agreed_on(server, client_of(&head));
+        if compresses(agreed) {
             return Err(Refusal::Compressed);
         }
         self.phase = Phase::Commands(Pipeline::new(self.alloc, agreed, Opening::Login, self.limit));

@@ -3,16 +3,19 @@
 ghost use Rattle.std.specs.Prelude.{◌≡◌, IfSome, IfNone, IfOk, OnErr, Some, None};
 ghost use Rattle.mysql_conversation.specs.Conversation as grammar;
 ghost use Rattle.mysql_conversation.specs.Machine as spec;
+ghost use Rattle.mysql_conversation.specs.Payloads as payloads;
 ghost use Rattle.mysql_conversation.specs.declared.state.State.TheVariants as spec_state;
 ghost use Rattle.mysql_conversation.specs.declared.kind.Side.TheVariants.{Client, Server};
 
-use crate::agreed::Agreed;
+use crate::agreed::deprecates_eof;
 use crate::kind::{Format, Kind, Opening, Side, Unexpected};
 use crate::payload::{
-    authentication_kind, command_of, first_is, has_more, is_report, is_row_by_first, line_of,
-    ok_status, old_end_of, opens_cursor, reply_of, statement_at,
+    authentication_kind, begins_ok, command_of, first_is, has_more, is_report, is_row_by_first,
+    line_of, ok_status, old_end_of, opens_cursor, reply_of, statement_at,
 };
 use crate::state::{After, Answer, Line, Reply, Request, State, format_of};
+use mysql_prepared::StmtPacketWithMetadata;
+use mysql_replies::SessionCapabilities;
 use mysql_wire::StatusFlags;
 use std::alloc::Global;
 
@@ -196,14 +199,14 @@ fn counted(deprecates: bool, count: u64, follow: bool, after: After) -> State
 #[inline(always)]
 fn authentication_step(
     alloc: Global,
-    agreed: Agreed,
+    agreed: SessionCapabilities,
     state: &mut State,
     payload: &[u8],
 ) -> Option<Kind>
     ensures some { IfSome result (λ kind. spec.authentication_step agreed payload.now (spec.ok_status agreed payload.now) ≡ Some (kind, state.new)) }
     ensures none { IfNone result ((spec.authentication_step agreed payload.now (spec.ok_status agreed payload.now) ≡ None) × (state.new ≡ state.old)) }
 {
-    if first_is(0, payload) {
+    if begins_ok(agreed, payload) {
         return match ok_status(alloc, agreed, payload) {
             Some(_) => {
                 *state = State::Rest;
@@ -211,6 +214,9 @@ fn authentication_step(
             }
             None => None,
         };
+    }
+    if first_is(0, payload) {
+        return None;
     }
     *state = State::Authentication(true);
     Some(authentication_kind(agreed, payload))
@@ -331,17 +337,38 @@ fn last_step(state: &mut State, deprecates: bool, kind: Kind, line: Option<Line>
     }
 }
 
+/// Whether the definitions of a prepared statement follow: they do where no byte says so.
+#[inline(always)]
+fn definitions_follow(statement: &StmtPacketWithMetadata) -> bool
+    ensures { result ≡ payloads.definitions_follow statement.now }
+{
+    match statement.metadata() {
+        Some(byte) => byte != 0,
+        None => true,
+    }
+}
+
 /// What answers a statement to be prepared.
 #[inline(always)]
-fn prepared_step(alloc: Global, state: &mut State, payload: &[u8]) -> Option<Kind>
-    ensures some { IfSome result (λ kind. spec.prepared_step (spec.statement_at payload.now) ≡ Some (kind, state.new)) }
-    ensures none { IfNone result ((spec.prepared_step (spec.statement_at payload.now) ≡ None) × (state.new ≡ state.old)) }
+fn prepared_step(
+    alloc: Global,
+    agreed: SessionCapabilities,
+    state: &mut State,
+    payload: &[u8],
+) -> Option<Kind>
+    ensures some { IfSome result (λ kind. spec.prepared_step (spec.statement_at agreed payload.now) ≡ Some (kind, state.new)) }
+    ensures none { IfNone result ((spec.prepared_step (spec.statement_at agreed payload.now) ≡ None) × (state.new ≡ state.old)) }
 {
-    let statement = statement_at(alloc, payload)?;
-    let columns = statement.num_columns();
-    let params = statement.num_params();
-    *state = define(u64::from(params), After::Columns(u64::from(columns)));
-    Some(Kind::PrepareOk(columns, params))
+    let statement = statement_at(alloc, agreed, payload)?;
+    let columns = statement.packet().num_columns();
+    let params = statement.packet().num_params();
+    let follow = definitions_follow(&statement);
+    *state = if follow {
+        define(u64::from(params), After::Columns(u64::from(columns)))
+    } else {
+        State::Rest
+    };
+    Some(Kind::PrepareOk(columns, params, follow))
 }
 
 /// An OK packet, or an end.
@@ -368,11 +395,16 @@ fn acknowledgement_step(
 
 /// A packet of the server that is no error.
 #[inline(always)]
-fn serve(alloc: Global, agreed: Agreed, state: &mut State, payload: &[u8]) -> Option<Kind>
+fn serve(
+    alloc: Global,
+    agreed: SessionCapabilities,
+    state: &mut State,
+    payload: &[u8],
+) -> Option<Kind>
     ensures some { IfSome result (λ kind. spec.serve agreed state.old payload.now ≡ Some (kind, state.new)) }
     ensures none { IfNone result ((spec.serve agreed state.old payload.now ≡ None) × (state.new ≡ state.old)) }
 {
-    let deprecates = agreed.deprecates_eof();
+    let deprecates = deprecates_eof(agreed);
     match *state {
         State::Rest | State::Infile(_) | State::Refusal => None,
         State::Authentication(_) => authentication_step(alloc, agreed, state, payload),
@@ -395,7 +427,7 @@ fn serve(alloc: Global, agreed: Agreed, state: &mut State, payload: &[u8]) -> Op
             request,
             line_of(alloc, agreed, format_of(request), payload),
         ),
-        State::Prepared => prepared_step(alloc, state, payload),
+        State::Prepared => prepared_step(alloc, agreed, state, payload),
         State::Fetch => last_step(
             state,
             deprecates,
@@ -474,7 +506,12 @@ fn error_kind(rests: bool) -> Kind
 /// A packet of the server.
 #[inline(always)]
 #[tactic(auto, using(crate::proofs::Begun::no_report))]
-fn server_step(alloc: Global, agreed: Agreed, state: &mut State, payload: &[u8]) -> Option<Kind>
+fn server_step(
+    alloc: Global,
+    agreed: SessionCapabilities,
+    state: &mut State,
+    payload: &[u8],
+) -> Option<Kind>
     ensures some { IfSome result (λ kind. spec.take_step agreed state.old Server payload.now ≡ Some (kind, state.new)) }
     ensures none { IfNone result ((spec.take_step agreed state.old Server payload.now ≡ None) × (state.new ≡ state.old)) }
 {
@@ -498,7 +535,7 @@ fn server_step(alloc: Global, agreed: Agreed, state: &mut State, payload: &[u8])
 #[inline(never)]
 fn take_served(
     alloc: Global,
-    agreed: Agreed,
+    agreed: SessionCapabilities,
     state: &mut State,
     payload: &[u8],
 ) -> Result<Kind, Unexpected>
@@ -514,7 +551,7 @@ fn take_served(
 /// Which packet of the client it is; the state is then the one after it.
 #[inline(never)]
 pub(crate) fn take_sent(
-    agreed: Agreed,
+    agreed: SessionCapabilities,
     state: &mut State,
     payload: &[u8],
 ) -> Result<Kind, Unexpected>
@@ -532,7 +569,7 @@ pub(crate) fn take_sent(
 #[tactic(auto, using(crate::proofs::Begun::no_report))]
 pub(crate) fn take_step(
     alloc: Global,
-    agreed: Agreed,
+    agreed: SessionCapabilities,
     state: &mut State,
     from: Side,
     payload: &[u8],
