@@ -32,6 +32,7 @@ WORDS = {
 # what asks for a block of its own, or hides in its model whether it has one
 ALWAYS = {
     "HandshakePacket::nonce": "its 20 bytes are joined from two places",
+    "ComQuery::with_attributes": "its bitmap is a block of its own",
     "ComStmtExecuteRequestBuilder::build": "its bitmap is a block of its own",
     "ComStmtExecuteRequestBuilder::build_ref": "its bitmap is a block of its own",
     "ComStmtExecuteOptionsBuilder::build": "its bitmap is a block of its own",

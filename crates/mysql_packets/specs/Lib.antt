@@ -104,6 +104,7 @@ pub use Rattle.mysql_replies.specs.SqlState
 pub use Rattle.mysql_prepared.specs.BinaryRow
 pub use Rattle.mysql_prepared.specs.Bitmap
 pub use Rattle.mysql_prepared.specs.Close
+pub use Rattle.mysql_prepared.specs.ComQuery
 pub use Rattle.mysql_prepared.specs.Execute
 pub use Rattle.mysql_prepared.specs.ExecuteHead
 pub use Rattle.mysql_prepared.specs.ExecuteParam

@@ -177,6 +177,7 @@ pub use mysql_replies::SqlStateMarker;
 pub use mysql_replies::SqlStateRef;
 pub use mysql_stmt::AsExecuteParam;
 pub use mysql_stmt::BoundParam;
+pub use mysql_stmt::ComQuery;
 pub use mysql_stmt::ComStmtClose;
 pub use mysql_stmt::ComStmtCloseHeader;
 pub use mysql_stmt::ComStmtExecuteHead;

@@ -22,3 +22,4 @@ pub mod ParamViews
 pub mod ExecutionAgain
 pub mod BuiltExecution
 mod WrittenExecution
+pub mod QueryParts

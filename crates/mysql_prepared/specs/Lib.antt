@@ -22,3 +22,4 @@ pub mod BinaryRow
 pub mod ExecuteHead
 pub mod ExecuteRead
 pub mod ReadAgain
+pub mod ComQuery

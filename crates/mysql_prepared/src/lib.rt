@@ -6,6 +6,7 @@ mod binary_row;
 mod binary_row_view;
 mod close;
 mod column_index;
+mod com_query;
 mod execute;
 mod execute_head;
 mod execute_param;
@@ -36,6 +37,7 @@ pub use binary_row::{BinaryRowError, write_binary_row};
 pub use binary_row_view::BinaryRowView;
 pub use close::{ComStmtClose, ComStmtCloseHeader, InvalidComStmtCloseHeader};
 pub use column_index::ColumnIndex;
+pub use com_query::ComQuery;
 pub use execute::{
     ComStmtExecuteHeader, ComStmtExecuteRequest, ComStmtExecuteRequestBuilder,
     InvalidComStmtExecuteHeader, InvalidIterationCount, IterationCount,

@@ -11,7 +11,7 @@ pub use mysql_bulk::{
 };
 pub use mysql_cuts::{BulkRule, cut_is_fewest};
 pub use mysql_prepared::{
-    AsExecuteParam, BinaryRowError, BinaryRowView, BoundParam, ColumnIndex, ComStmtClose,
+    AsExecuteParam, BinaryRowError, BinaryRowView, BoundParam, ColumnIndex, ComQuery, ComStmtClose,
     ComStmtCloseHeader, ComStmtExecuteHead, ComStmtExecuteHeader, ComStmtExecuteOptionsBuilder,
     ComStmtExecuteRequest, ComStmtExecuteRequestBuilder, ComStmtExecuteWithOptions,
     ComStmtSendLongData, ComStmtSendLongDataHeader, ComStmtSendLongDataRef, Cursor, ExecuteParam,

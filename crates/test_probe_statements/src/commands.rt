@@ -1,8 +1,11 @@
 //! Commands: `command CAPABILITIES BYTES`, by the first byte; and one by one `com_query CAPABILITIES BYTES`, `com_field_list BYTES`,
 //! `com_set_option BYTES`, `com_reset BYTES`, `com_fetch BYTES`, `com_execute_ref BYTES`, `com_bulk_ref BYTES`, `com_unknown BYTES`, and
 //! `to_end BYTES`. `new_query TEXT` is a query that is made, `set_option on` and `set_option off` the choice of an option.
+//!
+//! `make_query ATTRIBUTES TEXT` is one that is sent with attributes as `execute_with` has them, and read again.
 
 use crate::prelude::*;
+use crate::execute::attribute_of;
 use mysql_auth::ComChangeUserRef;
 use mysql_repl::{ComBinlogDumpGtidRef, ComBinlogDumpRef, ComRegisterSlaveRef, ComTableDump};
 
@@ -241,4 +244,28 @@ pub fn set_option(out: &mut Out, request: &Request<'_>) {
         _ => ServerOption::MultiStatementsOff,
     };
     write_made(out, &ComSetOption::new(option));
+}
+
+/// Writes a query that was made, and shows what is read of it under these capabilities.
+fn write_query(out: &mut Out, query: &ComQuery<'_>, capabilities: CapabilityFlags) {
+    out.or_other("clone", query.clone().map(|copy| copy.text() == query.text()));
+    if let Some(written) = write(out, query, b"") {
+        if let Some(again) = read::<Statements, ComQueryRef<'_>>(out, after(&written), capabilities) {
+            out.or_other("same", Ok(again.text() == query.text()));
+        }
+    }
+}
+
+pub fn make_query(out: &mut Out, request: &Request<'_>) {
+    let alloc = out.alloc();
+    let named = list::<(Vec<u8>, Value)>(out, request.word(1), "()", '/');
+    let attributes = or_empty(out, named.iter().map(attribute_of).collect(alloc));
+    let query = ComQuery::new(request.bytes.as_slice());
+    if request.word(1) == "-" {
+        return write_query(out, &query, CapabilityFlags::empty());
+    }
+    let made = counted!(alloc; query.with_attributes(alloc, &attributes));
+    if let Some(query) = or_memory(out, made) {
+        write_query(out, &query, CapabilityFlags::CLIENT_QUERY_ATTRIBUTES);
+    }
 }

@@ -93,7 +93,7 @@ fn params_of<'v>(out: &mut Out, text: &str, values: &'v [Value]) -> Vec<ExecuteP
     or_empty(out, pairs.map(param_of).collect(out.alloc()))
 }
 
-fn attribute_of<'n>(named: &'n (Vec<u8>, Value)) -> QueryAttribute<'n> {
+pub fn attribute_of<'n>(named: &'n (Vec<u8>, Value)) -> QueryAttribute<'n> {
     let (name, value) = (named.0.as_slice(), named.1.as_ref());
     QueryAttribute { name, value }
 }

@@ -9,7 +9,7 @@ pub use mysql_commands::*;
 pub use mysql_replies::{Column, ColumnRef};
 pub use mysql_stmt::*;
 pub use mysql_values::*;
-pub use mysql_wire::{ColumnFlags, ColumnType, ConstValue, FaultOf};
+pub use mysql_wire::{CapabilityFlags, ColumnFlags, ColumnType, ConstValue, FaultOf};
 pub use std::rc::RcSlice;
 pub use test_probe::Ends;
 pub use test_probe::prelude::*;

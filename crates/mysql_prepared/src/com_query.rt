@@ -1,0 +1,155 @@
+//! A query that is sent, with its attributes.
+#![tactic(auto)]
+
+ghost use Rattle.std.specs.Prelude.{◌≡◌, None, Some, IfOk};
+ghost use Rattle.mysql_prepared.specs.ComQuery as spec;
+ghost use Rattle.mysql_prepared.specs.NullMarks.{MarksNulls};
+
+use crate::execute_param::QueryAttribute;
+use crate::items::Items;
+use crate::null_bitmap::NullBitmap;
+use crate::null_marks::nulls_of;
+use crate::sent_params::{AsAttributeTypes, AsParamValues};
+use mysql_values::ClientSide;
+use mysql_wire::{Const, EofBytes, LenEnc, MySerialize, Parts, RawBytes, RawInt, ServerCommand, Sink, parts};
+use std::alloc::{AllocError, Global};
+use std::borrow::CowSlice;
+
+/// `COM_QUERY`, as a client sends it: a query as text, and its attributes where both sides have CLIENT_QUERY_ATTRIBUTES.
+///
+/// | Bytes | Field |
+/// |---|---|
+/// | 1 | the byte `03` |
+/// | 1 to 9 | with attributes: how many there are, a length-encoded integer |
+/// | 1 | with attributes: how many sets of them, always 1 |
+/// | to the end | the text |
+///
+/// Where there are attributes, there stand before the text
+///
+/// | Bytes | Field |
+/// |---|---|
+/// | 1 for 8 of them | a bit for each, the first one the lowest, set for NULL |
+/// | 1 | types follow, always 1 |
+/// | 2 and a name | for each the code of its type, and 128 where it is an unsigned number, else 0; and its name, a length-encoded string |
+/// | as many as they take | the values in their binary form |
+///
+/// Once both sides have agreed to the flag, each query is to be sent with attributes, of which there may be none.
+#[derive(Clone, Debug, Drop)]
+pub struct ComQuery<'a> {
+    attributes: Option<&'a [QueryAttribute<'a>]>,
+    bitmap: NullBitmap<'a, ClientSide>,
+    text: &'a [u8],
+}
+
+impl<'a> ComQuery<'a> {
+    /// The query of this text, for a session without CLIENT_QUERY_ATTRIBUTES.
+    pub fn new(text: &'a [u8]) -> Self
+        ensures text { spec.text result ≡ text.now }
+        ensures attributes { spec.attributes result ≡ None }
+    {
+        ComQuery {
+            attributes: None,
+            bitmap: NullBitmap::from_bytes(CowSlice::Borrowed(&[])),
+            text,
+        }
+    }
+
+    /// The same under CLIENT_QUERY_ATTRIBUTES, with these attributes. Their bitmap takes memory.
+    pub fn with_attributes(
+        self,
+        alloc: Global,
+        attributes: &'a [QueryAttribute<'a>],
+    ) -> Result<Self, AllocError>
+        ensures text { IfOk result (λ q. spec.text q ≡ spec.text self.entry) }
+        ensures attributes { IfOk result (λ q. spec.attributes q ≡ Some attributes.now) }
+        ensures bitmap { IfOk result (λ q. MarksNulls 0 (spec.attribute_contents attributes.now) (spec.bitmap q)) }
+    {
+        // (no memory holds so large a bitmap)
+        if attributes.len() > usize::MAX - 8 {
+            return Err(AllocError);
+        }
+        let none: &[QueryAttribute<'_>] = &[];
+        Ok(ComQuery {
+            attributes: Some(attributes),
+            bitmap: nulls_of(alloc, none, attributes)?,
+            text: self.text,
+        })
+    }
+
+    /// The bytes of the text.
+    pub fn text(&self) -> &'a [u8]
+        ensures value { result.now ≡ spec.text self.now }
+    {
+        self.text
+    }
+}
+
+impl<'a> ComQuery<'a> {
+    /// The text, as it is written.
+    #[inline(always)]
+    fn raw_text(&self) -> RawBytes<'a, EofBytes>
+        ensures value { result ≡ spec.text self.now }
+    {
+        RawBytes::new(CowSlice::Borrowed(self.text))
+    }
+
+    /// How many attributes there are, where the query can have some.
+    #[inline(always)]
+    fn count(&self) -> Option<RawInt<LenEnc>>
+        ensures value { ⟦<Option<RawInt<LenEnc>> as MySerialize>⟧.bytes result ≡ spec.count_bytes (spec.attributes self.now) }
+    {
+        match self.attributes {
+            Some(attributes) => Some(RawInt::new(attributes.len() as u64)),
+            None => None,
+        }
+    }
+
+    /// How many sets of them, where the query can have some.
+    #[inline(always)]
+    fn sets(&self) -> Option<RawInt<u8>>
+        ensures value { ⟦<Option<RawInt<u8>> as MySerialize>⟧.bytes result ≡ spec.set_bytes (spec.attributes self.now) }
+    {
+        match self.attributes {
+            Some(_) => Some(RawInt::new(1)),
+            None => None,
+        }
+    }
+
+    /// The attributes, none where the query can have none.
+    #[inline(always)]
+    fn listed(&self) -> &'a [QueryAttribute<'a>]
+        ensures value { result.now ≡ spec.listed self.now }
+    {
+        self.attributes.unwrap_or(&[])
+    }
+}
+
+impl Parts for ComQuery<'_> {
+    ghost bytes = { spec.query_bytes };
+
+    #[inline(always)]
+    fn put<S: Sink>(&self, sink: &mut S) {
+        let code: Const<ServerCommand, u8> = Const::new(ServerCommand::COM_QUERY);
+        let text = self.raw_text();
+        let attributes = self.listed();
+        let count = self.count();
+        let sets = self.sets();
+        let head = parts!(code, count, sets);
+        if attributes.is_empty() {
+            sink.part(&parts!(head, text));
+            return;
+        }
+        let new_params_bound: RawInt<u8> = RawInt::new(1);
+        let types = Items {
+            items: attributes,
+            form: AsAttributeTypes,
+        };
+        let values = Items {
+            items: attributes,
+            form: AsParamValues {
+                as_long_data: false,
+            },
+        };
+        sink.part(&parts!(head, self.bitmap, new_params_bound, types, values, text));
+    }
+}
