@@ -1,15 +1,14 @@
 -- Each list that the machine takes is the beginning of a conversation, and each beginning is taken.
 use Rattle.std.specs.Prelude.{◌&&◌, ◌==◌, not}
-use Rattle.std.proofs.Common.{◌≡◌, ◌≢◌, ℕ, zero, suc, List, [], ◌∷◌, ◌++◌, ◌⊎◌, inl, inr, Option, Some, None, Result, Ok, Err, IfOk, OnErr, refl, sym, ap, subst, ◌∙◌, Bool, true, false, cond}
+use Rattle.std.proofs.Common.{◌≡◌, ℕ, zero, suc, List, [], ◌∷◌, ◌++◌, ◌⊎◌, inl, inr, Option, Some, None, Result, Ok, Err, IfOk, OnErr, refl, sym, ap, subst, ◌∙◌, Bool, true, false, cond}
 use Rattle.mysql_conversation.specs.Agreements.{Agreed, reports_progress}
-use Rattle.mysql_conversation.specs.Parts.{nothing, broken, many}
 use Rattle.mysql_conversation.specs.Payloads.{first_is, IsError, is_report, begins_with_ff}
 use Rattle.mysql_conversation.specs.Conversation as c
 use Rattle.mysql_conversation.specs.Conversation.{Packet, IsConversation, IsBeginning, asks, inside}
-use Rattle.mysql_conversation.specs.Machine.{entrance, step, client_step, command_step, infile_step, answer_step, ack_step, serve, rests, listens, is_due, error_kind, Run, take_step, Takes}
+use Rattle.mysql_conversation.specs.Machine.{entrance, step, client_step, command_step, rests, listens, is_due, error_kind, Run, take_step, Takes}
 use Rattle.mysql_conversation.specs.Taken.{packet}
 use Rattle.mysql_conversation.proofs.Classes.{chosen, some_is}
-use Rattle.mysql_conversation.proofs.States.{which_rests, due_of, due_runs, entrance_listens, step_listens, take_listens}
+use Rattle.mysql_conversation.proofs.States.{which_rests, due_of, due_runs, entrance_listens, step_listens}
 use Rattle.mysql_conversation.proofs.Ends.{to_come, short_report}
 use Rattle.mysql_conversation.proofs.Leads.{conversation_runs, inside_runs}
 use Rattle.mysql_conversation.proofs.Tails.{tail_of, back_serve, back_command, back_content, back_answer, back_ack, many_more}

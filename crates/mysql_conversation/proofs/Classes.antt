@@ -1,11 +1,10 @@
 -- What a payload says of itself is what the machine takes it for.
-use Rattle.std.proofs.Common.{◌≡◌, ◌≢◌, ℕ, ◌<◌, ◌≤◌, zero, suc, List, [], ◌∷◌, ◌⊎◌, inl, inr, Option, Some, None, Result, Ok, Err, refl, sym, ap, subst, ◌∙◌, Bool, true, false, cond, arith}
+use Rattle.std.proofs.Common.{◌≡◌, ℕ, ◌<◌, List, [], ◌∷◌, ◌⊎◌, inl, inr, Option, Some, None, Ok, Err, refl, ap, subst, ◌∙◌, Bool, true, false, cond}
 use Rattle.std.proofs.lemmas.Bool.{eqb-true, eq-eqb}
 use Rattle.std.specs.Prelude.{◌==◌, ◌&&◌, nat_lt}
 use Rattle.mysql_wire.specs.Flags.{StatusFlags}
 use Rattle.mysql_wire.specs.Form.{Form}
 use Rattle.mysql_wire.specs.Reading.{Reading}
-use Rattle.mysql_replies.specs.OkPacket.{status_flags}
 use Rattle.mysql_replies.specs.declared.ok_packet.OkPacketDeserializer.{OkPacketDeserializer}
 use Rattle.mysql_prepared.specs.StmtWithMetadata.{stmt_with_metadata}
 use Rattle.mysql_prepared.specs.declared.stmt_with_metadata.StmtPacketWithMetadata.{StmtPacketWithMetadata}
@@ -13,7 +12,7 @@ use Rattle.std.proofs.lemmas.Bool.{lt-ltb, ltb-true}
 use Rattle.mysql_replies.specs.ColumnCount.{column_count, count, metadata_follows}
 use Rattle.mysql_replies.specs.declared.column_count.ColumnCount.{ColumnCount}
 use Rattle.mysql_conversation.specs.Agreements.{Agreed, deprecates_eof}
-use Rattle.mysql_conversation.specs.Payloads.{begins_ok, has_more, opens_cursor, first_is, ok_form, terminator_form, old_end_form, looks_like_end, SpelledWith, IsOk, EndsWith, IsEnd, IsOldEnd, IsInfileRequest, IsCount, IsRow, IsPrepared}
+use Rattle.mysql_conversation.specs.Payloads.{begins_ok, first_is, ok_form, terminator_form, old_end_form, looks_like_end, SpelledWith, IsOk, EndsWith, IsEnd, IsOldEnd, IsInfileRequest, IsCount, IsRow}
 use Rattle.mysql_conversation.specs.Machine.{status_in, ok_status, old_end_status, terminator_status, end_status, ok_of, count_in, count_at, columns_of, reply_of, end_of, row_of, line_of, old_end_of, statement_in, statement_at}
 use Rattle.mysql_conversation.specs.declared.kind.Format.{Format}
 use Rattle.mysql_conversation.specs.declared.kind.Format.TheVariants.{Text, Binary}

@@ -1,5 +1,5 @@
 -- Packets with which each part of an answer may go on.
-use Rattle.std.proofs.Common.{◌≡◌, ◌≢◌, ℕ, ◌<◌, zero, suc, List, [], ◌∷◌, ◌++◌, ◌⊎◌, inl, inr, Option, Some, None, Result, Ok, Err, refl, sym, ap, subst, ◌∙◌, Bool, true, false, cond, arith}
+use Rattle.std.proofs.Common.{◌≡◌, ℕ, zero, suc, List, [], ◌∷◌, inl, inr, Some, None, Ok, refl, ap, Bool, true, false}
 use Rattle.std.specs.Prelude.{◌&&◌, not}
 use Rattle.mysql_wire.specs.Flags.{StatusFlags}
 use Rattle.mysql_wire.specs.Form.{bytes, number}
@@ -8,14 +8,13 @@ use Rattle.mysql_wire.specs.Constant.{const_byte}
 use Rattle.mysql_wire.specs.ConstantValue.{coded}
 use Rattle.mysql_wire.specs.LenEnc.{lenenc, lenenc_string}
 use Rattle.mysql_wire.specs.Skip.{skip}
-use Rattle.mysql_replies.specs.OkPacket.{ok_packet, ok_header, status_flags, packet_of, deserialized}
-use Rattle.mysql_replies.specs.OkKind.{ok_end, ok_tail, tracks, body_of}
-use Rattle.mysql_replies.specs.declared.ok_packet.OkPacketDeserializer.{OkPacketDeserializer}
+use Rattle.mysql_replies.specs.OkPacket.{ok_packet, ok_header, deserialized}
+use Rattle.mysql_replies.specs.OkKind.{ok_end, ok_tail, body_of}
 use Rattle.mysql_prepared.specs.Stmt.{stmt, stmt_packet_of}
 use Rattle.mysql_prepared.specs.StmtWithMetadata.{stmt_with_metadata, sends_metadata}
 use Rattle.mysql_prepared.specs.declared.stmt_with_metadata.StmtPacketWithMetadata.{StmtPacketWithMetadata}
-use Rattle.mysql_conversation.specs.Parts.{nothing, never, one, ◌followed_by◌, ◌or◌, for_some, times, many}
-use Rattle.mysql_conversation.specs.Payloads.{ok_form, old_end_form, terminator_form, SpelledWith, EndsWith, looks_like_end, first_is, is_report, IsOk, IsEnd, IsOldEnd, IsPrepared, opens_cursor}
+use Rattle.mysql_conversation.specs.Parts.{◌or◌, times}
+use Rattle.mysql_conversation.specs.Payloads.{ok_form, old_end_form, terminator_form, SpelledWith, EndsWith, looks_like_end, first_is, is_report, IsOk, IsEnd, IsPrepared}
 use Rattle.mysql_conversation.specs.Agreements.{Agreed, deprecates_eof, has_optional_metadata, reports_progress}
 use Rattle.mysql_conversation.specs.Conversation as c
 use Rattle.mysql_conversation.specs.Conversation.{Packet, served, ending, format_of, inside, authentication_kind}
@@ -26,9 +25,7 @@ use Rattle.mysql_conversation.specs.declared.state.After.{After}
 use Rattle.mysql_conversation.specs.declared.state.After.TheVariants as after
 use Rattle.mysql_conversation.specs.declared.state.Request.{Request}
 use Rattle.mysql_conversation.specs.declared.state.Request.TheVariants.{Query, Execution, Cursor}
-use Rattle.mysql_conversation.specs.declared.kind.Format.{Format}
-use Rattle.mysql_conversation.specs.declared.kind.Format.TheVariants.{Text, Binary}
-use Rattle.mysql_conversation.specs.declared.kind.Kind.{Kind}
+use Rattle.mysql_conversation.specs.declared.kind.Format.TheVariants.{Binary}
 use Rattle.mysql_conversation.specs.declared.kind.Kind.TheVariants as kind
 use Rattle.mysql_conversation.specs.declared.kind.Side.TheVariants.{Client, Server}
 use Rattle.mysql_conversation.specs.declared.state.State.{State}

@@ -1,6 +1,5 @@
 -- A refusal by a reader that takes no memory is that of the form.
-use Rattle.std.proofs.Common.{◌≡◌, ℕ, Option, None, Result, Err, refl, ap, false}
-use Rattle.mysql_wire.specs.Flags.{StatusFlags}
+use Rattle.std.proofs.Common.{◌≡◌, None, ap, false}
 use Rattle.mysql_wire.specs.Reading.{Reading, Faults}
 use Rattle.mysql_wire.specs.declared.fault.FaultOf.{FaultOf}
 use Rattle.mysql_wire.specs.declared.fault.FaultOf.TheVariants as fault

@@ -1,14 +1,14 @@
 -- What the grammar allows, the machine takes.
-use Rattle.std.proofs.Common.{◌≡◌, ◌≢◌, ℕ, ◌<◌, zero, suc, List, [], ◌∷◌, ◌++◌, ◌⊎◌, inl, inr, Option, Some, None, refl, sym, ap, subst, ◌∙◌, Bool, true, false, arith}
+use Rattle.std.proofs.Common.{◌≡◌, ◌≢◌, ℕ, ◌<◌, zero, suc, List, [], ◌∷◌, ◌++◌, inl, inr, Option, Some, None, refl, sym, ap, subst, ◌∙◌, Bool, true, false, arith}
 use Rattle.std.specs.Prelude.{not}
 use Rattle.mysql_wire.specs.Flags.{StatusFlags}
-use Rattle.mysql_conversation.specs.Parts.{nothing, never, one, ◌followed_by◌, ◌or◌, for_some, times, many, broken}
-use Rattle.mysql_conversation.specs.Payloads.{has_more, opens_cursor, first_is, IsOk, IsEnd, IsOldEnd, IsInfileRequest, IsCount, IsRow, IsPrepared, IsError, is_report, is_one_byte, asks_cursor}
+use Rattle.mysql_conversation.specs.Parts.{nothing, never, ◌followed_by◌, ◌or◌, for_some, times, many, broken}
+use Rattle.mysql_conversation.specs.Payloads.{has_more, opens_cursor, first_is, IsOk, IsEnd, IsOldEnd, IsInfileRequest, IsCount, IsRow, IsPrepared, IsError, asks_cursor}
 use Rattle.mysql_conversation.specs.Agreements.{Agreed, deprecates_eof}
 use Rattle.mysql_conversation.specs.Conversation as c
 use Rattle.mysql_conversation.specs.Conversation.{Packet, sent, served, answering, answered, ending, format_of, authentication_kind, commands, inside}
-use Rattle.mysql_conversation.specs.Machine.{entrance, step, client_step, serve, rests, error_kind, Run, answers, reply_step, infile_step, infile_reply_step, line_step, last_step, prepared_by, prepared_step, command_step, begun, acknowledgement_step, authentication_step, ok_status, definitions_end_step, columns_step, enter, defined, counted, less, define, ended, line_of, reply_of}
-use Rattle.mysql_conversation.proofs.Classes.{ok_status_of, reply_ok, reply_infile, reply_count, line_row, line_end, old_end_of_is, statement_at_of, chosen, some_is, eqb_is, zero_is_no_end, ok_is_zero}
+use Rattle.mysql_conversation.specs.Machine.{entrance, step, client_step, serve, rests, Run, answers, reply_step, infile_step, infile_reply_step, line_step, last_step, prepared_by, prepared_step, command_step, begun, acknowledgement_step, definitions_end_step, enter, defined, counted, less, define, ended, reply_of}
+use Rattle.mysql_conversation.proofs.Classes.{ok_status_of, reply_ok, reply_infile, reply_count, line_row, line_end, old_end_of_is, statement_at_of, eqb_is, zero_is_no_end, ok_is_zero}
 use Rattle.mysql_conversation.proofs.States.{step_listens}
 use Rattle.mysql_conversation.specs.declared.state.After.{After}
 use Rattle.mysql_conversation.specs.declared.state.After.TheVariants as after
@@ -16,18 +16,13 @@ use Rattle.mysql_conversation.specs.declared.state.Answer.{Answer}
 use Rattle.mysql_conversation.specs.declared.state.Answer.TheVariants as answer
 use Rattle.mysql_conversation.specs.declared.state.Request.{Request}
 use Rattle.mysql_conversation.specs.declared.state.Request.TheVariants.{Query, Execution, Cursor}
-use Rattle.mysql_conversation.specs.declared.kind.Format.{Format}
 use Rattle.mysql_conversation.specs.declared.kind.Format.TheVariants.{Text, Binary}
 use Rattle.mysql_conversation.specs.declared.kind.Kind.{Kind}
 use Rattle.mysql_conversation.specs.declared.kind.Kind.TheVariants as kind
-use Rattle.mysql_conversation.specs.declared.state.Line.{Line}
 use Rattle.mysql_conversation.specs.declared.state.Line.TheVariants as line
-use Rattle.mysql_conversation.specs.declared.state.Reply.{Reply}
-use Rattle.mysql_conversation.specs.declared.state.Reply.TheVariants as reply
 use Rattle.mysql_conversation.specs.declared.kind.Opening.{Opening}
 use Rattle.mysql_conversation.specs.declared.kind.Opening.TheVariants as opened_at
-use Rattle.mysql_conversation.specs.declared.kind.Side.{Side}
-use Rattle.mysql_conversation.specs.declared.kind.Side.TheVariants.{Client, Server}
+use Rattle.mysql_conversation.specs.declared.kind.Side.TheVariants.{Server}
 use Rattle.mysql_conversation.specs.declared.state.State.{State}
 use Rattle.mysql_conversation.specs.declared.state.State.TheVariants as state
 

@@ -1,13 +1,12 @@
 -- Of each side the packets stay in their order, and none comes before its command.
 use Rattle.mysql_conversation.specs.Agreements.{Agreed}
-use Rattle.std.proofs.Common.{◌≡◌, ◌≤◌, ℕ, ◌+◌, List, [], ◌∷◌, ◌++◌, ◌⊎◌, inl, inr, refl, sym, ap, subst, ◌∙◌, Bool, true, false, arith}
+use Rattle.std.proofs.Common.{◌≡◌, ◌≤◌, ℕ, ◌+◌, List, [], ◌∷◌, ◌++◌, inl, inr, refl, sym, ap, subst, ◌∙◌, Bool, true, false, arith}
 use Rattle.std.specs.Prelude.{◌&&◌, if◌then◌else◌}
 use Rattle.mysql_conversation.specs.Conversation.{Packet, commands, asks}
-use Rattle.mysql_conversation.specs.Pipelined.{Numbered, packets, is_client, is_command, counted, AreNumbered, ArePassed, Early, IsPipelined}
+use Rattle.mysql_conversation.specs.Pipelined.{Numbered, is_client, is_command, counted, AreNumbered, ArePassed, Early, IsPipelined}
 use Rattle.mysql_conversation.specs.Order.{from_client, from_server, FollowCommands, IsInterleaved}
 use Rattle.mysql_conversation.specs.declared.kind.Opening.{Opening}
-use Rattle.mysql_conversation.specs.declared.kind.Side.{Side}
-use Rattle.mysql_conversation.specs.declared.kind.Side.TheVariants.{Client, Server}
+use Rattle.mysql_conversation.specs.declared.kind.Side.TheVariants.{Server}
 
 both : (x y : Bool) → (x && y) ≡ true → x ≡ true
 both true y h = refl

@@ -7,7 +7,7 @@ use Rattle.mysql_conversation.specs.Conversation.{asks, commands, inside}
 use Rattle.mysql_conversation.specs.Machine.{take_step, Takes, rests, listens, is_due}
 use Rattle.mysql_conversation.specs.Taken.{packet}
 use Rattle.mysql_conversation.specs.Pipelined.{Numbered, packets, is_client, is_command, counted, AreNumbered, passes, ArePassed, Early}
-use Rattle.mysql_conversation.specs.Standing.{Standing, standing, command_of, kind_of, begin, wait, waits, settle, push, early, aside, in_turn, served, pipe_step, step_of, Steps, PipeRun}
+use Rattle.mysql_conversation.specs.Standing.{Standing, standing, command_of, kind_of, begin, wait, waits, settle, push, early, aside, in_turn, served, pipe_step, Steps, PipeRun}
 use Rattle.mysql_conversation.proofs.Classes.{some_is, chosen}
 use Rattle.mysql_conversation.proofs.States.{Turn, turn, due_of, due_runs, rests_is, take_listens, inside_command}
 use Rattle.mysql_conversation.proofs.Turns.{command_step, rest_step_is, kind_is_command, begin_listens, running_kind, no_aside, command_kind, rest_plain}

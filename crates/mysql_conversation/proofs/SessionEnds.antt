@@ -1,5 +1,5 @@
 -- Packets with which each session may go on.
-use Rattle.std.proofs.Common.{◌≡◌, ℕ, List, [], ◌∷◌, ◌++◌, inl, inr, Ok, refl, sym, ap, subst, ◌∙◌, Bool, true, false, append_assoc}
+use Rattle.std.proofs.Common.{◌≡◌, ℕ, List, [], ◌∷◌, ◌++◌, inl, inr, Ok, refl, ap, subst, ◌∙◌, Bool, true, false, append_assoc}
 use Rattle.std.proofs.Common.{append-nil}
 use Rattle.std.specs.Int.Bits.{and_zero_r}
 use Rattle.std.specs.Prelude.{bit_and, ◌==◌, ◌||◌}
@@ -9,10 +9,10 @@ use Rattle.mysql_wire.specs.ConstantValue.{coded}
 use Rattle.mysql_wire.specs.Skip.{skip}
 use Rattle.mysql_auth.specs.SslRequest.{ssl_request, request_of}
 use Rattle.mysql_auth.specs.declared.ssl_request.SslRequest.{SslRequest}
-use Rattle.mysql_conversation.specs.Agreements.{Agreed, agreed_on, compresses}
+use Rattle.mysql_conversation.specs.Agreements.{Agreed, agreed_on}
 use Rattle.mysql_conversation.specs.Piped.{place, stands}
 use Rattle.mysql_conversation.specs.Pipelined.{Numbered, IsPipelined}
-use Rattle.mysql_conversation.specs.Session.{client_of, MayLogIn, IsLogin, Before, IsLoggedIn, IsSession, IsSessionBeginning, TakenIn}
+use Rattle.mysql_conversation.specs.Session.{client_of, MayLogIn, Before, IsLoggedIn, IsSessionBeginning, TakenIn}
 use Rattle.mysql_conversation.specs.Standing.{start}
 use Rattle.mysql_conversation.proofs.Stood.{run_is_beginning}
 use Rattle.mysql_conversation.specs.declared.kind.Kind.TheVariants as kind

@@ -1,5 +1,5 @@
 -- Sessions: what comes before a conversation, and that nothing else may come.
-use Rattle.std.proofs.Common.{◌≡◌, ℕ, List, [], ◌∷◌, ◌++◌, ◌⊎◌, inl, inr, Option, Some, None, Result, Ok, Err, refl, sym, ap, subst, ◌∙◌, Bool, true, false, append_assoc}
+use Rattle.std.proofs.Common.{◌≡◌, ℕ, List, [], ◌∷◌, ◌++◌, ◌⊎◌, inl, inr, Some, None, Ok, Err, refl, sym, ap, subst, ◌∙◌, Bool, true, false, append_assoc}
 use Rattle.std.specs.Prelude.{not, ◌&&◌}
 use Rattle.mysql_wire.specs.Reading.{Reading}
 use Rattle.mysql_auth.specs.Handshake.{handshake}
@@ -10,13 +10,12 @@ use Rattle.mysql_conversation.specs.Agreements.{Agreed, agreed_on, compresses}
 use Rattle.mysql_conversation.specs.Payloads.{first_is}
 use Rattle.mysql_conversation.specs.Piped.{PipeTaken, place}
 use Rattle.mysql_conversation.specs.Pipelined.{Numbered, IsPipelined, IsPipelinedBeginning}
-use Rattle.mysql_conversation.specs.Session.{server_of, client_of, asks_tls, IsOf, IsGreeting, IsGreetingError, BeginsAs, IsSslRequest, MayLogIn, IsLogin, Before, IsLoggedIn, IsSession, IsSessionBeginning, TakenIn}
-use Rattle.mysql_conversation.specs.SessionSteps.{greeting_in, greeting_at, login_in, login_at, GreetedAs, AnsweredAs, IsNewPipeline}
+use Rattle.mysql_conversation.specs.Session.{server_of, client_of, asks_tls, IsGreeting, IsGreetingError, BeginsAs, IsSslRequest, MayLogIn, IsLogin, Before, IsLoggedIn, IsSession, IsSessionBeginning, TakenIn}
+use Rattle.mysql_conversation.specs.SessionSteps.{greeting_in, greeting_at, login_in, login_at, GreetedAs, AnsweredAs}
 use Rattle.mysql_conversation.proofs.Classes.{some_is}
 use Rattle.mysql_conversation.specs.declared.kind.Kind.{Kind}
 use Rattle.mysql_conversation.specs.declared.kind.Kind.TheVariants as kind
 use Rattle.mysql_conversation.specs.declared.kind.Opening.TheVariants.{Login}
-use Rattle.mysql_conversation.specs.declared.kind.Side.{Side}
 use Rattle.mysql_conversation.specs.declared.kind.Side.TheVariants.{Client, Server}
 use Rattle.mysql_conversation.specs.declared.pipeline.Pipeline.{Pipeline}
 use Rattle.mysql_conversation.specs.declared.pipeline.Refusal.{Refusal}

@@ -8,7 +8,7 @@ use Rattle.mysql_prepared.specs.declared.stmt_with_metadata.StmtPacketWithMetada
 use Rattle.mysql_conversation.specs.Agreements.{Agreed, deprecates_eof, asks_factors}
 use Rattle.mysql_conversation.specs.Payloads.{first_is, begins_ok, definitions_follow, is_one_byte, is_report, asks_cursor, opens_cursor, has_more}
 use Rattle.mysql_conversation.specs.Conversation.{answering, asks, commands, inside, ending, format_of, authentication_kind}
-use Rattle.mysql_conversation.specs.Machine.{entrance, step, take_step, client_step, serve, rests, listens, is_due, error_kind, answers, begun, command_step, infile_step, answer_step, ack_step, logged_in, authentication_step, reply_step, infile_reply_step, columns_step, definitions_end_step, line_step, last_step, prepared_by, prepared_step, acknowledgement_step, enter, defined, less, define, counted, ended, reply_of, line_of, old_end_of, statement_at, ok_status}
+use Rattle.mysql_conversation.specs.Machine.{entrance, step, take_step, client_step, serve, rests, listens, is_due, error_kind, answers, begun, command_step, infile_step, answer_step, logged_in, authentication_step, reply_step, infile_reply_step, columns_step, definitions_end_step, line_step, last_step, prepared_by, prepared_step, acknowledgement_step, enter, defined, less, define, counted, ended, reply_of, line_of, old_end_of, statement_at, ok_status}
 use Rattle.mysql_conversation.proofs.Classes.{chosen, some_is}
 use Rattle.mysql_conversation.specs.declared.kind.Format.TheVariants.{Text, Binary}
 use Rattle.mysql_conversation.specs.declared.kind.Kind.{Kind}

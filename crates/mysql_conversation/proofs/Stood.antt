@@ -1,10 +1,9 @@
 -- Each list that the machine with commands that wait takes is the beginning of a pipelined conversation, and each beginning is taken.
 use Rattle.mysql_conversation.specs.Agreements.{Agreed}
-use Rattle.std.proofs.Common.{◌≡◌, ℕ, ◌+◌, zero, suc, List, [], ◌∷◌, ◌++◌, ◌⊎◌, inl, inr, Option, Some, None, refl, sym, ap, subst, ◌∙◌, Bool, true, false}
-use Rattle.std.specs.Prelude.{◌&&◌, not, Result, Ok, Err, IfOk, IfErr}
+use Rattle.std.proofs.Common.{◌≡◌, ℕ, ◌+◌, List, [], ◌∷◌, ◌++◌, inl, inr, Some, None, refl, sym, ap, subst, ◌∙◌, Bool, true, false}
+use Rattle.std.specs.Prelude.{not, Result, Ok, Err, IfOk, IfErr}
 use Rattle.mysql_conversation.specs.Conversation.{Packet, IsConversation, asks}
-use Rattle.mysql_conversation.specs.Machine.{take_step, Takes, rests, listens, is_due, entrance}
-use Rattle.mysql_conversation.specs.Taken.{packet}
+use Rattle.mysql_conversation.specs.Machine.{take_step, rests, listens, entrance}
 use Rattle.mysql_conversation.specs.Pipelined.{Numbered, packets, counted, AreNumbered, Early, IsPipelined, IsPipelinedBeginning, numbered}
 use Rattle.mysql_conversation.specs.Standing.{Standing, standing, begin, waits, settle, pipe_step, step_of, Steps, PipeRun, start}
 use Rattle.mysql_conversation.specs.Piped.{place}
@@ -12,7 +11,7 @@ use Rattle.mysql_conversation.proofs.Begun.{conversation_takes, takes_is_convers
 use Rattle.mysql_conversation.proofs.Ends.{short_report}
 use Rattle.mysql_conversation.proofs.Classes.{some_is}
 use Rattle.mysql_conversation.proofs.States.{Turn, turn, which_rests, entrance_listens}
-use Rattle.mysql_conversation.proofs.Pipes.{Outcome, Over, server_next, settle_stays, early_runs, run_early, in_turn_plain, run_in_turn, rest_step}
+use Rattle.mysql_conversation.proofs.Pipes.{Outcome, Over, server_next, settle_stays, early_runs, run_early, in_turn_plain, run_in_turn}
 use Rattle.mysql_conversation.specs.declared.kind.Kind.{Kind}
 use Rattle.mysql_conversation.specs.declared.kind.Kind.TheVariants as kind
 use Rattle.mysql_conversation.specs.declared.kind.Side.{Side}

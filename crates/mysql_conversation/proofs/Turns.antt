@@ -1,20 +1,19 @@
 -- What commands do, and what packets of the client that are none.
-use Rattle.std.proofs.Common.{◌≡◌, ℕ, ◌+◌, List, [], ◌∷◌, ◌++◌, ◌⊎◌, inl, inr, Option, Some, None, refl, sym, ap, subst, ◌∙◌, Bool, true, false, cond}
+use Rattle.std.proofs.Common.{◌≡◌, ℕ, List, [], ◌∷◌, Option, Some, None, refl, sym, ap, subst, ◌∙◌, Bool, true, false}
 use Rattle.std.proofs.lemmas.Bool.{eqb-true}
 use Rattle.std.specs.Prelude.{◌==◌, not}
 use Rattle.mysql_conversation.specs.Payloads.{first_is, asks_cursor}
-use Rattle.mysql_conversation.specs.Conversation.{answering, asks, commands, inside}
+use Rattle.mysql_conversation.specs.Conversation.{answering, commands}
 use Rattle.mysql_conversation.specs.Machine.{take_step, client_step, rests, listens, is_due, answers, begun, ack_step}
 use Rattle.mysql_conversation.specs.Machine as machine
 use Rattle.mysql_conversation.specs.Standing.{kind_of, begin, command_of, known}
-use Rattle.mysql_conversation.proofs.Classes.{some_is, chosen, first_unlike}
+use Rattle.mysql_conversation.proofs.Classes.{some_is}
 use Rattle.mysql_conversation.proofs.States.{take_listens, answers_listens, inside_command}
 use Rattle.mysql_conversation.specs.Agreements.{Agreed}
 use Rattle.mysql_conversation.specs.declared.state.Answer.{Answer}
 use Rattle.mysql_conversation.specs.declared.state.Command.{Command}
 use Rattle.mysql_conversation.specs.declared.kind.Kind.{Kind}
-use Rattle.mysql_conversation.specs.declared.kind.Kind.TheVariants as kind
-use Rattle.mysql_conversation.specs.declared.kind.Side.TheVariants.{Client, Server}
+use Rattle.mysql_conversation.specs.declared.kind.Side.TheVariants.{Client}
 use Rattle.mysql_conversation.specs.declared.state.State.{State}
 use Rattle.mysql_conversation.specs.declared.state.State.TheVariants as state
 

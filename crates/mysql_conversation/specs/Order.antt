@@ -1,6 +1,6 @@
 -- The order of packets in a pipelined conversation.
 use Rattle.mysql_conversation.specs.Agreements.{Agreed}
-use Rattle.std.specs.Prelude.{◌≡◌, ◌≤◌, ℕ, List, [], ◌∷◌, Bool, true, false, if◌then◌else◌}
+use Rattle.std.specs.Prelude.{◌≡◌, ◌≤◌, ℕ, List, [], ◌∷◌, if◌then◌else◌}
 use Rattle.mysql_conversation.specs.Conversation.{IsConversation}
 use Rattle.mysql_conversation.specs.declared.kind.Opening.{Opening}
 use Rattle.mysql_conversation.specs.Pipelined.{Numbered, packets, is_client, counted}

@@ -1,9 +1,13 @@
 -- What a pipelined conversation has taken.
-use Rattle.std.specs.Prelude.{ℕ, List}
+use Rattle.std.specs.Prelude.{◌≡◌, ◌≤◌, ◌-◌, ◌^◌, ℕ, List, length, true}
+use Rattle.std.specs.VecDeque.{deque_capacity, deque_len}
+use Rattle.mysql_conversation.specs.Agreements.{Agreed}
+use Rattle.mysql_conversation.specs.Machine.{is_due}
 use Rattle.mysql_conversation.specs.Taken.{packet}
 use Rattle.mysql_conversation.specs.Pipelined.{Numbered}
 use Rattle.mysql_conversation.specs.Standing.{Standing, standing, start, PipeRun}
 use Rattle.mysql_conversation.specs.declared.kind.Kind.{Kind}
+use Rattle.mysql_conversation.specs.declared.kind.Opening.{Opening}
 use Rattle.mysql_conversation.specs.declared.kind.Side.{Side}
 use Rattle.mysql_conversation.specs.declared.pipeline.Pipeline.{Pipeline}
 
@@ -16,3 +20,28 @@ stands c = standing c.state c.number c.last c.waiting.items
 -- these packets, of these kinds and numbers, are what it has taken
 abbrev pub PipeTaken : Pipeline → List Numbered → Type 0
 PipeTaken c items = PipeRun c.agreed (start c.opening) items (stands c)
+
+-- what both sides agreed on, where it began, how many commands may wait, and how many do
+abbrev pub agreed : Pipeline → Agreed
+agreed c = c.agreed
+
+abbrev pub opening : Pipeline → Opening
+opening c = c.opening
+
+abbrev pub limit : Pipeline → ℕ
+limit c = c.limit
+
+abbrev pub waiting : Pipeline → ℕ
+waiting c = length c.waiting.items
+
+-- the server is to speak, so that a command that comes has to wait
+abbrev pub MustWait : Pipeline → Type 0
+MustWait c = is_due c.state ≡ true
+
+-- as many commands came as a number of eight bytes counts
+abbrev pub CountsNoMore : Pipeline → Type 0
+CountsNoMore c = c.last ≡ 2 ^ 64 - 1
+
+-- the memory for commands that wait is full
+abbrev pub HasNoRoom : Pipeline → Type 0
+HasNoRoom c = deque_capacity c.waiting ≤ deque_len c.waiting

@@ -17,6 +17,7 @@ use Rattle.mysql_conversation.specs.declared.kind.Kind.TheVariants as kind
 use Rattle.mysql_conversation.specs.declared.kind.Opening.TheVariants.{Login}
 use Rattle.mysql_conversation.specs.declared.kind.Side.{Side}
 use Rattle.mysql_conversation.specs.declared.kind.Side.TheVariants.{Client, Server}
+use Rattle.mysql_conversation.specs.declared.pipeline.Pipeline.{Pipeline}
 use Rattle.mysql_conversation.specs.declared.session.Phase.{Phase}
 use Rattle.mysql_conversation.specs.declared.session.Phase.TheVariants as phase
 use Rattle.mysql_conversation.specs.declared.session.Session.{Session}
@@ -94,3 +95,11 @@ TakenIn (phase.Commands p) items =
 
 abbrev pub SessionTaken : Session → List Numbered → Type 0
 SessionTaken s items = TakenIn s.phase items
+
+-- a request to go on in TLS came, and nothing says that what comes is deciphered
+abbrev pub IsEncrypted : Session → Type 0
+IsEncrypted s = (server : Agreed) × (s.phase ≡ phase.Encrypted server)
+
+-- the conversation that follows the login
+abbrev pub Continues : Session → Pipeline → Type 0
+Continues s p = s.phase ≡ phase.Commands p

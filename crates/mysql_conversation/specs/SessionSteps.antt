@@ -1,5 +1,5 @@
 -- What the packets before a conversation say of themselves, and what a session does with them.
-use Rattle.std.specs.Prelude.{◌≡◌, ◌⊎◌, ℕ, List, [], Bool, true, false, Option, Some, None, Result, Ok, Err}
+use Rattle.std.specs.Prelude.{◌≡◌, ◌⊎◌, ℕ, List, [], Bool, true, false, Option, Some, None, Ok, Err}
 use Rattle.mysql_wire.specs.Reading.{Reading}
 use Rattle.mysql_auth.specs.Handshake.{handshake}
 use Rattle.mysql_auth.specs.SslRequest.{ssl_request}

@@ -11,7 +11,6 @@ use Rattle.mysql_conversation.specs.declared.kind.Kind.TheVariants as kind
 use Rattle.mysql_conversation.specs.declared.kind.Side.{Side}
 use Rattle.mysql_conversation.specs.declared.kind.Side.TheVariants.{Client, Server}
 use Rattle.mysql_conversation.specs.declared.state.State.{State}
-use Rattle.mysql_conversation.specs.declared.state.State.TheVariants as state
 use Rattle.mysql_conversation.specs.declared.state.Command.{Command}
 use Rattle.mysql_conversation.specs.declared.state.Answer.{Answer}
 use Rattle.mysql_conversation.specs.declared.pipeline.Waiting.{Waiting}

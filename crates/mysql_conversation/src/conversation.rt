@@ -22,6 +22,7 @@ pub struct Conversation {
 
 impl Conversation {
     ghost use Rattle.mysql_conversation.specs.Conversation.{Packet, IsConversation, IsBeginning};
+    ghost use Rattle.mysql_conversation.specs.History as history;
     ghost use Rattle.mysql_conversation.specs.History.{Taken};
     ghost use Rattle.mysql_conversation.specs.Taken.{packet};
     ghost use Rattle.mysql_conversation.specs.declared.kind.Kind as declared;
@@ -29,8 +30,8 @@ impl Conversation {
     /// One of which no packet has come. It begins after the login, or between two commands of a connection that is taken up later.
     pub fn new(alloc: Global, agreed: SessionCapabilities, opening: Opening) -> Self
         ensures taken { Taken result [] }
-        ensures agreed { result.agreed ≡ agreed }
-        ensures opening { result.opening ≡ opening }
+        ensures agreed { history.agreed result ≡ agreed }
+        ensures opening { history.opening result ≡ opening }
     {
         Conversation {
             alloc,
@@ -42,7 +43,7 @@ impl Conversation {
 
     /// Whether the last exchange is over.
     pub fn is_at_rest(&self) -> bool
-        ensures { (items : List Packet) → Taken self.now items → IsTrue result ↔ IsConversation self.now.agreed self.now.opening items }
+        ensures { (items : List Packet) → Taken self.now items → IsTrue result ↔ IsConversation (history.agreed self.now) (history.opening self.now) items }
     {
         rests(&self.state)
     }
@@ -53,10 +54,10 @@ impl Conversation {
         // What was taken has now this packet, of this kind, at its end.
         ensures taken { IfOk result (λ kind. (items : List Packet) → Taken self.old items → Taken self.new (items ++ packet from payload.now kind ∷ [])) }
         // Of no kind does the packet go on with what was taken.
-        ensures refused { OnErr result ((items : List Packet) (kind : declared.Kind) → Taken self.old items → IsBeginning self.old.agreed self.old.opening (items ++ packet from payload.now kind ∷ []) → ⊥) }
+        ensures refused { OnErr result ((items : List Packet) (kind : declared.Kind) → Taken self.old items → IsBeginning (history.agreed self.old) (history.opening self.old) (items ++ packet from payload.now kind ∷ []) → ⊥) }
         ensures err { OnErr result (self.new ≡ self.old) }
-        ensures agreed { self.new.agreed ≡ self.old.agreed }
-        ensures opening { self.new.opening ≡ self.old.opening }
+        ensures agreed { history.agreed self.new ≡ history.agreed self.old }
+        ensures opening { history.opening self.new ≡ history.opening self.old }
     {
         take_step(self.alloc, self.agreed, &mut self.state, from, payload)
     }

@@ -3,7 +3,9 @@
 ghost use Rattle.std.specs.Prelude.{◌≡◌, ℕ, List, [], ◌∷◌, ◌++◌};
 ghost use Rattle.mysql_conversation.specs.Agreements as agreement;
 ghost use Rattle.mysql_conversation.specs.Conversation.{Packet, IsBeginning};
+ghost use Rattle.mysql_conversation.specs.History as history;
 ghost use Rattle.mysql_conversation.specs.History.{Taken};
+ghost use Rattle.mysql_conversation.specs.Piped as piped;
 ghost use Rattle.mysql_conversation.specs.Taken.{packet};
 ghost use Rattle.mysql_conversation.specs.Conversation.{IsConversation};
 ghost use Rattle.mysql_conversation.specs.Pipelined.{Numbered, IsPipelined, IsPipelinedBeginning, numbered};
@@ -20,7 +22,7 @@ ghost use Rattle.mysql_conversation.specs.declared.kind.Side as side;
 /// What a conversation has taken is the beginning of one by the grammar.
 #[tactic(auto, using(crate::proofs::Begun::takes_is_beginning))]
 pub fn what_is_taken_is_a_beginning()
-    ensures { (c : conversation.Conversation) (items : List Packet) → Taken c items → IsBeginning c.agreed c.opening items }
+    ensures { (c : conversation.Conversation) (items : List Packet) → Taken c items → IsBeginning (history.agreed c) (history.opening c) items }
 {}
 
 /// After what came before it, a packet is of one kind by the grammar.
@@ -33,7 +35,7 @@ pub fn a_packet_is_of_one_kind()
 /// What a pipeline has taken is the beginning of a pipelined conversation.
 #[tactic(auto, using(crate::proofs::Stood::run_is_beginning))]
 pub fn what_a_pipeline_took_is_a_beginning()
-    ensures { (c : pipeline.Pipeline) (items : List Numbered) → PipeTaken c items → IsPipelinedBeginning c.agreed c.opening items }
+    ensures { (c : pipeline.Pipeline) (items : List Numbered) → PipeTaken c items → IsPipelinedBeginning (piped.agreed c) (piped.opening c) items }
 {}
 
 /// A conversation in which no command comes early is a pipelined one, with the same kinds.

@@ -65,6 +65,7 @@ pub struct Pipeline {
 
 impl Pipeline {
     ghost use Rattle.mysql_conversation.specs.Pipelined.{Numbered, IsPipelined, IsPipelinedBeginning};
+    ghost use Rattle.mysql_conversation.specs.Piped as piped;
     ghost use Rattle.mysql_conversation.specs.Piped.{PipeTaken, place};
     ghost use Rattle.mysql_conversation.specs.declared.kind.Kind as declared;
     ghost use Rattle.mysql_conversation.specs.declared.kind.Side.TheVariants as side;
@@ -73,9 +74,9 @@ impl Pipeline {
     /// One of which no packet has come, where as many commands may wait as the limit.
     pub fn new(alloc: Global, agreed: SessionCapabilities, opening: Opening, limit: usize) -> Self
         ensures taken { PipeTaken result [] }
-        ensures agreed { result.agreed ≡ agreed }
-        ensures opening { result.opening ≡ opening }
-        ensures limit { result.limit ≡ limit }
+        ensures agreed { piped.agreed result ≡ agreed }
+        ensures opening { piped.opening result ≡ opening }
+        ensures limit { piped.limit result ≡ limit }
     {
         Pipeline {
             alloc,
@@ -91,14 +92,14 @@ impl Pipeline {
 
     /// Whether the last exchange is over.
     pub fn is_at_rest(&self) -> bool
-        ensures { (items : List Numbered) → PipeTaken self.now items → IsTrue result ↔ IsPipelined self.now.agreed self.now.opening items }
+        ensures { (items : List Numbered) → PipeTaken self.now items → IsTrue result ↔ IsPipelined (piped.agreed self.now) (piped.opening self.now) items }
     {
         rests(&self.state) && !waits(&self.waiting)
     }
 
     /// How many commands wait for the server to come to them.
     pub fn waiting(&self) -> usize
-        ensures { result ≡ length self.now.waiting.items }
+        ensures { result ≡ piped.waiting self.now }
     {
         self.waiting.len()
     }
@@ -127,17 +128,17 @@ impl Pipeline {
         ensures taken { IfOk result (λ x. (items : List Numbered) → PipeTaken self.old items → PipeTaken self.new (items ++ place from payload.now x.0 x.1 ∷ [])) }
         // Of no kind and number does the packet go on with what was taken.
         ensures refused { IfErr result (λ why. (items : List Numbered) (kind : declared.Kind) (number : ℕ) → why ≡ refusal.Unexpected → PipeTaken self.old items
-            → IsPipelinedBeginning self.old.agreed self.old.opening (items ++ place from payload.now kind number ∷ []) → ⊥) }
+            → IsPipelinedBeginning (piped.agreed self.old) (piped.opening self.old) (items ++ place from payload.now kind number ∷ []) → ⊥) }
         // The packet would have to wait, and as many commands wait as may; or 2^64 - 1 commands came.
-        ensures full { IfErr result (λ why. why ≡ refusal.Full → (from ≡ side.Client) × (((machine.is_due self.old.state ≡ true) × (self.old.limit ≤ length self.old.waiting.items)) ⊎ (self.old.last ≡ 2 ^ 64 - 1))) }
+        ensures full { IfErr result (λ why. why ≡ refusal.Full → (from ≡ side.Client) × ((piped.MustWait self.old × (piped.limit self.old ≤ piped.waiting self.old)) ⊎ piped.CountsNoMore self.old)) }
         // The packet would have to wait, and there is no room for it.
-        ensures memory { IfErr result (λ why. why ≡ refusal.Memory → (from ≡ side.Client) × (machine.is_due self.old.state ≡ true) × (deque_capacity self.old.waiting ≤ deque_len self.old.waiting)) }
+        ensures memory { IfErr result (λ why. why ≡ refusal.Memory → (from ≡ side.Client) × piped.MustWait self.old × piped.HasNoRoom self.old) }
         // (the others are of a session alone)
         ensures ours { IfErr result (λ why. (why ≢ refusal.Encrypted) × (why ≢ refusal.Compressed)) }
         ensures err { OnErr result (stands self.new ≡ stands self.old) }
-        ensures agreed { self.new.agreed ≡ self.old.agreed }
-        ensures opening { self.new.opening ≡ self.old.opening }
-        ensures limit { self.new.limit ≡ self.old.limit }
+        ensures agreed { piped.agreed self.new ≡ piped.agreed self.old }
+        ensures opening { piped.opening self.new ≡ piped.opening self.old }
+        ensures limit { piped.limit self.new ≡ piped.limit self.old }
     {
         match from {
             Side::Client => self.take_client(payload),

@@ -1,10 +1,8 @@
 //! Whole sessions.
 
 ghost use Rattle.std.specs.Prelude.{◌≡◌, ◌↔◌, ◌⊎◌, ◌≤◌, ◌-◌, ◌^◌, IfOk, IfErr, OnErr, IsTrue, List, [], ◌∷◌, ◌++◌, ℕ, true, false, None, Some, length, not, ◌&&◌};
-ghost use Rattle.std.specs.VecDeque.{deque_capacity, deque_len};
 ghost use Rattle.mysql_auth.specs.declared.ssl_request.SslRequest as login_head;
 ghost use Rattle.mysql_conversation.specs.Agreements.{agreed_on, compresses};
-ghost use Rattle.mysql_conversation.specs.Machine.{is_due};
 ghost use Rattle.mysql_conversation.specs.Payloads as payloads;
 ghost use Rattle.mysql_conversation.specs.Session as sessions;
 ghost use Rattle.mysql_conversation.specs.SessionSteps.{greeting_at, login_at};
@@ -94,15 +92,15 @@ fn client_of(head: &SslRequest) -> SessionCapabilities
 
 impl Session {
     ghost use Rattle.mysql_conversation.specs.Pipelined.{Numbered};
+    ghost use Rattle.mysql_conversation.specs.Piped as piped;
     ghost use Rattle.mysql_conversation.specs.Piped.{place};
-    ghost use Rattle.mysql_conversation.specs.Session.{IsSession, IsSessionBeginning, SessionTaken, MayLogIn, client_of};
+    ghost use Rattle.mysql_conversation.specs.Session.{IsSession, IsSessionBeginning, SessionTaken, IsEncrypted, Continues, MayLogIn, client_of};
     ghost use Rattle.mysql_conversation.specs.SessionSteps.{GreetedAs, AnsweredAs};
     ghost use Rattle.mysql_conversation.specs.Agreements as agreement;
     ghost use Rattle.mysql_conversation.specs.declared.kind.Kind as declared;
     ghost use Rattle.mysql_conversation.specs.declared.kind.Side.TheVariants as side;
     ghost use Rattle.mysql_conversation.specs.declared.pipeline.Pipeline as pipe;
     ghost use Rattle.mysql_conversation.specs.declared.pipeline.Refusal.TheVariants as refusal;
-    ghost use Rattle.mysql_conversation.specs.declared.session.Phase.TheVariants as phase;
 
     /// One of which no packet has come, in which as many commands may wait as the limit.
     pub fn new(alloc: Global, limit: usize) -> Self
@@ -151,12 +149,12 @@ impl Session {
         ensures refused { IfErr result (λ why. (items : List Numbered) (kind : declared.Kind) (number : ℕ) → why ≡ refusal.Unexpected → SessionTaken self.old items
             → IsSessionBeginning (items ++ place from payload.now kind number ∷ []) → ⊥) }
         // A request to go on in TLS came, and nothing says that what comes is deciphered.
-        ensures encrypted { IfErr result (λ why. why ≡ refusal.Encrypted → (server : agreement.Agreed) × (self.old.phase ≡ phase.Encrypted server)) }
+        ensures encrypted { IfErr result (λ why. why ≡ refusal.Encrypted → IsEncrypted self.old) }
         // It is a login, by which both sides agree on compression.
         ensures compressed { IfErr result (λ why. why ≡ refusal.Compressed → (server : agreement.Agreed) × (head : login_head.SslRequest) × (login_at payload.now ≡ Some head) × (compresses (agreed_on server (client_of head)) ≡ true)) }
         // As a pipeline's.
-        ensures full { IfErr result (λ why. why ≡ refusal.Full → (p : pipe.Pipeline) × (self.old.phase ≡ phase.Commands p) × (from ≡ side.Client) × (((is_due p.state ≡ true) × (p.limit ≤ length p.waiting.items)) ⊎ (p.last ≡ 2 ^ 64 - 1))) }
-        ensures memory { IfErr result (λ why. why ≡ refusal.Memory → (p : pipe.Pipeline) × (self.old.phase ≡ phase.Commands p) × (from ≡ side.Client) × (is_due p.state ≡ true) × (deque_capacity p.waiting ≤ deque_len p.waiting)) }
+        ensures full { IfErr result (λ why. why ≡ refusal.Full → (p : pipe.Pipeline) × Continues self.old p × (from ≡ side.Client) × ((piped.MustWait p × (piped.limit p ≤ piped.waiting p)) ⊎ piped.CountsNoMore p)) }
+        ensures memory { IfErr result (λ why. why ≡ refusal.Memory → (p : pipe.Pipeline) × Continues self.old p × (from ≡ side.Client) × piped.MustWait p × piped.HasNoRoom p) }
         ensures err { OnErr result ((items : List Numbered) → SessionTaken self.old items → SessionTaken self.new items) }
     {
         match &mut self.phase {

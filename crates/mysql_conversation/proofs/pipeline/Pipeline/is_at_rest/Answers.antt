@@ -1,4 +1,4 @@
-use Rattle.std.proofs.Common.{◌≡◌, refl, ap, sym, ◌∙◌, true, false}
+use Rattle.std.proofs.Common.{◌≡◌, ap, sym, ◌∙◌, true}
 use Rattle.std.specs.Prelude.{not}
 use Rattle.mysql_conversation.specs.Machine.{rests}
 use Rattle.mysql_conversation.specs.Standing.{waits}

@@ -1,4 +1,4 @@
-use Rattle.std.proofs.Common.{◌≡◌, Some, None, List, [], ◌∷◌, ◌++◌, sym, ◌∙◌, subst}
+use Rattle.std.proofs.Common.{◌≡◌, Some, None, [], ◌∷◌, ◌++◌, sym, subst}
 use Rattle.mysql_conversation.specs.Standing.{pipe_step}
 use Rattle.mysql_conversation.specs.Piped.{stands, place}
 use Rattle.mysql_conversation.proofs.Stood.{pipe_one_more, pipe_refused, run_stays, lift_ok, lift_err}

@@ -1,4 +1,4 @@
-use Rattle.std.proofs.Common.{◌≡◌, List, ℕ, length}
+use Rattle.std.proofs.Common.{◌≡◌, length}
 use Rattle.mysql_conversation.specs.Standing as spec
 use Rattle.mysql_conversation.proofs.pipeline.Pipeline.settle.Given as goal
 

@@ -1,4 +1,4 @@
-use Rattle.std.proofs.Common.{subst, sym, true, false, ◌≡◌, None, ◌++◌, [], ◌∷◌}
+use Rattle.std.proofs.Common.{subst, sym, true, false, ◌++◌, [], ◌∷◌}
 use Rattle.mysql_conversation.specs.Piped.{place}
 use Rattle.mysql_conversation.specs.Session.{TakenIn, IsSessionBeginning}
 use Rattle.mysql_conversation.proofs.Stood.{lift_ok, lift_err}
