@@ -212,3 +212,14 @@ pub use Rattle.mysql_commands.specs.StmtReset
 pub use Rattle.mysql_commands.specs.Unknown
 pub use Rattle.mysql_frames.specs.FrameReader
 pub use Rattle.mysql_frames.specs.Frames
+pub use Rattle.mysql_conversation.specs.Agreements
+pub use Rattle.mysql_conversation.specs.Conversation
+pub use Rattle.mysql_conversation.specs.History
+pub use Rattle.mysql_conversation.specs.Order
+pub use Rattle.mysql_conversation.specs.Parts as ConversationParts
+pub use Rattle.mysql_conversation.specs.Payloads
+pub use Rattle.mysql_conversation.specs.Piped
+pub use Rattle.mysql_conversation.specs.Pipelined
+pub use Rattle.mysql_conversation.specs.Session
+pub use Rattle.mysql_conversation.specs.SessionSteps
+pub use Rattle.mysql_conversation.specs.Taken

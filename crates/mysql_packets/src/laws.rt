@@ -6,6 +6,7 @@ use crate::input::MOST_READS;
 pub use mysql_auth::laws as auth;
 pub use mysql_bulk::laws as bulk;
 pub use mysql_commands::laws as commands;
+pub use mysql_conversation::laws as conversation;
 pub use mysql_cuts::laws as cuts;
 pub use mysql_frames::laws as frames;
 pub use mysql_repl::laws as repl;

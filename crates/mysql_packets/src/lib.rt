@@ -9,6 +9,7 @@ mod capabilities;
 mod command;
 mod commands;
 pub mod constants;
+pub mod conversation;
 mod decimal;
 mod digits;
 pub mod frames;

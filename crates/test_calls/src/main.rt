@@ -6,10 +6,11 @@
 //!
 //! After `fails` it is what becomes of such a call on readers and writers that fail, and after `endless` on an input without
 //! end. `tour` makes the calls of the README's tour, `kind` reads an OK packet of a kind that stands here, and `gtid_sets` reads the
-//! sets of GTIDs that an OK packet tells.
+//! sets of GTIDs that an OK packet tells. `session`, `conversation`, `payloads` and `agreed` tell packets apart.
 #![tactic(auto)]
 
 mod call;
+mod conversation;
 mod fails;
 mod gtid_sets;
 mod kind;
@@ -28,6 +29,10 @@ impl Answers for Program {
             Some(("fails", call)) => fails::fails(out, request, call).end(out),
             Some(("endless", call)) => fails::endless(out, request, call).end(out),
             Some(("kind", _)) => kind::kind(out, request),
+            Some(("session", _)) => conversation::session(out, request),
+            Some(("conversation", _)) => conversation::conversation(out, request),
+            Some(("payloads", _)) => conversation::payloads(out, request),
+            Some(("agreed", _)) => conversation::agreed(out, request),
             Some(("gtid_sets", _)) => gtid_sets::gtid_sets(out, request),
             None if request.line == "tour" => tour::tour(out, request.alloc),
             _ => call::ran(out, request).end(out),

@@ -1,0 +1,5 @@
+//! Conversations: which packet comes next.
+
+pub use mysql_conversation::{
+    Conversation, Format, Kind, Opening, Pipeline, Refusal, Session, Side, Unexpected, agreed_on,
+};

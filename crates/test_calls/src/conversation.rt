@@ -1,0 +1,285 @@
+//! Conversations.
+//!
+//! `session LIMIT WORD ..`: a session from the greeting on. `conversation login LIMIT MYSQL MARIADB WORD ..`: what follows a login, under
+//! these capabilities; `conversation commands ..`: a connection that is taken up between two commands. A word is `>` or `<` with the bytes
+//! of a piece of the client's or the server's stream behind it, frames with their headers; `tls`: what comes is deciphered.
+//! `payloads ..`: as `conversation`, but a word has a payload, without headers, and no command may come early.
+
+use mysql_packets::constants::{CapabilityFlags, Flags, MariadbCapabilities};
+use mysql_packets::conversation::{
+    Conversation, Format, Kind, Opening, Pipeline, Refusal, Session, Side, Unexpected, agreed_on,
+};
+use mysql_packets::frames::{FrameError, FrameReader, sequence_id_at};
+use mysql_packets::packets::SessionCapabilities;
+use std::alloc::Global;
+use test_probe::counted;
+use test_probe::prelude::{Out, Request};
+
+/// The longest payload that is joined.
+const LONGEST: usize = 1 << 26;
+
+/// What tells packets apart.
+trait Tracker {
+    fn next(&mut self, from: Side, payload: &[u8]) -> Result<(Kind, u64), Refusal>;
+
+    fn decipher(&mut self) {}
+}
+
+impl Tracker for Session {
+    fn next(&mut self, from: Side, payload: &[u8]) -> Result<(Kind, u64), Refusal> {
+        Session::next(self, from, payload)
+    }
+
+    fn decipher(&mut self) {
+        Session::decipher(self)
+    }
+}
+
+impl Tracker for Pipeline {
+    fn next(&mut self, from: Side, payload: &[u8]) -> Result<(Kind, u64), Refusal> {
+        Pipeline::next(self, from, payload)
+    }
+}
+
+/// The name of a kind, as `mypackets` has it.
+fn name_of(kind: Kind) -> &'static str {
+    match kind {
+        Kind::Handshake => "handshake",
+        Kind::SslRequest => "ssl_request",
+        Kind::Login => "login",
+        Kind::AuthSwitch => "auth_switch",
+        Kind::OldAuthSwitch => "old_auth_switch",
+        Kind::AuthMoreData => "auth_more_data",
+        Kind::AuthNextFactor => "auth_next_factor",
+        Kind::AuthPluginData => "auth_plugin_data",
+        Kind::AuthData => "auth_data",
+        Kind::Command(_) => "command",
+        Kind::Ok => "ok",
+        Kind::Error => "error",
+        Kind::UnaskedError => "unasked_error",
+        Kind::ProgressReport => "progress_report",
+        Kind::LocalInfile => "local_infile",
+        Kind::InfileContent => "infile_content",
+        Kind::InfileEnd => "infile_end",
+        Kind::ColumnCount(_, _) => "column_count",
+        Kind::Column => "column",
+        Kind::Eof => "eof",
+        Kind::OkTerminator => "ok_terminator",
+        Kind::Row(Format::Text) => "text_row",
+        Kind::Row(Format::Binary) => "binary_row",
+        Kind::PrepareOk(_, _, _) => "prepare_ok",
+        Kind::Statistics => "statistics",
+        Kind::BinlogEvent => "binlog_event",
+        Kind::SemiSyncAck => "semi_sync_ack",
+    }
+}
+
+/// The sign of a side.
+fn sign_of(side: Side) -> &'static str {
+    match side {
+        Side::Client => ">",
+        Side::Server => "<",
+    }
+}
+
+/// Adds a packet's kind, and what the kind tells.
+fn show_kind(out: &mut Out, side: Side, kind: Kind) {
+    out.word(sign_of(side));
+    out.push(name_of(kind));
+    match kind {
+        Kind::Command(code) => show_number(out, u64::from(code)),
+        Kind::ColumnCount(count, follow) => {
+            show_number(out, count);
+            show_absent(out, follow);
+        }
+        Kind::PrepareOk(columns, params, follow) => {
+            show_number(out, u64::from(columns));
+            show_number(out, u64::from(params));
+            show_absent(out, follow);
+        }
+        _ => {}
+    }
+}
+
+/// Adds a number to the last word.
+fn show_number(out: &mut Out, number: u64) {
+    out.push(":");
+    out.display(&number);
+}
+
+/// Adds that definitions are left out.
+fn show_absent(out: &mut Out, follow: bool) {
+    if !follow {
+        out.push(":absent");
+    }
+}
+
+/// Adds a packet, and whether it came. A call that memory is refused for is made again.
+fn take<T: Tracker>(out: &mut Out, tracker: &mut T, side: Side, payload: &[u8]) -> bool {
+    for _ in 0..2 {
+        match counted!(out.alloc(); tracker.next(side, payload)) {
+            Ok((kind, number)) => {
+                show_kind(out, side, kind);
+                out.push("#");
+                out.display(&number);
+                return true;
+            }
+            Err(Refusal::Memory) => out.field("next", "Memory"),
+            Err(why) => {
+                out.word(sign_of(side));
+                out.push("refused:");
+                out.push(match why {
+                    Refusal::Unexpected => "Unexpected",
+                    Refusal::Full => "Full",
+                    Refusal::Memory => "Memory",
+                    Refusal::Encrypted => "Encrypted",
+                    Refusal::Compressed => "Compressed",
+                });
+                return false;
+            }
+        }
+    }
+    false
+}
+
+/// Adds the packets of a piece of a stream, and whether all came.
+fn take_piece<T: Tracker>(
+    out: &mut Out,
+    tracker: &mut T,
+    reader: &mut FrameReader,
+    side: Side,
+    piece: &[u8],
+) -> bool {
+    let mut input = piece;
+    for _ in 0..=piece.len() {
+        if reader.is_between() {
+            // (somebody else's stream: it begins where it begins)
+            if let Some(number) = sequence_id_at(input) {
+                reader.expect(number);
+            }
+        }
+        match reader.read(&mut input) {
+            Ok(Some(payload)) => {
+                let taken = take(out, tracker, side, payload.as_slice());
+                reader.give_back(payload);
+                if !taken {
+                    return false;
+                }
+            }
+            Ok(None) => return true,
+            Err(FrameError::Memory) => out.lose(),
+            Err(error) => {
+                out.error(&error);
+                return false;
+            }
+        }
+    }
+    true
+}
+
+/// The side that a word is of, and its bytes.
+fn piece_of(alloc: Global, word: &str) -> Option<(Side, Vec<u8>)> {
+    let (side, digits) = match word.strip_prefix('>') {
+        Some(digits) => (Side::Client, digits),
+        None => (Side::Server, word.strip_prefix('<')?),
+    };
+    let bytes = hex::decode(alloc, digits).ok()?;
+    Some((side, bytes))
+}
+
+/// Adds the packets of pieces, from a word on, until one doesn't come.
+fn take_all<T: Tracker>(out: &mut Out, request: &Request<'_>, tracker: &mut T, from: usize) {
+    let mut client = FrameReader::new(request.alloc, LONGEST);
+    let mut server = FrameReader::new(request.alloc, LONGEST);
+    for word in request.line.split(' ').skip(from) {
+        if word == "tls" {
+            tracker.decipher();
+            continue;
+        }
+        let Some((side, piece)) = piece_of(request.alloc, word) else {
+            return out.word("bad");
+        };
+        let reader = match side {
+            Side::Client => &mut client,
+            Side::Server => &mut server,
+        };
+        if !take_piece(out, tracker, reader, side, piece.as_slice()) {
+            break;
+        }
+    }
+}
+
+/// The flags that both sides have.
+fn show_agreed(out: &mut Out, agreed: Option<SessionCapabilities>) {
+    if let Some(agreed) = agreed {
+        out.show("mysql", agreed.mysql.0);
+        out.show("mariadb", agreed.mariadb.0);
+    }
+}
+
+/// A session.
+pub fn session(out: &mut Out, request: &Request<'_>) {
+    let mut session = Session::new(request.alloc, request.number(1) as usize);
+    take_all(out, request, &mut session, 2);
+    out.show("at_rest", session.is_at_rest());
+    show_agreed(out, session.agreed());
+}
+
+/// What both sides agreed on, by words.
+fn agreed_by(request: &Request<'_>, place: usize) -> SessionCapabilities {
+    SessionCapabilities {
+        mysql: CapabilityFlags::from_bits_retain(request.number(place)),
+        mariadb: MariadbCapabilities::from_bits_retain(request.number(place + 1)),
+    }
+}
+
+/// Where it begins, by the first word.
+fn opening_by(request: &Request<'_>) -> Opening {
+    match request.word(1) {
+        "login" => Opening::Login,
+        _ => Opening::Commands,
+    }
+}
+
+/// A conversation of frames, in which commands may come early.
+pub fn conversation(out: &mut Out, request: &Request<'_>) {
+    let mut pipeline = Pipeline::new(
+        request.alloc,
+        agreed_by(request, 3),
+        opening_by(request),
+        request.number(2) as usize,
+    );
+    take_all(out, request, &mut pipeline, 5);
+    out.show("at_rest", pipeline.is_at_rest());
+    out.show("waiting", pipeline.waiting());
+}
+
+/// A conversation of payloads, in which none may.
+pub fn payloads(out: &mut Out, request: &Request<'_>) {
+    let mut conversation = Conversation::new(
+        request.alloc,
+        agreed_by(request, 2),
+        opening_by(request),
+    );
+    for word in request.line.split(' ').skip(4) {
+        let Some((side, payload)) = piece_of(request.alloc, word) else {
+            return out.word("bad");
+        };
+        match conversation.next(side, payload.as_slice()) {
+            Ok(kind) => show_kind(out, side, kind),
+            Err(Unexpected) => {
+                out.word(sign_of(side));
+                out.push("refused:Unexpected");
+            }
+        }
+    }
+    out.show("at_rest", conversation.is_at_rest());
+}
+
+/// The flags that both have, of those of a server and those of a client.
+pub fn agreed(out: &mut Out, request: &Request<'_>) {
+    show_agreed(
+        out,
+        Some(agreed_on(agreed_by(request, 1), agreed_by(request, 3))),
+    );
+}

@@ -1,0 +1,182 @@
+#!/usr/bin/env python3
+"""Conversations: recorded ones, and what becomes of them when packets are lost, doubled, swapped, turned round, cut or broken, told apart by
+the library and by a second tracker that is written from the protocol's pages.
+
+conversations.py PROBE              the build that rt ci leaves
+conversations.py --unproved [FILE]  asks it built without proof
+The last line is 'N passed, N failed'."""
+import lzma
+import random
+import sys
+from pathlib import Path
+
+from lines import TOP, answers, built
+from tried import tried
+
+sys.path.insert(0, str(TOP / "tests"))
+from reference_decoder.conversation import CLIENT, SERVER, Refused, Session  # noqa: E402
+
+FOLDER = TOP / "tests/captured/conversations"
+LIMIT = 1000
+# how many packets of a conversation are changed at the most, in each way
+CHANGED = 40
+# a conversation of more bytes is cut before it is changed
+LONGEST = 20_000
+
+
+class Packet:
+    """A frame that is a payload: whose it is, its number and the payload."""
+
+    def __init__(self, side, number, payload):
+        self.side, self.number, self.payload = side, number, payload
+
+    def bytes(self):
+        return len(self.payload).to_bytes(3, "little") + bytes([self.number]) + self.payload
+
+    def word(self):
+        return self.side + self.bytes().hex()
+
+
+def pieces_of(path):
+    """The lines of a recorded conversation: a side, and bytes of its stream."""
+    for line in lzma.open(path, "rt"):
+        if line.strip():
+            side, digits = line.split()
+            yield side, bytes.fromhex(digits)
+
+
+def packets_of(pieces):
+    """The payloads of both streams, in the order in which they end."""
+    streams, joined, found = {CLIENT: b"", SERVER: b""}, {CLIENT: b"", SERVER: b""}, []
+    for side, piece in pieces:
+        streams[side] += piece
+        while len(streams[side]) >= 4:
+            length, number = int.from_bytes(streams[side][:3], "little"), streams[side][3]
+            if len(streams[side]) < 4 + length:
+                break
+            joined[side] += streams[side][4 : 4 + length]
+            streams[side] = streams[side][4 + length :]
+            if length < 0xFFFFFF:
+                found.append(Packet(side, number, joined[side]))
+                joined[side] = b""
+    return found
+
+
+def wanted(packets, limit=LIMIT):
+    """What the second tracker says of packets, up to the first that doesn't come."""
+    session, words = Session(limit), []
+    for packet in packets:
+        try:
+            kind, number = session.next(packet.side, packet.payload)
+        except Refused as refusal:
+            words.append(f"{packet.side}refused:{refusal.args[0] if refusal.args else 'Unexpected'}")
+            break
+        words.append(f"{packet.side}{kind}#{number}")
+    words.append("at_rest=" + ("yes" if session.is_at_rest() else "no"))
+    return words
+
+
+def request(packets):
+    return " ".join([f"session {LIMIT}"] + [it.word() for it in packets])
+
+
+def in_pieces(packets, size):
+    """The same packets, cut in pieces of so many bytes; a side's last piece comes before the other side's next."""
+    words, run, side = [f"session {LIMIT}"], b"", None
+    for packet in [*packets, Packet(None, 0, b"")]:
+        if packet.side != side:
+            words += [side + run[at : at + size].hex() for at in range(0, len(run), size)]
+            run, side = b"", packet.side
+        run += packet.bytes()
+    return " ".join(words)
+
+
+def other(side):
+    return SERVER if side == CLIENT else CLIENT
+
+
+def changed(packets, chance):
+    """Conversations that are made of one: each is a list of packets."""
+    places = range(len(packets))
+    some = lambda: chance.sample(places, min(CHANGED, len(packets)))
+    for at in some():
+        yield packets[:at] + packets[at + 1 :]
+        yield packets[: at + 1] + packets[at:]
+        yield packets[:at]
+    for at in some():
+        if at + 1 < len(packets):
+            yield packets[:at] + [packets[at + 1], packets[at]] + packets[at + 2 :]
+        it = packets[at]
+        yield packets[:at] + [Packet(other(it.side), it.number, it.payload)] + packets[at + 1 :]
+        yield packets[:at] + [Packet(it.side, it.number, it.payload[: chance.randrange(len(it.payload) + 1)])] + packets[at + 1 :]
+    for at in some():
+        it = packets[at]
+        if it.payload:
+            place = min(chance.randrange(len(it.payload)), chance.randrange(12))
+            broken = bytearray(it.payload)
+            broken[place % len(broken)] = chance.choice([0, 1, 2, 0xEF, 0xFA, 0xFB, 0xFC, 0xFE, 0xFF, broken[place % len(broken)] ^ 1 << chance.randrange(8)])
+            yield packets[:at] + [Packet(it.side, it.number, bytes(broken))] + packets[at + 1 :]
+        source = packets[chance.randrange(len(packets))]
+        yield packets[:at] + [source] + packets[at:]
+    # (commands that come early)
+    commands = [at for at in places if packets[at].side == CLIENT and packets[at].number == 0 and at > 2]
+    for at in chance.sample(commands, min(CHANGED, len(commands))):
+        to = chance.randrange(max(2, at - 6), at)
+        yield packets[:to] + [packets[at]] + packets[to:at] + packets[at + 1 :]
+
+
+def shortened(packets):
+    """A front that is not past the longest, and of the rest the packets behind it, as far as they fit."""
+    size = 0
+    for at, packet in enumerate(packets):
+        size += len(packet.payload)
+        if size > LONGEST:
+            return packets[:at]
+    return packets
+
+
+def asked_of(path):
+    """The requests of a recorded conversation, with what is wanted of each."""
+    packets = packets_of(pieces_of(path))
+    chance, front = random.Random(path.name), shortened(packets)
+    asked = [(f"{path.name}: whole", request(packets), wanted(packets))]
+    asked += [(f"{path.name}: in pieces of {size}", in_pieces(front, size), wanted(front)) for size in (1, 5, 1460)]
+    asked += [(f"{path.name}: change {number}", request(it), wanted(it)) for number, it in enumerate(changed(front, chance))]
+    return asked
+
+
+def expected(name):
+    """Where the sample's own page says that a packet doesn't come."""
+    return {line.split()[0]: line.split()[1:] for line in (FOLDER / "ENDS.txt").read_text().splitlines() if line and not line.startswith("#")}[name]
+
+
+def ends(path, words):
+    """Whether a recorded conversation is taken as its line of ENDS.txt says."""
+    refused = [at for at, word in enumerate(words) if "refused:" in word]
+    how = f"refused {refused[0]}" if refused else ("rest" if words[-1] == "at_rest=yes" else "open")
+    return how.split() == expected(path.name)
+
+
+def main(*names):
+    asked, failed = [], 0
+    paths = sorted(FOLDER.glob("*.xz"))
+    for path in paths:
+        asked += asked_of(path)
+        if not ends(path, wanted(packets_of(pieces_of(path)))):
+            failed += 1
+            print(f"{path.name}: it does not end as ENDS.txt says")
+    lines = [it for _, it, _ in asked]
+    for answered in [tried(lines, "test_calls")] if names[:1] == ("--unproved",) else [answers(it, lines) for it in built("program")]:
+        for (name, _, want), line in zip(asked, answered):
+            got = [it for it in line.split() if not it.startswith(("mysql=", "mariadb="))]
+            if got != want:
+                failed += 1
+                at = next((at for at, (a, b) in enumerate(zip(got, want)) if a != b), min(len(got), len(want)))
+                print(f"{name}: word {at}: {' '.join(got[at : at + 3])}, and by the pages {' '.join(want[at : at + 3])}")
+    print(f"conversations: {len(paths)} recorded, {len(asked)} asked")
+    print(f"{len(asked) + len(paths) - failed} passed, {failed} failed")
+    return 1 if failed else 0
+
+
+if __name__ == "__main__":
+    sys.exit(main(*sys.argv[1:]))
