@@ -15,7 +15,7 @@ from pathlib import Path
 sys.path[:0] = [str(Path(__file__).resolve().parent), str(Path(__file__).resolve().parent.parent / "probe")]
 import server
 from recipes import Recipes
-from wire import Connection, Probe, Refused, data
+from wire import BULK_OPERATIONS, EXTENDED_METADATA, Connection, Probe, Refused, data
 
 TYPES = {
     "tinyint": ["-128", "127", "0"], "tinyint unsigned": ["255", "0"], "smallint": ["-32768", "32767"], "smallint unsigned": ["65535", "0"],
@@ -146,6 +146,23 @@ class Sessions(Recipes):
                 self.check(f"a {name}", is_same(text, word), (text[:60], word[:60]))
         it.close()
 
+    def extended_metadata(self):
+        """columns with MariaDB's extended metadata, in both protocols"""
+        it = self.connect(database="live", mariadb=BULK_OPERATIONS | EXTENDED_METADATA)
+        self.check("extended metadata is agreed to", it.mariadb & EXTENDED_METADATA, it.mariadb)
+        it.query("create table kinds (n int, j json, i inet6, u uuid, p point)")
+        it.query("insert into kinds values (1, '{}', '::1', '00000000-0000-0000-0000-000000000001', point(1, 2))")
+        wanted = [(None, None), ("FormatName", b"json"), ("TypeName", b"inet6"), ("TypeName", b"uuid"), ("TypeName", b"point")]
+        texts = it.query("select * from kinds")
+        columns = it.columns
+        values = it.execute(it.prepare("select * from kinds"), [])
+        for protocol, seen, rows in (("text", columns, texts), ("binary", it.columns, values)):
+            kinds = [(one.get("kind"), data(one["text"]) if "text" in one else None) for one in seen]
+            self.check(f"kinds of columns, {protocol}", kinds == wanted, kinds)
+            self.check(f"columns are written as they were, {protocol}", all("written" not in one for one in seen), seen)
+            self.check(f"a row under extended metadata, {protocol}", len(rows) == 1 and len(rows[0]) == 5, rows)
+        it.close()
+
     def executions(self):
         """values of each kind as parameters"""
         it = self.connect(database="live")
@@ -226,7 +243,7 @@ def main(*names):
         print(f"live: skipped, since {', '.join(missing)} is not installed (Debian: apt-get install mariadb-server)")
         print("0 passed, 0 failed")
         return 0
-    sessions = ("logins", "scrambles", "change_of_user", "greeting_error", "types", "executions", "bulk", "tracking", "local_infile", "replica",
+    sessions = ("logins", "scrambles", "change_of_user", "greeting_error", "types", "extended_metadata", "executions", "bulk", "tracking", "local_infile", "replica",
                 "recipes")
     with server.running() as port:
         it = Sessions(port)

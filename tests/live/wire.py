@@ -9,7 +9,7 @@ CONNECT_WITH_DB, LOCAL_FILES, PROTOCOL_41, SECURE, MULTI_RESULTS, PLUGIN_AUTH = 
 CONNECT_ATTRS, LENENC_DATA, SESSION_TRACK, DEPRECATE_EOF = 1 << 20, 1 << 21, 1 << 23, 1 << 24
 UNSIGNED = 1 << 5
 # (bit 0 is not set, so that MariaDB reads its own capabilities: bulk executions)
-BULK_OPERATIONS = 1 << 2
+BULK_OPERATIONS, EXTENDED_METADATA = 1 << 2, 1 << 3
 FLAGS = 1 << 2 | LOCAL_FILES | PROTOCOL_41 | 1 << 13 | SECURE | MULTI_RESULTS | PLUGIN_AUTH | LENENC_DATA | SESSION_TRACK | DEPRECATE_EOF
 # (a probe takes texts of its requests as they are, so letters stand in place of the answer to a scramble)
 PLACEHOLDER = b"A" * 20
@@ -52,10 +52,10 @@ class Connection:
     def __init__(self, port, connections, replies, statements):
         self.connections, self.replies, self.statements = connections, replies, statements
         self.socket = socket.create_connection(("127.0.0.1", port), 60)
-        self.sequence, self.flags, self.infile, self.changes = 0, 0, b"", []
+        self.sequence, self.flags, self.mariadb, self.infile, self.changes, self.columns = 0, 0, 0, b"", [], []
         first = self.receive()
         if first[0] == 0xFF:
-            self.raise_error(first)
+            self.raise_error(first, "greeting_error")
         self.greeting = connections.fields(f"handshake {first.hex()}")
         parts = data(self.greeting["scramble_1"]), data(self.greeting["scramble_2"]) or b""
         self.nonce = b"".join(parts)[:20]
@@ -96,18 +96,18 @@ class Connection:
         self.command(b"\x01")
         self.socket.close()
 
-    def raise_error(self, packet):
-        error = self.replies.fields(f"err {self.flags} {packet.hex()}")
+    def raise_error(self, packet, kind=None):
+        error = self.replies.fields(f"{kind or f'err {self.flags}'} {packet.hex()}")
         raise Refused(int(error["error"]), data(error["message"]).decode())
 
     # login
 
-    def login(self, user, password=b"secret", database=None, plugin="mysql_native_password", attributes=None):
+    def login(self, user, password=b"secret", database=None, plugin="mysql_native_password", attributes=None, mariadb=BULK_OPERATIONS):
         flags = FLAGS | (CONNECT_WITH_DB if database else 0) | (CONNECT_ATTRS if attributes else 0)
         pairs = ",".join(f"{k}={v}" for k, v in attributes.items()) if attributes else "none"
         answer = PLACEHOLDER.decode() if password else "none"
-        request = f"make_response 10.0.0 {flags} {BULK_OPERATIONS} 67108864 {answer} {user} {database or 'none'} {plugin} {pairs}"
-        self.flags = flags & int(self.greeting["capabilities"])
+        request = f"make_response 10.0.0 {flags} {mariadb} 67108864 {answer} {user} {database or 'none'} {plugin} {pairs}"
+        self.flags, self.mariadb = flags & int(self.greeting["capabilities"]), mariadb & int(self.greeting["mariadb"])
         self.password = password
         self.send(self.connections.written(request).replace(PLACEHOLDER, passwords.native(password, self.nonce)))
         return self.authenticate()
@@ -141,7 +141,8 @@ class Connection:
         return dict(reversed([it.split("=", 1) for it in words if "=" in it]))
 
     def column(self):
-        return self.replies.fields(f"column {self.receive().hex()}")
+        """The fields of a column, whose packet is written again as it was."""
+        return self.replies.fields(f"extended_column {self.mariadb} {self.receive().hex()}")
 
     def result(self, binary=False):
         """The fields of the OK packet, or the rows, each a list of words."""
@@ -155,8 +156,8 @@ class Connection:
             self.send(self.infile)
             self.send(b"")
             return self.result()
-        columns = [self.column() for _ in range(packet[0])]
-        types = ",".join(it["column_type"] + "u" * bool(int(it["flags"]) & UNSIGNED) for it in columns)
+        self.columns = [self.column() for _ in range(packet[0])]
+        types = ",".join(it["column_type"] + "u" * bool(int(it["flags"]) & UNSIGNED) for it in self.columns)
         rows = []
         while True:
             packet = self.receive()

@@ -74,7 +74,33 @@ impl<'a> Model for Names<'a> {
     ghost view = { λ n. meta_of n.schema.now n.table.now n.org_table.now n.name.now n.org_name.now };
 }
 
-impl Names<'_> {
+impl<'a> Names<'a> {
+    /// The names as they are written, which stay where they are.
+    pub(crate) fn meta(&self) -> ColumnMeta<'a>
+        ensures value { result ≡ self.now }
+    {
+        ColumnMeta {
+            schema: borrowed(self.schema),
+            table: borrowed(self.table),
+            org_table: borrowed(self.org_table),
+            name: borrowed(self.name),
+            org_name: borrowed(self.org_name),
+        }
+    }
+
+    /// The same names.
+    pub(crate) fn again(&self) -> Names<'a>
+        ensures value { result ≡ self.now }
+    {
+        Names {
+            schema: self.schema,
+            table: self.table,
+            org_table: self.org_table,
+            name: self.name,
+            org_name: self.org_name,
+        }
+    }
+
     /// How many bytes the names have, or `usize::MAX` where that is less.
     #[inline(always)]
     #[tactic(auto, unfolding(mysql_wire::specs::Writing::saturated))]

@@ -10,6 +10,8 @@ use crate::column_fields::{ColumnFields, fields_of};
 use crate::column_names::{Names, read_names};
 use mysql_wire::{AnyWidth, ColumnFlags, ColumnType, FaultOf, MyDeserialize, ParseBuf};
 use std::alloc::{AllocError, Global};
+use std::fmt;
+use std::fmt::Debug;
 use std::marker::Model;
 
 /// A column of a result (`Protocol::ColumnDefinition41`) whose names stay in the packet: [`Column`] without memory.
@@ -119,19 +121,67 @@ impl<'a> ColumnRef<'a> {
         self.decimals
     }
 
-    /// The column with names of its own. It takes memory where a name has any byte.
-    pub fn to_column(&self, alloc: Global) -> Result<Column, AllocError>
-        ensures value { IfOk result (λ column. column ≡ self.now) }
-        ensures memory { IfErr result (λ _. IsTrue (has_a_name (spec.names_of self.now))) }
+    /// The fields of fixed lengths.
+    fn fields(&self) -> ColumnFields
+        ensures value { result ≡ self.now.fields }
     {
-        let fields = fields_of(
+        fields_of(
             self.character_set,
             self.column_length,
             self.column_type,
             self.flags,
             self.decimals,
-        );
-        named(alloc, &self.names, fields)
+        )
+    }
+
+    /// The column with names of its own. It takes memory where a name has any byte.
+    pub fn to_column(&self, alloc: Global) -> Result<Column, AllocError>
+        ensures value { IfOk result (λ column. column ≡ self.now) }
+        ensures memory { IfErr result (λ _. IsTrue (has_a_name (spec.names_of self.now))) }
+    {
+        named(alloc, &self.names, self.fields())
+    }
+}
+
+impl Clone for ColumnRef<'_> {
+    ghost is_clone = { λ c copy. copy ≡ c };
+
+    fn clone(&self) -> Result<Self, AllocError> {
+        Ok(ColumnRef {
+            names: self.names.again(),
+            character_set: self.character_set,
+            column_length: self.column_length,
+            column_type: self.column_type,
+            flags: self.flags,
+            decimals: self.decimals,
+        })
+    }
+}
+
+impl PartialEq for ColumnRef<'_> {
+    ghost use Rattle.mysql_replies.specs.contracts.column.ColumnPartialEq.TheImpl.Laws.{laws-law};
+
+    ghost eq = { ⟦<Column as PartialEq>⟧.eq };
+
+    ghost laws = { laws-law };
+
+    fn eq(&self, other: &Self) -> bool {
+        self.names.meta() == other.names.meta() && self.fields() == other.fields()
+    }
+}
+
+impl Eq for ColumnRef<'_> {
+    ghost use Rattle.mysql_replies.specs.contracts.column.ColumnEq.TheImpl.Laws.{laws-law};
+
+    ghost laws = { laws-law };
+}
+
+impl Debug for ColumnRef<'_> {
+    fn fmt<W: fmt::Write>(&self, f: &mut fmt::Formatter<W>) -> fmt::Result {
+        f.debug_struct("ColumnRef")
+            .field("meta", &self.names.meta())
+            .field("fields", &self.fields())
+            .finish()
     }
 }
 

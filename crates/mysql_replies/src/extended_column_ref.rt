@@ -11,8 +11,13 @@ use crate::column_names::{read_name, read_names};
 use crate::column_ref::{ColumnRef, placed};
 use crate::extended_column::ExtendedColumn;
 use bitflags::Flags;
-use mysql_wire::{AnyWidth, FaultOf, MariadbCapabilities, MyDeserialize, ParseBuf};
+use mysql_wire::{
+    AnyWidth, FaultOf, LenEnc, MariadbCapabilities, MyDeserialize, ParseBuf, RawBytes,
+};
 use std::alloc::{AllocError, Global};
+use std::borrow::CowSlice;
+use std::fmt;
+use std::fmt::Debug;
 use std::marker::Model;
 
 /// A column of a result whose names and extended metadata stay in the packet: an [`ExtendedColumn`] without memory.
@@ -79,6 +84,54 @@ impl<'a> ExtendedColumnRef<'a> {
     {
         let column = self.column.to_column(alloc)?;
         ExtendedColumn::of(alloc, column, self.metadata)
+    }
+}
+
+impl Clone for ExtendedColumnRef<'_> {
+    ghost is_clone = { λ c copy. copy ≡ c };
+
+    fn clone(&self) -> Result<Self, AllocError> {
+        Ok(ExtendedColumnRef {
+            column: self.column.clone()?,
+            metadata: self.metadata,
+        })
+    }
+}
+
+impl PartialEq for ExtendedColumnRef<'_> {
+    ghost use Rattle.mysql_replies.specs.contracts.extended_column.ExtendedColumnPartialEq.TheImpl.Laws.{laws-law};
+
+    ghost eq = { ⟦<ExtendedColumn as PartialEq>⟧.eq };
+
+    ghost laws = { laws-law };
+
+    fn eq(&self, other: &Self) -> bool {
+        self.column == other.column && written(self.metadata) == written(other.metadata)
+    }
+}
+
+impl Eq for ExtendedColumnRef<'_> {
+    ghost use Rattle.mysql_replies.specs.contracts.extended_column.ExtendedColumnEq.TheImpl.Laws.{laws-law};
+
+    ghost laws = { laws-law };
+}
+
+impl Debug for ExtendedColumnRef<'_> {
+    fn fmt<W: fmt::Write>(&self, f: &mut fmt::Formatter<W>) -> fmt::Result {
+        f.debug_struct("ExtendedColumnRef")
+            .field("column", &self.column)
+            .field("metadata", &written(self.metadata))
+            .finish()
+    }
+}
+
+/// The metadata as they are written, which stay where they are.
+fn written<'a>(metadata: Option<&'a [u8]>) -> Option<RawBytes<'a, LenEnc>>
+    ensures value { result ≡ option_map (λ m. m.now) metadata.entry }
+{
+    match metadata {
+        Some(metadata) => Some(RawBytes::new(CowSlice::Borrowed(metadata))),
+        None => None,
     }
 }
 

@@ -8,6 +8,9 @@ use crate::err_packet::ErrPacketHeader;
 use crate::greeting_error::GreetingError;
 use crate::server_error_ref::ServerErrorRef;
 use mysql_wire::{AnyWidth, FaultOf, LeU16, MyDeserialize, ParseBuf, RawInt};
+use std::alloc::AllocError;
+use std::fmt;
+use std::fmt::Debug;
 use std::marker::Model;
 
 /// An error in place of the greeting whose texts stay in the packet: a [`GreetingError`] for as long as the packet lives.
@@ -50,6 +53,34 @@ fn begins_with_state(buf: &ParseBuf<'_>) -> bool
     ensures value { result ≡ spec.begins_with_state buf.now }
 {
     buf.first() == Some(b'#') && buf.len() > 5
+}
+
+impl Clone for GreetingErrorRef<'_> {
+    ghost is_clone = { λ x copy. copy ≡ x };
+
+    fn clone(&self) -> Result<Self, AllocError> {
+        Ok(GreetingErrorRef {
+            error: self.error.clone()?,
+        })
+    }
+}
+
+impl PartialEq for GreetingErrorRef<'_> {
+    ghost use Rattle.mysql_replies.specs.contracts.greeting_error.GreetingErrorPartialEq.TheImpl.Laws.{laws-law};
+
+    ghost eq = { ⟦<GreetingError<'static> as PartialEq>⟧.eq };
+
+    ghost laws = { laws-law };
+
+    fn eq(&self, other: &Self) -> bool {
+        self.to_packet() == other.to_packet()
+    }
+}
+
+impl Debug for GreetingErrorRef<'_> {
+    fn fmt<W: fmt::Write>(&self, f: &mut fmt::Formatter<W>) -> fmt::Result {
+        self.to_packet().fmt(f)
+    }
 }
 
 /// As a [`GreetingError`].

@@ -8,7 +8,10 @@ ghost use Rattle.mysql_replies.specs.SqlState.{state_bytes};
 use crate::server_error::ServerError;
 use crate::sql_state_ref::SqlStateRef;
 use mysql_wire::{AnyWidth, FaultOf, MyDeserialize, ParseBuf};
+use std::alloc::AllocError;
 use std::borrow::CowSlice;
+use std::fmt;
+use std::fmt::Debug;
 use std::marker::Model;
 
 /// An error whose SQL state and message stay in the packet: a [`ServerError`] for as long as the packet lives.
@@ -67,6 +70,36 @@ impl<'a> ServerErrorRef<'a> {
             None => None,
         };
         ServerError::new(self.code, state, CowSlice::Borrowed(self.message))
+    }
+}
+
+impl Clone for ServerErrorRef<'_> {
+    ghost is_clone = { λ x copy. copy ≡ x };
+
+    fn clone(&self) -> Result<Self, AllocError> {
+        Ok(ServerErrorRef {
+            code: self.code,
+            state: self.state.clone()?,
+            message: self.message,
+        })
+    }
+}
+
+impl PartialEq for ServerErrorRef<'_> {
+    ghost use Rattle.mysql_replies.specs.contracts.server_error.ServerErrorPartialEq.TheImpl.Laws.{laws-law};
+
+    ghost eq = { ⟦<ServerError<'static> as PartialEq>⟧.eq };
+
+    ghost laws = { laws-law };
+
+    fn eq(&self, other: &Self) -> bool {
+        self.to_error() == other.to_error()
+    }
+}
+
+impl Debug for ServerErrorRef<'_> {
+    fn fmt<W: fmt::Write>(&self, f: &mut fmt::Formatter<W>) -> fmt::Result {
+        self.to_error().fmt(f)
     }
 }
 

@@ -7,6 +7,9 @@ ghost use Rattle.mysql_replies.specs.SqlState as spec;
 
 use crate::sql_state::{SqlState, SqlStateMarker};
 use mysql_wire::{FaultOf, Fixed, MyDeserialize, ParseBuf};
+use std::alloc::AllocError;
+use std::fmt;
+use std::fmt::Debug;
 use std::marker::Model;
 
 /// An SQL state that stays in its packet: a [`SqlState`] whose five bytes are borrowed.
@@ -42,6 +45,38 @@ impl<'a> SqlStateRef<'a> {
         ensures value { result ≡ self.now }
     {
         SqlState::new(*self.state)
+    }
+}
+
+impl Clone for SqlStateRef<'_> {
+    ghost is_clone = { λ s copy. copy ≡ s };
+
+    fn clone(&self) -> Result<Self, AllocError> {
+        Ok(SqlStateRef { state: self.state })
+    }
+}
+
+impl PartialEq for SqlStateRef<'_> {
+    ghost use Rattle.mysql_replies.specs.contracts.sql_state.SqlStatePartialEq.TheImpl.Laws.{laws-law};
+
+    ghost eq = { ⟦<SqlState as PartialEq>⟧.eq };
+
+    ghost laws = { laws-law };
+
+    fn eq(&self, other: &Self) -> bool {
+        self.to_state() == other.to_state()
+    }
+}
+
+impl Eq for SqlStateRef<'_> {
+    ghost use Rattle.mysql_replies.specs.contracts.sql_state.SqlStateEq.TheImpl.Laws.{laws-law};
+
+    ghost laws = { laws-law };
+}
+
+impl Debug for SqlStateRef<'_> {
+    fn fmt<W: fmt::Write>(&self, f: &mut fmt::Formatter<W>) -> fmt::Result {
+        self.to_state().fmt(f)
     }
 }
 

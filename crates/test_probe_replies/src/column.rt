@@ -86,6 +86,7 @@ impl InPlace<Column, ColumnRef<'_>> for Server {
         let alloc = out.alloc();
         let made = counted!(alloc; place.to_column(alloc));
         or_lost(out, made).is_some_and(|made| made == *owned)
+            && is_copied(place, out)
             && place.column_type() == owned.column_type()
             && fields!(place, owned; alike schema with schema_ref, table with table_ref, org_table with org_table_ref,
                 name with name_ref, org_name with org_name_ref, character_set, column_length, flags, decimals)

@@ -94,7 +94,9 @@ impl<'a> InPlace<ErrPacket<'a>, ErrPacketRef<'a>> for Server {
 
 impl<'a> InPlace<GreetingError<'a>, GreetingErrorRef<'a>> for Server {
     fn is(place: &GreetingErrorRef<'a>, owned: &GreetingError<'a>, out: &mut Out) -> bool {
-        Server::is(place.server_error(), owned.server_error(), out) && place.to_packet() == *owned
+        Server::is(place.server_error(), owned.server_error(), out)
+            && is_copied(place, out)
+            && place.to_packet() == *owned
     }
 }
 
@@ -114,17 +116,20 @@ fn made_error(error: &ServerError<'_>, alloc: Global) -> Result<ServerError<'sta
 }
 
 impl<'a> InPlace<ServerError<'a>, ServerErrorRef<'a>> for Server {
-    fn is(place: &ServerErrorRef<'a>, owned: &ServerError<'a>, _out: &mut Out) -> bool {
+    fn is(place: &ServerErrorRef<'a>, owned: &ServerError<'a>, out: &mut Out) -> bool {
         let state = owned.sql_state_ref().map(|state| state.as_bytes());
-        place.sql_state() == state.as_ref().map(|state| state.as_slice())
+        is_copied(place, out)
+            && place.sql_state() == state.as_ref().map(|state| state.as_slice())
             && fields!(place, owned; alike error_code, message with message_ref)
             && place.to_error() == *owned
     }
 }
 
 impl InPlace<SqlState, SqlStateRef<'_>> for Server {
-    fn is(place: &SqlStateRef<'_>, owned: &SqlState, _out: &mut Out) -> bool {
-        place.as_bytes() == owned.as_bytes().as_slice() && place.to_state() == *owned
+    fn is(place: &SqlStateRef<'_>, owned: &SqlState, out: &mut Out) -> bool {
+        place.as_bytes() == owned.as_bytes().as_slice()
+            && is_copied(place, out)
+            && place.to_state() == *owned
     }
 }
 

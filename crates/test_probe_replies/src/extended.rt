@@ -32,8 +32,9 @@ impl Shows<ColumnAttribute<'_>> for Server {
 }
 
 impl<'a> InPlace<ColumnAttribute<'a>, ColumnAttributeRef<'a>> for Server {
-    fn is(place: &ColumnAttributeRef<'a>, owned: &ColumnAttribute<'a>, _out: &mut Out) -> bool {
-        place.kind() == owned.kind()
+    fn is(place: &ColumnAttributeRef<'a>, owned: &ColumnAttribute<'a>, out: &mut Out) -> bool {
+        is_copied(place, out)
+            && place.kind() == owned.kind()
             && place.text() == owned.text_ref()
             && place.to_attribute() == *owned
     }
@@ -85,6 +86,7 @@ impl InPlace<ExtendedColumn, ExtendedColumnRef<'_>> for Server {
             return false;
         };
         <Server as InPlace<Column, ColumnRef<'_>>>::is(place.column(), owned.column(), out)
+            && is_copied(place, out)
             && place.metadata() == owned.metadata_ref()
             && are_same(place.attributes(alloc), owned.attributes(alloc))
             && made == *owned
