@@ -1,5 +1,5 @@
 #!/usr/bin/env python3
-"""Conversations: recorded ones, and what becomes of them when packets are lost, doubled, swapped, turned round, cut or broken, told apart by
+"""Conversations: recorded ones, and what becomes of them when packets are lost, doubled, swapped, turned round, cut or broken, distinguished by
 the library and by a second tracker that is written from the protocol's pages.
 
 conversations.py PROBE              the build that rt ci leaves
@@ -126,7 +126,7 @@ def changed(packets, chance):
 
 
 def shortened(packets):
-    """A front that is not past the longest, and of the rest the packets behind it, as far as they fit."""
+    """A front that is not past the longest, and of the rest the packets following it, as far as they fit."""
     size = 0
     for at, packet in enumerate(packets):
         size += len(packet.payload)

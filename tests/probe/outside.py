@@ -22,6 +22,7 @@ PACKETS = {
     "COM_STMT_BULK_EXECUTE": ["bulk", "bulk_rows"], "COM_REGISTER_SLAVE": ["register_slave"], "COM_BINLOG_DUMP": ["binlog_dump"],
     "COM_BINLOG_DUMP_GTID": ["gtid"], "COM_TABLE_DUMP": ["table_dump"], "semi-synchronous acknowledgement": ["semi_sync_ack"],
     "packet of a stream": ["stream"],
+    "a command, by its first byte": ["command"],
 }
 # what no server or client of today sends, or what was sent once in all recorded sessions: the pages' examples stand among the rows
 SELDOM = {"EOF_Packet that ends a stream", "COM_TABLE_DUMP", "Protocol::SSLRequest", "request for the RSA key", "Protocol::AuthNextFactorRequest"}

@@ -1,5 +1,5 @@
 """Which packet comes next in a session, by the protocol's pages: each place of it is a function from a packet to its kind and the place
-behind it."""
+following it."""
 from . import authentication, replies, statements
 from .buf import Buf, Eof, Invalid
 from .codes import MULTI_FACTOR_AUTHENTICATION, OPTIONAL_METADATA, PROGRESS_OBSOLETE
@@ -157,19 +157,19 @@ class Session:
         optional, number, follows = replies.column_count(buf, self.flags, self.own)
         return number, optional != 0 and follows != 0
 
-    def definitions(self, left, behind, end):
+    def definitions(self, left, following, end):
         """Definitions, and the EOF packet where it isn't deprecated."""
         if left:
-            return Place(lambda _: ("column", self.definitions(left - 1, behind, end)))
-        return behind() if self.is_deprecated() else Place(end)
+            return Place(lambda _: ("column", self.definitions(left - 1, following, end)))
+        return following() if self.is_deprecated() else Place(end)
 
-    def some_definitions(self, count, behind):
+    def some_definitions(self, count, following):
         """Definitions with their end, or nothing where there are none."""
         def end(payload):
             self.eof_status(payload)
-            return "eof", behind()
+            return "eof", following()
 
-        return self.definitions(count, behind, end) if count else behind()
+        return self.definitions(count, following, end) if count else following()
 
     def columns_end(self, is_binary, has_cursor, after):
         def server(payload):
@@ -233,7 +233,7 @@ class Session:
         return Place(server)
 
     def answer(self, payload):
-        """The place behind a command, or None where it is none."""
+        """The place following a command, or None where it is none."""
         if not payload or payload[0] == 0xEF:
             return None
         code = payload[0]
@@ -276,13 +276,13 @@ class Session:
                     raise
         if place.is_asked:
             raise Refused
-        behind = self.answer(payload)
-        if behind is None:
+        following = self.answer(payload)
+        if following is None:
             raise Refused
         self.last += 1
         kind = f"command:{payload[0]}"
         if place.is_rest:
-            self.number, self.place = self.last, behind
+            self.number, self.place = self.last, following
         elif len(self.waiting) >= self.limit:
             raise Refused("Full")
         else:
@@ -301,10 +301,10 @@ class Session:
         else:
             if place.server is None:
                 raise Refused
-            kind, behind = place.server(payload)
-            if behind.is_asked and self.waiting:
+            kind, following = place.server(payload)
+            if following.is_asked and self.waiting:
                 raise Refused
-            self.place = behind
+            self.place = following
         while self.place.is_rest and self.waiting:
             self.number, early = self.waiting.pop(0)
             self.place = self.answer(early)

@@ -20,7 +20,7 @@ use Rattle.mysql_conversation.specs.Conversation as c
 use Rattle.mysql_conversation.specs.Conversation.{Packet, served, ending, format_of, inside, authentication_kind}
 use Rattle.mysql_conversation.specs.Machine.{rests}
 use Rattle.mysql_conversation.specs.Taken.{packet}
-use Rattle.mysql_conversation.proofs.Tails.{tail_of, behind, behind_all, serving, sending, unanswered, round, last_result, many_none}
+use Rattle.mysql_conversation.proofs.Tails.{tail_of, following, following_all, serving, sending, unanswered, round, last_result, many_none}
 use Rattle.mysql_conversation.specs.declared.state.After.{After}
 use Rattle.mysql_conversation.specs.declared.state.After.TheVariants as after
 use Rattle.mysql_conversation.specs.declared.state.Request.{Request}
@@ -139,19 +139,19 @@ all_definitions a (suc n) =
     let e = definitions_ended a (deprecates_eof a) [] in
     (defs (suc n) e.0, (e.0, defs_are (suc n) e.0, e.1))
 
-rows_end : (a : Agreed) (r : Request) → (x : Packet) × Inside x × behind a (after.Rows r) (x ∷ []) []
+rows_end : (a : Agreed) (r : Request) → (x : Packet) × Inside x × following a (after.Rows r) (x ∷ []) []
 rows_end a r = let e = end_then a [] in (e.0, e.1, (_, many_none (c.row a (format_of r)) _, inr e.2))
 
-all_behind : (a : Agreed) (d : Bool) (b : After) → (items : List Packet) × behind_all a d b items []
-all_behind a d (after.Rows r) =
+all_following : (a : Agreed) (d : Bool) (b : After) → (items : List Packet) × following_all a d b items []
+all_following a d (after.Rows r) =
     let e = rows_end a r in
     let x = columns_ended a r d (e.0 ∷ []) in
     (x.0, inl (e.0 ∷ [], x.1, e.2))
-all_behind a d (after.Columns n) =
+all_following a d (after.Columns n) =
     let e = all_definitions a n in
     let x = definitions_ended a d e.0 in
     (x.0, (e.0, x.1, e.1))
-all_behind a d after.Rest = definitions_ended a d []
+all_following a d after.Rest = definitions_ended a d []
 
 -- some packet goes on to an answer's end
 abbrev pub ToCome : Agreed → State → Type 0
@@ -193,7 +193,7 @@ to_come a (state.Infile r) h = (
 to_come a (state.Reply r) h = (packet Server ok_bytes kind.Ok, [], refl, last_result a r _ [] (inl (ok_then a [])))
 to_come a (state.InfileReply r) h = (packet Server ok_bytes kind.Ok, [], refl, inr (ok_then a []))
 to_come a (state.Definitions n b) h =
-    let e = all_behind a (deprecates_eof a) b in
+    let e = all_following a (deprecates_eof a) b in
     (packet Server [] kind.Column, defs n e.0, refl, (e.0, (defs n e.0, serving kind.Column _ [] (defs n e.0) (defs n e.0) refl refl tt, defs_are n e.0), e.1))
 to_come a (state.DefinitionsEnd b) h = old_end_comes a b
 to_come a (state.Rows r) h = let e = rows_end a r in (e.0, [], e.1, e.2)

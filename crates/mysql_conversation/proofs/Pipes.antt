@@ -326,7 +326,7 @@ after_early w c h = rw h refl
 after_rest : (w : Standing) (c : Command) → is_due w.state ≡ false → standing (begin c) (w.last + 1) (w.last + 1) w.waiting ≡ after w c
 after_rest w c h = rw h refl
 
--- behind a command that waits no packet of the client is taken but commands
+-- after a command that waits no packet of the client is taken but commands
 server_then : (d : Agreed) (w : Standing) (c : Command) (y : Numbered) (v : Standing) → is_due w.state ≡ true → commands y.packet.kind ≡ false → Steps d (push w c) y v → y.packet.from ≡ Server
 server_then d w c y v sp nc h = elim (side_is y.packet.from) [
   | inl f ↦ (let b = aside_due d (push w c) y.packet.payload y.packet.kind y.number v (take_step d w.state Client y.packet.payload) sp refl nc (client_due d (push w c) y.packet.payload (outcome y.packet.kind y.number v) sp (by_client d (push w c) y v f h)) in

@@ -69,16 +69,16 @@ greeting_kind s x g = g.0.1
 head_is : (x y : Numbered) (xs ys : List Numbered) → x ∷ xs ≡ y ∷ ys → (x ≡ y) × (xs ≡ ys)
 head_is x y xs ys h = (cc, cc)
 
-behind_one : (s t : Agreed) (u v : Numbered) (x y : Numbered) (xs ys front back : List Numbered) → front ++ x ∷ xs ≡ back ++ y ∷ ys → front ≡ u ∷ [] → back ≡ v ∷ []
+after_one : (s t : Agreed) (u v : Numbered) (x y : Numbered) (xs ys front back : List Numbered) → front ++ x ∷ xs ≡ back ++ y ∷ ys → front ≡ u ∷ [] → back ≡ v ∷ []
     → (u ≡ v) × ((x ≡ y) × (xs ≡ ys))
-behind_one s t u v x y xs ys front back e f g =
+after_one s t u v x y xs ys front back e f g =
     let e' : u ∷ x ∷ xs ≡ v ∷ y ∷ ys = subst (λ fs. fs ++ x ∷ xs ≡ v ∷ y ∷ ys) f (subst (λ bs. front ++ x ∷ xs ≡ bs ++ y ∷ ys) g e) in
     let h = head_is u v (x ∷ xs) (y ∷ ys) e' in
     (h.0, head_is x y xs ys h.1)
 
-behind_two : (u v w z : Numbered) (x y : Numbered) (xs ys front back : List Numbered) → front ++ x ∷ xs ≡ back ++ y ∷ ys → front ≡ u ∷ w ∷ [] → back ≡ v ∷ z ∷ []
+after_two : (u v w z : Numbered) (x y : Numbered) (xs ys front back : List Numbered) → front ++ x ∷ xs ≡ back ++ y ∷ ys → front ≡ u ∷ w ∷ [] → back ≡ v ∷ z ∷ []
     → (u ≡ v) × ((x ≡ y) × (xs ≡ ys))
-behind_two u v w z x y xs ys front back e f g =
+after_two u v w z x y xs ys front back e f g =
     let e' : u ∷ w ∷ x ∷ xs ≡ v ∷ z ∷ y ∷ ys = subst (λ fs. fs ++ x ∷ xs ≡ v ∷ z ∷ y ∷ ys) f (subst (λ bs. front ++ x ∷ xs ≡ bs ++ y ∷ ys) g e) in
     let h = head_is u v (w ∷ x ∷ xs) (z ∷ y ∷ ys) e' in
     let i = head_is w z (x ∷ xs) (y ∷ ys) h.1 in
@@ -106,14 +106,14 @@ agreed_same s t c d a b e f g h = sym g ∙ ap (λ s. agreed_on s c) e ∙ ap (�
 once_by : (a b s t c d : Agreed) (i j : Bool) (front back : List Numbered) (x y : Numbered) (xs ys : List Numbered) → front ++ x ∷ xs ≡ back ++ y ∷ ys
     → Before s i front → IsLogin i c x → agreed_on s c ≡ a → Before t j back → IsLogin j d y → agreed_on t d ≡ b → (a ≡ b) × (xs ≡ ys)
 once_by a b s t c d false false front back x y xs ys e f l g h m n =
-    let q = behind_one s t f.0 h.0 x y xs ys front back e f.1 h.1 in
+    let q = after_one s t f.0 h.0 x y xs ys front back e f.1 h.1 in
     (agreed_same s t c d a b (greeted_same s t f.0 h.0 q.0 f.2 h.2) (client_same false false c d x y q.1.0 l m) g n, q.1.1)
 once_by a b s t c d false true front back x y xs ys e f l g h m n =
     absurd (login_or_tls false c x h.1 (one_or_two f.0 h.0 h.1 x y xs ys front back e f.1 h.2) l h.4)
 once_by a b s t c d true false front back x y xs ys e f l g h m n =
     absurd (login_or_tls false d y f.1 (one_or_two h.0 f.0 f.1 y x ys xs back front (sym e) h.1 f.2) m f.4)
 once_by a b s t c d true true front back x y xs ys e f l g h m n =
-    let q = behind_two f.0 h.0 f.1 h.1 x y xs ys front back e f.2 h.2 in
+    let q = after_two f.0 h.0 f.1 h.1 x y xs ys front back e f.2 h.2 in
     (agreed_same s t c d a b (greeted_same s t f.0 h.0 q.0 f.3 h.3) (client_same true true c d x y q.1.0 l m) g n, q.1.1)
 
 -- what both agreed on, and what comes after the login, is one thing
@@ -121,7 +121,7 @@ logged_in_once : (a b : Agreed) (front back : List Numbered) (x y : Numbered) (x
     → IsLoggedIn a front x → IsLoggedIn b back y → (a ≡ b) × (xs ≡ ys)
 logged_in_once a b front back x y xs ys e g h = once_by a b g.0 h.0 g.1 h.1 g.2 h.2 front back x y xs ys e g.3 g.4 g.5 h.3 h.4 h.5
 
--- a login stands behind another packet
+-- a login stands after another packet
 not_alone : (a : Agreed) (server : Agreed) (tls : Bool) (front : List Numbered) (x z : Numbered) (xs : List Numbered) → Before server tls front → front ++ x ∷ xs ≡ z ∷ [] → ⊥
 not_alone a server false front x z xs f e =
     let e' : f.0 ∷ x ∷ xs ≡ z ∷ [] = subst (λ fs. fs ++ x ∷ xs ≡ z ∷ []) f.1 e in absurd cc
@@ -222,13 +222,13 @@ no_request x y e n l = let some : login_at y.packet.payload ≡ Some l.1 = ap (�
 login_refused_at : (y : Numbered) (items more : List Numbered) (server : Agreed) (tls : Bool) → login_at y.packet.payload ≡ None → Before server tls items
     → (s c : Agreed) (i : Bool) (front : List Numbered) (x : Numbered) (rest : List Numbered) → items ++ y ∷ more ≡ front ++ x ∷ rest → Before s i front → IsLogin i c x → ⊥
 login_refused_at y items more server false n f s c false front x rest e g l =
-    let q = behind_one server s f.0 g.0 y x more rest items front e f.1 g.1 in no_login false c x y (sym q.1.0) n l
+    let q = after_one server s f.0 g.0 y x more rest items front e f.1 g.1 in no_login false c x y (sym q.1.0) n l
 login_refused_at y items more server false n f s c true front x rest e g l =
     no_request g.1 y (sym (one_or_two f.0 g.0 g.1 y x more rest items front e f.1 g.2)) n g.4
 login_refused_at y items more server true n f s c false front x rest e g l =
     login_or_tls false c x f.1 (one_or_two g.0 f.0 f.1 x y rest more front items (sym e) g.1 f.2) l f.4
 login_refused_at y items more server true n f s c true front x rest e g l =
-    let q = behind_two f.0 g.0 f.1 g.1 y x more rest items front e f.2 g.2 in no_login true c x y (sym q.1.0) n l
+    let q = after_two f.0 g.0 f.1 g.1 y x more rest items front e f.2 g.2 in no_login true c x y (sym q.1.0) n l
 
 two_or_more : (server : Agreed) (tls : Bool) (items : List Numbered) (y z : Numbered) (more : List Numbered) → Before server tls items → items ++ y ∷ more ≡ z ∷ [] → ⊥
 two_or_more server tls items y z more f e = not_alone server server tls items y z more f e

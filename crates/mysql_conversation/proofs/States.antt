@@ -75,7 +75,7 @@ pub entrance_listens : (o : Opening) → listens (entrance o) ≡ false
 entrance_listens opened_at.Login = refl
 entrance_listens opened_at.Commands = refl
 
--- ---- behind each packet the client is asked or not, by its kind; and inside of an exchange each is of a kind that is inside
+-- ---- after each packet the client is asked or not, by its kind; and inside of an exchange each is of a kind that is inside
 
 abbrev Listening : Kind → State → Type 0
 Listening k m = listens m ≡ asks k

@@ -41,27 +41,27 @@ infile_answer a r = (c.ok a true followed_by c.results a r) or c.ok a false
 abbrev pub rows_answer : Agreed → Request → Part
 rows_answer a r = (c.end a true followed_by c.results a r) or c.end a false
 
--- the EOF packet of columns behind which the cursor that was asked for is open
+-- the EOF packet of columns after which the cursor that was asked for is open
 abbrev pub cursor : Agreed → Request → Bool → Bool → Part
 cursor a Query d more = never
 cursor a Execution d more = never
 cursor a Cursor true more = never
 cursor a Cursor false more = served kind.Eof (λ p. (status : StatusFlags) × IsOldEnd a status p × (opens_cursor status ≡ true) × (has_more status ≡ more))
 
-abbrev pub behind : Agreed → After → Part
-behind a (after.Rows r) = many (c.row a (format_of r)) followed_by rows_answer a r
-behind a (after.Columns n) = c.definitions a n
-behind a after.Rest = nothing
+abbrev pub following : Agreed → After → Part
+following a (after.Rows r) = many (c.row a (format_of r)) followed_by rows_answer a r
+following a (after.Columns n) = c.definitions a n
+following a after.Rest = nothing
 
--- behind a result's definitions
-abbrev pub behind_columns : Agreed → Request → Bool → Part
-behind_columns a r d = (c.columns_end a r d followed_by behind a (after.Rows r)) or (cursor a r d true followed_by c.results a r) or cursor a r d false
+-- after a result's definitions
+abbrev pub following_columns : Agreed → Request → Bool → Part
+following_columns a r d = (c.columns_end a r d followed_by following a (after.Rows r)) or (cursor a r d true followed_by c.results a r) or cursor a r d false
 
--- behind definitions
-abbrev pub behind_all : Agreed → Bool → After → Part
-behind_all a d (after.Rows r) = behind_columns a r d
-behind_all a d (after.Columns n) = c.definitions_end a d followed_by c.definitions a n
-behind_all a d after.Rest = c.definitions_end a d
+-- after definitions
+abbrev pub following_all : Agreed → Bool → After → Part
+following_all a d (after.Rows r) = following_columns a r d
+following_all a d (after.Columns n) = c.definitions_end a d followed_by c.definitions a n
+following_all a d after.Rest = c.definitions_end a d
 
 -- one round of authentication
 abbrev pub round : Agreed → Part
@@ -77,9 +77,9 @@ tail_of a (state.Authentication is_asked) = authenticating a is_asked
 tail_of a (state.Reply r) = c.results a r
 tail_of a (state.Infile r) = many c.infile_content followed_by c.infile_end followed_by infile_answer a r
 tail_of a (state.InfileReply r) = infile_answer a r
-tail_of a (state.Definitions n b) = times (suc n) c.definition followed_by behind_all a (deprecates_eof a) b
-tail_of a (state.DefinitionsEnd b) = behind_all a false b
-tail_of a (state.Rows r) = behind a (after.Rows r)
+tail_of a (state.Definitions n b) = times (suc n) c.definition followed_by following_all a (deprecates_eof a) b
+tail_of a (state.DefinitionsEnd b) = following_all a false b
+tail_of a (state.Rows r) = following a (after.Rows r)
 tail_of a state.Prepared = c.prepared a
 tail_of a state.Fetch = many (c.row a Binary) followed_by c.any_end a
 tail_of a state.Acknowledgement = c.any_ok a or c.any_end a
@@ -122,7 +122,7 @@ opening a Cursor false more n items mid rest x h = (n, (mid, x, h))
 
 -- columns, and what follows them
 answered_columns : (a : Agreed) (f : Request) (n : ℕ) (items mid rest : List Packet)
-    → c.columns a n items mid → behind_columns a f (deprecates_eof a) mid rest → c.results a f items rest
+    → c.columns a n items mid → following_columns a f (deprecates_eof a) mid rest → c.results a f items rest
 answered_columns a f n items mid rest x (inl h) = ended_rows h.2.2
   where
     ended_rows : rows_answer a f h.2.0 rest → c.results a f items rest
@@ -132,27 +132,27 @@ answered_columns a f n items mid rest x (inr (inl h)) = more_results a f items h
 answered_columns a f n items mid rest x (inr (inr h)) = last_result a f items rest (inr (inr (inr (opening a f (deprecates_eof a) false n items mid rest x h))))
 
 -- what follows definitions
-rest_end : (a : Agreed) (d : Bool) (items rest : List Packet) → behind_all a d after.Rest items rest → c.definitions_end a d items rest
+rest_end : (a : Agreed) (d : Bool) (items rest : List Packet) → following_all a d after.Rest items rest → c.definitions_end a d items rest
 rest_end a d items rest h = h
 
-entered : (a : Agreed) (b : After) (items rest : List Packet) → tail_of a (enter b) items rest → behind a b items rest
+entered : (a : Agreed) (b : After) (items rest : List Packet) → tail_of a (enter b) items rest → following a b items rest
 entered a (after.Rows f) items rest h = h
 entered a (after.Columns zero) items rest h = h
 entered a (after.Columns (suc n)) items rest h = h
 entered a after.Rest items rest h = h
 
-columns_end_none : (a : Agreed) (f : Request) (items rest : List Packet) → behind a (after.Rows f) items rest → behind_columns a f true items rest
+columns_end_none : (a : Agreed) (f : Request) (items rest : List Packet) → following a (after.Rows f) items rest → following_columns a f true items rest
 columns_end_none a Query items rest h = inl (items, refl, h)
 columns_end_none a Execution items rest h = inl (items, refl, h)
 columns_end_none a Cursor items rest h = inl (items, refl, h)
 
--- behind the last definition
-behind_last : (a : Agreed) (d : Bool) (b : After) (items rest : List Packet) → tail_of a (defined d b) items rest → behind_all a d b items rest
-behind_last a true (after.Rows f) items rest h = columns_end_none a f items rest h
-behind_last a true (after.Columns zero) items rest h = (items, refl, h)
-behind_last a true (after.Columns (suc n)) items rest h = (items, refl, h)
-behind_last a true after.Rest items rest h = h
-behind_last a false b items rest h = h
+-- after the last definition
+following_last : (a : Agreed) (d : Bool) (b : After) (items rest : List Packet) → tail_of a (defined d b) items rest → following_all a d b items rest
+following_last a true (after.Rows f) items rest h = columns_end_none a f items rest h
+following_last a true (after.Columns zero) items rest h = (items, refl, h)
+following_last a true (after.Columns (suc n)) items rest h = (items, refl, h)
+following_last a true after.Rest items rest h = h
+following_last a false b items rest h = h
 
 -- ---- a step back
 
@@ -169,7 +169,7 @@ count_columns : (a : Agreed) (f : Request) (n : ℕ) (follow : Bool) (p : List �
     → tail_of a (counted (deprecates_eof a) n follow (after.Rows f)) items rest → c.results a f (packet Server p (kind.ColumnCount n follow) ∷ items) rest
 count_columns a f zero follow p items rest e h t = let none : 0 < 0 = h.2 in absurd (omega arith)
 count_columns a f (suc n) true p items rest e h t = answered_columns a f (suc n) _ t.0 rest (inl (items, serving (kind.ColumnCount (suc n) true) (IsCount a (suc n) true) p items items refl e h, t.1)) t.2
-count_columns a f (suc n) false p items rest e h t = answered_columns a f (suc n) _ items rest (inr (serving (kind.ColumnCount (suc n) false) (IsCount a (suc n) false) p items items refl e h)) (behind_last a (deprecates_eof a) (after.Rows f) items rest t)
+count_columns a f (suc n) false p items rest e h t = answered_columns a f (suc n) _ items rest (inr (serving (kind.ColumnCount (suc n) false) (IsCount a (suc n) false) p items items refl e h)) (following_last a (deprecates_eof a) (after.Rows f) items rest t)
 
 back_reply : (a : Agreed) (f : Request) (p : List ℕ) (r : Option Reply) (k : Kind) (m : State) (items rest : List Packet)
     → first_is 0xff p ≡ false → reply_of a p ≡ r → reply_step (deprecates_eof a) f r ≡ Some (k, m) → tail_of a m items rest → tail_of a (state.Reply f) (packet Server p k ∷ items) rest
@@ -198,16 +198,16 @@ back_infile_reply a f p (Some reply.Infile) k m items rest e w h t = absurd cc
 back_infile_reply a f p (Some (reply.Columns n follow)) k m items rest e w h t = absurd cc
 
 back_less : (a : Agreed) (n : ℕ) (b : After) (p : List ℕ) (items rest : List Packet) → first_is 0xff p ≡ false → tail_of a (less (deprecates_eof a) n b) items rest → tail_of a (state.Definitions n b) (packet Server p kind.Column ∷ items) rest
-back_less a zero b p items rest e t = (items, (items, serving kind.Column _ p items items refl e tt, refl), behind_last a (deprecates_eof a) b items rest t)
+back_less a zero b p items rest e t = (items, (items, serving kind.Column _ p items items refl e tt, refl), following_last a (deprecates_eof a) b items rest t)
 back_less a (suc n) b p items rest e t = (t.0, (items, serving kind.Column _ p items items refl e tt, t.1), t.2)
 
 back_cursor : (a : Agreed) (more : Bool) (status : StatusFlags) (p : List ℕ) (items rest : List Packet) → first_is 0xff p ≡ false → IsOldEnd a status p → opens_cursor status ≡ true → has_more status ≡ more
-    → tail_of a (ended Cursor more) items rest → behind_columns a Cursor false (packet Server p kind.Eof ∷ items) rest
+    → tail_of a (ended Cursor more) items rest → following_columns a Cursor false (packet Server p kind.Eof ∷ items) rest
 back_cursor a true status p items rest e o cur m t = inr (inl (items, serving kind.Eof _ p items items refl e (status, o, cur, m), t))
 back_cursor a false status p items rest e o cur m t = inr (inr (serving kind.Eof _ p items rest t e (status, o, cur, m)))
 
 back_columns : (a : Agreed) (r : Request) (status : StatusFlags) (p : List ℕ) (k : Kind) (m : State) (items rest : List Packet)
-    → first_is 0xff p ≡ false → IsOldEnd a status p → columns_step status r ≡ Some (k, m) → tail_of a m items rest → behind_columns a r false (packet Server p k ∷ items) rest
+    → first_is 0xff p ≡ false → IsOldEnd a status p → columns_step status r ≡ Some (k, m) → tail_of a m items rest → following_columns a r false (packet Server p k ∷ items) rest
 back_columns a Query status p k m items rest e o h t = back a (state.DefinitionsEnd (after.Rows Query)) Server p _ k _ m items rest h
     (λ t. inl (items, serving kind.Eof _ p items items refl e (status, o), t)) t
 back_columns a Execution status p k m items rest e o h t = back a (state.DefinitionsEnd (after.Rows Execution)) Server p _ k _ m items rest h
@@ -228,7 +228,7 @@ back_definitions_end a (after.Columns n) p (Some status) k m items rest e w h t 
 back_definitions_end a after.Rest p (Some status) k m items rest e w h t = back a (state.DefinitionsEnd after.Rest) Server p _ k _ m items rest h
     (λ t. serving kind.Eof _ p items rest t e (status, old_end_means a status p w)) t
 
-back_end : (a : Agreed) (r : Request) (more : Bool) (p : List ℕ) (items rest : List Packet) → first_is 0xff p ≡ false → IsEnd a more p → tail_of a (ended r more) items rest → behind a (after.Rows r) (packet Server p (ending (deprecates_eof a)) ∷ items) rest
+back_end : (a : Agreed) (r : Request) (more : Bool) (p : List ℕ) (items rest : List Packet) → first_is 0xff p ≡ false → IsEnd a more p → tail_of a (ended r more) items rest → following a (after.Rows r) (packet Server p (ending (deprecates_eof a)) ∷ items) rest
 back_end a r true p items rest e h t = (_, many_none (c.row a (format_of r)) _, inl (items, serving (ending (deprecates_eof a)) (IsEnd a true) p items items refl e h, t))
 back_end a r false p items rest e h t = (_, many_none (c.row a (format_of r)) _, inr (serving (ending (deprecates_eof a)) (IsEnd a false) p items rest t e h))
 

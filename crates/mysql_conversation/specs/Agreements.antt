@@ -12,7 +12,7 @@ Agreed = SessionCapabilities
 abbrev pub deprecates_eof : Agreed → Bool
 deprecates_eof a = has a.mysql.0 CLIENT_DEPRECATE_EOF
 
--- a byte that says whether definitions follow stands before a count of columns, and behind a prepared statement
+-- a byte that says whether definitions follow stands before a count of columns, and after a prepared statement
 abbrev pub has_optional_metadata : Agreed → Bool
 has_optional_metadata a = has a.mysql.0 CLIENT_OPTIONAL_RESULTSET_METADATA
 

@@ -105,19 +105,19 @@ abbrev pub entrance : Opening → State
 entrance opened_at.Login = state.Authentication false
 entrance opened_at.Commands = state.Rest
 
--- behind definitions
+-- after definitions
 abbrev pub enter : After → State
 enter (after.Rows r) = state.Rows r
 enter (after.Columns zero) = state.Rest
 enter (after.Columns (suc n)) = state.Definitions n after.Rest
 enter after.Rest = state.Rest
 
--- behind the last of some definitions
+-- after the last of some definitions
 abbrev pub defined : Bool → After → State
 defined true b = enter b
 defined false b = state.DefinitionsEnd b
 
--- behind a definition after which so many come
+-- after a definition after which so many come
 abbrev pub less : Bool → ℕ → After → State
 less deprecates zero b = defined deprecates b
 less deprecates (suc n) b = state.Definitions n b
@@ -183,7 +183,7 @@ client_step state.Fields p = None
 client_step state.Events p = ack_step p
 client_step state.Refusal p = None
 
--- behind a count
+-- after a count
 abbrev pub counted : Bool → ℕ → Bool → After → State
 counted deprecates n true b = define n b
 counted deprecates n false b = defined deprecates b
@@ -210,7 +210,7 @@ infile_reply_step r (Some (reply.Ok more)) = Some (kind.Ok, ended r more)
 infile_reply_step r (Some reply.Infile) = None
 infile_reply_step r (Some (reply.Columns n follow)) = None
 
--- behind the EOF packet of a result's definitions: the rows, or nothing of it where the cursor that was asked for is open
+-- after the EOF packet of a result's definitions: the rows, or nothing of it where the cursor that was asked for is open
 abbrev pub columns_step : StatusFlags → Request → Option (Kind × State)
 columns_step status Query = Some (kind.Eof, state.Rows Query)
 columns_step status Execution = Some (kind.Eof, state.Rows Execution)

@@ -43,5 +43,5 @@ abbrev pub CountsNoMore : Pipeline → Type 0
 CountsNoMore c = c.last ≡ 2 ^ 64 - 1
 
 -- the memory for commands that wait is full
-abbrev pub HasNoRoom : Pipeline → Type 0
-HasNoRoom c = deque_capacity c.waiting ≤ deque_len c.waiting
+abbrev pub HasNoCapacity : Pipeline → Type 0
+HasNoCapacity c = deque_capacity c.waiting ≤ deque_len c.waiting

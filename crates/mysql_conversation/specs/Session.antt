@@ -68,7 +68,7 @@ abbrev pub Before : Agreed → Bool → List Numbered → Type 0
 Before server false items = (x : Numbered) × (items ≡ x ∷ []) × IsGreeting server x
 Before server true items = (x : Numbered) × (y : Numbered) × (items ≡ x ∷ y ∷ []) × IsGreeting server x × IsSslRequest y
 
--- the login of a client, behind what comes before it; both sides agree on no compression
+-- the login of a client, after what comes before it; both sides agree on no compression
 abbrev pub IsLoggedIn : Agreed → List Numbered → Numbered → Type 0
 IsLoggedIn a front x =
     (server : Agreed) × (client : Agreed) × (tls : Bool) × Before server tls front × IsLogin tls client x × (agreed_on server client ≡ a) × (compresses a ≡ false)

@@ -63,7 +63,7 @@ abbrev pub early : Standing → Option Command → Option (Kind × ℕ × Standi
 early w None = None
 early w (Some c) = Some (kind_of c, w.last + 1, push w c)
 
--- a packet that is no command stands behind all commands that came
+-- a packet that is no command stands after all commands that came
 abbrev pub aside : Standing → Option (Kind × State) → Option Command → Option (Kind × ℕ × Standing)
 aside w None c = early w c
 aside w (Some (k, m)) c = if waits w.waiting then None else Some (k, w.number, standing m w.number w.last w.waiting)

@@ -32,7 +32,7 @@ pub enum Refusal {
     Memory,
     /// It goes on in TLS, so that the bytes are not ours: of a session alone.
     Encrypted,
-    /// Both sides agreed on compression, so that the bytes behind the login are not ours: of a session alone.
+    /// Both sides agreed on compression, so that the bytes after the login are not ours: of a session alone.
     Compressed,
 }
 
@@ -50,7 +50,7 @@ fn waits(waiting: &VecDeque<Waiting>) -> bool
 /// A conversation in which commands may come before the answers to earlier ones.
 ///
 /// As many commands wait as its limit, and no more memory is taken than they need: 24 bytes for each. With a limit of 0 it takes none,
-/// and tells of early commands by [`Refusal::Full`].
+/// and answers early commands by [`Refusal::Full`].
 #[derive(Drop)]
 pub struct Pipeline {
     pub(crate) alloc: Global,
@@ -131,8 +131,8 @@ impl Pipeline {
             → IsPipelinedBeginning (piped.agreed self.old) (piped.opening self.old) (items ++ place from payload.now kind number ∷ []) → ⊥) }
         // The packet would have to wait, and as many commands wait as may; or 2^64 - 1 commands came.
         ensures full { IfErr result (λ why. why ≡ refusal.Full → (from ≡ side.Client) × ((piped.MustWait self.old × (piped.limit self.old ≤ piped.waiting self.old)) ⊎ piped.CountsNoMore self.old)) }
-        // The packet would have to wait, and there is no room for it.
-        ensures memory { IfErr result (λ why. why ≡ refusal.Memory → (from ≡ side.Client) × piped.MustWait self.old × piped.HasNoRoom self.old) }
+        // The packet would have to wait, and there is no capacity for it.
+        ensures memory { IfErr result (λ why. why ≡ refusal.Memory → (from ≡ side.Client) × piped.MustWait self.old × piped.HasNoCapacity self.old) }
         // (the others are of a session alone)
         ensures ours { IfErr result (λ why. (why ≢ refusal.Encrypted) × (why ≢ refusal.Compressed)) }
         ensures err { OnErr result (stands self.new ≡ stands self.old) }
@@ -180,7 +180,7 @@ impl Pipeline {
         Ok((kind, self.number))
     }
 
-    /// A packet of the client that is no command, while the server is to speak. It stands behind all commands that came.
+    /// A packet of the client that is no command, while the server is to speak. It stands after all commands that came.
     fn set_aside(&mut self, kind: Kind, state: State) -> Result<(Kind, u64), Refusal>
         ensures taken { IfOk result (λ x. spec.waits self.old.waiting.items ≡ false × (x.0 ≡ kind) × (x.1 ≡ self.old.number) × (stands self.new ≡ spec.standing state self.old.number self.old.last self.old.waiting.items)) }
         ensures refused { IfErr result (λ why. (why ≡ refusal.Unexpected) × (spec.waits self.old.waiting.items ≡ true)) }

@@ -154,7 +154,7 @@ impl Session {
         ensures compressed { IfErr result (λ why. why ≡ refusal.Compressed → (server : agreement.Agreed) × (head : login_head.SslRequest) × (login_at payload.now ≡ Some head) × (compresses (agreed_on server (client_of head)) ≡ true)) }
         // As a pipeline's.
         ensures full { IfErr result (λ why. why ≡ refusal.Full → (p : pipe.Pipeline) × Continues self.old p × (from ≡ side.Client) × ((piped.MustWait p × (piped.limit p ≤ piped.waiting p)) ⊎ piped.CountsNoMore p)) }
-        ensures memory { IfErr result (λ why. why ≡ refusal.Memory → (p : pipe.Pipeline) × Continues self.old p × (from ≡ side.Client) × piped.MustWait p × piped.HasNoRoom p) }
+        ensures memory { IfErr result (λ why. why ≡ refusal.Memory → (p : pipe.Pipeline) × Continues self.old p × (from ≡ side.Client) × piped.MustWait p × piped.HasNoCapacity p) }
         ensures err { OnErr result ((items : List Numbered) → SessionTaken self.old items → SessionTaken self.new items) }
     {
         match &mut self.phase {

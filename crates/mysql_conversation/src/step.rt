@@ -30,7 +30,7 @@ pub(crate) fn entrance(opening: Opening) -> State
     }
 }
 
-/// Behind definitions.
+/// After definitions.
 #[inline(always)]
 fn enter(after: After) -> State
     ensures { result ≡ spec.enter after }
@@ -56,7 +56,7 @@ fn define(count: u64, after: After) -> State
     }
 }
 
-/// Behind a definition after which so many come.
+/// After a definition after which so many come.
 #[inline(always)]
 fn less(deprecates: bool, left: u64, after: After) -> State
     ensures { result ≡ spec.less deprecates left after }
@@ -181,7 +181,7 @@ fn client_step(state: &mut State, payload: &[u8]) -> Option<Kind>
     }
 }
 
-/// Behind a count.
+/// After a count.
 #[inline(always)]
 fn counted(deprecates: bool, count: u64, follow: bool, after: After) -> State
     ensures { result ≡ spec.counted deprecates count follow after }
@@ -264,7 +264,7 @@ fn infile_reply_step(state: &mut State, request: Request, reply: Option<Reply>) 
     }
 }
 
-/// Behind the EOF packet of a result's definitions.
+/// After the EOF packet of a result's definitions.
 #[inline(always)]
 fn columns_step(state: &mut State, status: StatusFlags, request: Request) -> Kind
     ensures { spec.columns_step status request ≡ Some (result, state.new) }
@@ -564,7 +564,7 @@ pub(crate) fn take_sent(
     }
 }
 
-/// Which packet it is; the state is then the one after it. Rows are told here, by their first byte.
+/// Which packet it is; the state is then the one after it. Rows are known here, by their first byte.
 #[inline(always)]
 #[tactic(auto, using(crate::proofs::Begun::no_report))]
 pub(crate) fn take_step(

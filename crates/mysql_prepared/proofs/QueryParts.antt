@@ -1,5 +1,5 @@
 -- The bytes of a query that is sent, as its parts give them.
-use Rattle.std.proofs.Common.{◌≡◌, ◌≢◌, ℕ, List, [], ◌∷◌, ◌++◌, length, append_assoc, sym, ap, ◌∙◌, arith}
+use Rattle.std.proofs.Common.{◌≡◌, ◌≢◌, ℕ, List, [], ◌++◌, length, append_assoc, sym, ap, ◌∙◌}
 use Rattle.std.proofs.lemmas.List.{append-nil}
 use Rattle.mysql_wire.specs.ServerCommand.{server_command_code}
 use Rattle.mysql_wire.specs.Writing.{le_bytes}
@@ -7,7 +7,6 @@ use Rattle.mysql_wire.specs.declared.codes.server_command.ServerCommand.{ServerC
 use Rattle.mysql_wire.specs.declared.codes.server_command.ServerCommand.TheVariants as name
 use Rattle.mysql_prepared.specs.ComQuery.{attributes, bitmap, count_bytes, listed, query_bytes, set_bytes, some_bytes, text}
 use Rattle.mysql_prepared.specs.ExecuteParam.{attribute_types, attribute_values}
-use Rattle.mysql_prepared.specs.ExecuteParams.{where_some}
 use Rattle.mysql_prepared.specs.declared.com_query.ComQuery.{ComQuery}
 use Rattle.mysql_prepared.specs.declared.execute_param.QueryAttribute.{QueryAttribute}
 use Rattle.mysql_prepared.proofs.OptionLengths.{where-empty, where-full}

@@ -11,7 +11,9 @@ use crate::null_bitmap::NullBitmap;
 use crate::null_marks::nulls_of;
 use crate::sent_params::{AsAttributeTypes, AsParamValues};
 use mysql_values::ClientSide;
-use mysql_wire::{Const, EofBytes, LenEnc, MySerialize, Parts, RawBytes, RawInt, ServerCommand, Sink, parts};
+use mysql_wire::{
+    Const, EofBytes, LenEnc, MySerialize, Parts, RawBytes, RawInt, ServerCommand, Sink, parts,
+};
 use std::alloc::{AllocError, Global};
 use std::borrow::CowSlice;
 

@@ -2,7 +2,7 @@
 //!
 //! `session LIMIT WORD ..`: a session from the greeting on. `conversation login LIMIT MYSQL MARIADB WORD ..`: what follows a login, under
 //! these capabilities; `conversation commands ..`: a connection that is taken up between two commands. A word is `>` or `<` with the bytes
-//! of a piece of the client's or the server's stream behind it, frames with their headers; `tls`: what comes is deciphered.
+//! of a piece of the client's or the server's stream after it, frames with their headers; `tls`: what comes is deciphered.
 //! `payloads ..`: as `conversation`, but a word has a payload, without headers, and no command may come early.
 
 use mysql_packets::constants::{CapabilityFlags, Flags, MariadbCapabilities};
@@ -19,7 +19,7 @@ use test_probe::prelude::{Out, Request};
 /// The longest payload that is joined.
 const LONGEST: usize = 1 << 26;
 
-/// What tells packets apart.
+/// What follows packets.
 trait Tracker {
     fn next(&mut self, from: Side, payload: &[u8]) -> Result<(Kind, u64), Refusal>;
 

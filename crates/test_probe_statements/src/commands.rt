@@ -4,8 +4,8 @@
 //!
 //! `make_query ATTRIBUTES TEXT` is one that is sent with attributes as `execute_with` has them, and read again.
 
-use crate::prelude::*;
 use crate::execute::attribute_of;
+use crate::prelude::*;
 use mysql_auth::ComChangeUserRef;
 use mysql_repl::{ComBinlogDumpGtidRef, ComBinlogDumpRef, ComRegisterSlaveRef, ComTableDump};
 
@@ -248,9 +248,16 @@ pub fn set_option(out: &mut Out, request: &Request<'_>) {
 
 /// Writes a query that was made, and shows what is read of it under these capabilities.
 fn write_query(out: &mut Out, query: &ComQuery<'_>, capabilities: CapabilityFlags) {
-    out.or_other("clone", query.clone().map(|copy| copy.text() == query.text()));
+    out.or_other(
+        "clone",
+        query.clone().map(|copy| copy.text() == query.text()),
+    );
     if let Some(written) = write(out, query, b"") {
-        if let Some(again) = read::<Statements, ComQueryRef<'_>>(out, after(&written), capabilities) {
+        if let Some(again) = read::<Statements, ComQueryRef<'_>>(
+            out,
+            after(&written),
+            capabilities,
+        ) {
             out.or_other("same", Ok(again.text() == query.text()));
         }
     }

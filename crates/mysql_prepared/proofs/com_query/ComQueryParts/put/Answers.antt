@@ -1,4 +1,4 @@
-use Rattle.std.proofs.Common.{◌≡◌, ◌≢◌, List, ℕ, length, sym, subst, rules, arith}
+use Rattle.std.proofs.Common.{◌≡◌, ◌≢◌, List, ℕ, length, sym, subst, rules}
 use Rattle.mysql_prepared.proofs.QueryParts.{bytes-of-none, bytes-of-some}
 use Rattle.mysql_prepared.proofs.com_query.ComQueryParts.put.Goals as goal
 
