@@ -1,6 +1,8 @@
 //! The tour of the README, as a request: `tour`.
 
 use mysql_packets::constants::CapabilityFlags;
+use mysql_packets::conversation::{Refusal, Session, Side};
+use mysql_packets::frames::{FrameError, FrameReader};
 use mysql_packets::io::ParseBuf;
 use mysql_packets::packets::{
     ComStmtBulkExecuteRequestBuilder, CommonOkPacket, OkPacket, OkPacketDeserializer, StmtPacket,
@@ -57,6 +59,29 @@ fn requests(out: &mut Out, alloc: Global) -> Result<(), Fault> {
     Ok(())
 }
 
+/// The first payload of a server's stream, if it lies whole in a piece.
+fn stream(out: &mut Out, alloc: Global, piece: &[u8]) -> Result<(), FrameError> {
+    let mut input = piece;
+    let mut frames = FrameReader::new(alloc, 1 << 24);
+    while let Some(payload) = frames.read(&mut input)? {
+        // the bytes of a stream, in any pieces, give its payloads
+        if session(out, alloc, payload.as_slice()).is_err() {
+            out.word("unexpected");
+        }
+        frames.give_back(payload);
+    }
+    Ok(())
+}
+
+/// Which packet it is.
+fn session(out: &mut Out, alloc: Global, payload: &[u8]) -> Result<(), Refusal> {
+    let mut session = Session::new(alloc, 16); // up to 16 commands may come before the answers to earlier ones
+    let (kind, exchange) = session.next(Side::Server, payload)?; // which packet it is, or that none such comes here
+    out.text("kind", &format_args!("{kind:?}"));
+    out.show("exchange", exchange);
+    Ok(())
+}
+
 fn calls(out: &mut Out, alloc: Global) -> Result<(), Fault> {
     statement(out, alloc, &[0, 1, 0, 0, 0, 1, 0, 2, 0, 0, 0, 0])?;
     changes(
@@ -66,7 +91,15 @@ fn calls(out: &mut Out, alloc: Global) -> Result<(), Fault> {
     )?;
     first_value(out, alloc, b"\xfb\x011")?;
     first_value(out, alloc, b"\x011\xfb")?;
-    requests(out, alloc)
+    requests(out, alloc)?;
+    if let Err(error) = stream(
+        out,
+        alloc,
+        b"\x17\x00\x00\x00\xff\x10\x04Too many connections",
+    ) {
+        out.error(&error);
+    }
+    Ok(())
 }
 
 /// Makes the calls, and adds what they give.
