@@ -14,10 +14,16 @@ pub fn gtid_sets(out: &mut Out, request: &Request<'_>) {
     ) {
         let packet = read.into_inner();
         for change in packet.session_state_changes(request.alloc) {
-            if let Ok(SessionStateChange::Gtids(set)) = change {
-                show_set(&set, out);
+            if let Ok(change) = &change {
+                show_change(change, out);
             }
         }
+    }
+}
+
+fn show_change(change: &SessionStateChange<'_>, out: &mut Out) {
+    if let SessionStateChange::Gtids(set) = change {
+        show_set(set, out);
     }
 }
 
