@@ -1,3 +1,4 @@
 pub mod LastPart
 pub mod CommandAgain
 pub mod AttributeViews
+pub mod AsRead

@@ -1,5 +1,6 @@
 pub mod AsSent
 pub mod After
+pub mod AsRead
 pub mod BulkExecute
 pub mod FieldList
 pub mod QueryAttributes

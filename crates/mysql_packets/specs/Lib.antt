@@ -199,6 +199,7 @@ pub use Rattle.mysql_repl.specs.TableDump
 pub use Rattle.mysql_repl.specs.Tag
 pub use Rattle.mysql_repl.specs.TagString
 pub use Rattle.mysql_commands.specs.After
+pub use Rattle.mysql_commands.specs.AsRead
 pub use Rattle.mysql_commands.specs.AsSent
 pub use Rattle.mysql_commands.specs.BulkExecute
 pub use Rattle.mysql_commands.specs.Command as CommandForm
