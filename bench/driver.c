@@ -24,7 +24,8 @@ call bench_statements_read, bench_statements_written, bench_columns_read, bench_
     bench_bulk_rows_offered_refs, bench_bulk_rows_streamed, bench_bulk_rows_iterated,
     bench_ok_packets_sent, bench_rows_sent, bench_text_rows_sent, bench_executions_received,
     bench_handshakes_read, bench_handshakes_written, bench_responses_written, bench_registrations_written, bench_gtid_dumps_read,
-    bench_gtid_dumps_written;
+    bench_gtid_dumps_written, bench_packets_passed, bench_payloads_found, bench_payloads_joined, bench_payloads_framed, bench_rows_told,
+    bench_exchanges_told, bench_text_rows_streamed;
 
 struct batch {
     uint8_t *bytes;
@@ -384,6 +385,41 @@ static void put_thousand_intervals(struct batch *batch)
     put_framed(batch, fill_thousand_intervals);
 }
 
+/* a text row as a frame: its length in three bytes and its sequence number before it */
+static void put_framed_row(struct batch *batch)
+{
+    static uint8_t number;
+    size_t start = batch->len, len;
+    put_number(batch, 0, 4);
+    fill_text_row(batch);
+    len = batch->len - start - 4;
+    for (int i = 0; i < 3; i++)
+        batch->bytes[start + i] = (uint8_t)(len >> 8 * i);
+    batch->bytes[start + 3] = number++;
+}
+
+static void fill_query(struct batch *batch)
+{
+    static const char query[] = "\003UPDATE t SET a = 1 WHERE b = 2";
+    put(batch, query, sizeof query - 1);
+}
+
+static void fill_short_ok_packet(struct batch *batch)
+{
+    put_number(batch, 0, 1);
+    put_number(batch, varied() % 251, 1);
+    put_number(batch, varied() % 251, 1);
+    put_number(batch, 2, 2);
+    put_number(batch, 0, 2);
+}
+
+/* a query, and the OK packet that answers it */
+static void put_exchange(struct batch *batch)
+{
+    put_framed(batch, fill_query);
+    put_framed(batch, fill_short_ok_packet);
+}
+
 static const struct operation {
     const char *name;
     size_t count;
@@ -427,6 +463,14 @@ static const struct operation {
     { "gtid_1_written", 10000, "GTID dump of 1 interval, read and written", put_interval, bench_gtid_dumps_written },
     { "gtid_10_written", 10000, "GTID dump of 10 intervals, read and written", put_ten_intervals, bench_gtid_dumps_written },
     { "gtid_1000_written", 100, "GTID dump of 1,000 intervals, read and written", put_thousand_intervals, bench_gtid_dumps_written },
+    { "payloads_found", 10000, "payload of a text row, found in a stream in one piece", put_framed_row, bench_payloads_found },
+    { "payloads_joined", 10000, "payload of a text row, found in a stream in pieces of 1,460 bytes", put_framed_row, bench_payloads_joined },
+    { "packets_passed", 10000, "payload in a batch, passed", put_text_row, bench_packets_passed },
+    { "payloads_framed", 10000, "payload of a text row, put into a frame", put_text_row, bench_payloads_framed },
+    { "rows_told", 10000, "text row, told apart", put_text_row, bench_rows_told },
+    { "exchanges_passed", 10000, "two payloads in a batch, passed", put_exchange, bench_packets_passed },
+    { "exchanges_told", 10000, "query and its OK packet, told apart", put_exchange, bench_exchanges_told },
+    { "text_rows_streamed", 10000, "text row of 10 columns, from a stream to its values", put_framed_row, bench_text_rows_streamed },
 };
 
 __attribute__((noinline)) uint64_t measured(call *run, const struct batch *batch)

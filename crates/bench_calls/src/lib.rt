@@ -16,3 +16,4 @@ mod row_views;
 mod rows;
 mod sent;
 mod statements;
+mod streams;

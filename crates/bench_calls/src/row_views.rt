@@ -29,7 +29,8 @@ fn binary(alloc: Global, columns: &[Column], packet: &[u8]) -> Result<u64, Fault
     Ok(sum)
 }
 
-fn text(alloc: Global, packet: &[u8]) -> Result<u64, Fault> {
+#[inline(always)]
+pub(crate) fn text(alloc: Global, packet: &[u8]) -> Result<u64, Fault> {
     let mut row = TextRowView::new(10, ParseBuf::new(alloc, packet));
     let mut sum = 0u64;
     while let Some(value) = row.next_value()? {

@@ -2,13 +2,17 @@
 
 use crate::error::{Error, Result};
 use mysql_packets::constants::{CapabilityFlags, Flags};
+use mysql_packets::frames::{FrameReader, write_frames, write_packet};
 use mysql_packets::packets::ProgressReport;
 use mysql_packets::proto::MySerialize;
 use std::alloc::Global;
-use std::io::{Read, Write};
+use std::io::{self, Read, Write};
 
-/// How many bytes of a payload stand in one frame at most. A frame of so many is not the packet's last one.
-const MOST_IN_FRAME: usize = 0xff_ffff;
+/// The longest payload that is received: the most that a server's `max_allowed_packet` can be.
+const LONGEST: usize = 1 << 30;
+
+/// How many bytes are asked of the reader at once.
+const PIECE: usize = 1 << 14;
 
 /// A session with a server.
 #[derive(Drop)]
@@ -23,7 +27,11 @@ pub struct Connection<R, W> {
     pub reports: Vec<ProgressReport<'static>>,
     reader: R,
     writer: W,
-    next_frame: u8,
+    frames: FrameReader,
+    /// What was read, of which the bytes from the first number to the second are not passed yet.
+    input: Vec<u8>,
+    passed: usize,
+    filled: usize,
 }
 
 impl<R: Read, W: Write> Connection<R, W> {
@@ -36,45 +44,54 @@ impl<R: Read, W: Write> Connection<R, W> {
             reports: Vec::new(alloc),
             reader,
             writer,
-            next_frame: 0,
+            frames: FrameReader::new(alloc, LONGEST),
+            input: Vec::new(alloc),
+            passed: 0,
+            filled: 0,
         }
     }
 
     /// The payload of the next packet.
     pub fn receive(&mut self) -> Result<Vec<u8>> {
-        let mut payload = Vec::new(self.alloc);
         for _ in 0..u64::MAX {
-            let mut head = [0u8; 4];
-            self.reader.read_exact(&mut head)?;
-            let [first, second, third, number] = head;
-            self.next_frame = number.wrapping_add(1);
-            let size = u32::from_le_bytes([first, second, third, 0]) as usize;
-            let mut frame = vec![in self.alloc; 0u8; size]?;
-            self.reader.read_exact(&mut frame)?;
-            payload.extend_from_slice(&frame)?;
-            if size < MOST_IN_FRAME {
-                break;
+            let mut rest = self.input.get(self.passed..self.filled).unwrap_or(&[]);
+            let found = self.frames.read(&mut rest)?;
+            self.passed = self.filled.saturating_sub(rest.len());
+            if let Some(payload) = found {
+                let packet = payload.as_slice().to_vec(self.alloc)?;
+                self.frames.give_back(payload);
+                return Ok(packet);
             }
+            self.fill()?;
         }
-        Ok(payload)
+        Err(Error::Unknown("a packet without an end"))
     }
 
-    /// Sends a packet of this payload, which goes on with what was received.
-    pub fn send(&mut self, payload: &[u8]) -> Result<()> {
-        for part in payload.chunks(MOST_IN_FRAME) {
-            self.send_frame(part)?;
+    /// Reads on, where all that was read is passed.
+    fn fill(&mut self) -> Result<()> {
+        if self.input.is_empty() {
+            self.input = vec![in self.alloc; 0u8; PIECE]?;
         }
-        if payload.len() % MOST_IN_FRAME == 0 {
-            self.send_frame(&[])?;
+        self.passed = 0;
+        self.filled = self.reader.read(&mut self.input)?;
+        if self.filled == 0 {
+            return Err(Error::Io(io::ErrorKind::UnexpectedEof.into()));
         }
         Ok(())
     }
 
+    /// Sends a packet of this payload, which goes on with what was received.
+    pub fn send(&mut self, payload: &[u8]) -> Result<()> {
+        let mut frames = Vec::new(self.alloc);
+        let number = write_frames(&mut frames, self.frames.number(), payload)?;
+        self.put(&frames, number)
+    }
+
     /// Sends a packet of the library's, which goes on with what was received.
     pub fn send_packet<P: MySerialize>(&mut self, packet: &P) -> Result<()> {
-        let mut payload = Vec::new(self.alloc);
-        packet.serialize(&mut payload)?;
-        self.send(&payload)
+        let mut frames = Vec::new(self.alloc);
+        let number = write_packet(&mut frames, self.frames.number(), packet)?;
+        self.put(&frames, number)
     }
 
     /// Sends a command: the number of its first frame is 0.
@@ -97,17 +114,14 @@ impl<R: Read, W: Write> Connection<R, W> {
     }
 
     fn begin(&mut self) {
-        self.next_frame = 0;
+        self.frames.expect(0);
         self.reports.clear();
     }
 
-    /// The head and the part go in one write, so that no packet waits for the other side.
-    fn send_frame(&mut self, part: &[u8]) -> Result<()> {
-        let [first, second, third, ..] = part.len().to_le_bytes();
-        let mut frame = vec![in self.alloc; first, second, third, self.next_frame]?;
-        frame.extend_from_slice(part)?;
-        self.next_frame = self.next_frame.wrapping_add(1);
-        self.writer.write_all(&frame)?;
+    /// All frames go in one write, so that no packet waits for the other side. The answer has the number after them.
+    fn put(&mut self, frames: &[u8], number: u8) -> Result<()> {
+        self.frames.expect(number);
+        self.writer.write_all(frames)?;
         self.writer.flush()?;
         Ok(())
     }

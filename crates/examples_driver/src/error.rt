@@ -1,5 +1,6 @@
 //! Why a session ended.
 
+use mysql_packets::frames::FrameError;
 use mysql_packets::io::Fault;
 use mysql_packets::packets::{
     BulkColumnTypeError, BulkExecuteRequestBuilderError, InvalidSid, ServerError,
@@ -14,6 +15,8 @@ pub enum Error {
     Io(io::Error),
     /// An allocation failed.
     Memory,
+    /// What the server sends is no packets in order.
+    Frames(FrameError),
     /// A packet is none of those that may stand there.
     Fault(Fault),
     /// The server answered with an error.
@@ -36,6 +39,7 @@ impl fmt::Display for Error {
         match self {
             Error::Io(error) => write!(f, "io: {error}"),
             Error::Memory => write!(f, "out of memory"),
+            Error::Frames(error) => write!(f, "frames: {error}"),
             Error::Fault(fault) => write!(f, "fault: {fault}"),
             Error::Server(error) => write!(f, "{error}"),
             Error::Types(error) => write!(f, "types: {error}"),
@@ -63,6 +67,12 @@ impl From<AllocError> for Error {
 impl<T: Drop> From<AllocFailed<T>> for Error {
     fn from(_: AllocFailed<T>) -> Error {
         Error::Memory
+    }
+}
+
+impl From<FrameError> for Error {
+    fn from(error: FrameError) -> Error {
+        Error::Frames(error)
     }
 }
 
