@@ -159,7 +159,7 @@ class Sessions(Recipes):
         for protocol, seen, rows in (("text", columns, texts), ("binary", it.columns, values)):
             kinds = [(one.get("kind"), data(one["text"]) if "text" in one else None) for one in seen]
             self.check(f"kinds of columns, {protocol}", kinds == wanted, kinds)
-            self.check(f"columns are written as they were, {protocol}", all("written" not in one for one in seen), seen)
+            self.check(f"columns are written as they were, {protocol}", all(one["written"] == "same" for one in seen), seen)
             self.check(f"a row under extended metadata, {protocol}", len(rows) == 1 and len(rows[0]) == 5, rows)
         it.close()
 
