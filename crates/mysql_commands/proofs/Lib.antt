@@ -2,3 +2,5 @@ pub mod LastPart
 pub mod CommandAgain
 pub mod AttributeViews
 pub mod AsRead
+pub mod PacketsAsRead
+pub mod CommandsAsRead

@@ -14,7 +14,7 @@ pub fn command_round_trips()
 {}
 
 /// A command that was read is written as it stood, byte for byte.
-#[tactic(auto, using(crate::proofs::AsRead::as_read))]
+#[tactic(auto, using(crate::proofs::CommandsAsRead::as_read))]
 pub fn read_commands_are_written_as_they_were()
     ensures written { (c : CapabilityFlags) (v : Command) (before rest : List ℕ) → AreBytes before → (command c).Spells v before rest → command_bytes v ++ rest ≡ before }
 {}
