@@ -128,7 +128,9 @@ class Connection:
 
     def change_user(self, user, password, database):
         self.password = password
-        request = f"make_change_user {self.flags} {user} {PLACEHOLDER.decode()} {database} 45 mysql_native_password none"
+        # (a list without attributes, where both sides agreed to attributes)
+        attributes = "()" if self.flags & CONNECT_ATTRS else "none"
+        request = f"make_change_user {self.flags} {user} {PLACEHOLDER.decode()} {database} 45 mysql_native_password {attributes}"
         self.command(self.connections.written(request).replace(PLACEHOLDER, passwords.native(password, self.nonce)))
         return self.authenticate()
 

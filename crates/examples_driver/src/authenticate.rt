@@ -3,9 +3,12 @@
 use crate::connection::Connection;
 use crate::error::{Error, Result};
 use crate::errors::answer;
+use mysql_packets::constants::CapabilityFlags;
 use mysql_packets::io::ParseBuf;
 use mysql_packets::packets::caching_sha2_password::PublicKeyRequest;
-use mysql_packets::packets::{AuthMoreData, AuthPlugin, AuthSwitchRequest, PublicKeyResponse};
+use mysql_packets::packets::{
+    AuthMoreDataRef, AuthPlugin, AuthReply, AuthSwitchRequestRef, PublicKeyResponse,
+};
 use std::alloc::Global;
 use std::io::{Read, Write};
 
@@ -26,31 +29,49 @@ pub fn authenticate<R: Read, W: Write, A: Answers>(
 ) -> Result<()> {
     for _ in 0..10 {
         let payload = answer(connection)?;
-        match payload.first().copied() {
-            Some(0x00) => return Ok(()),
-            Some(0x01) => more(connection, &payload, scramble, answers),
-            Some(0xfe) => switch(connection, &payload, scramble, answers),
-            _ => Err(Error::Unknown("an answer to the login")),
-        }?;
+        let buf = ParseBuf::new(connection.alloc, &payload);
+        let reply = reply_in(buf, connection.capabilities)?;
+        if go_on(connection, &reply, scramble, answers)? {
+            return Ok(());
+        }
     }
     Err(Error::Unknown("a login without an end"))
+}
+
+fn reply_in<'a>(mut buf: ParseBuf<'a>, capabilities: CapabilityFlags) -> Result<AuthReply<'a>> {
+    Ok(buf.parse(capabilities)?)
+}
+
+/// Answers one reply. Whether it says that the login is done.
+fn go_on<R: Read, W: Write, A: Answers>(
+    connection: &mut Connection<R, W>,
+    reply: &AuthReply<'_>,
+    scramble: &mut Vec<u8>,
+    answers: &mut A,
+) -> Result<bool> {
+    match reply {
+        AuthReply::OkPacket(_) => Ok(true),
+        AuthReply::MoreData(data) => more(connection, data, scramble, answers),
+        AuthReply::Switch(request) => switch(connection, request, scramble, answers),
+        _ => Err(Error::Unknown("an answer to the login")),
+    }
 }
 
 /// Answers by another plugin, and keeps its scramble.
 fn switch<R: Read, W: Write, A: Answers>(
     connection: &mut Connection<R, W>,
-    payload: &[u8],
+    request: &AuthSwitchRequestRef<'_>,
     scramble: &mut Vec<u8>,
     answers: &mut A,
-) -> Result<()> {
-    let request: AuthSwitchRequest<'_> = ParseBuf::new(connection.alloc, payload).parse(())?;
-    let sent = switched(&request, scramble, answers)?;
-    connection.send(&sent)
+) -> Result<bool> {
+    let sent = switched(request, scramble, answers)?;
+    connection.send(&sent)?;
+    Ok(false)
 }
 
 /// The answer of another plugin to its scramble, which is kept. `client_ed25519` signs the whole of it.
 fn switched<A: Answers>(
-    request: &AuthSwitchRequest<'_>,
+    request: &AuthSwitchRequestRef<'_>,
     scramble: &mut Vec<u8>,
     answers: &mut A,
 ) -> Result<Vec<u8>> {
@@ -67,22 +88,18 @@ fn switched<A: Answers>(
 /// which goes encrypted by the server's public key.
 fn more<R: Read, W: Write, A: Answers>(
     connection: &mut Connection<R, W>,
-    payload: &[u8],
+    more: &AuthMoreDataRef<'_>,
     scramble: &[u8],
     answers: &mut A,
-) -> Result<()> {
-    if !asks_for_password(connection.alloc, payload)? {
-        return Ok(());
+) -> Result<bool> {
+    if more.data() != [4].as_slice() {
+        return Ok(false);
     }
     connection.send_packet(&PublicKeyRequest::new())?;
     let payload = answer(connection)?;
     let sent = encrypted(connection.alloc, &payload, scramble, answers)?;
-    connection.send(&sent)
-}
-
-fn asks_for_password(alloc: Global, payload: &[u8]) -> Result<bool> {
-    let more: AuthMoreData<'_> = ParseBuf::new(alloc, payload).parse(())?;
-    Ok(more.data() == [4].as_slice())
+    connection.send(&sent)?;
+    Ok(false)
 }
 
 /// The password, encrypted by the key of the server's response.

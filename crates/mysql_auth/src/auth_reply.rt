@@ -25,8 +25,8 @@ use std::borrow::CowSlice;
 /// | `02` | [`NextFactor`](AuthReply::NextFactor) where both sides agreed to `MULTI_FACTOR_AUTHENTICATION` |
 /// | another, or none | [`PluginData`](AuthReply::PluginData) |
 ///
-/// A plugin speaks as it likes: MariaDB puts `01` in front of its data only where that begins with `00`, `01`, `fe` or `ff`, and
-/// MySQL, which alone knows of factors, in any case. So no reply has two meanings.
+/// A plugin speaks as it likes: MariaDB puts `01` in front of its data only where that begins with `00`, `01`, `fe` or
+/// `ff`, and MySQL, which alone knows of factors, in any case. So no reply has two meanings.
 ///
 /// A switch or a factor without the zero of its plugin's name is `UnexpectedEof`. All else is read, without memory.
 #[derive(Clone, Debug, PartialEq, Eq, Drop)]

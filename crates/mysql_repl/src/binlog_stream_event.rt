@@ -36,7 +36,8 @@ pub type BinlogStreamEventHeader = ConstU8<InvalidBinlogStreamEventHeader, 0x00>
 /// Reading is passed whether it is agreed on: the replica sets `@rpl_semi_sync_slave` (`@rpl_semi_sync_replica`) to 1 before
 /// it asks for the dump, and the server has its side enabled.
 ///
-/// Missing bytes before the event are `UnexpectedEof`, another value for `00` or `ef` is `InvalidData`. Reading takes no memory.
+/// Missing bytes before the event are `UnexpectedEof`, another value for `00` or `ef` is `InvalidData`. Reading takes no
+/// memory.
 #[derive(Clone, Debug, PartialEq, Eq)]
 pub struct BinlogStreamEvent<'a> {
     header: BinlogStreamEventHeader,

@@ -15,8 +15,8 @@ use std::borrow::CowSlice;
 /// | `ff` | [`Error`](BinlogStreamPacket::Error) |
 /// | `00` | [`Event`](BinlogStreamPacket::Event), whose context it is passed |
 ///
-/// An event that is cut before its own bytes, and an empty packet, are `UnexpectedEof`; a packet that begins with another byte is
-/// `InvalidData`. Reading takes no memory: the bytes stay in the payload.
+/// An event that is cut before its own bytes, and an empty packet, are `UnexpectedEof`; a packet that begins with another
+/// byte is `InvalidData`. Reading takes no memory: the bytes stay in the payload.
 #[derive(Clone, Debug, PartialEq, Eq, Drop)]
 pub enum BinlogStreamPacket<'a> {
     /// An event of the log.
