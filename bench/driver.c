@@ -24,8 +24,8 @@ call bench_statements_read, bench_statements_written, bench_columns_read, bench_
     bench_bulk_rows_offered_refs, bench_bulk_rows_streamed, bench_bulk_rows_iterated,
     bench_ok_packets_sent, bench_rows_sent, bench_text_rows_sent, bench_executions_received,
     bench_handshakes_read, bench_handshakes_written, bench_responses_written, bench_registrations_written, bench_gtid_dumps_read,
-    bench_gtid_dumps_written, bench_packets_passed, bench_payloads_found, bench_payloads_joined, bench_payloads_framed, bench_rows_told,
-    bench_exchanges_told, bench_text_rows_streamed;
+    bench_gtid_dumps_written, bench_packets_passed, bench_payloads_found, bench_payloads_joined, bench_payloads_framed, bench_rows_distinguished,
+    bench_exchanges_followed, bench_text_rows_streamed;
 
 struct batch {
     uint8_t *bytes;
@@ -467,9 +467,9 @@ static const struct operation {
     { "payloads_joined", 10000, "payload of a text row, found in a stream in pieces of 1,460 bytes", put_framed_row, bench_payloads_joined },
     { "packets_passed", 10000, "payload in a batch, passed", put_text_row, bench_packets_passed },
     { "payloads_framed", 10000, "payload of a text row, put into a frame", put_text_row, bench_payloads_framed },
-    { "rows_told", 10000, "text row, told apart", put_text_row, bench_rows_told },
+    { "rows_distinguished", 10000, "text row, distinguished", put_text_row, bench_rows_distinguished },
     { "exchanges_passed", 10000, "two payloads in a batch, passed", put_exchange, bench_packets_passed },
-    { "exchanges_told", 10000, "query and its OK packet, told apart", put_exchange, bench_exchanges_told },
+    { "exchanges_followed", 10000, "query and its OK packet, distinguished", put_exchange, bench_exchanges_followed },
     { "text_rows_streamed", 10000, "text row of 10 columns, from a stream to its values", put_framed_row, bench_text_rows_streamed },
 };
 

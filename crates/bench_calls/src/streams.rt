@@ -146,7 +146,7 @@ fn before_rows(alloc: Global) -> Result<Conversation, Unexpected> {
 
 /// What a packet adds to the sum: a number of its kind.
 #[inline(always)]
-fn told(kind: Kind) -> u64 {
+fn number_of(kind: Kind) -> u64 {
     match kind {
         Kind::Row(_) => 1,
         Kind::Command(code) => u64::from(code),
@@ -155,27 +155,27 @@ fn told(kind: Kind) -> u64 {
     }
 }
 
-fn rows_told(alloc: Global, batch: &[u8]) -> Result<u64, Unexpected> {
+fn rows_distinguished(alloc: Global, batch: &[u8]) -> Result<u64, Unexpected> {
     let mut conversation = before_rows(alloc)?;
     let mut sum = 0u64;
     for packet in Packets::new(batch) {
-        sum = sum.wrapping_add(told(conversation.next(Side::Server, packet)?));
+        sum = sum.wrapping_add(number_of(conversation.next(Side::Server, packet)?));
     }
     Ok(sum)
 }
 
-/// Tells the rows of a result from what could stand in their places, and answers a sum over their kinds.
+/// Distinguishes the rows of a result from what could stand in their places, and answers a sum over their kinds.
 #[unsafe(no_mangle)]
-pub extern "C" fn bench_rows_told(alloc: Global, batch: &[u8]) -> u64 {
-    rows_told(alloc, batch).unwrap_or(0)
+pub extern "C" fn bench_rows_distinguished(alloc: Global, batch: &[u8]) -> u64 {
+    rows_distinguished(alloc, batch).unwrap_or(0)
 }
 
-fn exchanges_told(alloc: Global, batch: &[u8]) -> Result<u64, Unexpected> {
+fn exchanges_followed(alloc: Global, batch: &[u8]) -> Result<u64, Unexpected> {
     let mut conversation = connection(alloc);
     let mut side = Side::Client;
     let mut sum = 0u64;
     for packet in Packets::new(batch) {
-        sum = sum.wrapping_add(told(conversation.next(side, packet)?));
+        sum = sum.wrapping_add(number_of(conversation.next(side, packet)?));
         side = match side {
             Side::Client => Side::Server,
             Side::Server => Side::Client,
@@ -186,8 +186,8 @@ fn exchanges_told(alloc: Global, batch: &[u8]) -> Result<u64, Unexpected> {
 
 /// Follows commands and their OK packets, and answers a sum over their kinds.
 #[unsafe(no_mangle)]
-pub extern "C" fn bench_exchanges_told(alloc: Global, batch: &[u8]) -> u64 {
-    exchanges_told(alloc, batch).unwrap_or(0)
+pub extern "C" fn bench_exchanges_followed(alloc: Global, batch: &[u8]) -> u64 {
+    exchanges_followed(alloc, batch).unwrap_or(0)
 }
 
 fn values_of(alloc: Global, batch: &[u8]) -> Result<u64, Wrong> {
