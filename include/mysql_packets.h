@@ -9,7 +9,7 @@
  * NULL and 0 asks how many bytes a packet takes. What a call hands out through a pointer is initialized before, each element of an
  * array too (each struct has an initializer for that; zeroed memory serves as well), and overlaps nothing else that is passed.
  *
- * C99 or later, and C++.
+ * C99 or later, and C++, where a pointer has 8 bytes and numbers are little-endian.
  *
  * Each call answers an enum myp_code. After another code than MYP_OK what `out` points to is as it was, unless the call's
  * line says more. A struct keeps its layout: further fields come with a struct and a call of another name.
@@ -20,6 +20,13 @@
 
 #include <stddef.h>
 #include <stdint.h>
+
+#if UINTPTR_MAX != 0xffffffffffffffff
+#error "mysql_packets.h: the library is one for hosts whose pointers have 8 bytes"
+#endif
+#if defined(__BYTE_ORDER__) && __BYTE_ORDER__ != __ORDER_LITTLE_ENDIAN__
+#error "mysql_packets.h: the library is one for little-endian hosts"
+#endif
 
 #ifdef __cplusplus
 extern "C" {

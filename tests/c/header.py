@@ -1,5 +1,6 @@
 #!/usr/bin/env python3
-"""Holds include/mysql_packets.h to the library: each struct, field and number, each call with its parameters and its answer.
+"""Holds include/mysql_packets.h to the library: each struct, field and number, each call with its parameters and its answer; and to the hosts
+that it is for.
 
 The offset of each field and the size of each struct, as Rattle lays a `repr(C)` struct out, are asserted by the C compiler over the
 header. Numbers are those of crates/mysql_wire, and of <mysql.h> where Debian's libmariadb-dev is installed. The last line is 'N passed, N
@@ -138,6 +139,9 @@ def main():
     passed += len(exported.keys() & declared.keys())
     wrong += [f"{it} is a call of one side alone" for it in exported.keys() ^ declared.keys()]
     wrong += [f"{it} takes {', '.join(declared[it])} in C, and {', '.join(exported[it])} in Rattle" for it in exported.keys() & declared.keys() if exported[it] != declared[it]]
+    hosts = {"whose pointers have 4 bytes": ["-m32", "-ffreestanding"], "that is big-endian": ["-U__BYTE_ORDER__", "-D__BYTE_ORDER__=__ORDER_BIG_ENDIAN__"]}
+    taken = [it for it, flags in hosts.items() if not any("the library is one for" in line for line in refused(["#include <mysql_packets.h>"], *flags))]
+    passed, wrong = passed + len(hosts) - len(taken), wrong + [f"a host {it} is not refused" for it in taken]
     declared_names = set(re.findall(r"\b(MYP_\w+) =|\b(MYP_\w+),", " ".join(re.findall(r"enum \w+ \{(.*?)\};", header, re.S))))
     names = {a or b for a, b in declared_names}
     ours = {name: value for name, value in numbers_of_the_library().items() if name in names}

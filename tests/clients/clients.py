@@ -2,7 +2,8 @@
 """Real clients and a server whose packets the library for C reads and writes: the mariadb command line, libmariadb and PyMySQL.
 
 clients.py [NAME ..]: the clients of these names, else all. The library is the one that tests/c/run.sh installs. A client that is not installed is
-skipped (Debian: apt-get install mariadb-client libmariadb-dev python3-pymysql). The last line is 'N passed, N failed'."""
+skipped (Debian: apt-get install mariadb-client libmariadb-dev python3-pymysql). The kinds of all packets, as this server knows them, are those
+that the library's conversations answer. The last line is 'N passed, N failed'."""
 import datetime
 import shutil
 import subprocess
@@ -12,7 +13,9 @@ import threading
 from pathlib import Path
 
 HERE = Path(__file__).resolve().parent
-sys.path[:0] = [str(HERE), str(HERE.parent.parent / "examples/python")]
+sys.path[:0] = [str(HERE), str(HERE.parent.parent / "examples/python"), str(HERE.parent / "probe")]
+from conversations import other_kind, request
+from lines import answers, built
 from mysql_packets import Library
 from served import CELLS, ERROR, PASSWORD, PARAMETERS, SCHEMA, UPDATED, USER
 from server import Server
@@ -41,6 +44,14 @@ class Clients:
             found = lines[number] if number < len(lines) else "nothing"
             self.check(f"{client}, line {number + 1}", found == line, f"{found} is not {line}")
         self.check(f"{client}: nothing else", len(lines) == len(wanted), lines[len(wanted):])
+
+    def conversations(self):
+        """Holds the packets of each conversation to their kinds, and to its end."""
+        all_of_them = self.server.conversations
+        for program in built("program"):
+            for (packets, kinds), line in zip(all_of_them, answers(program, [request(packets) for packets, _ in all_of_them])):
+                other = other_kind(packets, kinds, line)
+                self.check("kinds of packets", not other and line.endswith("at_rest=yes"), other or line[-100:])
 
     # the clients
 
@@ -116,6 +127,7 @@ def main(*names):
             missing = getattr(it, name)()
             if missing:
                 print(f"clients: {name} is skipped, since it is not installed (Debian: apt-get install {missing})")
+        it.conversations()
         it.check("the server met no fault", not server.faults, server.faults)
         server.shutdown()
     for line in it.failures[-1:] + it.failures[:30]:

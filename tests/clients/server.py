@@ -1,10 +1,12 @@
-"""A server whose packets are all read and written by the library for C. The sockets are its own."""
+"""A server whose packets are all read and written by the library for C. The sockets are its own; it finds the payloads itself, and knows of
+which kind each is."""
 import ctypes
 import socketserver
 import sys
 from pathlib import Path
 
-sys.path.insert(0, str(Path(__file__).resolve().parent.parent.parent / "examples/python"))
+sys.path[:0] = [str(Path(__file__).resolve().parent.parent.parent / "examples/python"), str(Path(__file__).resolve().parent.parent / "probe")]
+from conversations import CLIENT, SERVER, Packet
 from mysql_packets import PacketError
 from served import CELLS, CHANGES, ERROR, NAME, PASSWORD, SCHEMA, UPDATED, USER
 
@@ -16,6 +18,9 @@ class Session(socketserver.BaseRequestHandler):
 
     def handle(self):
         self.packets, self.sequence, self.statements, self.long_data = self.server.packets, 0, {}, {}
+        # the packets of both sides, and of which kind each is
+        self.sent, self.kinds = [], []
+        self.server.conversations.append((self.sent, self.kinds))
         try:
             if self.login():
                 while self.command():
@@ -36,16 +41,20 @@ class Session(socketserver.BaseRequestHandler):
             got += part
         return bytes(got)
 
-    def receive(self):
+    def receive(self, kind):
         payload = b""
         while True:
             header = self.packets.read("myp_read_header", self.exactly(4), into="myp_header")
             self.sequence = header.sequence_id + 1 & 0xFF
             payload += self.exactly(header.payload_length)
             if header.payload_length < 0xFFFFFF:
+                self.sent.append(Packet(CLIENT, header.sequence_id, payload))
+                self.kinds.append(kind)
                 return payload
 
-    def send(self, payload):
+    def send(self, payload, kind):
+        self.sent.append(Packet(SERVER, self.sequence, payload))
+        self.kinds.append(kind)
         while True:
             part, payload = payload[:0xFFFFFF], payload[0xFFFFFF:]
             self.request.sendall(self.packets.write("myp_write_header", len(part), self.sequence) + part)
@@ -61,10 +70,11 @@ class Session(socketserver.BaseRequestHandler):
         # (the state is sent where the flag of the status says so)
         status = p.MYP_SERVER_STATUS_AUTOCOMMIT | (p.MYP_SERVER_SESSION_STATE_CHANGED if state else 0)
         packet = p.new("myp_ok", status_flags=status, session_state=state, **fields)
-        self.send(p.write("myp_write_ok", packet, getattr(p, kind), self.capabilities))
+        kinds = {"MYP_OK_COMMON": "ok", "MYP_OK_TERMINATOR": "ok_terminator", "MYP_OK_OLD_EOF": "eof"}
+        self.send(p.write("myp_write_ok", packet, getattr(p, kind), self.capabilities), kinds[kind])
 
     def error(self, **fields):
-        self.send(self.packets.write("myp_write_error", self.packets.new("myp_error", **fields)))
+        self.send(self.packets.write("myp_write_error", self.packets.new("myp_error", **fields)), "error")
 
     def end(self):
         """The end of columns or rows, where both sides don't leave it out."""
@@ -88,19 +98,19 @@ class Session(socketserver.BaseRequestHandler):
 
     def columns(self, definitions):
         for it in definitions:
-            self.send(it)
+            self.send(it, "column")
         if definitions and not self.deprecates_eof:
             self.end()
 
     def value(self, fields):
         return self.packets.new("myp_value", **{**fields, "kind": getattr(self.packets, fields["kind"])})
 
-    def result(self, definitions, row):
-        """A result of one row."""
+    def result(self, definitions, row, kind):
+        """A result of one row, of this kind."""
         p = self.packets
-        self.send(p.write("myp_write_column_count", p.new("myp_column_count", count=len(definitions), metadata_follows=1), 0))
+        self.send(p.write("myp_write_column_count", p.new("myp_column_count", count=len(definitions), metadata_follows=1), 0), "column_count")
         self.columns(definitions)
-        self.send(row)
+        self.send(row, kind)
         self.end()
 
     def text_row(self, cells):
@@ -121,8 +131,8 @@ class Session(socketserver.BaseRequestHandler):
         self.capabilities, self.deprecates_eof = offered, False
         self.send(p.write("myp_write_handshake", p.new(
             "myp_handshake", protocol_version=10, server_version=b"8.0.40-served", connection_id=7, scramble_1=NONCE[:8], scramble_2=NONCE[8:] + b"\0",
-            auth_plugin_name=b"mysql_native_password", capabilities=offered, status_flags=p.MYP_SERVER_STATUS_AUTOCOMMIT, default_collation=45)))
-        said = p.read("myp_read_login_request", self.receive(), into="myp_login_request")
+            auth_plugin_name=b"mysql_native_password", capabilities=offered, status_flags=p.MYP_SERVER_STATUS_AUTOCOMMIT, default_collation=45)), "handshake")
+        said = p.read("myp_read_login_request", self.receive("login"), into="myp_login_request")
         self.capabilities = offered & said.capabilities
         self.deprecates_eof = bool(self.capabilities & p.MYP_CLIENT_DEPRECATE_EOF)
         wanted = p.write("myp_scramble_native", PASSWORD, NONCE)
@@ -141,7 +151,7 @@ class Session(socketserver.BaseRequestHandler):
         return found
 
     def command(self):
-        p, payload = self.packets, self.receive()
+        p, payload = self.packets, self.receive("command")
         code, text = payload[0], payload[1:]
         if code == p.MYP_COM_QUIT:
             return False
@@ -163,13 +173,13 @@ class Session(socketserver.BaseRequestHandler):
 
     def query(self, sql):
         if sql == b"SELECT cells":
-            self.result([self.column_of(it) for it in CELLS], self.text_row(CELLS))
+            self.result([self.column_of(it) for it in CELLS], self.text_row(CELLS), "text_row")
         elif sql.startswith(b"SELECT nothing_here"):
             self.error(**ERROR)
         elif sql == b"UPDATE cells":
             self.ok(changes=CHANGES, **UPDATED)
         elif sql.lower().startswith(b"select"):
-            self.result([self.column_of(NAME)], self.text_row([NAME]))
+            self.result([self.column_of(NAME)], self.text_row([NAME]), "text_row")
         else:
             self.ok()
 
@@ -181,7 +191,7 @@ class Session(socketserver.BaseRequestHandler):
         columns = [self.column_of(it) for it in CELLS] if sql == b"SELECT cells" else texts
         number = len(self.statements) + 1
         self.statements[number] = sql, [self.type_of(NAME)] * params
-        self.send(p.write("myp_write_statement", p.new("myp_statement", statement_id=number, num_columns=len(columns), num_params=params)))
+        self.send(p.write("myp_write_statement", p.new("myp_statement", statement_id=number, num_columns=len(columns), num_params=params)), "prepare_ok")
         self.columns(texts)
         self.columns(columns)
 
@@ -191,12 +201,13 @@ class Session(socketserver.BaseRequestHandler):
         number = p.read("myp_read_execution_head", payload, into="myp_execution_head").statement_id
         sql, types = self.statements[number]
         if sql == b"SELECT cells":
-            return self.result([self.column_of(it) for it in CELLS], self.binary_row([self.type_of(it) for it in CELLS], [self.value(it.value) for it in CELLS]))
+            row = self.binary_row([self.type_of(it) for it in CELLS], [self.value(it.value) for it in CELLS])
+            return self.result([self.column_of(it) for it in CELLS], row, "binary_row")
         values, types = self.execution(payload, number, types)
         self.statements[number] = sql, types
         unsigned = [p.MYP_UNSIGNED_FLAG * it.is_unsigned for it in types]
         self.result([self.column(f"p{i}", it, flags, 45 if it.column_type == p.MYP_TYPE_STRING else 63) for i, (it, flags) in enumerate(zip(types, unsigned))],
-                    self.binary_row(types, values))
+                    self.binary_row(types, values), "binary_row")
 
     def execution(self, payload, number, types):
         """The values of an execution, and the types that they have now. What was sent ahead is joined."""
@@ -220,4 +231,4 @@ class Server(socketserver.ThreadingTCPServer):
     def __init__(self, address, packets):
         super().__init__(address, Session)
         # what clients said, and where the library refused a packet
-        self.packets, self.logins, self.executions, self.faults = packets, [], [], []
+        self.packets, self.logins, self.executions, self.faults, self.conversations = packets, [], [], [], []

@@ -3,7 +3,8 @@
 the recipes of crates/examples_driver.
 
 live.py [NAME ..]: the sessions of these names, else all. It starts a server of its own, on the loopback address. Each packet is
-read and written by the probes that rt ci leaves. The last line is 'N passed, N failed'.
+read and written by the probes that rt ci leaves. The kinds of a session's packets, as this client knows them, are those that the
+library's conversations answer. The last line is 'N passed, N failed'.
 """
 import random
 import socket
@@ -14,6 +15,8 @@ from pathlib import Path
 
 sys.path[:0] = [str(Path(__file__).resolve().parent), str(Path(__file__).resolve().parent.parent / "probe")]
 import server
+from conversations import other_kind, request
+from lines import answers, built
 from recipes import Recipes
 from wire import BULK_OPERATIONS, EXTENDED_METADATA, Connection, Probe, Refused, data
 
@@ -79,6 +82,15 @@ class Sessions(Recipes):
             self.check(what, False, call())
         except Refused as it:
             self.check(what, it.args[0] == code, it)
+
+    def conversations(self):
+        """Holds the packets of what was opened to their kinds, and each closed session to its end."""
+        opened, Connection.opened = Connection.opened, []
+        for program in built("program"):
+            for it, line in zip(opened, answers(program, [request(it.packets) for it in opened])):
+                other = other_kind(it.packets, it.kinds, line)
+                self.check("kinds of packets", not other, other)
+                self.check("a session that was closed is over", not it.is_closed or line.endswith("at_rest=yes"), line[-100:])
 
     def connect(self, user="native", password=b"secret", **how):
         it = Connection(self.port, *self.probes)
@@ -233,6 +245,7 @@ class Sessions(Recipes):
         self.check("a registration is taken", it.result()["affected_rows"] == "0")
         it.command(self.probes[0].written("request position 7 0 4 bin.000001 none"))
         event = it.receive()
+        it.known("binlog_event")
         self.check("a dump", event[0] == 0 and event[5] == 4, event[:20])
         it.socket.close()
 
@@ -251,6 +264,7 @@ def main(*names):
             begun = time.time()
             try:
                 getattr(it, name)()
+                it.conversations()
             except (Refused, ConnectionError, socket.timeout, KeyError, ValueError) as error:
                 it.failures.append(f"{name}: {type(error).__name__} {str(error)[:300]}")
             print(f"live: {name}, {time.time() - begun:.0f} s")

@@ -1,8 +1,11 @@
-"""A client whose packets are all read and written by the library: the probes answer what is in them."""
+"""A client whose packets are all read and written by the library: the probes answer what is in them.
+
+It finds the payloads itself, and knows itself of which kind each is: a second opinion on the library's frames and conversations."""
 import socket
 import subprocess
 
 import passwords
+from conversations import CLIENT, SERVER, Packet
 from lines import built
 
 CONNECT_WITH_DB, LOCAL_FILES, PROTOCOL_41, SECURE, MULTI_RESULTS, PLUGIN_AUTH = 1 << 3, 1 << 7, 1 << 9, 1 << 15, 1 << 17, 1 << 19
@@ -49,13 +52,20 @@ def data(word):
 
 
 class Connection:
+    # all that were opened
+    opened = []
+
     def __init__(self, port, connections, replies, statements):
+        # the packets of both sides, and of which kind each is
+        self.packets, self.kinds, self.is_closed = [], [], False
+        Connection.opened.append(self)
         self.connections, self.replies, self.statements = connections, replies, statements
         self.socket = socket.create_connection(("127.0.0.1", port), 60)
         self.sequence, self.flags, self.mariadb, self.infile, self.changes, self.columns = 0, 0, 0, b"", [], []
         first = self.receive()
         if first[0] == 0xFF:
             self.raise_error(first, "greeting_error")
+        self.known("handshake")
         self.greeting = connections.fields(f"handshake {first.hex()}")
         parts = data(self.greeting["scramble_1"]), data(self.greeting["scramble_2"]) or b""
         self.nonce = b"".join(parts)[:20]
@@ -78,9 +88,17 @@ class Connection:
             length, self.sequence = int.from_bytes(head[:3], "little"), (head[3] + 1) & 0xFF
             payload += self.exactly(length)
             if length < 0xFFFFFF:
+                self.packets.append(Packet(SERVER, head[3], payload))
+                self.kinds.append("unknown")
                 return payload
 
-    def send(self, payload):
+    def known(self, kind):
+        """Says of which kind the packet is that was just received."""
+        self.kinds[-1] = kind
+
+    def send(self, payload, kind):
+        self.packets.append(Packet(CLIENT, self.sequence, payload))
+        self.kinds.append(kind)
         while True:
             part, payload = payload[:0xFFFFFF], payload[0xFFFFFF:]
             self.socket.sendall(len(part).to_bytes(3, "little") + bytes([self.sequence]) + part)
@@ -90,13 +108,15 @@ class Connection:
 
     def command(self, payload):
         self.sequence = 0
-        self.send(payload)
+        self.send(payload, "command")
 
     def close(self):
         self.command(b"\x01")
+        self.is_closed = True
         self.socket.close()
 
     def raise_error(self, packet, kind=None):
+        self.known("error")
         error = self.replies.fields(f"{kind or f'err {self.flags}'} {packet.hex()}")
         raise Refused(int(error["error"]), data(error["message"]).decode())
 
@@ -109,7 +129,7 @@ class Connection:
         request = f"make_response 10.0.0 {flags} {mariadb} 67108864 {answer} {user} {database or 'none'} {plugin} {pairs}"
         self.flags, self.mariadb = flags & int(self.greeting["capabilities"]), mariadb & int(self.greeting["mariadb"])
         self.password = password
-        self.send(self.connections.written(request).replace(PLACEHOLDER, passwords.native(password, self.nonce)))
+        self.send(self.connections.written(request).replace(PLACEHOLDER, passwords.native(password, self.nonce)), "login")
         return self.authenticate()
 
     def authenticate(self):
@@ -120,11 +140,12 @@ class Connection:
                 self.raise_error(packet)
             if packet[0] == 0:
                 return self.ok("ok", packet)
+            self.known("auth_switch")
             switch = self.connections.fields(f"auth_switch {packet.hex()}")
             if data(switch["plugin"]) == b"client_ed25519":
-                self.send(passwords.ed25519(self.password, data(switch["raw"])))
+                self.send(passwords.ed25519(self.password, data(switch["raw"])), "auth_data")
             else:
-                self.send(passwords.native(self.password, data(switch["plugin_data"])))
+                self.send(passwords.native(self.password, data(switch["plugin_data"])), "auth_data")
 
     def change_user(self, user, password, database):
         self.password = password
@@ -138,13 +159,16 @@ class Connection:
 
     def ok(self, kind, packet):
         """The fields of an OK packet, and the words of its changes."""
+        self.known("ok_terminator" if kind == "ok_end" else "ok")
         words = self.replies.ask(f"{kind} {self.flags} {packet.hex()}")
         self.changes = [it for it in words if it.split("=")[0] in ("schema", "name", "value", "is_tracked", "state", "characteristics")]
         return dict(reversed([it.split("=", 1) for it in words if "=" in it]))
 
     def column(self):
         """The fields of a column, whose packet is written again as it was."""
-        return self.replies.fields(f"extended_column {self.mariadb} {self.receive().hex()}")
+        packet = self.receive()
+        self.known("column")
+        return self.replies.fields(f"extended_column {self.mariadb} {packet.hex()}")
 
     def result(self, binary=False):
         """The fields of the OK packet, or the rows, each a list of words."""
@@ -154,10 +178,12 @@ class Connection:
         if packet[0] == 0:
             return self.ok("ok", packet)
         if packet[0] == 0xFB:
+            self.known("local_infile")
             self.infile_name = data(self.replies.fields(f"local_infile {packet.hex()}")["file_name"])
-            self.send(self.infile)
-            self.send(b"")
+            self.send(self.infile, "infile_content")
+            self.send(b"", "infile_end")
             return self.result()
+        self.known("column_count")
         self.columns = [self.column() for _ in range(packet[0])]
         types = ",".join(it["column_type"] + "u" * bool(int(it["flags"]) & UNSIGNED) for it in self.columns)
         rows = []
@@ -168,6 +194,7 @@ class Connection:
             if packet[0] == 0xFE and len(packet) < 0xFFFFFF:
                 self.ok("ok_end", packet)
                 return rows
+            self.known("binary_row" if binary else "text_row")
             words = self.statements.ask(f"{'row' if binary else 'row_text'} {types} {packet.hex()}")
             rows.append([it for it in words[1:] if "=" not in it])
 
@@ -186,6 +213,7 @@ class Connection:
         packet = self.receive()
         if packet[0] == 0xFF:
             self.raise_error(packet)
+        self.known("prepare_ok")
         statement = self.statements.fields(f"stmt {packet.hex()}")
         for _ in range(int(statement["num_params"]) + int(statement["num_columns"])):
             self.column()

@@ -7,7 +7,9 @@ conversations.py --unproved [FILE]  asks it built without proof
 The last line is 'N passed, N failed'."""
 import lzma
 import random
+import re
 import sys
+from itertools import zip_longest
 from pathlib import Path
 
 from lines import TOP, answers, built
@@ -78,6 +80,14 @@ def wanted(packets, limit=LIMIT):
 
 def request(packets):
     return " ".join([f"session {LIMIT}"] + [it.word() for it in packets])
+
+
+def other_kind(packets, kinds, line):
+    """The first packet that the library answers to be of another kind than who sent or received it knows, or no text."""
+    answered = [re.match(r"[<>]\w+", word)[0] for word in line.split() if word[0] in "<>"]
+    known = [it.side + kind for it, kind in zip(packets, kinds)]
+    pairs = enumerate(zip_longest(answered, known))
+    return next((f"packet {at} of {len(known)} is {a}, and known as {b}" for at, (a, b) in pairs if a != b), "")
 
 
 def in_pieces(packets, size):
