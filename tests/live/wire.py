@@ -116,7 +116,8 @@ class Connection:
         self.socket.close()
 
     def raise_error(self, packet, kind=None):
-        self.known("error")
+        # (in place of the greeting it answers nothing)
+        self.known("unasked_error" if kind == "greeting_error" else "error")
         error = self.replies.fields(f"{kind or f'err {self.flags}'} {packet.hex()}")
         raise Refused(int(error["error"]), data(error["message"]).decode())
 
