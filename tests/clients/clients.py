@@ -47,9 +47,10 @@ class Clients:
 
     def conversations(self):
         """Holds the packets of each conversation to their kinds, and to its end."""
-        all_of_them = self.server.conversations
+        # (a client's last packet may still be coming)
+        held = [tuple(zip(*list(it))) for it in self.server.conversations if it]
         for program in built("program"):
-            for (packets, kinds), line in zip(all_of_them, answers(program, [request(packets) for packets, _ in all_of_them])):
+            for (packets, kinds), line in zip(held, answers(program, [request(packets) for packets, _ in held])):
                 other = other_kind(packets, kinds, line)
                 self.check("kinds of packets", not other and line.endswith("at_rest=yes"), other or line[-100:])
 

@@ -18,9 +18,9 @@ class Session(socketserver.BaseRequestHandler):
 
     def handle(self):
         self.packets, self.sequence, self.statements, self.long_data = self.server.packets, 0, {}, {}
-        # the packets of both sides, and of which kind each is
-        self.sent, self.kinds = [], []
-        self.server.conversations.append((self.sent, self.kinds))
+        # the packets of both sides, each with its kind
+        self.conversation = []
+        self.server.conversations.append(self.conversation)
         try:
             if self.login():
                 while self.command():
@@ -48,13 +48,11 @@ class Session(socketserver.BaseRequestHandler):
             self.sequence = header.sequence_id + 1 & 0xFF
             payload += self.exactly(header.payload_length)
             if header.payload_length < 0xFFFFFF:
-                self.sent.append(Packet(CLIENT, header.sequence_id, payload))
-                self.kinds.append(kind)
+                self.conversation.append((Packet(CLIENT, header.sequence_id, payload), kind))
                 return payload
 
     def send(self, payload, kind):
-        self.sent.append(Packet(SERVER, self.sequence, payload))
-        self.kinds.append(kind)
+        self.conversation.append((Packet(SERVER, self.sequence, payload), kind))
         while True:
             part, payload = payload[:0xFFFFFF], payload[0xFFFFFF:]
             self.request.sendall(self.packets.write("myp_write_header", len(part), self.sequence) + part)
