@@ -256,7 +256,7 @@ pub fn session(out: &mut Out, request: &Request<'_>) {
 fn agreed_by(request: &Request<'_>, place: usize) -> SessionCapabilities {
     SessionCapabilities {
         mysql: CapabilityFlags::from_bits_retain(request.number(place)),
-        mariadb: MariadbCapabilities::from_bits_retain(request.number(place + 1)),
+        mariadb: MariadbCapabilities::from_bits_retain(request.number(place.wrapping_add(1))),
     }
 }
 

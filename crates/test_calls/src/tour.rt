@@ -59,12 +59,12 @@ fn requests(out: &mut Out, alloc: Global) -> Result<(), Fault> {
     Ok(())
 }
 
-/// The first payload of a server's stream, if it lies whole in a piece.
+/// The first payload of a server's stream, where it is whole.
 fn stream(out: &mut Out, alloc: Global, piece: &[u8]) -> Result<(), FrameError> {
     let mut input = piece;
     let mut frames = FrameReader::new(alloc, 1 << 24);
-    while let Some(payload) = frames.read(&mut input)? {
-        // the bytes of a stream, in any pieces, give its payloads
+    if let Some(payload) = frames.read(&mut input)? {
+        // the next payload of a stream, whose bytes come in any pieces
         if session(out, alloc, payload.as_slice()).is_err() {
             out.word("unexpected");
         }
