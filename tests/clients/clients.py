@@ -52,7 +52,7 @@ class Clients:
         for program in built("program"):
             for (packets, kinds), line in zip(held, answers(program, [request(packets) for packets, _ in held])):
                 other = other_kind(packets, kinds, line)
-                self.check("kinds of packets", not other and line.endswith("at_rest=yes"), other or line[-100:])
+                self.check("kinds of packets", not other and "at_rest=yes" in line.split(), other or line[-100:])
 
     # the clients
 

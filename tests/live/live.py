@@ -90,7 +90,7 @@ class Sessions(Recipes):
             for it, line in zip(opened, answers(program, [request(it.packets) for it in opened])):
                 other = other_kind(it.packets, it.kinds, line)
                 self.check("kinds of packets", not other, other)
-                self.check("a session that was closed is over", not it.is_closed or line.endswith("at_rest=yes"), line[-100:])
+                self.check("a session that was closed is over", not it.is_closed or "at_rest=yes" in line.split(), line[-100:])
 
     def connect(self, user="native", password=b"secret", **how):
         it = Connection(self.port, *self.probes)
