@@ -16,6 +16,7 @@ Each check, what it reads, and what counts as proved or kept are rt's own: what 
 static library's check also records its verdict, of which the compiler then makes the archive that a part takes: it compares what it builds
 with what was proved. Where rt keeps that proof from an earlier run, the library alone is proved once more for it. This is written for two
 rts, by their checksums: with any other, rt ci runs as it is, and the mutants and the parts follow."""
+import fcntl
 import hashlib
 import importlib.machinery
 import importlib.util
@@ -203,10 +204,19 @@ def main(folder=None, *lines):
             found = []
             return in_lanes(with_mutants(with_parts(tasks, parts), found) if folder else tasks, rt.processors(), rt.free())
 
-        rt.in_lanes, rt.Crate.prove = ordered, prove
+        held, locked = [], rt.rtlib.lock
+
+        def lock(crates):
+            held.extend(locked(crates))
+            return held
+
+        rt.in_lanes, rt.Crate.prove, rt.rtlib.lock = ordered, prove, lock
         status = rt.main(["ci"])
         if status == 0:
             with_lacking_archives(rt, taken, proved)
+        # (a part that is left may call rt, which would wait for these folders for ever)
+        for it in held:
+            fcntl.flock(it, fcntl.LOCK_UN)
     else:
         print("gate: this rt is not the one that the order is written for, so rt ci runs as it is", flush=True)
         status = subprocess.run(["rt", "ci"], cwd=TOP, stdin=subprocess.DEVNULL).returncode
