@@ -1,6 +1,6 @@
 //! Payloads out of a stream of bytes that comes in any pieces.
 
-ghost use Rattle.std.specs.Prelude.{◌≡◌, ◌↔◌, ◌≤◌, ◌<◌, [], ◌++◌, length, IfOk, OnErr, IfSome, IfNone, IsTrue, IsErrOf, IsOk, List, ℕ};
+ghost use Rattle.std.specs.Prelude.{◌≡◌, ◌↔◌, ◌≤◌, ◌<◌, ◌⊎◌, [], ◌++◌, length, slice_index, IfOk, OnErr, IfSome, IfNone, IsTrue, IsErrOf, IsOk, List, ℕ};
 ghost use Rattle.std.specs.Cow.{cow_slice_items};
 ghost use Rattle.mysql_frames.specs.Frames as spec;
 ghost use Rattle.mysql_frames.specs.FrameReader.{AllLonger, BeginsInOrder, HandsOut, HoldsAll, Keeps, NoneWhole};
@@ -56,6 +56,21 @@ impl FrameReader {
         ensures limit { self.new.limit ≡ self.old.limit }
     {
         self.unfinished.expect(number);
+    }
+
+    /// Says that the next frame has the number that it was sent with, where its header is not there yet: what is held of it and the
+    /// input, which is what comes next, have that. It takes nothing of the input.
+    ///
+    /// Who watches a connection calls it before each [`read`](Self::read), since each command begins the numbers anew.
+    #[inline]
+    pub fn expect_as_sent(&mut self, input: &[u8])
+        ensures held { self.new.held ≡ self.old.held }
+        ensures number { length self.old.held < 4 → 4 ≤ length (self.old.held ++ input.now) → self.new.number ≡ slice_index (self.old.held ++ input.now) 3 }
+        // In the middle of a payload, and where the header is not there even with the input, the number stays.
+        ensures same { (4 ≤ length self.old.held) ⊎ (length (self.old.held ++ input.now) < 4) → self.new.number ≡ self.old.number }
+        ensures limit { self.new.limit ≡ self.old.limit }
+    {
+        self.unfinished.expect_as_sent(input);
     }
 
     /// The sequence number of the payload's first frame: of the next one that comes, where nothing is held.

@@ -1,6 +1,6 @@
 //! A payload that is not whole yet.
 
-ghost use Rattle.std.specs.Prelude.{◌≡◌, ◌≢◌, ◌↔◌, ◌+◌, ◌*◌, ◌<◌, ◌≤◌, [], ◌++◌, length, IfOk, OnErr, IfSome, IfNone, IsTrue, IsErrOf, IsOk, List, ℕ, true, false};
+ghost use Rattle.std.specs.Prelude.{◌≡◌, ◌≢◌, ◌↔◌, ◌+◌, ◌*◌, ◌<◌, ◌≤◌, ◌⊎◌, [], ◌++◌, length, slice_index, IfOk, OnErr, IfSome, IfNone, IsTrue, IsErrOf, IsOk, List, ℕ, true, false};
 ghost use Rattle.std.specs.Cow.{cow_slice_items};
 ghost use Rattle.mysql_frames.specs.Frames as spec;
 
@@ -113,6 +113,23 @@ impl Unfinished {
         self.full = 0;
         self.head.clear();
         self.payload.clear();
+    }
+
+    /// The next frame has the number that its header says, as far as what came of it and the input have that.
+    pub(crate) fn expect_as_sent(&mut self, input: &[u8])
+        requires { IsReading self.old }
+        ensures reading { IsReading self.new }
+        ensures held { held self.new ≡ held self.old }
+        ensures number { length (held self.old) < 4 → 4 ≤ length (held self.old ++ input.now) → self.new.first ≡ slice_index (held self.old ++ input.now) 3 }
+        ensures same { (4 ≤ length (held self.old)) ⊎ (length (held self.old ++ input.now) < 4) → self.new.first ≡ self.old.first }
+        ensures limit { self.new.limit ≡ self.old.limit }
+    {
+        if self.full != 0 || self.head.len() == HEADER_LEN {
+            return;
+        }
+        if let Some(number) = input.get(HEADER_LEN - 1 - self.head.len()) {
+            self.first = *number;
+        }
     }
 
     /// The number of the next frame.
