@@ -1,6 +1,6 @@
 -- Sessions: what comes before a conversation, and that nothing else may come.
 use Rattle.std.proofs.Common.{◌≡◌, ℕ, List, [], ◌∷◌, ◌++◌, ◌⊎◌, inl, inr, Some, None, Ok, Err, refl, sym, ap, subst, ◌∙◌, Bool, true, false, append_assoc}
-use Rattle.std.specs.Prelude.{not, ◌&&◌}
+use Rattle.std.specs.Prelude.{◌≢◌, not, ◌&&◌}
 use Rattle.mysql_wire.specs.Reading.{Reading}
 use Rattle.mysql_auth.specs.Handshake.{handshake}
 use Rattle.mysql_auth.specs.SslRequest.{ssl_request}
@@ -10,12 +10,13 @@ use Rattle.mysql_conversation.specs.Agreements.{Agreed, agreed_on, compresses}
 use Rattle.mysql_conversation.specs.Payloads.{first_is}
 use Rattle.mysql_conversation.specs.Piped.{PipeTaken, place}
 use Rattle.mysql_conversation.specs.Pipelined.{Numbered, IsPipelined, IsPipelinedBeginning}
-use Rattle.mysql_conversation.specs.Session.{server_of, client_of, asks_tls, IsGreeting, IsGreetingError, BeginsAs, IsSslRequest, MayLogIn, IsLogin, Before, IsLoggedIn, IsSession, IsSessionBeginning, TakenIn}
+use Rattle.mysql_conversation.specs.Session.{server_of, client_of, asks_tls, IsGreeting, IsGreetingError, BeginsAs, IsSslRequest, MayLogIn, IsLogin, Before, IsLoggedIn, IsLoggedInAmong, IsSession, IsSessionBeginning, TakenIn}
 use Rattle.mysql_conversation.specs.SessionSteps.{greeting_in, greeting_at, login_in, login_at, GreetedAs, AnsweredAs}
 use Rattle.mysql_conversation.proofs.Classes.{some_is}
 use Rattle.mysql_conversation.specs.declared.kind.Kind.{Kind}
 use Rattle.mysql_conversation.specs.declared.kind.Kind.TheVariants as kind
 use Rattle.mysql_conversation.specs.declared.kind.Opening.TheVariants.{Login}
+use Rattle.mysql_conversation.specs.declared.kind.Side.{Side}
 use Rattle.mysql_conversation.specs.declared.kind.Side.TheVariants.{Client, Server}
 use Rattle.mysql_conversation.specs.declared.pipeline.Pipeline.{Pipeline}
 use Rattle.mysql_conversation.specs.declared.pipeline.Refusal.{Refusal}
@@ -164,6 +165,56 @@ commands_refuse p y items f h b =
     ap (λ xs. (xs ++ y ∷ []) ++ b.0) h.3 ∙ ap (λ xs. xs ++ b.0) (more_of h.0 h.1 h.2 (y ∷ [])) ∙ more_of h.0 h.1 (h.2 ++ y ∷ []) b.0 in
     let q = session_rest p.agreed h.0 h.1 ((h.2 ++ y ∷ []) ++ b.0) h.4 (subst (λ xs. IsSession xs) e b.1) in
     f h.2 h.6 (b.0, subst (λ o. IsPipelined p.agreed o ((h.2 ++ y ∷ []) ++ b.0)) (sym h.5) q)
+
+pub commands_come : (p : Pipeline) (side : Side) (payload : List ℕ) (items : List Numbered)
+    → ((rest : List Numbered) → PipeTaken p rest → (k : Kind) × (n : ℕ) × IsPipelinedBeginning p.agreed p.opening (rest ++ place side payload k n ∷ []))
+    → TakenIn (phase.Commands p) items → (k : Kind) × (n : ℕ) × IsSessionBeginning (items ++ place side payload k n ∷ [])
+commands_come p side payload items f h =
+    let c = f h.2 h.6 in
+    let y = place side payload c.0 c.1 in
+    let more = c.2.0 in
+    let e : (items ++ y ∷ []) ++ more ≡ h.0 ++ h.1 ∷ ((h.2 ++ y ∷ []) ++ more) =
+    ap (λ xs. (xs ++ y ∷ []) ++ more) h.3 ∙ ap (λ xs. xs ++ more) (more_of h.0 h.1 h.2 (y ∷ [])) ∙ more_of h.0 h.1 (h.2 ++ y ∷ []) more in
+    (c.0, c.1, (more, inr (p.agreed, h.0, h.1, (h.2 ++ y ∷ []) ++ more, e, h.4, subst (λ o. IsPipelined p.agreed o ((h.2 ++ y ∷ []) ++ more)) h.5 c.2.1)))
+
+pub not_unexpected : (why : Refusal) → (why ≡ refusal.Full) ⊎ (why ≡ refusal.Memory) → why ≢ refusal.Unexpected
+not_unexpected why (inl e) u = absurd cc
+not_unexpected why (inr e) u = absurd cc
+
+-- ---- what was agreed on
+
+abbrev pub is_commands : Phase → Bool
+is_commands (phase.Commands p) = true
+is_commands _ = false
+
+not_nothing : (server : Agreed) (tls : Bool) (front : List Numbered) (x : Numbered) (xs : List Numbered) → Before server tls front → front ++ x ∷ xs ≡ [] → ⊥
+not_nothing server false front x xs f e = let e' : f.0 ∷ x ∷ xs ≡ [] = subst (λ fs. fs ++ x ∷ xs ≡ []) f.1 e in absurd cc
+not_nothing server true front x xs f e = let e' : f.0 ∷ f.1 ∷ x ∷ xs ≡ [] = subst (λ fs. fs ++ x ∷ xs ≡ []) f.2 e in absurd cc
+
+not_of_two : (server c : Agreed) (tls : Bool) (front : List Numbered) (x u w : Numbered) (xs : List Numbered) → Before server tls front → IsLogin tls c x → IsSslRequest w → front ++ x ∷ xs ≡ u ∷ w ∷ [] → ⊥
+not_of_two server c false front x u w xs f l t e =
+    let e' : f.0 ∷ x ∷ xs ≡ u ∷ w ∷ [] = subst (λ fs. fs ++ x ∷ xs ≡ u ∷ w ∷ []) f.1 e in
+    login_or_tls false c x w (head_is x w xs [] (head_is f.0 u (x ∷ xs) (w ∷ []) e').1).0 l t
+not_of_two server c true front x u w xs f l t e =
+    let e' : f.0 ∷ f.1 ∷ x ∷ xs ≡ u ∷ w ∷ [] = subst (λ fs. fs ++ x ∷ xs ≡ u ∷ w ∷ []) f.2 e in absurd cc
+
+-- before the login there is none among the packets
+no_login_of_one : (a : Agreed) (z : Numbered) (items : List Numbered) → items ≡ z ∷ [] → IsLoggedInAmong a items → ⊥
+no_login_of_one a z items e h = not_alone a h.4.0 h.4.2 h.0 h.1 z h.2 h.4.3 (sym h.3 ∙ e)
+
+no_login_of_two : (a : Agreed) (u w : Numbered) (items : List Numbered) → items ≡ u ∷ w ∷ [] → IsSslRequest w → IsLoggedInAmong a items → ⊥
+no_login_of_two a u w items e t h = not_of_two h.4.0 h.4.1 h.4.2 h.0 h.1 u w h.2 h.4.3 h.4.4 t (sym h.3 ∙ e)
+
+pub logs_in_later : (a : Agreed) (ph : Phase) (items : List Numbered) → is_commands ph ≡ false → TakenIn ph items → IsLoggedInAmong a items → ⊥
+logs_in_later a phase.Greeting items n e h = not_nothing h.4.0 h.4.2 h.0 h.1 h.2 h.4.3 (sym h.3 ∙ e)
+logs_in_later a phase.Refused items n t h = no_login_of_one a t.0 items t.1 h
+logs_in_later a (phase.Login server) items n f h = no_login_of_one a f.0 items f.1 h
+logs_in_later a (phase.Encrypted server) items n f h = no_login_of_two a f.0 f.1 items f.2 f.4 h
+logs_in_later a (phase.InTls server) items n f h = no_login_of_two a f.0 f.1 items f.2 f.4 h
+logs_in_later a (phase.Commands p) items n t h = absurd cc
+
+pub login_is_among : (p : Pipeline) (items : List Numbered) → TakenIn (phase.Commands p) items → IsLoggedInAmong p.agreed items
+login_is_among p items h = (h.0, h.1, h.2, h.3, h.4)
 
 -- ---- the greeting
 

@@ -1,7 +1,7 @@
 -- Each list that the machine with commands that wait takes is the beginning of a pipelined conversation, and each beginning is taken.
 use Rattle.mysql_conversation.specs.Agreements.{Agreed}
 use Rattle.std.proofs.Common.{◌≡◌, ℕ, ◌+◌, List, [], ◌∷◌, ◌++◌, inl, inr, Some, None, refl, sym, ap, subst, ◌∙◌, Bool, true, false}
-use Rattle.std.specs.Prelude.{not, Result, Ok, Err, IfOk, IfErr}
+use Rattle.std.specs.Prelude.{◌≢◌, Option, not, Result, Ok, Err, IfOk, IfErr}
 use Rattle.mysql_conversation.specs.Conversation.{Packet, IsConversation, asks}
 use Rattle.mysql_conversation.specs.Machine.{take_step, rests, listens, entrance}
 use Rattle.mysql_conversation.specs.Pipelined.{Numbered, packets, counted, AreNumbered, Early, IsPipelined, IsPipelinedBeginning, numbered}
@@ -124,6 +124,12 @@ pipe_at_rest d o items w r h =
 
 pub pipe_one_more : (d : Agreed) (o : Opening) (items : List Numbered) (w : Standing) (side : Side) (p : List ℕ) (k : Kind) (n : ℕ) (m : Standing) → PipeRun d (start o) items w → pipe_step d w side p ≡ Some (k, n, m) → PipeRun d (start o) (items ++ place side p k n ∷ []) m
 pipe_one_more d o items w side p k n m r e = pipe_join d (start o) items w (place side p k n ∷ []) m r (m, e, refl)
+
+-- a step that is taken goes on with what was taken
+pub pipe_comes : (d : Agreed) (o : Opening) (items : List Numbered) (w : Standing) (side : Side) (p : List ℕ) (r : Option Outcome) → PipeRun d (start o) items w → pipe_step d w side p ≡ r → r ≢ None
+    → (k : Kind) × (n : ℕ) × IsPipelinedBeginning d o (items ++ place side p k n ∷ [])
+pipe_comes d o items w side p None run e h = absurd (h refl)
+pipe_comes d o items w side p (Some x) run e h = (x.0, x.1, run_is_beginning d o (items ++ place side p x.0 x.1 ∷ []) x.2 (pipe_one_more d o items w side p x.0 x.1 x.2 run e))
 
 -- a packet is of one kind, and of one exchange, after what came before it
 pub pipe_one_kind : (d : Agreed) (o : Opening) (items : List Numbered) (side : Side) (p : List ℕ) (j k : Kind) (m n : ℕ)

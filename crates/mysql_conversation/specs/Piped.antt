@@ -1,10 +1,10 @@
 -- What a pipelined conversation has taken.
-use Rattle.std.specs.Prelude.{◌≡◌, ◌≤◌, ◌-◌, ◌^◌, ℕ, List, length, true}
+use Rattle.std.specs.Prelude.{◌≡◌, ◌≤◌, ◌-◌, ◌^◌, ◌++◌, ◌∷◌, [], ℕ, List, length, true}
 use Rattle.std.specs.VecDeque.{deque_capacity, deque_len}
 use Rattle.mysql_conversation.specs.Agreements.{Agreed}
 use Rattle.mysql_conversation.specs.Machine.{is_due}
 use Rattle.mysql_conversation.specs.Taken.{packet}
-use Rattle.mysql_conversation.specs.Pipelined.{Numbered}
+use Rattle.mysql_conversation.specs.Pipelined.{Numbered, IsPipelinedBeginning}
 use Rattle.mysql_conversation.specs.Standing.{Standing, standing, start, PipeRun}
 use Rattle.mysql_conversation.specs.declared.kind.Kind.{Kind}
 use Rattle.mysql_conversation.specs.declared.kind.Opening.{Opening}
@@ -45,3 +45,7 @@ CountsNoMore c = c.last ≡ 2 ^ 64 - 1
 -- the memory for commands that wait is full
 abbrev pub HasNoCapacity : Pipeline → Type 0
 HasNoCapacity c = deque_capacity c.waiting ≤ deque_len c.waiting
+
+-- after what was taken the packet comes, of some kind and number
+abbrev pub Comes : Pipeline → Side → List ℕ → Type 0
+Comes c side p = (items : List Numbered) → PipeTaken c items → (k : Kind) × (n : ℕ) × IsPipelinedBeginning c.agreed c.opening (items ++ place side p k n ∷ [])

@@ -10,7 +10,7 @@ use Rattle.mysql_auth.specs.declared.handshake.HandshakePacket.{HandshakePacket}
 use Rattle.mysql_auth.specs.declared.ssl_request.SslRequest.{SslRequest}
 use Rattle.mysql_conversation.specs.Agreements.{Agreed, agreed_on, compresses}
 use Rattle.mysql_conversation.specs.Payloads.{first_is}
-use Rattle.mysql_conversation.specs.Piped.{PipeTaken}
+use Rattle.mysql_conversation.specs.Piped.{PipeTaken, place}
 use Rattle.mysql_conversation.specs.Pipelined.{Numbered, IsPipelined}
 use Rattle.mysql_conversation.specs.declared.kind.Kind.{Kind}
 use Rattle.mysql_conversation.specs.declared.kind.Kind.TheVariants as kind
@@ -103,3 +103,11 @@ IsEncrypted s = (server : Agreed) × (s.phase ≡ phase.Encrypted server)
 -- the conversation that follows the login
 abbrev pub Continues : Session → Pipeline → Type 0
 Continues s p = s.phase ≡ phase.Commands p
+
+-- after what was taken the packet comes, of some kind and number
+abbrev pub Comes : Session → Side → List ℕ → Type 0
+Comes s side p = (items : List Numbered) → SessionTaken s items → (k : Kind) × (n : ℕ) × IsSessionBeginning (items ++ place side p k n ∷ [])
+
+-- a login is among the packets, and by it both sides agree on this
+abbrev pub IsLoggedInAmong : Agreed → List Numbered → Type 0
+IsLoggedInAmong a items = (front : List Numbered) × (x : Numbered) × (rest : List Numbered) × (items ≡ front ++ x ∷ rest) × IsLoggedIn a front x

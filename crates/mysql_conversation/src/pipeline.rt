@@ -131,8 +131,10 @@ impl Pipeline {
             → IsPipelinedBeginning (piped.agreed self.old) (piped.opening self.old) (items ++ place from payload.now kind number ∷ []) → ⊥) }
         // The packet would have to wait, and as many commands wait as may; or 2^64 - 1 commands came.
         ensures full { IfErr result (λ why. why ≡ refusal.Full → (from ≡ side.Client) × ((piped.MustWait self.old × (piped.limit self.old ≤ piped.waiting self.old)) ⊎ piped.CountsNoMore self.old)) }
-        // The packet would have to wait, and there is no capacity for it.
-        ensures memory { IfErr result (λ why. why ≡ refusal.Memory → (from ≡ side.Client) × piped.MustWait self.old × piped.HasNoCapacity self.old) }
+        // The packet would have to wait, as it may, and there is no capacity for it.
+        ensures memory { IfErr result (λ why. why ≡ refusal.Memory → (from ≡ side.Client) × piped.MustWait self.old × (piped.waiting self.old < piped.limit self.old) × piped.HasNoCapacity self.old) }
+        // What is refused for want of room or memory comes here.
+        ensures comes { IfErr result (λ why. why ≢ refusal.Unexpected → piped.Comes self.old from payload.now) }
         // (the others are of a session alone)
         ensures ours { IfErr result (λ why. (why ≢ refusal.Encrypted) × (why ≢ refusal.Compressed)) }
         ensures err { OnErr result (stands self.new ≡ stands self.old) }
@@ -151,7 +153,8 @@ impl Pipeline {
         ensures taken { IfOk result (λ x. spec.pipe_step self.old.agreed (stands self.old) side.Client payload.now ≡ Some (x.0, x.1, stands self.new)) }
         ensures refused { IfErr result (λ why. why ≡ refusal.Unexpected → spec.pipe_step self.old.agreed (stands self.old) side.Client payload.now ≡ None) }
         ensures full { IfErr result (λ why. why ≡ refusal.Full → ((machine.is_due self.old.state ≡ true) × (self.old.limit ≤ length self.old.waiting.items)) ⊎ (self.old.last ≡ 2 ^ 64 - 1)) }
-        ensures memory { IfErr result (λ why. why ≡ refusal.Memory → (machine.is_due self.old.state ≡ true) × (deque_capacity self.old.waiting ≤ deque_len self.old.waiting)) }
+        ensures memory { IfErr result (λ why. why ≡ refusal.Memory → (machine.is_due self.old.state ≡ true) × (length self.old.waiting.items < self.old.limit) × (deque_capacity self.old.waiting ≤ deque_len self.old.waiting)) }
+        ensures comes { IfErr result (λ why. why ≢ refusal.Unexpected → spec.pipe_step self.old.agreed (stands self.old) side.Client payload.now ≢ None) }
         ensures ours { IfErr result (λ why. (why ≢ refusal.Encrypted) × (why ≢ refusal.Compressed)) }
         ensures err { OnErr result (stands self.new ≡ stands self.old) }
         ensures agreed { self.new.agreed ≡ self.old.agreed }
@@ -202,6 +205,7 @@ impl Pipeline {
         ensures refused { IfErr result (λ why. why ≡ refusal.Unexpected → spec.early (stands self.old) (spec.command_of payload.now) ≡ None) }
         ensures full { IfErr result (λ why. why ≡ refusal.Full → (self.old.limit ≤ length self.old.waiting.items) ⊎ (self.old.last ≡ 2 ^ 64 - 1)) }
         ensures memory { IfErr result (λ why. why ≡ refusal.Memory → (length self.old.waiting.items < self.old.limit) × (deque_capacity self.old.waiting ≤ deque_len self.old.waiting)) }
+        ensures comes { IfErr result (λ why. why ≢ refusal.Unexpected → spec.early (stands self.old) (spec.command_of payload.now) ≢ None) }
         ensures ours { IfErr result (λ why. (why ≢ refusal.Encrypted) × (why ≢ refusal.Compressed)) }
         ensures err { OnErr result (stands self.new ≡ stands self.old) }
         ensures agreed { self.new.agreed ≡ self.old.agreed }

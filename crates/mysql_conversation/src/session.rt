@@ -1,6 +1,6 @@
 //! Whole sessions.
 
-ghost use Rattle.std.specs.Prelude.{◌≡◌, ◌↔◌, ◌⊎◌, ◌≤◌, ◌-◌, ◌^◌, IfOk, IfErr, OnErr, IsTrue, List, [], ◌∷◌, ◌++◌, ℕ, true, false, None, Some, length, not, ◌&&◌};
+ghost use Rattle.std.specs.Prelude.{◌≡◌, ◌↔◌, ◌⊎◌, ◌≤◌, ◌<◌, ◌-◌, ◌^◌, IfOk, IfErr, IfSome, IfNone, OnErr, IsTrue, List, [], ◌∷◌, ◌++◌, ℕ, true, false, None, Some, length, not, ◌&&◌};
 ghost use Rattle.mysql_auth.specs.declared.ssl_request.SslRequest as login_head;
 ghost use Rattle.mysql_conversation.specs.Agreements.{agreed_on, compresses};
 ghost use Rattle.mysql_conversation.specs.Payloads as payloads;
@@ -94,7 +94,7 @@ impl Session {
     ghost use Rattle.mysql_conversation.specs.Pipelined.{Numbered};
     ghost use Rattle.mysql_conversation.specs.Piped as piped;
     ghost use Rattle.mysql_conversation.specs.Piped.{place};
-    ghost use Rattle.mysql_conversation.specs.Session.{IsSession, IsSessionBeginning, SessionTaken, IsEncrypted, Continues, MayLogIn, client_of};
+    ghost use Rattle.mysql_conversation.specs.Session.{IsSession, IsSessionBeginning, SessionTaken, IsEncrypted, Continues, Comes, IsLoggedInAmong, MayLogIn, client_of};
     ghost use Rattle.mysql_conversation.specs.SessionSteps.{GreetedAs, AnsweredAs};
     ghost use Rattle.mysql_conversation.specs.Agreements as agreement;
     ghost use Rattle.mysql_conversation.specs.declared.kind.Kind as declared;
@@ -114,7 +114,10 @@ impl Session {
     }
 
     /// What both sides agreed on, once the client has sent its login.
-    pub fn agreed(&self) -> Option<SessionCapabilities> {
+    pub fn agreed(&self) -> Option<SessionCapabilities>
+        ensures some { IfSome result (λ a. (items : List Numbered) → SessionTaken self.now items → IsLoggedInAmong a items) }
+        ensures none { IfNone result ((items : List Numbered) (a : agreement.Agreed) → SessionTaken self.now items → IsLoggedInAmong a items → ⊥) }
+    {
         match &self.phase {
             Phase::Commands(pipeline) => Some(pipeline.agreed),
             _ => None,
@@ -154,7 +157,9 @@ impl Session {
         ensures compressed { IfErr result (λ why. why ≡ refusal.Compressed → (server : agreement.Agreed) × (head : login_head.SslRequest) × (login_at payload.now ≡ Some head) × (compresses (agreed_on server (client_of head)) ≡ true)) }
         // As a pipeline's.
         ensures full { IfErr result (λ why. why ≡ refusal.Full → (p : pipe.Pipeline) × Continues self.old p × (from ≡ side.Client) × ((piped.MustWait p × (piped.limit p ≤ piped.waiting p)) ⊎ piped.CountsNoMore p)) }
-        ensures memory { IfErr result (λ why. why ≡ refusal.Memory → (p : pipe.Pipeline) × Continues self.old p × (from ≡ side.Client) × piped.MustWait p × piped.HasNoCapacity p) }
+        ensures memory { IfErr result (λ why. why ≡ refusal.Memory → (p : pipe.Pipeline) × Continues self.old p × (from ≡ side.Client) × piped.MustWait p × (piped.waiting p < piped.limit p) × piped.HasNoCapacity p) }
+        // What is refused for want of room or memory comes here.
+        ensures comes { IfErr result (λ why. (why ≡ refusal.Full) ⊎ (why ≡ refusal.Memory) → Comes self.old from payload.now) }
         ensures err { OnErr result ((items : List Numbered) → SessionTaken self.old items → SessionTaken self.new items) }
     {
         match &mut self.phase {

@@ -1,7 +1,8 @@
-use Rattle.std.proofs.Common.{◌≡◌, Some, None, [], ◌∷◌, ◌++◌, sym, subst}
+use Rattle.std.proofs.Common.{◌≡◌, Some, None, [], ◌∷◌, ◌++◌, sym, subst, refl}
+use Rattle.std.specs.Prelude.{◌≢◌}
 use Rattle.mysql_conversation.specs.Standing.{pipe_step}
 use Rattle.mysql_conversation.specs.Piped.{stands, place}
-use Rattle.mysql_conversation.proofs.Stood.{pipe_one_more, pipe_refused, run_stays, lift_ok, lift_err}
+use Rattle.mysql_conversation.proofs.Stood.{pipe_comes, pipe_one_more, pipe_refused, run_stays, lift_ok, lift_err}
 use Rattle.mysql_conversation.proofs.pipeline.Pipeline.next.Goals as goal
 
 pub returns-in-Client-clause-taken : goal.returns-in-Client-clause-taken
@@ -29,3 +30,9 @@ returns-in-Server-clause-refused c = lift_err c.take_server.result
     (λ why h items k n e r. pipe_refused _ _ items (stands c.args.self.now) (place c.args.from c.args.payload.now k n) r
     (subst (λ side. pipe_step c.args.self.now.agreed (stands c.args.self.now) side c.args.payload.now ≡ None) (sym c.in-Server.is) h.1))
     c.take_server.ensures.refused
+
+pub returns-in-Client-clause-comes : goal.returns-in-Client-clause-comes
+returns-in-Client-clause-comes c = lift_err c.take_client.result
+    (λ why h n items r. pipe_comes _ _ items (stands c.args.self.now) c.args.from c.args.payload.now _ r refl
+    (subst (λ side. pipe_step c.args.self.now.agreed (stands c.args.self.now) side c.args.payload.now ≢ None) (sym c.in-Client.is) (h n)))
+    c.take_client.ensures.comes

@@ -2,7 +2,7 @@ use Rattle.std.proofs.Common.{subst, sym, true, false, ◌++◌, [], ◌∷◌}
 use Rattle.mysql_conversation.specs.Piped.{place}
 use Rattle.mysql_conversation.specs.Session.{TakenIn, IsSessionBeginning}
 use Rattle.mysql_conversation.proofs.Stood.{lift_ok, lift_err}
-use Rattle.mysql_conversation.proofs.Sessions.{commands_more, commands_refuse, greeted_more, greeting_refused, answered_more, login_refused, unexpected_alone}
+use Rattle.mysql_conversation.proofs.Sessions.{commands_come, commands_more, not_unexpected, commands_refuse, greeted_more, greeting_refused, answered_more, login_refused, unexpected_alone}
 use Rattle.mysql_conversation.proofs.session.Session.next.Goals as goal
 
 pub returns-in-Commands-clause-taken : goal.returns-in-Commands-clause-taken
@@ -26,7 +26,12 @@ pub returns-in-Commands-clause-full : goal.returns-in-Commands-clause-full
 returns-in-Commands-clause-full c = lift_err c.next.result (λ why h e. (c.in-Commands.pipeline, c.in-Commands.is, (h e).0, (h e).1)) c.next.ensures.full
 
 pub returns-in-Commands-clause-memory : goal.returns-in-Commands-clause-memory
-returns-in-Commands-clause-memory c = lift_err c.next.result (λ why h e. (c.in-Commands.pipeline, c.in-Commands.is, (h e).0, (h e).1, (h e).2)) c.next.ensures.memory
+returns-in-Commands-clause-memory c = lift_err c.next.result (λ why h e. (c.in-Commands.pipeline, c.in-Commands.is, (h e).0, (h e).1, (h e).2, (h e).3)) c.next.ensures.memory
+
+pub returns-in-Commands-clause-comes : goal.returns-in-Commands-clause-comes
+returns-in-Commands-clause-comes c = lift_err c.next.result
+    (λ why h e items t. commands_come c.in-Commands.pipeline c.args.from c.args.payload.now items (λ rest r. h (not_unexpected why e) rest r) (subst (λ ph. TakenIn ph items) c.in-Commands.is t))
+    c.next.ensures.comes
 
 pub returns-in-Server-clause-taken : goal.returns-in-Server-clause-taken
 returns-in-Server-clause-taken c = lift_ok c.greeted.result
