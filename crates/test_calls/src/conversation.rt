@@ -9,10 +9,9 @@ use mysql_packets::constants::{CapabilityFlags, Flags, MariadbCapabilities};
 use mysql_packets::conversation::{
     Conversation, Format, Kind, Opening, Pipeline, Refusal, Session, Side, Unexpected, agreed_on,
 };
-use mysql_packets::frames::{FrameError, FrameReader, sequence_id_at};
+use mysql_packets::frames::{FrameError, FrameReader};
 use mysql_packets::packets::SessionCapabilities;
 use std::alloc::Global;
-use std::mem::replace;
 use test_probe::counted;
 use test_probe::prelude::{Out, Request};
 
@@ -143,52 +142,22 @@ fn take<T: Tracker>(out: &mut Out, tracker: &mut T, side: Side, payload: &[u8]) 
     false
 }
 
-/// One side's stream. The bytes of a header that is cut are held back, since they say with which number its packet begins.
-#[derive(Drop)]
-struct Stream {
-    reader: FrameReader,
-    held: Vec<u8>,
-}
-
-impl Stream {
-    fn new(alloc: Global) -> Self {
-        Stream {
-            reader: FrameReader::new(alloc, LONGEST),
-            held: Vec::new(alloc),
-        }
-    }
-}
-
-/// Adds the packets of a piece of a stream, and whether all came.
+/// Adds the packets of a piece of a stream, and whether all came. It is somebody else's stream: a packet begins with the number that
+/// it was sent with.
 fn take_piece<T: Tracker>(
     out: &mut Out,
     tracker: &mut T,
-    stream: &mut Stream,
+    reader: &mut FrameReader,
     side: Side,
     piece: &[u8],
 ) -> bool {
-    let mut bytes = replace(&mut stream.held, Vec::new(out.alloc()));
-    if bytes.extend_from_slice(piece).is_err() {
-        out.lose();
-    }
-    let mut input = bytes.as_slice();
-    for _ in 0..=bytes.len() {
-        if stream.reader.is_between() {
-            // (somebody else's stream: it begins where it begins)
-            match sequence_id_at(input) {
-                Some(number) => stream.reader.expect(number),
-                None => {
-                    if stream.held.extend_from_slice(input).is_err() {
-                        out.lose();
-                    }
-                    return true;
-                }
-            }
-        }
-        match stream.reader.read(&mut input) {
+    let mut input = piece;
+    for _ in 0..=piece.len() {
+        reader.expect_as_sent(input);
+        match reader.read(&mut input) {
             Ok(Some(payload)) => {
                 let taken = take(out, tracker, side, payload.as_slice());
-                stream.reader.give_back(payload);
+                reader.give_back(payload);
                 if !taken {
                     return false;
                 }
@@ -216,8 +185,8 @@ fn piece_of(alloc: Global, word: &str) -> Option<(Side, Vec<u8>)> {
 
 /// Adds the packets of pieces, from a word on, until one doesn't come.
 fn take_all<T: Tracker>(out: &mut Out, request: &Request<'_>, tracker: &mut T, from: usize) {
-    let mut client = Stream::new(request.alloc);
-    let mut server = Stream::new(request.alloc);
+    let mut client = FrameReader::new(request.alloc, LONGEST);
+    let mut server = FrameReader::new(request.alloc, LONGEST);
     for word in request.line.split(' ').skip(from) {
         if word == "tls" {
             tracker.decipher();
@@ -226,11 +195,11 @@ fn take_all<T: Tracker>(out: &mut Out, request: &Request<'_>, tracker: &mut T, f
         let Some((side, piece)) = piece_of(request.alloc, word) else {
             return out.word("bad");
         };
-        let stream = match side {
+        let reader = match side {
             Side::Client => &mut client,
             Side::Server => &mut server,
         };
-        if !take_piece(out, tracker, stream, side, piece.as_slice()) {
+        if !take_piece(out, tracker, reader, side, piece.as_slice()) {
             break;
         }
     }

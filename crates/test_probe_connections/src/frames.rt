@@ -1,6 +1,7 @@
 //! Frames.
 //!
-//! `frames LIMIT NUMBER PIECE BYTES`: a stream that comes in pieces of so many bytes, or whole where that is 0. `write_frames NUMBER BYTES`.
+//! `frames LIMIT NUMBER PIECE BYTES`: a stream that comes in pieces of so many bytes, or whole where that is 0. In place of NUMBER `sent`:
+//! each payload begins with the number that it was sent with. `write_frames NUMBER BYTES`.
 //! `long_frames LENGTH NUMBER PIECE`: a payload of so many bytes, written, and read again in such pieces. `sequence_id BYTES`.
 
 ghost use Rattle.std.specs.Prelude.{◌≤◌};
@@ -33,9 +34,12 @@ fn piece_size(request: &Request<'_>, len: usize) -> usize
 }
 
 /// Adds the payloads of a piece, and whether the reader goes on. A call that memory is refused for is made again.
-fn take(out: &mut Out, reader: &mut FrameReader, piece: &[u8]) -> bool {
+fn take(out: &mut Out, reader: &mut FrameReader, as_sent: bool, piece: &[u8]) -> bool {
     let mut input = piece;
     for _ in 0..=piece.len() {
+        if as_sent {
+            reader.expect_as_sent(input);
+        }
         match counted!(out.alloc(); reader.read(&mut input)) {
             Ok(Some(payload)) => {
                 out.show("payload", payload.as_slice());
@@ -56,9 +60,10 @@ fn take(out: &mut Out, reader: &mut FrameReader, piece: &[u8]) -> bool {
 /// The payloads of a stream, and what the reader stands at.
 pub fn read(out: &mut Out, request: &Request<'_>) {
     let mut reader = reader_at(request, request.number(1) as usize, 2);
+    let as_sent = request.word(2) == "sent";
     let bytes = request.bytes.as_slice();
     for piece in bytes.chunks(piece_size(request, bytes.len())) {
-        if !take(out, &mut reader, piece) {
+        if !take(out, &mut reader, as_sent, piece) {
             break;
         }
     }
