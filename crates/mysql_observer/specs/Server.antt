@@ -94,6 +94,6 @@ module _ {C : Type 0} (type_of : C → ColumnType) (unsigned : C → Bool) where
   server_packet c _ = other_side
 
   -- A fault is that of the grammar. A binary row's is the first of the whole row.
-  abbrev pub Refused : ReadContext C → Kind → FaultOf → List ℕ → Type 0
-  Refused c (kind.Row Binary) e bytes = Faults false e ((bin_row_of type_of unsigned 2 c.columns.now).reads bytes)
-  Refused c k e bytes = Faults false e ((server_packet c k).reads bytes)
+  abbrev pub RefusesPacket : ReadContext C → Kind → FaultOf → List ℕ → Type 0
+  RefusesPacket c (kind.Row Binary) e bytes = Faults false e ((bin_row_of type_of unsigned 2 c.columns.now).reads bytes)
+  RefusesPacket c k e bytes = Faults false e ((server_packet c k).reads bytes)

@@ -90,7 +90,7 @@ fn read_of_kind<'s, 'a, 'c, C: TypedColumn>(
     buf: &mut ParseBuf<'a>,
 ) -> Result<ServerPacket<'a, 'c, C>, FaultOf<'s>>
     ensures packet { IfOk result (λ p. (spec.server_packet C.type_of C.unsigned context.now kind).reads buf.old ≡ Ok (p, buf.new)) }
-    ensures fault { IfErr result (λ e. spec.Refused C.type_of C.unsigned context.now kind e buf.old) }
+    ensures fault { IfErr result (λ e. spec.RefusesPacket C.type_of C.unsigned context.now kind e buf.old) }
 {
     let agreed = agreed_or_none(context.agreed);
     match kind {
@@ -138,7 +138,7 @@ pub fn read_server_packet<'s, 'a, 'c, C: TypedColumn>(
     buf: &mut ParseBuf<'a>,
 ) -> Result<ServerPacket<'a, 'c, C>, FaultOf<'s>>
     ensures packet { IfOk result (λ p. (spec.server_packet C.type_of C.unsigned context.now kind).reads buf.old ≡ Ok (p, buf.new)) }
-    ensures fault { IfErr result (λ e. spec.Refused C.type_of C.unsigned context.now kind e buf.old) }
+    ensures fault { IfErr result (λ e. spec.RefusesPacket C.type_of C.unsigned context.now kind e buf.old) }
     ensures err { OnErr result (buf.new ≡ buf.old) }
 {
     let mut rest = buf.rest();
@@ -155,7 +155,7 @@ pub fn server_packet<'s, 'a, 'c, C: TypedColumn>(
     payload: &'a [u8],
 ) -> Result<ServerPacket<'a, 'c, C>, FaultOf<'s>>
     ensures packet { IfOk result (λ p. (rest : List ℕ) × ((spec.server_packet C.type_of C.unsigned context.now kind).reads payload.now ≡ Ok (p, rest))) }
-    ensures fault { IfErr result (λ e. spec.Refused C.type_of C.unsigned context.now kind e payload.now) }
+    ensures fault { IfErr result (λ e. spec.RefusesPacket C.type_of C.unsigned context.now kind e payload.now) }
 {
     let mut buf = ParseBuf::new(alloc, payload);
     read_server_packet(context, kind, &mut buf)
