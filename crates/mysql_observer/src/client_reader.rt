@@ -62,5 +62,6 @@ pub fn client_packet<'s, 'a>(
     ensures fault { IfErr result (λ e. Faults false e ((spec.client_packet agreed kind).reads payload.now)) }
 {
     let mut buf = ParseBuf::new(alloc, payload);
-    read_client_packet(agreed, kind, &mut buf)
+    let packet = read_client_packet(agreed, kind, &mut buf)?;
+    Ok(packet)
 }

@@ -16,7 +16,6 @@ use mysql_prepared::TypedColumn;
 
 /// OK packets, ends, counts of columns, prepared statements and greetings are found by what they hold, so that none of them is
 /// refused.
-#[tactic(auto, using(crate::proofs::Found::found))]
 pub fn what_is_found_by_its_bytes_is_read<C: TypedColumn>()
     ensures ok { (c : context.ReadContext C) (a : agreement.Agreed) (more : Bool) (p : List ℕ) → c.agreed ≡ Some a → payloads.IsOk a more p → IsRead C.type_of C.unsigned c kind.Ok p }
     ensures end { (c : context.ReadContext C) (a : agreement.Agreed) (more : Bool) (p : List ℕ) → c.agreed ≡ Some a → payloads.IsEnd a more p → IsRead C.type_of C.unsigned c (ending (deprecates_eof a)) p }

@@ -158,5 +158,6 @@ pub fn server_packet<'s, 'a, 'c, C: TypedColumn>(
     ensures fault { IfErr result (λ e. spec.RefusesPacket C.type_of C.unsigned context.now kind e payload.now) }
 {
     let mut buf = ParseBuf::new(alloc, payload);
-    read_server_packet(context, kind, &mut buf)
+    let packet = read_server_packet(context, kind, &mut buf)?;
+    Ok(packet)
 }
