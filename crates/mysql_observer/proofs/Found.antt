@@ -1,5 +1,5 @@
 -- What was found to be of its kind by what it holds is read as one.
-use Rattle.std.specs.Prelude.{◌≡◌, ℕ, List, Bool, true, false, Option, Some, None, Ok, Err, refl}
+use Rattle.std.specs.Prelude.{◌≡◌, ℕ, List, Bool, true, false, Some, Ok, Err, refl}
 use Rattle.mysql_wire.specs.declared.codes.column_type.ColumnType.{ColumnType}
 use Rattle.mysql_wire.specs.Flags.{StatusFlags}
 use Rattle.mysql_wire.specs.Reading.{Reading}
@@ -10,7 +10,6 @@ use Rattle.mysql_conversation.specs.Agreements.{Agreed, deprecates_eof}
 use Rattle.mysql_conversation.specs.Conversation.{ending}
 use Rattle.mysql_conversation.specs.Payloads.{IsOk, IsEnd, IsOldEnd, EndsWith, SpelledWith, terminator_form, old_end_form, IsCount, IsPrepared}
 use Rattle.mysql_conversation.specs.SessionSteps.{greeting_in, greeting_at}
-use Rattle.mysql_conversation.specs.declared.kind.Kind.{Kind}
 use Rattle.mysql_conversation.specs.declared.kind.Kind.TheVariants as kind
 use Rattle.mysql_observer.specs.Read.{IsRead}
 use Rattle.mysql_observer.specs.declared.read_context.ReadContext.{ReadContext}

@@ -1,5 +1,5 @@
 -- What a packet is read by beside its kind and its bytes.
-use Rattle.std.specs.Prelude.{◌≡◌, ℕ, List, Option, Some, None, Ok, Err, refl}
+use Rattle.std.specs.Prelude.{◌≡◌, ℕ, List, Option, Some, None, Ok, Err}
 use Rattle.mysql_wire.specs.declared.fault.FaultKind.TheVariants as fault
 use Rattle.mysql_wire.specs.Form.{Form}
 use Rattle.mysql_wire.specs.Reading.{Reading}
