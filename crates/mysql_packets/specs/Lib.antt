@@ -224,3 +224,7 @@ pub use Rattle.mysql_conversation.specs.Pipelined
 pub use Rattle.mysql_conversation.specs.Session
 pub use Rattle.mysql_conversation.specs.SessionSteps
 pub use Rattle.mysql_conversation.specs.Taken
+pub use Rattle.mysql_observer.specs.Client as ClientPacket
+pub use Rattle.mysql_observer.specs.Context as ReadContext
+pub use Rattle.mysql_observer.specs.Server as ServerPacket
+pub use Rattle.mysql_observer.specs.Read as PacketRead

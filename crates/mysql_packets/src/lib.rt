@@ -18,6 +18,7 @@ pub mod io;
 pub mod laws;
 mod lines;
 pub mod misc;
+pub mod observer;
 mod output;
 pub mod packets;
 pub mod params;

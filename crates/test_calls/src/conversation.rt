@@ -3,8 +3,10 @@
 //! `session LIMIT WORD ..`: a session from the greeting on. `conversation login LIMIT MYSQL MARIADB WORD ..`: what follows a login, under
 //! these capabilities; `conversation commands ..`: a connection that is taken up between two commands. A word is `>` or `<` with the bytes
 //! of a piece of the client's or the server's stream after it, frames with their headers; `tls`: what comes is deciphered.
+//! `packets LIMIT WORD ..`: as `session`, and what its packets hold (`packets.rt`).
 //! `payloads ..`: as `conversation`, but a word has a payload, without headers, and no command may come early.
 
+use crate::packets::Watched;
 use mysql_packets::constants::{CapabilityFlags, Flags, MariadbCapabilities};
 use mysql_packets::conversation::{
     Conversation, Format, Kind, Opening, Pipeline, Refusal, Session, Side, Unexpected, agreed_on,
@@ -19,10 +21,13 @@ use test_probe::prelude::{Out, Request};
 const LONGEST: usize = 1 << 26;
 
 /// What follows packets.
-trait Tracker {
+pub trait Tracker {
     fn next(&mut self, from: Side, payload: &[u8]) -> Result<(Kind, u64), Refusal>;
 
     fn decipher(&mut self) {}
+
+    /// Adds what a packet of this kind holds.
+    fn see(&mut self, _out: &mut Out, _from: Side, _kind: Kind, _payload: &[u8]) {}
 }
 
 impl Tracker for Session {
@@ -122,6 +127,7 @@ fn take<T: Tracker>(out: &mut Out, tracker: &mut T, side: Side, payload: &[u8]) 
                 show_kind(out, side, kind);
                 out.push("#");
                 out.display(&number);
+                tracker.see(out, side, kind, payload);
                 return true;
             }
             Err(Refusal::Memory) => out.field("next", "Memory"),
@@ -219,6 +225,12 @@ pub fn session(out: &mut Out, request: &Request<'_>) {
     take_all(out, request, &mut session, 2);
     out.show("at_rest", session.is_at_rest());
     show_agreed(out, session.agreed());
+}
+
+/// A session, and what its packets hold.
+pub fn packets(out: &mut Out, request: &Request<'_>) {
+    let mut watched = Watched::new(request.alloc, request.number(1) as usize);
+    take_all(out, request, &mut watched, 2);
 }
 
 /// What both sides agreed on, by words.

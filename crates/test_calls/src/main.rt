@@ -6,7 +6,8 @@
 //!
 //! After `fails` it is what becomes of such a call on readers and writers that fail, and after `endless` on an input without
 //! end. `tour` makes the calls of the README's tour, `kind` reads an OK packet of a kind that stands here, and `gtid_sets` reads the
-//! sets of GTIDs that an OK packet tells. `session`, `conversation`, `payloads` and `agreed` tell packets apart.
+//! sets of GTIDs that an OK packet tells. `session`, `conversation`, `payloads` and `agreed` tell packets apart, and `packets` reads
+//! them.
 #![tactic(auto)]
 
 mod call;
@@ -14,6 +15,7 @@ mod conversation;
 mod fails;
 mod gtid_sets;
 mod kind;
+mod packets;
 mod tour;
 
 use std::io;
@@ -31,6 +33,7 @@ impl Answers for Program {
             Some(("kind", _)) => kind::kind(out, request),
             Some(("session", _)) => conversation::session(out, request),
             Some(("conversation", _)) => conversation::conversation(out, request),
+            Some(("packets", _)) => conversation::packets(out, request),
             Some(("payloads", _)) => conversation::payloads(out, request),
             Some(("agreed", _)) => conversation::agreed(out, request),
             Some(("gtid_sets", _)) => gtid_sets::gtid_sets(out, request),

@@ -1,0 +1,4 @@
+pub mod Context
+pub mod Server
+pub mod Client
+pub mod Read

@@ -1,0 +1,99 @@
+-- A packet of the server: which grammar reads it, by its kind.
+use Rattle.std.specs.Prelude.{ℕ, Bool, false, List, Option, Some, None}
+use Rattle.mysql_wire.specs.declared.codes.column_type.ColumnType.{ColumnType}
+use Rattle.mysql_wire.specs.declared.fault.FaultOf.{FaultOf}
+use Rattle.mysql_wire.specs.Form.{Form, ◌>>=◌, all_left, map}
+use Rattle.mysql_wire.specs.Reading.{Faults}
+use Rattle.mysql_wire.specs.Skip.{skip}
+use Rattle.mysql_auth.specs.AuthMoreData.{auth_more_data}
+use Rattle.mysql_auth.specs.AuthNextFactor.{auth_next_factor}
+use Rattle.mysql_auth.specs.AuthSwitchRequest.{auth_switch_request}
+use Rattle.mysql_auth.specs.Handshake.{handshake}
+use Rattle.mysql_auth.specs.OldAuthSwitchRequest.{old_auth_switch_request}
+use Rattle.mysql_prepared.specs.RowView.{RowLeft, bin_row_of, ref_cell, row_front, row_left, text_row_left}
+use Rattle.mysql_prepared.specs.StmtWithMetadata.{stmt_with_metadata}
+use Rattle.mysql_repl.specs.BinlogStreamEvent.{stream_event}
+use Rattle.mysql_replies.specs.ColumnCount.{column_count}
+use Rattle.mysql_replies.specs.ErrPacket.{err_packet}
+use Rattle.mysql_replies.specs.ExtendedColumn.{extended_column}
+use Rattle.mysql_replies.specs.GreetingError.{greeting_error}
+use Rattle.mysql_replies.specs.LocalInfile.{local_infile}
+use Rattle.mysql_replies.specs.OkKind.{common_ok_body, terminator_body, old_eof_body}
+use Rattle.mysql_replies.specs.OkPacket.{ok_packet, packet}
+use Rattle.mysql_replies.specs.ProgressReport.{progress_report}
+use Rattle.mysql_replies.specs.declared.ok_kind.CommonOkPacket.{CommonOkPacket}
+use Rattle.mysql_replies.specs.declared.ok_kind.OldEofPacket.{OldEofPacket}
+use Rattle.mysql_replies.specs.declared.ok_kind.ResultSetTerminator.{ResultSetTerminator}
+use Rattle.mysql_replies.specs.declared.ok_packet.OkPacket.{OkPacket}
+use Rattle.mysql_replies.specs.declared.progress_report.ProgressReport.{ProgressReport}
+use Rattle.mysql_replies.specs.declared.session_capabilities.SessionCapabilities.{SessionCapabilities}
+use Rattle.mysql_conversation.specs.declared.kind.Format.TheVariants.{Text, Binary}
+use Rattle.mysql_conversation.specs.declared.kind.Kind.{Kind}
+use Rattle.mysql_conversation.specs.declared.kind.Kind.TheVariants as kind
+use Rattle.mysql_observer.specs.Context.{agreed_or_none, other_side}
+use Rattle.mysql_observer.specs.declared.read_context.ReadContext.{ReadContext}
+use Rattle.mysql_observer.specs.declared.server.ServerPacket.{ServerPacket}
+use Rattle.mysql_observer.specs.declared.server.ServerPacket.TheVariants as variant
+
+-- ---- the three kinds of OK packets
+
+abbrev pub ok_form : SessionCapabilities → Form OkPacket
+ok_form a = map packet (ok_packet {T = CommonOkPacket} 0 (common_ok_body a.mysql))
+
+abbrev pub eof_form : SessionCapabilities → Form OkPacket
+eof_form a = map packet (ok_packet {T = OldEofPacket} 0xfe (old_eof_body a.mysql))
+
+abbrev pub ok_terminator_form : SessionCapabilities → Form OkPacket
+ok_terminator_form a = map packet (ok_packet {T = ResultSetTerminator} 0xfe (terminator_body a.mysql))
+
+-- three bytes that say so, and the report
+abbrev pub report_form : Form ProgressReport
+report_form = skip 3 >>= (λ head. progress_report.form tt)
+
+-- ---- rows, whose values are read later: each has all bytes that are left
+
+-- so many values of text
+abbrev pub text_row : ℕ → Form RowLeft
+text_row columns = map (text_row_left columns) all_left
+
+module _ {C : Type 0} (type_of : C → ColumnType) (unsigned : C → Bool) where
+  -- a byte with any value, the bitmap of NULLs, and a value for each column
+  abbrev pub binary_row : List C → Form RowLeft
+  binary_row columns = do
+    nulls ← row_front type_of unsigned 2 columns
+    map (row_left (ref_cell type_of unsigned nulls.bytes 2) 0 columns) all_left
+
+  -- in place of the greeting the error has a state where its bytes begin with one
+  abbrev pub unasked_error : Option SessionCapabilities → Form (ServerPacket C)
+  unasked_error None = map variant.GreetingError (greeting_error.form tt)
+  unasked_error (Some agreed) = map variant.UnaskedError (err_packet.form agreed.mysql)
+
+  -- ---- by the kind
+
+  abbrev pub server_packet : ReadContext C → Kind → Form (ServerPacket C)
+  server_packet c kind.Handshake = map variant.Handshake (handshake.form tt)
+  server_packet c kind.AuthSwitch = map variant.AuthSwitch (auth_switch_request.form tt)
+  server_packet c kind.OldAuthSwitch = map variant.OldAuthSwitch (old_auth_switch_request.form tt)
+  server_packet c kind.AuthMoreData = map variant.AuthMoreData (auth_more_data.form tt)
+  server_packet c kind.AuthNextFactor = map variant.AuthNextFactor (auth_next_factor.form tt)
+  server_packet c kind.AuthPluginData = map variant.AuthPluginData all_left
+  server_packet c kind.Ok = map variant.Ok (ok_form (agreed_or_none c.agreed))
+  server_packet c kind.Error = map variant.Error (err_packet.form (agreed_or_none c.agreed).mysql)
+  server_packet c kind.UnaskedError = unasked_error c.agreed
+  server_packet c kind.ProgressReport = map variant.ProgressReport report_form
+  server_packet c kind.LocalInfile = map variant.LocalInfile (local_infile.form tt)
+  server_packet c (kind.ColumnCount n follow) = map variant.ColumnCount (column_count.form (agreed_or_none c.agreed))
+  server_packet c kind.Column = map variant.Column (extended_column.form (agreed_or_none c.agreed).mariadb)
+  server_packet c kind.Eof = map variant.Eof (eof_form (agreed_or_none c.agreed))
+  server_packet c kind.OkTerminator = map variant.OkTerminator (ok_terminator_form (agreed_or_none c.agreed))
+  server_packet c (kind.Row Text) = map variant.TextRow (text_row c.column_count)
+  server_packet c (kind.Row Binary) = map variant.BinaryRow (binary_row c.columns.now)
+  server_packet c (kind.PrepareOk columns params follow) = map variant.PrepareOk (stmt_with_metadata.form (agreed_or_none c.agreed).mysql)
+  server_packet c kind.Statistics = map variant.Statistics all_left
+  server_packet c kind.BinlogEvent = map variant.BinlogEvent (stream_event.form c.semi_sync)
+  server_packet c _ = other_side
+
+  -- A fault is that of the grammar. A binary row's is the first of the whole row.
+  abbrev pub RefusesPacket : ReadContext C → Kind → FaultOf → List ℕ → Type 0
+  RefusesPacket c (kind.Row Binary) e bytes = Faults false e ((bin_row_of type_of unsigned 2 c.columns.now).reads bytes)
+  RefusesPacket c k e bytes = Faults false e ((server_packet c k).reads bytes)

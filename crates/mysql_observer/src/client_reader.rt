@@ -1,0 +1,67 @@
+//! Packets of the client are read by their kind.
+#![tactic(auto, using(mysql_wire::proofs::Packets::packets))]
+
+ghost use Rattle.std.specs.Prelude.{false, ◌≡◌, Ok, List, ℕ, OnErr, IfOk, IfErr};
+ghost use Rattle.mysql_wire.specs.Reading.{Answers, Faults};
+ghost use Rattle.mysql_observer.specs.Client as spec;
+
+use crate::client::ClientPacket;
+use crate::read_context::agreed_or_none;
+use mysql_conversation::Kind;
+use mysql_replies::SessionCapabilities;
+use mysql_wire::{FaultOf, ParseBuf};
+use std::alloc::Global;
+
+/// The packet of this kind.
+fn read_of_kind<'s, 'a>(
+    agreed: Option<SessionCapabilities>,
+    kind: Kind,
+    buf: &mut ParseBuf<'a>,
+) -> Result<ClientPacket<'a>, FaultOf<'s>>
+    ensures value { Answers false result buf.new ((spec.client_packet agreed kind).reads buf.old) }
+{
+    match kind {
+        Kind::SslRequest => Ok(ClientPacket::SslRequest(buf.parse(())?)),
+        Kind::Login => Ok(ClientPacket::Login(buf.parse(())?)),
+        Kind::AuthData => Ok(ClientPacket::AuthData(buf.parse(())?)),
+        Kind::Command(_) => Ok(ClientPacket::Command(buf.parse(agreed_or_none(agreed).mysql)?)),
+        Kind::InfileContent => Ok(ClientPacket::InfileContent(buf.parse(())?)),
+        Kind::InfileEnd => Ok(ClientPacket::InfileEnd),
+        Kind::SemiSyncAck => Ok(ClientPacket::SemiSyncAck(buf.parse(())?)),
+        _ => Err(FaultOf::InvalidInput("A kind of the server's packets")),
+    }
+}
+
+/// Reads the packet of this kind from the front of the bytes, under what both sides agreed on: none before the login, as
+/// [`Session::agreed`](mysql_conversation::Session::agreed) answers it. What follows the record is left.
+///
+/// A fault is that of the kind's reader. A kind of the server's packets is `InvalidInput`. After a refusal the bytes are as they were. No
+/// memory is taken, so that none is `Memory`.
+pub fn read_client_packet<'s, 'a>(
+    agreed: Option<SessionCapabilities>,
+    kind: Kind,
+    buf: &mut ParseBuf<'a>,
+) -> Result<ClientPacket<'a>, FaultOf<'s>>
+    ensures value { Answers false result buf.new ((spec.client_packet agreed kind).reads buf.old) }
+    ensures err { OnErr result (buf.new ≡ buf.old) }
+{
+    let mut rest = buf.rest();
+    let packet = read_of_kind(agreed, kind, &mut rest)?;
+    *buf = rest;
+    Ok(packet)
+}
+
+/// The packet that a payload of this kind is, as [`read_client_packet`] reads it. Bytes may follow it.
+pub fn client_packet<'s, 'a>(
+    alloc: Global,
+    agreed: Option<SessionCapabilities>,
+    kind: Kind,
+    payload: &'a [u8],
+) -> Result<ClientPacket<'a>, FaultOf<'s>>
+    ensures packet { IfOk result (λ packet. (rest : List ℕ) × (spec.client_packet agreed kind).reads payload.now ≡ Ok (packet, rest)) }
+    ensures fault { IfErr result (λ e. Faults false e ((spec.client_packet agreed kind).reads payload.now)) }
+{
+    let mut buf = ParseBuf::new(alloc, payload);
+    let packet = read_client_packet(agreed, kind, &mut buf)?;
+    Ok(packet)
+}

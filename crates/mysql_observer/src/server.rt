@@ -1,0 +1,61 @@
+//! A packet of the server, by its kind.
+
+use mysql_auth::{
+    AuthMoreDataRef, AuthNextFactorRef, AuthSwitchRequestRef, HandshakePacketRef,
+    OldAuthSwitchRequest,
+};
+use mysql_commands::BytesRef;
+use mysql_prepared::{BinaryRowView, StmtPacketWithMetadata, TextRowView, TypedColumn};
+use mysql_repl::BinlogStreamEvent;
+use mysql_replies::{
+    ColumnCount, ErrPacketRef, ExtendedColumnRef, GreetingErrorRef, LocalInfilePacketRef,
+    OkPacketRef, ProgressReportRef,
+};
+use mysql_values::ServerSide;
+
+/// A packet of the server: the record of its kind, whose texts and values stay in the payload.
+#[derive(Drop)]
+pub enum ServerPacket<'a, 'c, C: TypedColumn> {
+    /// The greeting.
+    Handshake(HandshakePacketRef<'a>),
+    /// An error in place of the greeting.
+    GreetingError(GreetingErrorRef<'a>),
+    /// A switch of the plugin.
+    AuthSwitch(AuthSwitchRequestRef<'a>),
+    /// A switch to the old plugin.
+    OldAuthSwitch(OldAuthSwitchRequest),
+    /// Further authentication data.
+    AuthMoreData(AuthMoreDataRef<'a>),
+    /// A request for the next factor.
+    AuthNextFactor(AuthNextFactorRef<'a>),
+    /// What a plugin of the server says: the whole payload.
+    AuthPluginData(BytesRef<'a>),
+    /// An OK packet.
+    Ok(OkPacketRef<'a>),
+    /// An error that ends what a command asked for.
+    Error(ErrPacketRef<'a>),
+    /// An error that answers no command: the server ends the connection.
+    UnaskedError(ErrPacketRef<'a>),
+    /// A report of progress.
+    ProgressReport(ProgressReportRef<'a>),
+    /// The server asks for a local file.
+    LocalInfile(LocalInfilePacketRef<'a>),
+    /// How many columns there are.
+    ColumnCount(ColumnCount),
+    /// The definition of a column or a parameter, with MariaDB's extended metadata where these are agreed on.
+    Column(ExtendedColumnRef<'a>),
+    /// An EOF packet: its status and its count of warnings.
+    Eof(OkPacketRef<'a>),
+    /// The end of rows or of a stream of events as an OK packet.
+    OkTerminator(OkPacketRef<'a>),
+    /// A row of text, whose values are read one by one.
+    TextRow(TextRowView<'a>),
+    /// A binary row, whose values are read one by one.
+    BinaryRow(BinaryRowView<'a, 'c, ServerSide, C>),
+    /// A prepared statement.
+    PrepareOk(StmtPacketWithMetadata),
+    /// The text that answers `COM_STATISTICS`: the whole payload.
+    Statistics(BytesRef<'a>),
+    /// An event of a stream.
+    BinlogEvent(BinlogStreamEvent<'a>),
+}
