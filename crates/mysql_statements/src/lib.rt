@@ -1,0 +1,14 @@
+//! The table of prepared statements that whoever watches a connection keeps.
+#![tactic(auto)]
+
+mod limits;
+mod places;
+mod row_column;
+mod statement;
+mod table;
+mod task;
+
+pub use limits::StatementLimits;
+pub use row_column::RowColumn;
+pub use statement::Statement;
+pub use table::Statements;
