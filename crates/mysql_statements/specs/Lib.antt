@@ -1,3 +1,5 @@
 pub mod Kept
 pub mod Statement
 pub mod Table
+pub mod Packets
+pub mod After

@@ -2,10 +2,12 @@
 #![tactic(auto)]
 
 mod limits;
+mod packets;
 mod places;
 mod row_column;
 mod statement;
 mod table;
+mod take;
 mod task;
 
 pub use limits::StatementLimits;

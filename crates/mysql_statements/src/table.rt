@@ -48,6 +48,11 @@ impl Statements {
         }
     }
 
+    /// Where memory is taken.
+    pub(crate) fn alloc(&self) -> Global {
+        self.alloc
+    }
+
     /// The number of the statement that is named so: `ffffffff` names the one that was prepared last.
     fn named(&self, id: u32) -> Option<u32>
         ensures { result ≡ spec.named self.now.last id }

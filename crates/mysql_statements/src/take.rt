@@ -1,0 +1,84 @@
+//! What a packet changes.
+
+ghost use Rattle.std.specs.Prelude.{◌≡◌, OnOk, OnErr, true, false};
+ghost use Rattle.mysql_statements.specs.After as spec;
+ghost use Rattle.mysql_statements.specs.Packets as packets;
+
+use crate::packets::{column_at, data_at, number_at, prepared_at};
+use crate::table::Statements;
+use mysql_conversation::Kind;
+use mysql_replies::SessionCapabilities;
+use std::alloc::AllocError;
+
+impl Statements {
+    /// Takes a packet of this kind, which comes next in a conversation, and keeps what it says of statements.
+    ///
+    /// `Memory` is an answer where a statement, or a definition of a column, could not be kept for want of memory: the packet is taken, and
+    /// that statement, or the columns of that result, are not known then. The others are.
+    pub fn take(
+        &mut self,
+        agreed: SessionCapabilities,
+        kind: Kind,
+        payload: &[u8],
+    ) -> Result<(), AllocError>
+        ensures taken { OnOk result (self.new ≡ spec.after true agreed kind payload.now self.old) }
+        ensures memory { OnErr result (self.new ≡ spec.after false agreed kind payload.now self.old) }
+    {
+        match kind {
+            Kind::Command(code) => {
+                self.ask(code, payload);
+                Ok(())
+            }
+            Kind::PrepareOk(columns, params, follow) => {
+                match prepared_at(self.alloc(), payload) {
+                    Some(id) => self.prepare(id, params, columns, follow),
+                    None => {
+                        self.turn_away();
+                        Ok(())
+                    }
+                }
+            }
+            Kind::Column => self.define(column_at(self.alloc(), agreed, payload)),
+            Kind::ColumnCount(count, follow) => {
+                self.count(count, follow);
+                Ok(())
+            }
+            Kind::Error => {
+                self.fail();
+                Ok(())
+            }
+            _ => Ok(()),
+        }
+    }
+
+    /// A command, by its first byte.
+    fn ask(&mut self, code: u8, payload: &[u8])
+        ensures { self.new ≡ spec.asked code payload.now self.old }
+    {
+        match code {
+            0x16 => self.begin_prepare(),
+            0x11 | 0x1f => self.clear(),
+            0x18 => match data_at(self.alloc(), payload) {
+                Some((id, param)) => self.send_ahead(id, usize::from(param)),
+                None => self.turn_away(),
+            },
+            0x17 | 0xfa | 0x1c | 0x19 | 0x1a => self.ask_one(code, payload),
+            _ => self.turn_away(),
+        }
+    }
+
+    /// A command that is of one statement.
+    fn ask_one(&mut self, code: u8, payload: &[u8])
+        ensures { self.new ≡ spec.asked_one code (packets.number_at payload.now) self.old }
+    {
+        let Some(id) = number_at(self.alloc(), payload) else {
+            self.turn_away();
+            return;
+        };
+        match code {
+            0x19 => self.close(id),
+            0x1a => self.reset(id),
+            _ => self.execute(id),
+        }
+    }
+}
