@@ -1,3 +1,4 @@
 pub mod Numbers
 pub mod Params
 pub mod Refused
+pub mod Types

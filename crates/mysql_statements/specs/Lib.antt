@@ -1,5 +1,6 @@
 pub mod Kept
 pub mod Statement
+pub mod Binding
 pub mod Table
 pub mod Packets
 pub mod After

@@ -2,6 +2,8 @@
 use Rattle.std.specs.Prelude.{ℕ, zero, suc, ◌+◌, ◌-◌, ◌==◌, nat_lt, nat_le, Bool, true, false, not, ◌&&◌, List, [], ◌∷◌, ◌++◌, length, sum_by, Option, Some, None, option_map, if◌then◌else◌}
 use Rattle.mysql_statements.specs.Kept.{Kept}
 use Rattle.mysql_statements.specs.Statement.{types, undefined, with_param, with_column, with_result, with_data, with_no_data, columns}
+use Rattle.mysql_statements.specs.Binding.{with_execution}
+use Rattle.mysql_statements.specs.declared.layout.Layout.{Layout}
 use Rattle.mysql_statements.specs.declared.limits.StatementLimits.{StatementLimits}
 use Rattle.mysql_statements.specs.declared.row_column.RowColumn.{RowColumn}
 use Rattle.mysql_statements.specs.declared.task.Task.{Task}
@@ -115,13 +117,17 @@ abbrev pub defined : Bool → Option RowColumn → Table → Table
 defined memory (Some c) t = defined_at t.task memory c t
 defined memory None t = otherwise t
 
--- a statement is executed
 abbrev pub executing : Option ℕ → Task
 executing None = Other
 executing (Some id) = Execution id 0
 
-abbrev pub executed : ℕ → Table → Table
-executed id t = with t t.statements t.last (executing (named t.last id))
+-- a statement is executed
+abbrev pub executed : Layout → (payload : List ℕ) → ℕ → Table → Table
+executed layout p id t = with t (change_of (named t.last id) (with_execution layout p) t.statements) t.last (executing (named t.last id))
+
+-- rows of a statement's cursor are asked for
+abbrev pub fetched : ℕ → Table → Table
+fetched id t = with t t.statements t.last (executing (named t.last id))
 
 -- a result of an execution, of so many columns, whose definitions follow or not
 abbrev pub counted_at : Task → ℕ → Bool → Table → Table

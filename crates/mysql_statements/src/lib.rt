@@ -1,6 +1,8 @@
 //! The table of prepared statements that whoever watches a connection keeps.
 #![tactic(auto)]
 
+mod binding;
+mod layout;
 mod limits;
 mod packets;
 mod places;

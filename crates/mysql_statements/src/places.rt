@@ -1,12 +1,14 @@
 //! Statements by their numbers.
 
 ghost use Rattle.std.specs.Prelude.{◌≡◌, ◌<◌, ◌+◌, length, IfSome, IfNone, OnOk, OnErr, Some, None};
+ghost use Rattle.mysql_statements.specs.Binding as binding;
 ghost use Rattle.mysql_statements.specs.Statement as statement;
 ghost use Rattle.mysql_statements.specs.Table as spec;
 
+use crate::layout::Layout;
 use crate::row_column::RowColumn;
 use crate::statement::Statement;
-use std::alloc::AllocError;
+use std::alloc::{AllocError, Global};
 
 /// Where the statement of that number stands. It looks at each one before it.
 #[tactic(auto, using(crate::proofs::Numbers::steps))]
@@ -75,6 +77,22 @@ pub(crate) fn begin_result(statements: &mut [Statement], id: u32, width: u64, fo
 {
     if let Some(place) = place_of(statements, id) {
         statements[place].begin_result(width, follow);
+    }
+}
+
+/// An execution.
+#[tactic(auto, using(crate::proofs::Numbers::places))]
+pub(crate) fn execute(
+    statements: &mut [Statement],
+    alloc: Global,
+    id: u32,
+    layout: Layout,
+    payload: &[u8],
+)
+    ensures { statements.new ≡ spec.change id (binding.with_execution layout payload.now) statements.old }
+{
+    if let Some(place) = place_of(statements, id) {
+        statements[place].execute(alloc, layout, payload);
     }
 }
 

@@ -1,12 +1,15 @@
 //! What is kept of a prepared statement.
 
 ghost use Rattle.std.specs.Prelude.{◌≡◌, ◌<◌, ◌+◌, ◌-◌, length, IfOk, IfSome, IfNone, OnOk, OnErr, map};
+ghost use Rattle.mysql_statements.specs.Binding as binding;
 ghost use Rattle.mysql_statements.specs.Statement as spec;
 
+use crate::binding::{bind, read_front};
+use crate::layout::Layout;
 use crate::row_column::RowColumn;
 use mysql_prepared::BoundParam;
 use mysql_values::ParamType;
-use mysql_wire::{ColumnType, Flags, StmtExecuteParamFlags};
+use mysql_wire::{ColumnType, FaultOf, Flags, ParseBuf, StmtExecuteParamFlags};
 use std::alloc::{AllocError, Global};
 use std::marker::Model;
 
@@ -174,6 +177,20 @@ impl Statement {
         ensures { self.new ≡ spec.with_data place self.old }
     {
         mark_sent(&mut self.params, place);
+    }
+
+    /// An execution: it gives the parameters types, or leaves them theirs, and uses up the data that was sent ahead.
+    pub(crate) fn execute(&mut self, alloc: Global, layout: Layout, payload: &[u8])
+        ensures { self.new ≡ binding.with_execution layout payload.now self.old }
+    {
+        let mut buf = ParseBuf::new(alloc, payload);
+        let read: Result<bool, FaultOf> = read_front(layout, self.params.len(), &mut buf);
+        if let Ok(sends) = read {
+            if bind(&mut self.params, sends, buf) {
+                self.is_bound = true;
+            }
+        }
+        drop_data(&mut self.params);
     }
 
     /// The data that was sent ahead is gone.

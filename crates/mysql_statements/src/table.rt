@@ -4,9 +4,10 @@ ghost use Rattle.std.specs.Prelude.{◌≡◌, ◌≤◌, IfSome, IfNone, IfOk, 
 ghost use Rattle.mysql_statements.specs.Table as spec;
 ghost use Rattle.mysql_statements.specs.declared.task.Task.TheVariants as task;
 
+use crate::layout::Layout;
 use crate::limits::StatementLimits;
 use crate::places::{
-    begin_result, define_column, define_param, drop_data, find, forget, has_room, send_ahead,
+    begin_result, define_column, define_param, drop_data, execute, find, forget, has_room, send_ahead,
 };
 use crate::row_column::RowColumn;
 use crate::statement::Statement;
@@ -191,8 +192,19 @@ impl Statements {
     }
 
     /// A statement is executed.
-    pub(crate) fn execute(&mut self, id: u32)
-        ensures { self.new ≡ spec.executed id self.old }
+    pub(crate) fn execute(&mut self, id: u32, layout: Layout, payload: &[u8])
+        ensures { self.new ≡ spec.executed layout payload.now id self.old }
+    {
+        self.task = Task::Other;
+        if let Some(id) = self.named(id) {
+            execute(&mut self.statements, self.alloc, id, layout, payload);
+            self.task = Task::Execution(id, 0);
+        }
+    }
+
+    /// Rows of a statement's cursor are asked for.
+    pub(crate) fn fetch(&mut self, id: u32)
+        ensures { self.new ≡ spec.fetched id self.old }
     {
         self.task = match self.named(id) {
             Some(id) => Task::Execution(id, 0),

@@ -4,11 +4,24 @@ ghost use Rattle.std.specs.Prelude.{◌≡◌, OnOk, OnErr, true, false};
 ghost use Rattle.mysql_statements.specs.After as spec;
 ghost use Rattle.mysql_statements.specs.Packets as packets;
 
+use crate::binding::has_attributes;
+use crate::layout::Layout;
 use crate::packets::{column_at, data_at, number_at, prepared_at};
 use crate::table::Statements;
 use mysql_conversation::Kind;
 use mysql_replies::SessionCapabilities;
 use std::alloc::AllocError;
+
+/// How a `COM_STMT_EXECUTE` lies in the bytes.
+fn layout_of(agreed: SessionCapabilities) -> Layout
+    ensures { result ≡ spec.layout_of agreed }
+{
+    if has_attributes(agreed) {
+        Layout::Closed
+    } else {
+        Layout::Single
+    }
+}
 
 impl Statements {
     /// Takes a packet of this kind, which comes next in a conversation, and keeps what it says of statements.
@@ -26,7 +39,7 @@ impl Statements {
     {
         match kind {
             Kind::Command(code) => {
-                self.ask(code, payload);
+                self.ask(agreed, code, payload);
                 Ok(())
             }
             Kind::PrepareOk(columns, params, follow) => {
@@ -52,8 +65,8 @@ impl Statements {
     }
 
     /// A command, by its first byte.
-    fn ask(&mut self, code: u8, payload: &[u8])
-        ensures { self.new ≡ spec.asked code payload.now self.old }
+    fn ask(&mut self, agreed: SessionCapabilities, code: u8, payload: &[u8])
+        ensures { self.new ≡ spec.asked agreed code payload.now self.old }
     {
         match code {
             0x16 => self.begin_prepare(),
@@ -62,14 +75,14 @@ impl Statements {
                 Some((id, param)) => self.send_ahead(id, usize::from(param)),
                 None => self.turn_away(),
             },
-            0x17 | 0xfa | 0x1c | 0x19 | 0x1a => self.ask_one(code, payload),
+            0x17 | 0xfa | 0x1c | 0x19 | 0x1a => self.ask_one(agreed, code, payload),
             _ => self.turn_away(),
         }
     }
 
     /// A command that is of one statement.
-    fn ask_one(&mut self, code: u8, payload: &[u8])
-        ensures { self.new ≡ spec.asked_one code (packets.number_at payload.now) self.old }
+    fn ask_one(&mut self, agreed: SessionCapabilities, code: u8, payload: &[u8])
+        ensures { self.new ≡ spec.asked_one agreed code payload.now (packets.number_at payload.now) self.old }
     {
         let Some(id) = number_at(self.alloc(), payload) else {
             self.turn_away();
@@ -78,7 +91,9 @@ impl Statements {
         match code {
             0x19 => self.close(id),
             0x1a => self.reset(id),
-            _ => self.execute(id),
+            0x1c => self.fetch(id),
+            0xfa => self.execute(id, Layout::Bulk, payload),
+            _ => self.execute(id, layout_of(agreed), payload),
         }
     }
 }
