@@ -2,3 +2,4 @@ pub mod Numbers
 pub mod Params
 pub mod Refused
 pub mod Types
+pub mod Bounds

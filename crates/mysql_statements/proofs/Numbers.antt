@@ -1,8 +1,8 @@
 -- Where statements stand.
-use Rattle.std.proofs.Common.{◌≡◌, ◌≢◌, ℕ, zero, suc, ◌+◌, ◌<◌, ◌≤◌, Bool, true, false, List, [], ◌∷◌, ◌++◌, Option, Some, None, length, get_or, set, take, drop, refl, sym, ap, subst, ◌∙◌, ◌==◌, option_map, if◌then◌else◌, eq-eqb, arith}
+use Rattle.std.proofs.Common.{◌≡◌, ◌≢◌, ℕ, zero, suc, ◌+◌, ◌<◌, ◌≤◌, Bool, true, false, List, [], ◌∷◌, ◌++◌, Option, Some, None, length, get_or, set, take, drop, refl, sym, ap, subst, ◌∙◌, ◌==◌, option_map, if◌then◌else◌, eq-eqb, not, arith}
 use Rattle.std.proofs.lemmas.Bool.{ne_eqb}
-use Rattle.std.proofs.lemmas.List.{drop_more, drop_all}
 use Rattle.std.specs.List.{remove}
+use Rattle.std.proofs.lemmas.List.{drop_more, drop_all}
 use Rattle.mysql_statements.specs.Kept.{Kept}
 use Rattle.mysql_statements.specs.Statement.{types}
 use Rattle.mysql_statements.specs.Table.{place_of, find, change, without, held}
@@ -92,20 +92,6 @@ pub find_at : (id : ℕ) (xs : List Kept) (i : ℕ) (x : Kept) → place_of id x
 find_at id [] i x h r = absurd cc
 find_at id (s ∷ ss) i x h r = find_when (s.id == id) (place_of id ss) s ss (find id ss) i x (λ j e q. find_at id ss j x e q) h r
 
-without_when : (b : Bool) (o : Option ℕ) (s : Kept) (ss rest : List Kept) (i : ℕ)
-    → ((j : ℕ) → o ≡ Some j → rest ≡ remove ss j)
-    → (if b then Some 0 else option_map suc o) ≡ Some i
-    → (if b then ss else s ∷ rest) ≡ remove (s ∷ ss) i
-without_when true o s ss rest zero ih h = refl
-without_when true o s ss rest (suc i) ih h = absurd cc
-without_when false None s ss rest i ih h = absurd cc
-without_when false (Some j) s ss rest zero ih h = absurd cc
-without_when false (Some j) s ss rest (suc i) ih h = ap (λ l. s ∷ l) (ih i (cc))
-
-pub without_at : (id : ℕ) (xs : List Kept) (i : ℕ) → place_of id xs ≡ Some i → without id xs ≡ remove xs i
-without_at id [] i h = absurd cc
-without_at id (s ∷ ss) i h = without_when (s.id == id) (place_of id ss) s ss (without id ss) i (λ j e. without_at id ss j e) h
-
 -- ---- a statement that is not there
 
 none_when : (b : Bool) (o : Option ℕ) → (if b then Some 0 else option_map suc o) ≡ None → (b ≡ false) × (o ≡ None)
@@ -122,11 +108,6 @@ change_nowhere id f [] h = refl
 change_nowhere id f (s ∷ ss) h =
     let e = none_when (s.id == id) (place_of id ss) h in change_unless (s.id == id) s ss (change id f ss) (f s ∷ ss) e.0 (change_nowhere id f ss e.1)
 
-pub without_nowhere : (id : ℕ) (xs : List Kept) → place_of id xs ≡ None → without id xs ≡ xs
-without_nowhere id [] h = refl
-without_nowhere id (s ∷ ss) h =
-    let e = none_when (s.id == id) (place_of id ss) h in change_unless (s.id == id) s ss (without id ss) ss e.0 (without_nowhere id ss e.1)
-
 find_unless : (b : Bool) (s : Kept) (found : Option Kept) → b ≡ false → found ≡ None → (if b then Some s else found) ≡ None
 find_unless true s found e h = absurd cc
 find_unless false s found e h = h
@@ -136,4 +117,36 @@ find_nowhere id [] h = refl
 find_nowhere id (s ∷ ss) h =
     let e = none_when (s.id == id) (place_of id ss) h in find_unless (s.id == id) s (find id ss) e.0 (find_nowhere id ss e.1)
 
-pub ruleset places = (change_at, find_at, without_at, change_nowhere, without_nowhere, find_nowhere)
+-- ---- a statement that is taken out
+
+place_zero : (b : Bool) (o : Option ℕ) → (if b then Some 0 else option_map suc o) ≡ Some 0 → b ≡ true
+place_zero true o h = refl
+place_zero false None h = absurd cc
+place_zero false (Some j) h = absurd cc
+
+place_suc : (b : Bool) (o : Option ℕ) (i : ℕ) → (if b then Some 0 else option_map suc o) ≡ Some (suc i) → o ≡ Some i
+place_suc true o i h = absurd cc
+place_suc false None i h = absurd cc
+place_suc false (Some j) i h = let e : j ≡ i = cc in ap (λ n. Some n) e
+
+dropped : (b : Bool) (s : Kept) (w : List Kept) → b ≡ true → w ≡ (if not b then s ∷ w else w)
+dropped true s w e = refl
+dropped false s w e = absurd cc
+
+pub removed_at : (id : ℕ) (xs : List Kept) (i : ℕ) → place_of id xs ≡ Some i → without id (remove xs i) ≡ without id xs
+removed_at id [] i h = absurd cc
+removed_at id (s ∷ ss) zero h = dropped (s.id == id) s (without id ss) (place_zero (s.id == id) (place_of id ss) h)
+removed_at id (s ∷ ss) (suc i) h = ap (λ w. if not (s.id == id) then s ∷ w else w) (removed_at id ss i (place_suc (s.id == id) (place_of id ss) i h))
+
+stays : (b : Bool) (s : Kept) (w ss : List Kept) → b ≡ false → w ≡ ss → (if not b then s ∷ w else w) ≡ s ∷ ss
+stays true s w ss e h = absurd cc
+stays false s w ss e h = ap (λ l. s ∷ l) h
+
+pub without_nowhere : (id : ℕ) (xs : List Kept) → place_of id xs ≡ None → without id xs ≡ xs
+without_nowhere id [] h = refl
+without_nowhere id (s ∷ ss) h =
+    let e = none_when (s.id == id) (place_of id ss) h in stays (s.id == id) s (without id ss) ss e.0 (without_nowhere id ss e.1)
+
+pub ruleset gone = (removed_at, without_nowhere)
+
+pub ruleset places = (change_at, find_at, change_nowhere, find_nowhere)

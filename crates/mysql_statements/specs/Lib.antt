@@ -4,3 +4,4 @@ pub mod Binding
 pub mod Table
 pub mod Packets
 pub mod After
+pub mod Bounds

@@ -1,5 +1,6 @@
 -- The table of prepared statements, and what packets change in it.
 use Rattle.std.specs.Prelude.{ℕ, zero, suc, ◌+◌, ◌-◌, ◌==◌, nat_lt, nat_le, Bool, true, false, not, ◌&&◌, List, [], ◌∷◌, ◌++◌, length, sum_by, Option, Some, None, option_map, if◌then◌else◌}
+use Rattle.std.specs.List.{filter}
 use Rattle.mysql_statements.specs.Kept.{Kept}
 use Rattle.mysql_statements.specs.Statement.{types, undefined, with_param, with_column, with_result, with_data, with_no_data, columns}
 use Rattle.mysql_statements.specs.Binding.{with_execution}
@@ -34,9 +35,9 @@ abbrev pub change : ℕ → (Kept → Kept) → List Kept → List Kept
 change id f [] = []
 change id f (s ∷ ss) = if s.id == id then f s ∷ ss else s ∷ change id f ss
 
+-- those of other numbers
 abbrev pub without : ℕ → List Kept → List Kept
-without id [] = []
-without id (s ∷ ss) = if s.id == id then ss else s ∷ without id ss
+without id ss = filter (λ s. not (s.id == id)) ss
 
 -- where the statement of that number stands
 abbrev pub place_of : ℕ → List Kept → Option ℕ

@@ -3,6 +3,7 @@
 
 mod binding;
 mod layout;
+pub mod laws;
 mod limits;
 mod packets;
 mod places;

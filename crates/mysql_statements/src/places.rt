@@ -34,12 +34,12 @@ pub(crate) fn find(statements: &[Statement], id: u32) -> Option<&Statement>
     Some(&statements[place])
 }
 
-/// Takes the statement of that number out.
-#[tactic(auto, using(crate::proofs::Numbers::places))]
+/// Takes the statement of that number out. It looks at each one.
+#[tactic(auto, using(crate::proofs::Numbers::gone))]
 pub(crate) fn forget(statements: &mut Vec<Statement>, id: u32)
     ensures { statements.new.items ≡ spec.without id statements.old.items }
 {
-    if let Some(place) = place_of(statements, id) {
+    while let Some(place) = place_of(statements, id) {
         statements.remove(place);
     }
 }

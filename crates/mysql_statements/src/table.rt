@@ -1,7 +1,8 @@
 //! The table.
 
-ghost use Rattle.std.specs.Prelude.{◌≡◌, ◌≤◌, IfSome, IfNone, IfOk, OnOk, OnErr, Some, None, true, false};
+ghost use Rattle.std.specs.Prelude.{◌≡◌, ◌+◌, ◌&&◌, IfSome, IfNone, OnOk, OnErr, IsTrue, Some, None, true, false, is_some};
 ghost use Rattle.mysql_statements.specs.Table as spec;
+ghost use Rattle.mysql_statements.specs.Bounds as bounds;
 ghost use Rattle.mysql_statements.specs.declared.task.Task.TheVariants as task;
 
 use crate::layout::Layout;
@@ -39,6 +40,7 @@ impl Statements {
     /// One that knows of no statement.
     pub fn new(alloc: Global, limits: StatementLimits) -> Self
         ensures value { result ≡ spec.empty limits }
+        ensures within { bounds.IsWithin result }
     {
         Statements {
             alloc,
@@ -126,6 +128,7 @@ impl Statements {
     ) -> Result<(), AllocError>
         ensures ok { OnOk result (self.new ≡ spec.prepared true id params columns follow self.old) }
         ensures err { OnErr result (self.new ≡ spec.prepared false id params columns follow self.old) }
+        ensures asked { OnErr result (IsTrue (bounds.keeps_statement (Some id) (params + columns) self.old)) }
     {
         forget(&mut self.statements, id);
         self.last = Some(id);
@@ -145,6 +148,7 @@ impl Statements {
     pub(crate) fn define(&mut self, column: Option<RowColumn>) -> Result<(), AllocError>
         ensures ok { OnOk result (self.new ≡ spec.defined true column self.old) }
         ensures err { OnErr result (self.new ≡ spec.defined false column self.old) }
+        ensures asked { OnErr result (IsTrue (is_some column && bounds.keeps_column self.old.task)) }
     {
         let Some(column) = column else {
             self.task = Task::Other;
@@ -176,6 +180,7 @@ impl Statements {
         requires { self.old.task ≡ task.Definitions id params left }
         ensures ok { OnOk result (self.new ≡ spec.defined_at (task.Definitions id params left) true column self.old) }
         ensures err { OnErr result (self.new ≡ spec.defined_at (task.Definitions id params left) false column self.old) }
+        ensures asked { OnErr result (IsTrue (bounds.keeps_column self.old.task)) }
     {
         if let Some(after) = params.checked_sub(1) {
             define_param(&mut self.statements, id, params, column);

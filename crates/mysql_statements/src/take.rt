@@ -1,7 +1,8 @@
 //! What a packet changes.
 
-ghost use Rattle.std.specs.Prelude.{◌≡◌, OnOk, OnErr, true, false};
+ghost use Rattle.std.specs.Prelude.{◌≡◌, OnOk, OnErr, IsTrue, true, false};
 ghost use Rattle.mysql_statements.specs.After as spec;
+ghost use Rattle.mysql_statements.specs.Bounds as bounds;
 ghost use Rattle.mysql_statements.specs.Packets as packets;
 
 use crate::binding::has_attributes;
@@ -36,6 +37,24 @@ impl Statements {
     ) -> Result<(), AllocError>
         ensures taken { OnOk result (self.new ≡ spec.after true agreed kind payload.now self.old) }
         ensures memory { OnErr result (self.new ≡ spec.after false agreed kind payload.now self.old) }
+        // Memory is asked for alone where the packet has the table keep a statement, or the definition of a column.
+        ensures asked { OnErr result (IsTrue (bounds.takes_memory agreed kind payload.now self.old)) }
+        // No more is kept than may be.
+        ensures within { bounds.IsWithin self.old → bounds.IsWithin self.new }
+    {
+        self.change(agreed, kind, payload)
+    }
+
+    /// Takes a packet.
+    fn change(
+        &mut self,
+        agreed: SessionCapabilities,
+        kind: Kind,
+        payload: &[u8],
+    ) -> Result<(), AllocError>
+        ensures taken { OnOk result (self.new ≡ spec.after true agreed kind payload.now self.old) }
+        ensures memory { OnErr result (self.new ≡ spec.after false agreed kind payload.now self.old) }
+        ensures asked { OnErr result (IsTrue (bounds.takes_memory agreed kind payload.now self.old)) }
     {
         match kind {
             Kind::Command(code) => {
