@@ -3,3 +3,4 @@ pub mod Params
 pub mod Refused
 pub mod Types
 pub mod Bounds
+pub mod Runs

@@ -5,3 +5,4 @@ pub mod Table
 pub mod Packets
 pub mod After
 pub mod Bounds
+pub mod Run
