@@ -4,3 +4,4 @@ pub mod Refused
 pub mod Types
 pub mod Bounds
 pub mod Runs
+pub mod Fronts
