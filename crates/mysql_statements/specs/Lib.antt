@@ -6,3 +6,4 @@ pub mod Packets
 pub mod After
 pub mod Bounds
 pub mod Run
+pub mod Early

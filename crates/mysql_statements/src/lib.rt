@@ -2,6 +2,8 @@
 #![tactic(auto)]
 
 mod binding;
+mod early;
+mod early_command;
 mod layout;
 pub mod laws;
 mod limits;
@@ -13,7 +15,9 @@ mod table;
 mod take;
 mod task;
 
-pub use limits::StatementLimits;
+pub use early::EarlyCommands;
+pub use early_command::EarlyCommand;
+pub use limits::{EarlyLimits, StatementLimits};
 pub use row_column::RowColumn;
 pub use statement::Statement;
 pub use table::Statements;

@@ -8,3 +8,12 @@ pub struct StatementLimits {
     /// How many types of their parameters and columns, altogether.
     pub types: usize,
 }
+
+/// How many commands wait at most that came early.
+#[derive(Clone, Copy, Debug, PartialEq, Eq)]
+pub struct EarlyLimits {
+    /// How many commands.
+    pub commands: usize,
+    /// How many bytes each has at most.
+    pub bytes: usize,
+}
