@@ -1,5 +1,5 @@
 -- A table stays within its bounds.
-use Rattle.std.proofs.Common.{◌≡◌, ℕ, zero, suc, ◌+◌, ◌-◌, ◌<◌, ◌≤◌, Bool, true, false, nat_le, nat_lt, ◌&&◌, not, List, [], ◌∷◌, ◌++◌, Option, Some, None, length, map, replicate, refl, sym, ap, subst, ◌==◌, Result, Ok, Err, OnOk, OnErr, if◌then◌else◌, arith}
+use Rattle.std.proofs.Common.{◌≡◌, ℕ, zero, suc, ◌+◌, ◌-◌, ◌<◌, ◌≤◌, Bool, true, false, nat_lt, ◌&&◌, not, List, [], ◌∷◌, ◌++◌, Option, Some, None, length, refl, sym, ap, subst, ◌==◌, Result, Ok, Err, OnOk, OnErr, if◌then◌else◌, arith}
 use Rattle.std.proofs.lemmas.List.{length-append, length-map, length-replicate}
 use Rattle.std.proofs.lemmas.Bool.{leb-true, ltb-true, and_parts}
 use Rattle.mysql_values.specs.declared.param_type.ParamType.{ParamType}
@@ -11,8 +11,8 @@ use Rattle.mysql_conversation.specs.declared.kind.Kind.{Kind}
 use Rattle.mysql_conversation.specs.declared.kind.Kind.TheVariants as kind
 use Rattle.mysql_statements.specs.Kept.{Kept}
 use Rattle.mysql_statements.specs.Statement.{types, at, without_data, with_param, with_column, with_result, with_data, with_no_data, with_type, sent_ahead as marked, param_type_of, undefined}
-use Rattle.mysql_statements.specs.Binding.{Bound, bound_in, bound_by, with_bound, with_front, with_execution, front_of}
-use Rattle.mysql_statements.specs.Table.{Table, held, change, change_of, without, without_of, named, has_room, has_place, following, prepared, failed_at, defined_column, defined_at, defined, executing, executed, fetched, counted_at, sent_ahead, reset, closed, otherwise, preparing, cleared}
+use Rattle.mysql_statements.specs.Binding.{bound_in, bound_by, with_front, with_execution, front_of}
+use Rattle.mysql_statements.specs.Table.{Table, held, change, change_of, without, without_of, named, has_room, has_place, following, prepared, failed_at, defined_column, defined_at, defined, executing, executed, fetched, counted_at, closed, otherwise, cleared}
 use Rattle.mysql_statements.specs.After.{after, asked, asked_one, for_data, is_of_one, layout_of, prepared_by}
 use Rattle.mysql_statements.specs.Bounds.{IsWithin, expected}
 use Rattle.mysql_statements.specs.Packets.{number_at, prepared_at, column_at, data_at}
@@ -199,8 +199,8 @@ expected_following false id params columns = omega arith
 
 within_placed : (t : Table) (id params columns : ℕ) (follow memory b : Bool) → has_place t.limits (without id t.statements) (params + columns) ≡ b → IsWithin t
     → IsWithin (if b && memory
-      then record { limits = t.limits; statements = without id t.statements ++ undefined id params columns ∷ []; last = Some id; task = following follow id params columns }
-      else record { limits = t.limits; statements = without id t.statements; last = Some id; task = Other })
+    then record { limits = t.limits; statements = without id t.statements ++ undefined id params columns ∷ []; last = Some id; task = following follow id params columns }
+    else record { limits = t.limits; statements = without id t.statements; last = Some id; task = Other })
 within_placed t id params columns follow memory false e h = same_bounds t (without id t.statements) (Some id) Other (length_without id t.statements) (held_without id t.statements) refl h
 within_placed t id params columns follow false true e h = same_bounds t (without id t.statements) (Some id) Other (length_without id t.statements) (held_without id t.statements) refl h
 within_placed t id params columns follow true true e h =
@@ -241,11 +241,11 @@ within_one : (a : Agreed) (code : ℕ) (p : List ℕ) (id : Option ℕ) (t : Tab
 within_one a code p None t h = within_otherwise t h
 within_one a code p (Some id) t h =
     chosen (code == 0x19) _ _ (within_closed id t h) (
-      chosen (code == 0x1a) _ _ (within_change t (named t.last id) with_no_data Other no_data_types refl h) (
-        chosen (code == 0x1c) _ _ (within_fetched id t h) (
-          chosen (code == 0xfa) _ _ (within_executed Bulk p id t h) (within_executed (layout_of a) p id t h)
-        )
-      )
+    chosen (code == 0x1a) _ _ (within_change t (named t.last id) with_no_data Other no_data_types refl h) (
+    chosen (code == 0x1c) _ _ (within_fetched id t h) (
+    chosen (code == 0xfa) _ _ (within_executed Bulk p id t h) (within_executed (layout_of a) p id t h)
+    )
+    )
     )
 
 within_data : (x : Option (ℕ × ℕ)) (t : Table) → IsWithin t → IsWithin (for_data x t)
@@ -255,13 +255,13 @@ within_data (Some x) t h = within_change t (named t.last x.0) (with_data x.1) Ot
 within_asked : (a : Agreed) (code : ℕ) (p : List ℕ) (t : Table) → IsWithin t → IsWithin (asked a code p t)
 within_asked a code p t h =
     chosen (code == 0x16) _ _ (same_bounds t t.statements t.last Prepare (omega arith) (omega arith) refl h) (
-      chosen (code == 0x11) _ _ (within_cleared t) (
-        chosen (code == 0x1f) _ _ (within_cleared t) (
-          chosen (code == 0x18) _ _ (within_data (data_at p) t h) (
-            chosen (is_of_one code) _ _ (within_one a code p (number_at p) t h) (within_otherwise t h)
-          )
-        )
-      )
+    chosen (code == 0x11) _ _ (within_cleared t) (
+    chosen (code == 0x1f) _ _ (within_cleared t) (
+    chosen (code == 0x18) _ _ (within_data (data_at p) t h) (
+    chosen (is_of_one code) _ _ (within_one a code p (number_at p) t h) (within_otherwise t h)
+    )
+    )
+    )
     )
 
 pub within_after : (memory : Bool) (a : Agreed) (k : Kind) (p : List ℕ) (t : Table) → IsWithin t → IsWithin (after memory a k p t)

@@ -1,7 +1,6 @@
 -- What an execution binds is what its parameters are read under.
-use Rattle.std.proofs.Common.{◌≡◌, ◌∙◌, ℕ, zero, suc, ◌==◌, Bool, true, false, not, ◌||◌, List, [], ◌∷◌, length, map, refl, sym, ap, subst, Ok, Err}
-use Rattle.mysql_wire.specs.Reading.{Reading, then_read, then_read-ok, done-rest, done-value}
-use Rattle.mysql_wire.specs.Form.{Form}
+use Rattle.std.proofs.Common.{◌≡◌, ◌∙◌, ℕ, suc, ◌==◌, Bool, true, false, not, ◌||◌, List, [], ◌∷◌, length, map, refl, ap, Ok, Err}
+use Rattle.mysql_wire.specs.Reading.{Reading, then_read, then_read-ok, done-value}
 use Rattle.mysql_wire.specs.Int.{byte}
 use Rattle.mysql_wire.specs.declared.int.RawInt.{RawInt}
 use Rattle.mysql_values.specs.declared.param_type.ParamType.{ParamType}

@@ -1,7 +1,6 @@
 -- Definitions one after another.
-use Rattle.std.proofs.Common.{◌≡◌, ◌∙◌, ℕ, zero, suc, ◌+◌, ◌-◌, ◌<◌, ◌≤◌, Bool, true, false, ◌&&◌, not, List, [], ◌∷◌, ◌++◌, Option, Some, None, length, map, replicate, refl, sym, ap, subst, inl, inr, ◌⊎◌, ◌==◌, if◌then◌else◌, append_assoc, eq-eqb, arith}
+use Rattle.std.proofs.Common.{◌≡◌, ◌∙◌, ℕ, suc, ◌+◌, ◌-◌, Bool, true, false, ◌&&◌, not, List, [], ◌∷◌, ◌++◌, Option, Some, None, length, map, replicate, refl, sym, ap, subst, inl, inr, ◌⊎◌, ◌==◌, if◌then◌else◌, append_assoc, eq-eqb, arith}
 use Rattle.std.proofs.lemmas.List.{length-append, length-replicate, append-nil}
-use Rattle.std.proofs.lemmas.Bool.{eqb-true, and_parts}
 use Rattle.mysql_prepared.specs.declared.execute_view.BoundParam.{BoundParam}
 use Rattle.mysql_conversation.specs.Agreements.{Agreed}
 use Rattle.mysql_conversation.specs.declared.kind.Kind.{Kind}
@@ -11,11 +10,11 @@ use Rattle.mysql_statements.specs.Statement.{at, untyped, undefined, with_type, 
 use Rattle.mysql_statements.specs.Packets.{column_at, prepared_at}
 use Rattle.mysql_statements.specs.Table.{Table, find, change, without, named, has_place, has_room, defined, defined_at, defined_column, prepared, counted, counted_at, rows_at, columns_in, columns_of_rows, statement_of, find_of}
 use Rattle.mysql_statements.specs.After.{after, prepared_by}
-use Rattle.mysql_statements.specs.Run.{Item, after_all, AreDefinitions, IsDefinition, defined_param, defined_as}
+use Rattle.mysql_statements.specs.Run.{Item, after_all, AreDefinitions, defined_param, defined_as}
 use Rattle.mysql_statements.specs.declared.limits.StatementLimits.{StatementLimits}
 use Rattle.mysql_statements.specs.declared.row_column.RowColumn.{RowColumn}
 use Rattle.mysql_statements.specs.declared.task.Task.{Task}
-use Rattle.mysql_statements.specs.declared.task.Task.TheVariants.{Other, Prepare, Definitions, Execution}
+use Rattle.mysql_statements.specs.declared.task.Task.TheVariants.{Other, Definitions, Execution}
 
 abbrev pub tab : StatementLimits → List Kept → Option ℕ → Task → Table
 tab limits ss last task = record { limits = limits; statements = ss; last = last; task = task }
@@ -172,8 +171,8 @@ placed : (t : Table) (id params columns : ℕ) → has_place t.limits (without i
     → prepared true id params columns true t ≡ tab t.limits (without id t.statements ++ undefined id params columns ∷ []) (Some id) (Definitions id params columns)
 placed t id params columns h =
     ap (λ b. if b && true
-      then tab t.limits (without id t.statements ++ undefined id params columns ∷ []) (Some id) (Definitions id params columns)
-      else tab t.limits (without id t.statements) (Some id) Other) h
+    then tab t.limits (without id t.statements ++ undefined id params columns ∷ []) (Some id) (Definitions id params columns)
+    else tab t.limits (without id t.statements) (Some id) Other) h
 
 after_prepared : (a : Agreed) (t : Table) (p : List ℕ) (id columns params : ℕ) → prepared_at p ≡ Some id
     → after true a (kind.PrepareOk columns params true) p t ≡ prepared true id params columns true t

@@ -1,6 +1,6 @@
 -- Parameters that are given their types one after another.
-use Rattle.std.proofs.Common.{◌≡◌, ◌≢◌, ◌∙◌, sym, ap, subst, ℕ, zero, suc, ◌+◌, ◌-◌, ◌<◌, ◌≤◌, List, [], ◌∷◌, ◌++◌, Ok, Err, Bool, true, false, IsTrue, length, get_or, set, take, drop, refl, arith, append_assoc}
-use Rattle.std.proofs.lemmas.List.{drop_more, drop_all, get_or_at, set_at, append-nil, length-append}
+use Rattle.std.proofs.Common.{◌≡◌, ◌∙◌, sym, ap, subst, ℕ, suc, ◌+◌, ◌<◌, ◌≤◌, List, [], ◌∷◌, ◌++◌, Ok, Err, true, false, length, get_or, set, drop, refl, arith, append_assoc}
+use Rattle.std.proofs.lemmas.List.{drop_more, drop_all, get_or_at, set_at, length-append}
 use Rattle.mysql_wire.specs.declared.fault.FaultOf.{FaultOf}
 use Rattle.mysql_wire.specs.declared.fault.FaultOf.TheVariants as fault
 use Rattle.mysql_wire.specs.Reading.{Reading, Faults, then_read}
@@ -10,7 +10,7 @@ use Rattle.mysql_prepared.specs.ExecuteRead.{HasTypes, bound_left, types, passed
 use Rattle.mysql_prepared.specs.declared.execute_view.BoundParam.{BoundParam}
 use Rattle.mysql_prepared.proofs.ParamViews.{bound-next, goes-on, one-type, there-is-one, are-there}
 use Rattle.mysql_statements.specs.Statement.{with_type}
-use Rattle.mysql_statements.specs.Binding.{bound_in, Bound}
+use Rattle.mysql_statements.specs.Binding.{bound_in}
 
 -- of so many parameters these have their types, and the others are as they were
 pub record Typed (init : List BoundParam) (start : List ℕ) (now : List BoundParam) (i : ℕ) (bytes : List ℕ) : Type 0 where

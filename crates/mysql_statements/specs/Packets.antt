@@ -1,5 +1,5 @@
 -- What the packets say of statements.
-use Rattle.std.specs.Prelude.{ℕ, ◌==◌, List, Bool, Option, Some, None, Ok, Err}
+use Rattle.std.specs.Prelude.{ℕ, List, Option, Some, None, Ok, Err}
 use Rattle.mysql_wire.specs.FlagMasks.{UNSIGNED_FLAG}
 use Rattle.mysql_wire.specs.Flags.{has}
 use Rattle.mysql_wire.specs.Form.{Form, ◌>>=◌, give}

@@ -4,8 +4,8 @@
 mod binding;
 mod early;
 mod early_command;
-mod layout;
 pub mod laws;
+mod layout;
 mod limits;
 mod packets;
 mod places;

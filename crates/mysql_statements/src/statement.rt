@@ -77,12 +77,7 @@ impl Model for Statement {
 
 impl Statement {
     /// One with so many parameters and columns, of which no definition came.
-    pub(crate) fn new(
-        alloc: Global,
-        id: u32,
-        params: u16,
-        columns: u16,
-    ) -> Result<Self, AllocError>
+    pub(crate) fn new(alloc: Global, id: u32, params: u16, columns: u16) -> Result<Self, AllocError>
         ensures value { IfOk result (λ s. s ≡ spec.undefined id params columns) }
     {
         let params = vec![in alloc; untyped(); usize::from(params)]?;

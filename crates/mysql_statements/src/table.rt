@@ -8,7 +8,8 @@ ghost use Rattle.mysql_statements.specs.declared.task.Task.TheVariants as task;
 use crate::layout::Layout;
 use crate::limits::StatementLimits;
 use crate::places::{
-    begin_result, define_column, define_param, drop_data, execute, find, forget, has_room, send_ahead,
+    begin_result, define_column, define_param, drop_data, execute, find, forget, has_room,
+    send_ahead,
 };
 use crate::row_column::RowColumn;
 use crate::statement::Statement;
@@ -267,8 +268,8 @@ impl Statements {
         }
     }
 
-    /// All statements are gone.
-    pub(crate) fn clear(&mut self)
+    /// Forgets all statements, as where packets were not seen. A change of the user and a reset of the connection do so too.
+    pub fn clear(&mut self)
         ensures { self.new ≡ spec.cleared self.old }
     {
         self.statements.clear();

@@ -1,4 +1,4 @@
-use Rattle.std.proofs.Common.{◌≡◌, ◌-◌, ap, ◌∙◌, length}
+use Rattle.std.proofs.Common.{ap, ◌∙◌}
 use Rattle.mysql_statements.proofs.Params.{at_place}
 use Rattle.mysql_statements.specs.Statement.{at, with_type}
 use Rattle.mysql_statements.proofs.statement.set_type.Goals as goal
