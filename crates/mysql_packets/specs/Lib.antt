@@ -224,3 +224,12 @@ pub use Rattle.mysql_conversation.specs.Pipelined
 pub use Rattle.mysql_conversation.specs.Session
 pub use Rattle.mysql_conversation.specs.SessionSteps
 pub use Rattle.mysql_conversation.specs.Taken
+pub use Rattle.mysql_statements.specs.After as StatementsAfter
+pub use Rattle.mysql_statements.specs.Binding
+pub use Rattle.mysql_statements.specs.Bounds
+pub use Rattle.mysql_statements.specs.Early
+pub use Rattle.mysql_statements.specs.Kept
+pub use Rattle.mysql_statements.specs.Packets as StatementPackets
+pub use Rattle.mysql_statements.specs.Run as StatementRuns
+pub use Rattle.mysql_statements.specs.Statement
+pub use Rattle.mysql_statements.specs.Table as StatementTable
