@@ -12,7 +12,7 @@ use Rattle.mysql_conversation.specs.declared.kind.Kind.TheVariants as kind
 use Rattle.mysql_statements.specs.Kept.{Kept}
 use Rattle.mysql_statements.specs.Statement.{types, at, without_data, with_param, with_column, with_result, with_data, with_no_data, with_type, sent_ahead as marked, param_type_of, undefined}
 use Rattle.mysql_statements.specs.Binding.{bound_in, bound_by, with_front, with_execution, front_of}
-use Rattle.mysql_statements.specs.Table.{Table, held, change, change_of, without, without_of, named, has_room, has_place, following, prepared, failed_at, defined_column, defined_at, defined, executing, executed, fetched, counted_at, closed, otherwise, cleared}
+use Rattle.mysql_statements.specs.Table.{Table, held, change, change_of, without, without_of, named, has_capacity, has_place, following, prepared, failed_at, defined_column, defined_at, defined, executing, executed, fetched, counted_at, closed, otherwise, cleared}
 use Rattle.mysql_statements.specs.After.{after, asked, asked_one, for_data, is_of_one, layout_of, prepared_by}
 use Rattle.mysql_statements.specs.Bounds.{IsWithin, expected}
 use Rattle.mysql_statements.specs.Packets.{number_at, prepared_at, column_at, data_at}
@@ -173,12 +173,12 @@ within_change t id f task g e h =
     let n = length_change_of id f t.statements in
     same_bounds t (change_of id f t.statements) t.last task (omega arith) (held_change_of id f t.statements g) e h
 
-within_room : (limit : ℕ) (ss : List Kept) (n : ℕ) (b : Bool) → has_room limit ss n ≡ b → held ss ≤ limit → held ss + (if b then n else 0) ≤ limit
-within_room limit ss n true e h = leb-true (held ss + n) limit e
-within_room limit ss n false e h = omega arith
+within_capacity : (limit : ℕ) (ss : List Kept) (n : ℕ) (b : Bool) → has_capacity limit ss n ≡ b → held ss ≤ limit → held ss + (if b then n else 0) ≤ limit
+within_capacity limit ss n true e h = leb-true (held ss + n) limit e
+within_capacity limit ss n false e h = omega arith
 
-within_follow : (limit : ℕ) (ss : List Kept) (n : ℕ) (follow : Bool) → held ss ≤ limit → held ss + (if follow && has_room limit ss n then n else 0) ≤ limit
-within_follow limit ss n true h = within_room limit ss n (has_room limit ss n) refl h
+within_follow : (limit : ℕ) (ss : List Kept) (n : ℕ) (follow : Bool) → held ss ≤ limit → held ss + (if follow && has_capacity limit ss n then n else 0) ≤ limit
+within_follow limit ss n true h = within_capacity limit ss n (has_capacity limit ss n) refl h
 within_follow limit ss n false h = omega arith
 
 within_counted : (task : Task) (width : ℕ) (follow : Bool) (t : Table) → IsWithin t → IsWithin (counted_at task width follow t)
@@ -205,7 +205,7 @@ within_placed t id params columns follow memory false e h = same_bounds t (witho
 within_placed t id params columns follow false true e h = same_bounds t (without id t.statements) (Some id) Other (length_without id t.statements) (held_without id t.statements) refl h
 within_placed t id params columns follow true true e h =
     let rest = without id t.statements in
-    let p = and_parts (nat_lt (length rest) t.limits.statements) (has_room t.limits.types rest (params + columns)) e in
+    let p = and_parts (nat_lt (length rest) t.limits.statements) (has_capacity t.limits.types rest (params + columns)) e in
     record {
       statements = let a : length rest < t.limits.statements = ltb-true (length rest) t.limits.statements p.0 in omega (arith, length-append rest (undefined id params columns ∷ []));
       types =

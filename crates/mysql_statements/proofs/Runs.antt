@@ -8,7 +8,7 @@ use Rattle.mysql_conversation.specs.declared.kind.Kind.TheVariants as kind
 use Rattle.mysql_statements.specs.Kept.{Kept}
 use Rattle.mysql_statements.specs.Statement.{at, untyped, undefined, with_type, with_param, with_column, with_result, param_type_of, columns}
 use Rattle.mysql_statements.specs.Packets.{column_at, prepared_at}
-use Rattle.mysql_statements.specs.Table.{Table, find, change, without, named, has_place, has_room, defined, defined_at, defined_column, prepared, counted, counted_at, rows_at, columns_in, columns_of_rows, statement_of, find_of}
+use Rattle.mysql_statements.specs.Table.{Table, find, change, without, named, has_place, has_capacity, defined, defined_at, defined_column, prepared, counted, counted_at, rows_at, columns_in, columns_of_rows, statement_of, find_of}
 use Rattle.mysql_statements.specs.After.{after, prepared_by}
 use Rattle.mysql_statements.specs.Run.{Item, after_all, AreDefinitions, defined_param, defined_as}
 use Rattle.mysql_statements.specs.declared.limits.StatementLimits.{StatementLimits}
@@ -210,13 +210,13 @@ unfolding with_columns
 result_columns s cs = known cs (length cs) refl
 
 pub run_result : (a : Agreed) (t : Table) (p : List ℕ) (id left : ℕ) (s : Kept) (items : List Item) (cs : List RowColumn) → t.task ≡ Execution id left → find id t.statements ≡ Some s
-    → has_room t.limits.types (change id (with_result (length cs) true) t.statements) (length cs) ≡ true → AreDefinitions a items cs
+    → has_capacity t.limits.types (change id (with_result (length cs) true) t.statements) (length cs) ≡ true → AreDefinitions a items cs
     → columns_of_rows (after_all a items (after true a (kind.ColumnCount (length cs) true) p t)) ≡ Some cs
-run_result a t p id left s items cs task f room d =
+run_result a t p id left s items cs task f capacity d =
     let n = length cs in
     let ss = change id (with_result n true) t.statements in
     let goes : counted n true t ≡ tab t.limits ss t.last (Execution id n) =
-    ap (λ k. counted_at k n true t) task ∙ ap (λ b. tab t.limits ss t.last (Execution id (if true && b then n else 0))) room in
+    ap (λ k. counted_at k n true t) task ∙ ap (λ b. tab t.limits ss t.last (Execution id (if true && b then n else 0))) capacity in
     let g = find_changed id (with_result n true) (λ y. refl) t.statements s f in
     let r = run_columns a t.limits id t.last (Execution id) (λ m c u. refl) items ss (with_result n true s) cs g d in
     ap (λ v. columns_of_rows (after_all a items v)) goes

@@ -60,12 +60,12 @@ held [] = 0
 held (s ∷ ss) = types s + held ss
 
 -- so many types more may be kept
-abbrev pub has_room : ℕ → List Kept → ℕ → Bool
-has_room limit ss wanted = nat_le (held ss + wanted) limit
+abbrev pub has_capacity : ℕ → List Kept → ℕ → Bool
+has_capacity limit ss wanted = nat_le (held ss + wanted) limit
 
 -- a statement more may be kept, with so many types
 abbrev pub has_place : StatementLimits → List Kept → ℕ → Bool
-has_place limits ss wanted = nat_lt (length ss) limits.statements && has_room limits.types ss wanted
+has_place limits ss wanted = nat_lt (length ss) limits.statements && has_capacity limits.types ss wanted
 
 -- ---- what packets change
 
@@ -134,7 +134,7 @@ fetched id t = with t t.statements t.last (executing (named t.last id))
 abbrev pub counted_at : Task → ℕ → Bool → Table → Table
 counted_at (Execution id left) width follow t =
     let ss = change id (with_result width follow) t.statements
-    in with t ss t.last (Execution id (if follow && has_room t.limits.types ss width then width else 0))
+    in with t ss t.last (Execution id (if follow && has_capacity t.limits.types ss width then width else 0))
 counted_at Other width follow t = t
 counted_at Prepare width follow t = t
 counted_at (Definitions id params columns) width follow t = t

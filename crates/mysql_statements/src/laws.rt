@@ -31,10 +31,10 @@ pub fn a_prepared_statement_is_as_its_definitions_say()
         → tables.statement_of id (runs.after_all a items (after true a (kind.PrepareOk (length columns) (length params) true) p t)) ≡ Some (runs.defined_as id params columns) }
 {}
 
-/// The rows of a result have the columns that its definitions say, where there is room for them.
+/// The rows of a result have the columns that its definitions say, where there is capacity for them.
 pub fn rows_have_the_columns_of_their_result()
     ensures { (a : agreement.Agreed) (t : tables.Table) (p : List ℕ) (id left : ℕ) (s : kept.Kept) (items : List runs.Item) (columns : List column.RowColumn) → t.task ≡ task.Execution id left
-        → tables.find id t.statements ≡ Some s → tables.has_room t.limits.types (tables.change id (with_result (length columns) true) t.statements) (length columns) ≡ true
+        → tables.find id t.statements ≡ Some s → tables.has_capacity t.limits.types (tables.change id (with_result (length columns) true) t.statements) (length columns) ≡ true
         → runs.AreDefinitions a items columns
         → tables.columns_of_rows (runs.after_all a items (after true a (kind.ColumnCount (length columns) true) p t)) ≡ Some columns }
 {}

@@ -130,8 +130,8 @@ fn left_of(limit: usize, statements: &[Statement]) -> Option<usize>
 }
 
 /// Whether so many types more may be kept. It looks at each statement.
-pub(crate) fn has_room(limit: usize, statements: &[Statement], wanted: u64) -> bool
-    ensures { result ≡ spec.has_room limit statements.now wanted }
+pub(crate) fn has_capacity(limit: usize, statements: &[Statement], wanted: u64) -> bool
+    ensures { result ≡ spec.has_capacity limit statements.now wanted }
 {
     match left_of(limit, statements) {
         Some(left) => wanted <= left as u64,

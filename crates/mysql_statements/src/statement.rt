@@ -97,15 +97,15 @@ impl Statement {
         self.id
     }
 
-    /// Its parameters: each with the type that the last execution with types gave it, and before the first with that of its definition; and
-    /// whether its data was sent ahead.
+    /// Its parameters, for [`ExecuteParamsView`](mysql_prepared::ExecuteParamsView): each with the type that the last execution with types gave
+    /// it, and before the first with that of its definition; and whether its data was sent ahead.
     pub fn params(&self) -> &[BoundParam]
         ensures value { result.now ≡ spec.params self.now }
     {
         self.params.as_slice()
     }
 
-    /// Whether an execution gave the parameters their types.
+    /// Whether an execution gave the parameters their types. Before that, one that sends none can't be read.
     pub fn is_bound(&self) -> bool
         ensures value { result ≡ spec.is_bound self.now }
     {
@@ -119,7 +119,7 @@ impl Statement {
         self.width
     }
 
-    /// These columns, where all of their definitions came and are kept.
+    /// These columns, for [`BinaryRowView`](mysql_prepared::BinaryRowView), where all of their definitions came and are kept.
     pub fn columns(&self) -> Option<&[RowColumn]>
         ensures some { IfSome result (λ columns. spec.columns self.now ≡ Some columns.now) }
         ensures none { IfNone result (spec.columns self.now ≡ None) }

@@ -8,7 +8,7 @@ ghost use Rattle.mysql_statements.specs.declared.task.Task.TheVariants as task;
 use crate::layout::Layout;
 use crate::limits::StatementLimits;
 use crate::places::{
-    begin_result, define_column, define_param, drop_data, execute, find, forget, has_room,
+    begin_result, define_column, define_param, drop_data, execute, find, forget, has_capacity,
     send_ahead,
 };
 use crate::row_column::RowColumn;
@@ -19,7 +19,16 @@ use std::marker::Model;
 
 /// The prepared statements of a connection, as whoever watches it keeps them, so that each binary row and each execution can be read.
 ///
-/// No more is kept than its limits say, and no memory is taken before the first statement. A statement is found by looking at those before it.
+/// It is passed each packet of the conversation, in its order ([`take`](Self::take)). An execution is read under the parameters of its
+/// [`statement`](Self::statement), which is asked for before that packet is taken, and a binary row under
+/// [`columns_of_rows`](Self::columns_of_rows). A command that comes before the answers to earlier ones is taken when the server comes to it:
+/// [`EarlyCommands`](crate::EarlyCommands).
+///
+/// No more is kept than its limits say, and no memory is taken before the first statement. A statement that is not kept is not known, and the
+/// others are. A statement is found by looking at those before it.
+///
+/// In a clause it is the limits, what is known of each statement, the number of the one that was prepared last, and what the exchange that runs
+/// does.
 #[derive(Drop)]
 pub struct Statements {
     alloc: Global,
@@ -116,7 +125,7 @@ impl Statements {
         ensures { result ≡ spec.has_place self.now.limits self.now.statements wanted }
     {
         self.statements.len() < self.limits.statements
-            && has_room(self.limits.types, &self.statements, wanted)
+            && has_capacity(self.limits.types, &self.statements, wanted)
     }
 
     /// A statement of that number is prepared. Where it has no place, or there is no memory, it is not kept.
@@ -226,7 +235,7 @@ impl Statements {
             return;
         };
         begin_result(&mut self.statements, id, width, follow);
-        let left = if follow && has_room(self.limits.types, &self.statements, width) {
+        let left = if follow && has_capacity(self.limits.types, &self.statements, width) {
             width
         } else {
             0

@@ -25,10 +25,21 @@ fn layout_of(agreed: SessionCapabilities) -> Layout
 }
 
 impl Statements {
-    /// Takes a packet of this kind, which comes next in a conversation, and keeps what it says of statements.
+    /// Takes the packet that comes next in a conversation, of the kind that it has there, and keeps what it says of statements.
     ///
-    /// `Memory` is an answer where a statement, or a definition of a column, could not be kept for want of memory: the packet is taken, and
-    /// that statement, or the columns of that result, are not known then. The others are.
+    /// | Packet | What is kept |
+    /// |---|---|
+    /// | a prepared statement, and the definitions that follow | its parameters and columns, with their types |
+    /// | `COM_STMT_EXECUTE`, `COM_STMT_BULK_EXECUTE` | the types of the parameters, where it sends types; the data that was sent ahead is used up |
+    /// | `COM_STMT_SEND_LONG_DATA` | that the data of a parameter is sent ahead, until an execution or `COM_STMT_RESET` |
+    /// | a count of columns, and the definitions that follow | the columns of the statement that is executed; those that it had, where no definitions follow |
+    /// | `COM_STMT_CLOSE` | that statement no longer |
+    /// | `COM_CHANGE_USER`, `COM_RESET_CONNECTION` | no statement |
+    ///
+    /// Other packets change nothing that is known. In a statement's number `ffffffff` stands for the statement that was prepared last.
+    ///
+    /// It is refused where there is no memory for a statement, or for a column of those that come. The packet is taken all the same, but that
+    /// statement, or the columns of that result, are not known then. The others are.
     pub fn take(
         &mut self,
         agreed: SessionCapabilities,

@@ -95,7 +95,7 @@ fn show_row<'s>(
 /// Adds that a packet was taken without memory for all of it.
 fn show_taken(out: &mut Out, taken: Result<(), AllocError>) {
     if taken.is_err() {
-        out.word("Memory");
+        out.field("take", "Memory");
     }
 }
 
@@ -140,6 +140,17 @@ fn serve(out: &mut Out, watcher: &mut Watcher, number: u64) {
     }
 }
 
+/// Holds a command that came early, or adds that it is lost. A call that memory is refused for is made again.
+fn hold(out: &mut Out, watcher: &mut Watcher, number: u64, payload: &[u8]) {
+    for _ in 0..2 {
+        match counted!(out.alloc(); watcher.early.hold(number, payload)) {
+            Ok(true) => return,
+            Ok(false) => return out.word("lost"),
+            Err(_) => out.field("hold", "Memory"),
+        }
+    }
+}
+
 /// Adds what becomes of the packets.
 pub fn statements(out: &mut Out, request: &Request<'_>) {
     let agreed = agreed_by(request, 4);
@@ -170,10 +181,7 @@ pub fn statements(out: &mut Out, request: &Request<'_>) {
             return out.word("refused");
         };
         if matches!(kind, Kind::Command(_)) && watcher.pipeline.waiting() > 0 {
-            let held = watcher.early.hold(number, payload.as_slice());
-            if held != Ok(true) {
-                out.word("lost");
-            }
+            hold(out, &mut watcher, number, payload.as_slice());
             continue;
         }
         serve(out, &mut watcher, number);
