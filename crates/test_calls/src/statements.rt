@@ -20,6 +20,7 @@ use test_probe::counted;
 use test_probe::prelude::{Out, Request};
 
 /// Who watches.
+#[derive(Drop)]
 struct Watcher {
     agreed: SessionCapabilities,
     pipeline: Pipeline,
@@ -71,11 +72,7 @@ fn show_params<'s>(
 }
 
 /// Adds the values of a row.
-fn show_row<'s>(
-    out: &mut Out,
-    statements: &Statements,
-    payload: &[u8],
-) -> Result<(), FaultOf<'s>> {
+fn show_row<'s>(out: &mut Out, statements: &Statements, payload: &[u8]) -> Result<(), FaultOf<'s>> {
     let Some(columns) = statements.columns_of_rows() else {
         out.word("row=unknown");
         return Ok(());
