@@ -228,3 +228,12 @@ pub use Rattle.mysql_observer.specs.Client as ClientPacket
 pub use Rattle.mysql_observer.specs.Context as ReadContext
 pub use Rattle.mysql_observer.specs.Server as ServerPacket
 pub use Rattle.mysql_observer.specs.Read as PacketRead
+pub use Rattle.mysql_statements.specs.After as StatementsAfter
+pub use Rattle.mysql_statements.specs.Binding
+pub use Rattle.mysql_statements.specs.Bounds
+pub use Rattle.mysql_statements.specs.Early
+pub use Rattle.mysql_statements.specs.Kept
+pub use Rattle.mysql_statements.specs.Packets as StatementPackets
+pub use Rattle.mysql_statements.specs.Run as StatementRuns
+pub use Rattle.mysql_statements.specs.Statement
+pub use Rattle.mysql_statements.specs.Table as StatementTable

@@ -12,6 +12,7 @@ pub use mysql_frames::laws as frames;
 pub use mysql_repl::laws as repl;
 pub use mysql_replies::laws as replies;
 pub use mysql_session::laws as session;
+pub use mysql_statements::laws as statements;
 pub use mysql_stmt::laws as stmt;
 pub use mysql_values::laws as values;
 pub use mysql_wire::laws as wire;

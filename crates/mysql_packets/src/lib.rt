@@ -27,6 +27,7 @@ mod program;
 pub mod proto;
 pub mod row;
 mod row_text;
+pub mod statements;
 mod type_words;
 pub mod value;
 mod word;

@@ -180,7 +180,7 @@ fn take_piece<T: Tracker>(
 }
 
 /// The side that a word is of, and its bytes.
-fn piece_of(alloc: Global, word: &str) -> Option<(Side, Vec<u8>)> {
+pub(crate) fn piece_of(alloc: Global, word: &str) -> Option<(Side, Vec<u8>)> {
     let (side, digits) = match word.strip_prefix('>') {
         Some(digits) => (Side::Client, digits),
         None => (Side::Server, word.strip_prefix('<')?),
@@ -234,7 +234,7 @@ pub fn packets(out: &mut Out, request: &Request<'_>) {
 }
 
 /// What both sides agreed on, by words.
-fn agreed_by(request: &Request<'_>, place: usize) -> SessionCapabilities {
+pub(crate) fn agreed_by(request: &Request<'_>, place: usize) -> SessionCapabilities {
     SessionCapabilities {
         mysql: CapabilityFlags::from_bits_retain(request.number(place)),
         mariadb: MariadbCapabilities::from_bits_retain(request.number(place.wrapping_add(1))),

@@ -1,0 +1,54 @@
+-- The table after a packet.
+use Rattle.std.specs.Prelude.{ℕ, ◌==◌, ◌||◌, List, Bool, Option, Some, None, if◌then◌else◌}
+use Rattle.mysql_conversation.specs.Agreements.{Agreed}
+use Rattle.mysql_conversation.specs.declared.kind.Kind.{Kind}
+use Rattle.mysql_conversation.specs.declared.kind.Kind.TheVariants as kind
+use Rattle.mysql_statements.specs.Binding.{has_attributes}
+use Rattle.mysql_statements.specs.declared.layout.Layout.{Layout}
+use Rattle.mysql_statements.specs.declared.layout.Layout.TheVariants.{Single, Bulk, Closed}
+use Rattle.mysql_statements.specs.Packets.{number_at, prepared_at, column_at, data_at}
+use Rattle.mysql_statements.specs.Table.{Table, otherwise, preparing, prepared, failed, defined, executed, fetched, counted, sent_ahead, reset, closed, cleared}
+
+abbrev pub for_data : Option (ℕ × ℕ) → Table → Table
+for_data None t = otherwise t
+for_data (Some x) t = sent_ahead x.0 x.1 t
+
+-- how a COM_STMT_EXECUTE lies in the bytes
+abbrev pub layout_of : Agreed → Layout
+layout_of a = if has_attributes a then Closed else Single
+
+-- a command that is of one statement
+abbrev pub asked_one : Agreed → ℕ → List ℕ → Option ℕ → Table → Table
+asked_one a code p None t = otherwise t
+asked_one a code p (Some id) t =
+    if code == 0x19 then closed id t  -- COM_STMT_CLOSE
+    else (if code == 0x1a then reset id t  -- COM_STMT_RESET
+    else (if code == 0x1c then fetched id t  -- COM_STMT_FETCH
+    else (if code == 0xfa then executed Bulk p id t  -- COM_STMT_BULK_EXECUTE
+    else executed (layout_of a) p id t)))  -- COM_STMT_EXECUTE
+
+abbrev pub is_of_one : ℕ → Bool
+is_of_one code = code == 0x17 || code == 0xfa || code == 0x1c || code == 0x19 || code == 0x1a
+
+-- a command, by its first byte
+abbrev pub asked : Agreed → ℕ → List ℕ → Table → Table
+asked a code p t =
+    if code == 0x16 then preparing t  -- COM_STMT_PREPARE
+    else (if code == 0x11 then cleared t  -- COM_CHANGE_USER
+    else (if code == 0x1f then cleared t  -- COM_RESET_CONNECTION
+    else (if code == 0x18 then for_data (data_at p) t  -- COM_STMT_SEND_LONG_DATA
+    else (if is_of_one code then asked_one a code p (number_at p) t
+    else otherwise t))))
+
+abbrev pub prepared_by : Bool → Option ℕ → (columns params : ℕ) → Bool → Table → Table
+prepared_by memory None columns params follow t = otherwise t
+prepared_by memory (Some id) columns params follow t = prepared memory id params columns follow t
+
+-- the table after a packet of this kind, where there is memory or not
+abbrev pub after : Bool → Agreed → Kind → List ℕ → Table → Table
+after memory a (kind.Command code) p t = asked a code p t
+after memory a (kind.PrepareOk columns params follow) p t = prepared_by memory (prepared_at p) columns params follow t
+after memory a kind.Column p t = defined memory (column_at a p) t
+after memory a (kind.ColumnCount count follow) p t = counted count follow t
+after memory a kind.Error p t = failed t
+after memory a _ p t = t

@@ -1,0 +1,39 @@
+-- How much a table keeps, and which packets have it take memory.
+use Rattle.std.specs.Prelude.{ℕ, zero, suc, ◌+◌, ◌≤◌, Bool, true, false, ◌&&◌, List, length, Option, Some, None, is_some}
+use Rattle.mysql_conversation.specs.Agreements.{Agreed}
+use Rattle.mysql_conversation.specs.declared.kind.Kind.{Kind}
+use Rattle.mysql_conversation.specs.declared.kind.Kind.TheVariants as kind
+use Rattle.mysql_statements.specs.Packets.{prepared_at, column_at}
+use Rattle.mysql_statements.specs.Table.{Table, held, without, has_place}
+use Rattle.mysql_statements.specs.declared.task.Task.{Task}
+use Rattle.mysql_statements.specs.declared.task.Task.TheVariants.{Other, Prepare, Definitions, Execution}
+
+-- how many definitions of columns are still to be kept
+abbrev pub expected : Task → ℕ
+expected Other = 0
+expected Prepare = 0
+expected (Definitions id params columns) = columns
+expected (Execution id columns) = columns
+
+-- no more is kept than may be, nor will be when the definitions have come that are expected
+pub record IsWithin (t : Table) : Type 0 where
+  pub statements : length t.statements ≤ t.limits.statements
+  pub types : held t.statements + expected t.task ≤ t.limits.types
+
+-- ---- memory
+
+-- the next definition is that of a column, and is kept
+abbrev pub keeps_column : Task → Bool
+keeps_column (Definitions id zero (suc left)) = true
+keeps_column (Execution id (suc left)) = true
+keeps_column _ = false
+
+abbrev pub keeps_statement : Option ℕ → ℕ → Table → Bool
+keeps_statement None types t = false
+keeps_statement (Some id) types t = has_place t.limits (without id t.statements) types
+
+-- the packet has the table keep a statement, or the definition of a column
+abbrev pub takes_memory : Agreed → Kind → List ℕ → Table → Bool
+takes_memory a (kind.PrepareOk columns params follow) p t = keeps_statement (prepared_at p) (params + columns) t
+takes_memory a kind.Column p t = is_some (column_at a p) && keeps_column t.task
+takes_memory a _ p t = false

@@ -1,0 +1,197 @@
+//! What is kept of a prepared statement.
+
+ghost use Rattle.std.specs.Prelude.{◌≡◌, ◌<◌, ◌+◌, ◌-◌, length, IfOk, IfSome, IfNone, OnOk, OnErr, map};
+ghost use Rattle.mysql_statements.specs.Binding as binding;
+ghost use Rattle.mysql_statements.specs.Statement as spec;
+
+use crate::binding::{bind, read_front};
+use crate::layout::Layout;
+use crate::row_column::RowColumn;
+use mysql_prepared::BoundParam;
+use mysql_values::ParamType;
+use mysql_wire::{ColumnType, FaultOf, Flags, ParseBuf, StmtExecuteParamFlags};
+use std::alloc::{AllocError, Global};
+use std::marker::Model;
+
+/// A parameter of which nothing is known.
+fn untyped() -> BoundParam
+    ensures { result ≡ spec.untyped }
+{
+    BoundParam {
+        param_type: ParamType::new(
+            ColumnType::MYSQL_TYPE_NULL,
+            StmtExecuteParamFlags::from_bits_retain(0),
+        ),
+        is_sent_ahead: false,
+    }
+}
+
+/// The type of a parameter, where so many are left.
+#[tactic(auto, using(crate::proofs::Params::params))]
+fn set_type(params: &mut [BoundParam], left: usize, param_type: ParamType)
+    ensures { params.new ≡ spec.at (length params.old - left) (spec.with_type param_type) params.old }
+{
+    let place = params.len().saturating_sub(left);
+    if place < params.len() {
+        params[place].param_type = param_type;
+    }
+}
+
+/// The data of a parameter is sent ahead.
+#[tactic(auto, using(crate::proofs::Params::params))]
+fn mark_sent(params: &mut [BoundParam], place: usize)
+    ensures { params.new ≡ spec.at place spec.sent_ahead params.old }
+{
+    if place < params.len() {
+        params[place].is_sent_ahead = true;
+    }
+}
+
+/// Data that was sent ahead is gone.
+#[tactic(auto, using(crate::proofs::Params::params))]
+fn drop_data(params: &mut [BoundParam])
+    ensures { params.new ≡ map spec.without_data params.old }
+{
+    for place in 0..params.len() {
+        params[place].is_sent_ahead = false;
+    }
+}
+
+/// What is kept of a prepared statement: its parameters and the columns of its last result.
+#[derive(Drop)]
+pub struct Statement {
+    id: u32,
+    params: Vec<BoundParam>,
+    is_bound: bool,
+    width: u64,
+    columns: Vec<RowColumn>,
+}
+
+impl Model for Statement {
+    ghost use Rattle.mysql_statements.specs.Kept.{Kept};
+
+    ghost Value = { Kept };
+
+    ghost view = { λ s. record { id = s.id; params = s.params.items; is_bound = s.is_bound; width = s.width; columns = s.columns.items } };
+}
+
+impl Statement {
+    /// One with so many parameters and columns, of which no definition came.
+    pub(crate) fn new(alloc: Global, id: u32, params: u16, columns: u16) -> Result<Self, AllocError>
+        ensures value { IfOk result (λ s. s ≡ spec.undefined id params columns) }
+    {
+        let params = vec![in alloc; untyped(); usize::from(params)]?;
+        Ok(Statement {
+            id,
+            params,
+            is_bound: false,
+            width: u64::from(columns),
+            columns: Vec::new(alloc),
+        })
+    }
+
+    /// The number that the server gave it.
+    pub fn id(&self) -> u32
+        ensures value { result ≡ spec.id self.now }
+    {
+        self.id
+    }
+
+    /// Its parameters, for [`ExecuteParamsView`](mysql_prepared::ExecuteParamsView): each with the type that the last execution with types gave
+    /// it, and before the first with that of its definition; and whether its data was sent ahead.
+    pub fn params(&self) -> &[BoundParam]
+        ensures value { result.now ≡ spec.params self.now }
+    {
+        self.params.as_slice()
+    }
+
+    /// Whether an execution gave the parameters their types. Before that, one that sends none can't be read.
+    pub fn is_bound(&self) -> bool
+        ensures value { result ≡ spec.is_bound self.now }
+    {
+        self.is_bound
+    }
+
+    /// How many columns its last result has, and before the first those that it was prepared with.
+    pub fn width(&self) -> u64
+        ensures value { result ≡ spec.width self.now }
+    {
+        self.width
+    }
+
+    /// These columns, for [`BinaryRowView`](mysql_prepared::BinaryRowView), where all of their definitions came and are kept.
+    pub fn columns(&self) -> Option<&[RowColumn]>
+        ensures some { IfSome result (λ columns. spec.columns self.now ≡ Some columns.now) }
+        ensures none { IfNone result (spec.columns self.now ≡ None) }
+    {
+        if self.columns.len() as u64 == self.width {
+            Some(self.columns.as_slice())
+        } else {
+            None
+        }
+    }
+
+    /// What is left of so many types without its own.
+    pub(crate) fn left_of(&self, types: usize) -> Option<usize>
+        ensures some { IfSome result (λ left. left + spec.types self.now ≡ types) }
+        ensures none { IfNone result (types < spec.types self.now) }
+    {
+        types
+            .checked_sub(self.params.len())?
+            .checked_sub(self.columns.len())
+    }
+
+    /// The definition of a parameter, of which so many come.
+    pub(crate) fn define_param(&mut self, left: usize, column: RowColumn)
+        ensures { self.new ≡ spec.with_param left column self.old }
+    {
+        set_type(&mut self.params, left, column.param_type());
+    }
+
+    /// The definition of a column.
+    pub(crate) fn define_column(&mut self, column: RowColumn) -> Result<(), AllocError>
+        ensures ok { OnOk result (self.new ≡ spec.with_column column self.old) }
+        ensures err { OnErr result (self.new ≡ self.old) }
+    {
+        self.columns.push(column)?;
+        Ok(())
+    }
+
+    /// A result of so many columns, whose definitions come or not.
+    pub(crate) fn begin_result(&mut self, width: u64, follow: bool)
+        ensures { self.new ≡ spec.with_result width follow self.old }
+    {
+        self.width = width;
+        if follow {
+            self.columns.clear();
+        }
+    }
+
+    /// Data of a parameter was sent ahead.
+    pub(crate) fn send_ahead(&mut self, place: usize)
+        ensures { self.new ≡ spec.with_data place self.old }
+    {
+        mark_sent(&mut self.params, place);
+    }
+
+    /// An execution: it gives the parameters types, or leaves them theirs, and uses up the data that was sent ahead.
+    pub(crate) fn execute(&mut self, alloc: Global, layout: Layout, payload: &[u8])
+        ensures { self.new ≡ binding.with_execution layout payload.now self.old }
+    {
+        let mut buf = ParseBuf::new(alloc, payload);
+        let read: Result<bool, FaultOf> = read_front(layout, self.params.len(), &mut buf);
+        if let Ok(sends) = read {
+            if bind(&mut self.params, sends, buf) {
+                self.is_bound = true;
+            }
+        }
+        drop_data(&mut self.params);
+    }
+
+    /// The data that was sent ahead is gone.
+    pub(crate) fn drop_data(&mut self)
+        ensures { self.new ≡ spec.with_no_data self.old }
+    {
+        drop_data(&mut self.params);
+    }
+}

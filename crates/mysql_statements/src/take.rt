@@ -1,0 +1,129 @@
+//! What a packet changes.
+
+ghost use Rattle.std.specs.Prelude.{◌≡◌, OnOk, OnErr, IsTrue, true, false};
+ghost use Rattle.mysql_statements.specs.After as spec;
+ghost use Rattle.mysql_statements.specs.Bounds as bounds;
+ghost use Rattle.mysql_statements.specs.Packets as packets;
+
+use crate::binding::has_attributes;
+use crate::layout::Layout;
+use crate::packets::{column_at, data_at, number_at, prepared_at};
+use crate::table::Statements;
+use mysql_conversation::Kind;
+use mysql_replies::SessionCapabilities;
+use std::alloc::AllocError;
+
+/// How a `COM_STMT_EXECUTE` lies in the bytes.
+fn layout_of(agreed: SessionCapabilities) -> Layout
+    ensures { result ≡ spec.layout_of agreed }
+{
+    if has_attributes(agreed) {
+        Layout::Closed
+    } else {
+        Layout::Single
+    }
+}
+
+impl Statements {
+    /// Takes the packet that comes next in a conversation, of the kind that it has there, and keeps what it says of statements.
+    ///
+    /// | Packet | What is kept |
+    /// |---|---|
+    /// | a prepared statement, and the definitions that follow | its parameters and columns, with their types |
+    /// | `COM_STMT_EXECUTE`, `COM_STMT_BULK_EXECUTE` | the types of the parameters, where it sends types; the data that was sent ahead is used up |
+    /// | `COM_STMT_SEND_LONG_DATA` | that the data of a parameter is sent ahead, until an execution or `COM_STMT_RESET` |
+    /// | a count of columns, and the definitions that follow | the columns of the statement that is executed; those that it had, where no definitions follow |
+    /// | `COM_STMT_CLOSE` | that statement no longer |
+    /// | `COM_CHANGE_USER`, `COM_RESET_CONNECTION` | no statement |
+    ///
+    /// Other packets change nothing that is known. In a statement's number `ffffffff` stands for the statement that was prepared last.
+    ///
+    /// It is refused where there is no memory for a statement, or for a column of those that come. The packet is taken all the same, but that
+    /// statement, or the columns of that result, are not known then. The others are.
+    pub fn take(
+        &mut self,
+        agreed: SessionCapabilities,
+        kind: Kind,
+        payload: &[u8],
+    ) -> Result<(), AllocError>
+        ensures taken { OnOk result (self.new ≡ spec.after true agreed kind payload.now self.old) }
+        ensures memory { OnErr result (self.new ≡ spec.after false agreed kind payload.now self.old) }
+        // Memory is asked for alone where the packet has the table keep a statement, or the definition of a column.
+        ensures asked { OnErr result (IsTrue (bounds.takes_memory agreed kind payload.now self.old)) }
+        // No more is kept than may be.
+        ensures within { bounds.IsWithin self.old → bounds.IsWithin self.new }
+    {
+        self.change(agreed, kind, payload)
+    }
+
+    /// Takes a packet.
+    fn change(
+        &mut self,
+        agreed: SessionCapabilities,
+        kind: Kind,
+        payload: &[u8],
+    ) -> Result<(), AllocError>
+        ensures taken { OnOk result (self.new ≡ spec.after true agreed kind payload.now self.old) }
+        ensures memory { OnErr result (self.new ≡ spec.after false agreed kind payload.now self.old) }
+        ensures asked { OnErr result (IsTrue (bounds.takes_memory agreed kind payload.now self.old)) }
+    {
+        match kind {
+            Kind::Command(code) => {
+                self.ask(agreed, code, payload);
+                Ok(())
+            }
+            Kind::PrepareOk(columns, params, follow) => {
+                match prepared_at(self.alloc(), payload) {
+                    Some(id) => self.prepare(id, params, columns, follow),
+                    None => {
+                        self.turn_away();
+                        Ok(())
+                    }
+                }
+            }
+            Kind::Column => self.define(column_at(self.alloc(), agreed, payload)),
+            Kind::ColumnCount(count, follow) => {
+                self.count(count, follow);
+                Ok(())
+            }
+            Kind::Error => {
+                self.fail();
+                Ok(())
+            }
+            _ => Ok(()),
+        }
+    }
+
+    /// A command, by its first byte.
+    fn ask(&mut self, agreed: SessionCapabilities, code: u8, payload: &[u8])
+        ensures { self.new ≡ spec.asked agreed code payload.now self.old }
+    {
+        match code {
+            0x16 => self.begin_prepare(),
+            0x11 | 0x1f => self.clear(),
+            0x18 => match data_at(self.alloc(), payload) {
+                Some((id, param)) => self.send_ahead(id, usize::from(param)),
+                None => self.turn_away(),
+            },
+            0x17 | 0xfa | 0x1c | 0x19 | 0x1a => self.ask_one(agreed, code, payload),
+            _ => self.turn_away(),
+        }
+    }
+
+    /// A command that is of one statement.
+    fn ask_one(&mut self, agreed: SessionCapabilities, code: u8, payload: &[u8])
+        ensures { self.new ≡ spec.asked_one agreed code payload.now (packets.number_at payload.now) self.old }
+    {
+        let Some(id) = number_at(self.alloc(), payload) else {
+            self.turn_away();
+            return;
+        };
+        match code {
+            0x19 => self.close(id),
+            0x1a => self.reset(id),
+            0x1c => self.fetch(id),
+            0xfa => self.execute(id, Layout::Bulk, payload),
+            _ => self.execute(id, layout_of(agreed), payload),
+        }
+    }
+}

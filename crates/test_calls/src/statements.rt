@@ -1,0 +1,188 @@
+//! Prepared statements of a connection that is watched.
+//!
+//! `statements STATEMENTS TYPES EARLY MYSQL MARIADB WORD ..`: so many are kept, with so many types, and so many commands wait that come early,
+//! in a connection that is taken up between two commands under these capabilities. A word is `>` or `<` with the bytes of a payload of the
+//! client or the server. Of an execution its parameters are read, and of each binary row its values.
+
+use crate::conversation::{agreed_by, piece_of};
+use mysql_packets::conversation::{Format, Kind, Opening, Pipeline};
+use mysql_packets::io::{FaultOf, ParseBuf};
+use mysql_packets::packets::{
+    ComStmtExecuteHead, ExecuteParam, ExecuteParamsView, SessionCapabilities,
+};
+use mysql_packets::row::BinaryRowView;
+use mysql_packets::statements::{
+    EarlyCommands, EarlyLimits, Statement, StatementLimits, Statements,
+};
+use mysql_packets::value::{ServerSide, ValueRef};
+use std::alloc::AllocError;
+use test_probe::counted;
+use test_probe::prelude::{Out, Request};
+
+/// Who watches.
+#[derive(Drop)]
+struct Watcher {
+    agreed: SessionCapabilities,
+    pipeline: Pipeline,
+    statements: Statements,
+    early: EarlyCommands,
+}
+
+/// Adds a value.
+fn show_value(out: &mut Out, value: ValueRef<'_>) {
+    match value {
+        ValueRef::NULL => out.push("NULL"),
+        ValueRef::Bytes(bytes) => show(out, bytes),
+        ValueRef::Int(number) => out.display(&number),
+        ValueRef::UInt(number) => out.display(&number),
+        _ => out.push("another"),
+    }
+}
+
+/// Adds bytes to the last word.
+fn show(out: &mut Out, bytes: &[u8]) {
+    out.push_made(hex::encode(out.alloc(), bytes));
+}
+
+/// Adds the parameters of an execution.
+fn show_params<'s>(
+    out: &mut Out,
+    statement: &Statement,
+    payload: &[u8],
+) -> Result<(), FaultOf<'s>> {
+    let mut buf = ParseBuf::new(out.alloc(), payload);
+    let _head: ComStmtExecuteHead = buf.parse(())?;
+    let mut view = ExecuteParamsView::new(statement.params(), buf)?;
+    if !view.sends_types() && !statement.is_bound() && view.left() > 0 {
+        out.word("unbound");
+        return Ok(());
+    }
+    for _ in 0..view.left() {
+        if let Some((param_type, param)) = view.next_param()? {
+            out.word("param:");
+            out.display(&(param_type.column_type() as u8));
+            out.push("=");
+            match param {
+                ExecuteParam::Value(value) => show_value(out, value),
+                ExecuteParam::SentAhead => out.push("ahead"),
+            }
+        }
+    }
+    Ok(())
+}
+
+/// Adds the values of a row.
+fn show_row<'s>(out: &mut Out, statements: &Statements, payload: &[u8]) -> Result<(), FaultOf<'s>> {
+    let Some(columns) = statements.columns_of_rows() else {
+        out.word("row=unknown");
+        return Ok(());
+    };
+    let buf = ParseBuf::new(out.alloc(), payload);
+    let mut row: BinaryRowView<'_, '_, ServerSide, _> = BinaryRowView::new(columns, buf)?;
+    out.word("row");
+    for _ in 0..row.left() {
+        if let Some(value) = row.next_value()? {
+            out.push(":");
+            show_value(out, value);
+        }
+    }
+    Ok(())
+}
+
+/// Adds that a packet was taken without memory for all of it.
+fn show_taken(out: &mut Out, taken: Result<(), AllocError>) {
+    if taken.is_err() {
+        out.field("take", "Memory");
+    }
+}
+
+/// Adds a fault.
+fn show_fault(out: &mut Out, read: Result<(), FaultOf<'_>>) {
+    if read.is_err() {
+        out.word("fault");
+    }
+}
+
+/// Takes a packet in its turn, and adds what is read of it.
+fn take(out: &mut Out, watcher: &mut Watcher, kind: Kind, payload: &[u8]) {
+    if let Kind::Command(0x17) = kind {
+        let id = match payload {
+            [_, a, b, c, d, ..] => u32::from_le_bytes([*a, *b, *c, *d]),
+            _ => 0,
+        };
+        match watcher.statements.statement(id) {
+            Some(statement) => {
+                let read = show_params(out, statement, payload);
+                show_fault(out, read);
+            }
+            None => out.word("statement=unknown"),
+        }
+    }
+    let taken = counted!(out.alloc(); watcher.statements.take(watcher.agreed, kind, payload));
+    show_taken(out, taken);
+    if let Kind::Row(Format::Binary) = kind {
+        let read = show_row(out, &watcher.statements, payload);
+        show_fault(out, read);
+    }
+}
+
+/// Takes the commands that waited, which are fewer by one each time, up to the exchange of that number.
+fn serve(out: &mut Out, watcher: &mut Watcher, number: u64) {
+    for _ in 0..watcher.early.len() {
+        let Some(command) = watcher.early.serve(number) else {
+            return;
+        };
+        let code = command.payload().first().copied().unwrap_or(0);
+        take(out, watcher, Kind::Command(code), command.payload());
+    }
+}
+
+/// Holds a command that came early, or adds that it is lost. A call that memory is refused for is made again.
+fn hold(out: &mut Out, watcher: &mut Watcher, number: u64, payload: &[u8]) {
+    for _ in 0..2 {
+        match counted!(out.alloc(); watcher.early.hold(number, payload)) {
+            Ok(true) => return,
+            Ok(false) => return out.word("lost"),
+            Err(_) => out.field("hold", "Memory"),
+        }
+    }
+}
+
+/// Adds what becomes of the packets.
+pub fn statements(out: &mut Out, request: &Request<'_>) {
+    let agreed = agreed_by(request, 4);
+    let early = request.number(3) as usize;
+    let mut watcher = Watcher {
+        agreed,
+        pipeline: Pipeline::new(request.alloc, agreed, Opening::Commands, early),
+        statements: Statements::new(
+            request.alloc,
+            StatementLimits {
+                statements: request.number(1) as usize,
+                types: request.number(2) as usize,
+            },
+        ),
+        early: EarlyCommands::new(
+            request.alloc,
+            EarlyLimits {
+                commands: early,
+                bytes: 4096,
+            },
+        ),
+    };
+    for word in request.line.split(' ').skip(6) {
+        let Some((side, payload)) = piece_of(request.alloc, word) else {
+            return out.word("bad");
+        };
+        let Ok((kind, number)) = watcher.pipeline.next(side, payload.as_slice()) else {
+            return out.word("refused");
+        };
+        if matches!(kind, Kind::Command(_)) && watcher.pipeline.waiting() > 0 {
+            hold(out, &mut watcher, number, payload.as_slice());
+            continue;
+        }
+        serve(out, &mut watcher, number);
+        take(out, &mut watcher, kind, payload.as_slice());
+    }
+    out.show("waiting", watcher.early.len());
+}
