@@ -133,7 +133,7 @@ impl Pipeline {
         ensures full { IfErr result (λ why. why ≡ refusal.Full → (from ≡ side.Client) × ((piped.MustWait self.old × (piped.limit self.old ≤ piped.waiting self.old)) ⊎ piped.CountsNoMore self.old)) }
         // The packet would have to wait, as it may, and there is no capacity for it.
         ensures memory { IfErr result (λ why. why ≡ refusal.Memory → (from ≡ side.Client) × piped.MustWait self.old × (piped.waiting self.old < piped.limit self.old) × piped.HasNoCapacity self.old) }
-        // What is refused for want of room or memory comes here.
+        // What is refused as full, or for memory, comes here.
         ensures comes { IfErr result (λ why. why ≢ refusal.Unexpected → piped.Comes self.old from payload.now) }
         // (the others are of a session alone)
         ensures ours { IfErr result (λ why. (why ≢ refusal.Encrypted) × (why ≢ refusal.Compressed)) }

@@ -158,7 +158,7 @@ impl Session {
         // As a pipeline's.
         ensures full { IfErr result (λ why. why ≡ refusal.Full → (p : pipe.Pipeline) × Continues self.old p × (from ≡ side.Client) × ((piped.MustWait p × (piped.limit p ≤ piped.waiting p)) ⊎ piped.CountsNoMore p)) }
         ensures memory { IfErr result (λ why. why ≡ refusal.Memory → (p : pipe.Pipeline) × Continues self.old p × (from ≡ side.Client) × piped.MustWait p × (piped.waiting p < piped.limit p) × piped.HasNoCapacity p) }
-        // What is refused for want of room or memory comes here.
+        // What is refused as full, or for memory, comes here.
         ensures comes { IfErr result (λ why. (why ≡ refusal.Full) ⊎ (why ≡ refusal.Memory) → Comes self.old from payload.now) }
         ensures err { OnErr result ((items : List Numbered) → SessionTaken self.old items → SessionTaken self.new items) }
     {
