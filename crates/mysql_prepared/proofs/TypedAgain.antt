@@ -1,15 +1,12 @@
 -- An execution whose types are chosen, or which sends none, is read again.
-use Rattle.std.proofs.Common.{◌≡◌, ℕ, suc, ◌+◌, ◌<◌, ◌≤◌, ◌^◌, ◌==◌, Bool, true, false, not, is_some, List, [], ◌∷◌, ◌++◌, length, map, get_or, Option, None, Some, Ok, refl, sym, subst, ap, ◌∙◌, arith, append_assoc, unwrap_or, if◌then◌else◌}
+use Rattle.std.proofs.Common.{◌≡◌, ℕ, suc, ◌+◌, ◌<◌, ◌≤◌, ◌^◌, ◌==◌, Bool, true, false, not, is_some, List, [], ◌∷◌, ◌++◌, length, map, get_or, Option, None, Some, Ok, refl, sym, subst, ap, ◌∙◌, arith, append_assoc, unwrap_or}
 use Rattle.std.specs.List.{All, flat_map, position_or_len}
 use Rattle.std.proofs.lemmas.Grind.{common_steps}
 use Rattle.std.proofs.lemmas.List.Sums.{fails_before_first}
-use Rattle.std.specs.Prelude.{position, IsFalse}
-use Rattle.std.proofs.lemmas.List.{append-nil, length-map}
+use Rattle.std.proofs.lemmas.List.{length-map}
 use Rattle.std.proofs.lemmas.List.Elements.{All-head, All-tail}
 use Rattle.mysql_wire.specs.Each.{each}
 use Rattle.mysql_wire.specs.Form.{Form, either, give, map as map_form}
-use Rattle.mysql_wire.specs.Flags.{has}
-use Rattle.mysql_wire.specs.FlagMasks.{UNSIGNED}
 use Rattle.mysql_wire.specs.Seq.{counted}
 use Rattle.mysql_wire.specs.Int.{raw_int}
 use Rattle.mysql_wire.specs.Spelling.{IsSpelling, byte-again}
@@ -30,7 +27,7 @@ use Rattle.mysql_prepared.specs.ExecuteRead.{param_value, typed_param, types, un
 use Rattle.mysql_prepared.specs.ReadAgain.{ParamFits, was_sent_ahead}
 use Rattle.mysql_prepared.specs.TypedExecution as request
 use Rattle.mysql_prepared.specs.TypedExecution.{after_head, bytes_under, first_unspelled, is_left_out, is_spelled, is_spelled_under, type_bytes, typed_param_of, types_flag, value_bytes, with_types}
-use Rattle.mysql_prepared.specs.TypedReadAgain.{IsReadable, Knows, KnowsAll, TypedParamFits, as_read_under, bytes_after_head, params_as_read, typed_as_read}
+use Rattle.mysql_prepared.specs.TypedReadAgain.{IsReadable, KnowsAll, TypedParamFits, as_read_under, bytes_after_head, params_as_read, typed_as_read}
 use Rattle.mysql_prepared.specs.declared.execute_view.BoundParam.{BoundParam}
 use Rattle.mysql_prepared.specs.declared.typed_execution.ComStmtExecuteTyped.{ComStmtExecuteTyped}
 use Rattle.mysql_prepared.specs.declared.typed_param.TypedExecuteParam.{TypedExecuteParam}

@@ -1,7 +1,6 @@
 -- An execution whose types are chosen, or which sends none.
-use Rattle.std.specs.Prelude.{◌≡◌, ℕ, ◌+◌, ◌*◌, Bool, true, false, not, is_some, nat_lt, List, [], ◌∷◌, ◌++◌, length, map, position, Option, Some, None, unwrap_or, if◌then◌else◌}
+use Rattle.std.specs.Prelude.{◌≡◌, ℕ, ◌+◌, ◌*◌, Bool, true, false, not, is_some, nat_lt, List, [], ◌∷◌, ◌++◌, length, position, Option, Some, unwrap_or, if◌then◌else◌}
 use Rattle.std.specs.List.{flat_map}
-use Rattle.mysql_wire.specs.Flags.{CursorType}
 use Rattle.mysql_wire.specs.Writing.{le_bytes}
 use Rattle.mysql_values.specs.ParamType.{param_type}
 use Rattle.mysql_values.specs.declared.param_type.ParamType.{ParamType}
