@@ -21,3 +21,6 @@ pub mod NoColumns
 pub mod RequestWriter
 pub mod CollectedRows
 pub mod StreamedRows
+pub mod BulkValues
+pub mod ValueRows
+pub mod StreamedCells

@@ -24,3 +24,6 @@ pub mod BuilderEq
 pub mod RequestWriter
 pub mod CollectedRows
 pub mod StreamedRows
+pub mod BulkValue
+pub mod TypedCell
+pub mod ValueRows

@@ -31,6 +31,8 @@ ghost use Rattle.mysql_bulk.specs.RequestWriter.{WriterState, AddsAsBuilder, Hol
 ghost use Rattle.mysql_bulk.specs.StreamedRows.{Streams, AreFewest, StreamEndsRefused};
 ghost use Rattle.mysql_bulk.specs.Row.{contents_of_row, first_length, row_size, rows_packing};
 ghost use Rattle.mysql_bulk.specs.Run.{RunState, NextRequest};
+ghost use Rattle.mysql_bulk.specs.BulkValue.{Cell};
+ghost use Rattle.mysql_bulk.specs.ValueRows.{AddsCells, AreFewestOfCells, CellsEndRefused, HoldsCells, StreamsCells, new_writer};
 ghost use Rattle.mysql_bulk.specs.WholeRun.{IsNew, RunGives};
 
 use mysql_values::{Params, Value};
@@ -107,6 +109,18 @@ pub fn collected_rows_are_sent_in_the_fewest_requests()
         IsConsistent s → Collects s rows requests t → Adds t row (Err e) t → (ends : List ℕ) × RunGives s (s.waiting ++ (rows ++ contents_of_row row ∷ later)) requests ends (Some (refused.Request e)) t }
     ensures copy_refused { (s t : BuilderState) (rows later : List (List Content)) (requests : List BulkRequest) (row : List Content) (e : BulkRowRefusal) →
         IsConsistent s → Collects s rows requests t → AddsCopy t row (Err e) t → EndsRefused s rows requests row later e t }
+{}
+
+/// Rows of values, DEFAULT and IGNORE that are streamed through a new writer under declared types of any width are sent in the
+/// fewest requests, by their sizes under these types: the last one is that of the rows that wait at the end. Where a row is
+/// refused, the requests before it are full from the front, whatever comes after it, and one that is too large has no fitting cut
+/// with the rows before it.
+pub fn streamed_values_are_sent_in_the_fewest_requests()
+    ensures all { (w u : WriterState) (rows : List (List Cell)) (requests : List (List ℕ)) → HoldsCells w [] → w.types_due ≡ true → StreamsCells w rows requests u → rows ≢ []
+        → AreFewestOfCells w rows (requests ++ u.bytes ∷ []) }
+    ensures refused { (w u v : WriterState) (rows later : List (List Cell)) (requests : List (List ℕ)) (row : List Cell) (e : BulkRowRefusal) → HoldsCells w [] → w.types_due ≡ true
+        → StreamsCells w rows requests u → AddsCells u row (Err e) v → CellsEndRefused w rows requests row later e u }
+    ensures new { (stmt_id limit capacity : ℕ) (types : List ParamType) → HoldsCells (new_writer stmt_id limit types capacity) [] }
 {}
 
 /// Rows that are streamed through a new writer, where each request is let go once a row does not fit with those that wait, are

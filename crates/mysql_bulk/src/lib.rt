@@ -3,6 +3,7 @@
 #![tactic(auto)]
 
 mod builder;
+mod bulk_value;
 mod cells;
 mod column_types;
 mod declared_types;
@@ -23,6 +24,7 @@ mod size;
 mod whole_run;
 
 pub use builder::ComStmtBulkExecuteRequestBuilder;
+pub use bulk_value::BulkValue;
 pub use error::{
     BulkColumnTypeError, BulkExecuteRequestBuilderError, BulkExecuteRequestError, BulkRowRefusal,
 };
