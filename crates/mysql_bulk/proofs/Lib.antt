@@ -24,3 +24,4 @@ pub mod StreamedRows
 pub mod BulkValues
 pub mod ValueRows
 pub mod StreamedCells
+pub mod ValuesAgain

@@ -1,8 +1,8 @@
 -- A caller's own loop over a writer whose rows are values, DEFAULT and IGNORE.
-use Rattle.std.proofs.Common.{◌≡◌, ◌≢◌, ◌⊎◌, ◌==◌, ℕ, Bool, true, false, if◌then◌else◌, List, [], ◌∷◌, ◌++◌, length, Result, Ok, Err, refl, sym, ◌∙◌, ap, subst, inl, inr, append_assoc}
+use Rattle.std.proofs.Common.{◌≡◌, ◌≢◌, ◌⊎◌, ℕ, Bool, true, false, if◌then◌else◌, List, [], ◌∷◌, ◌++◌, length, Ok, Err, refl, sym, ◌∙◌, ap, subst, inl, inr, append_assoc}
 use Rattle.std.proofs.lemmas.Bool.{ne_eqb}
 use Rattle.std.proofs.lemmas.List.{append-nil}
-use Rattle.mysql_cuts.specs.Cut.{Packing, PartFits, HasFittingCut, rows_in, types_after}
+use Rattle.mysql_cuts.specs.Cut.{Packing, PartFits, HasFittingCut, types_after}
 use Rattle.mysql_cuts.proofs.Packed.{IsPacked, packed_none, packed_more, packed_close, packed_fewest, packed_full, packed_fits, packed_stuck, types_after_push}
 use Rattle.mysql_values.specs.declared.param_type.ParamType.{ParamType}
 use Rattle.mysql_bulk.specs.declared.error.BulkRowRefusal.{BulkRowRefusal}

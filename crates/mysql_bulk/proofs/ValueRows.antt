@@ -1,16 +1,14 @@
 -- What a writer of requests has written of rows of values, DEFAULT and IGNORE.
-use Rattle.std.proofs.Common.{◌≡◌, ◌≢◌, ℕ, ◌+◌, Bool, true, false, List, [], ◌∷◌, ◌++◌, length, map, Option, Some, None, Ok, Err, IsTrue, refl, sym, ◌∙◌, ap, subst, arith, append_assoc, length-append, sum_by}
-use Rattle.std.specs.Prelude.{All}
+use Rattle.std.proofs.Common.{◌≡◌, ◌≢◌, ℕ, ◌+◌, true, false, List, [], ◌∷◌, ◌++◌, length, map, Ok, Err, refl, sym, ◌∙◌, ap, arith, append_assoc, length-append}
 use Rattle.std.proofs.lemmas.Grind.{flat_map-append}
 use Rattle.std.proofs.lemmas.List.{append-nil, length-map}
 use Rattle.std.proofs.lemmas.List.Elements.{All-nil, All-push}
 use Rattle.std.proofs.lemmas.List.Sums.{sum_by-append}
-use Rattle.mysql_cuts.specs.Cut.{PartFits}
 use Rattle.mysql_bulk.specs.declared.bulk_value.BulkValue.{BulkValue}
 use Rattle.mysql_bulk.specs.declared.error.BulkRowRefusal.TheVariants as refused
 use Rattle.mysql_bulk.specs.BulkValue.{Cell, cell_of, cells_bytes, cells_size}
 use Rattle.mysql_bulk.specs.RequestWriter.{WriterState, head_bytes}
-use Rattle.mysql_bulk.specs.ValueRows.{AddsCells, CellsFit, HoldsCells, Spells, packing, rows_bytes, so_far, with_cells}
+use Rattle.mysql_bulk.specs.ValueRows.{AddsCells, CellsFit, HoldsCells, Spells, rows_bytes, so_far, with_cells}
 
 -- ---- the bytes of one row more
 
@@ -67,19 +65,19 @@ wrote : (w : WriterState) (row : List Cell) (size capacity : ℕ) (before : List
     → ((rows : List (List Cell)) → HoldsCells w rows → so_far w (rows ++ row ∷ []) ≡ before ++ cells_bytes w.types row)
     → AddsCells w row (Ok true) (with_cells w before size capacity row)
 wrote w row size capacity before spells fits total bytes = λ rows h. (
-      spells,
-      fits rows h,
-      (
-        record {
-          count = omega (arith, h.count, length-append rows (row ∷ []));
-          size = omega (arith, total, h.size, sum_by-append (cells_size w.types) rows (row ∷ []));
-          bytes = sym (same w row size capacity before rows ∙ bytes rows h);
-          taken = All-push (Spells w.types) rows row h.taken spells;
-          fits = λ some. fits rows h;
-        },
-        refl,
-      ),
-    )
+  spells,
+  fits rows h,
+  (
+    record {
+      count = omega (arith, h.count, length-append rows (row ∷ []));
+      size = omega (arith, total, h.size, sum_by-append (cells_size w.types) rows (row ∷ []));
+      bytes = sym (same w row size capacity before rows ∙ bytes rows h);
+      taken = All-push (Spells w.types) rows row h.taken spells;
+      fits = λ some. fits rows h;
+    },
+    refl,
+  ),
+)
 
 pub wrote_first : (w : WriterState) (row : List Cell) (size capacity : ℕ) → Spells w.types row → EachFits w row → size ≡ w.size + cells_size w.types row → w.count ≡ 0
     → AddsCells w row (Ok true) (with_cells w (w.bytes ++ head_bytes w) size capacity row)

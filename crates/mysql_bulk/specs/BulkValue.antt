@@ -1,5 +1,5 @@
 -- Values of a row as a client sends them: a value, DEFAULT or IGNORE, under the declared type of its column.
-use Rattle.std.specs.Prelude.{◌≡◌, ℕ, ◌++◌, Bool, true, false, ◌&&◌, is_some, List, [], ◌∷◌, length, map, Option, Some, None, unwrap_or}
+use Rattle.std.specs.Prelude.{ℕ, ◌++◌, Bool, true, false, ◌&&◌, is_some, List, [], ◌∷◌, length, Option, Some, unwrap_or}
 use Rattle.std.specs.Option.{option_map}
 use Rattle.mysql_wire.specs.declared.codes.mariadb_bulk_indicator.MariadbBulkIndicator.{MariadbBulkIndicator}
 use Rattle.mysql_wire.specs.declared.codes.mariadb_bulk_indicator.MariadbBulkIndicator.TheVariants.{BULK_INDICATOR_NONE, BULK_INDICATOR_NULL, BULK_INDICATOR_DEFAULT, BULK_INDICATOR_IGNORE}

@@ -27,3 +27,4 @@ pub mod StreamedRows
 pub mod BulkValue
 pub mod TypedCell
 pub mod ValueRows
+pub mod ReadValues

@@ -1,7 +1,6 @@
 -- A cell as it is spelled under its type.
-use Rattle.std.specs.Prelude.{ℕ, ◌++◌, List, [], Option, Some, None}
+use Rattle.std.specs.Prelude.{ℕ, ◌++◌, List, []}
 use Rattle.std.specs.Option.{option_map_or}
-use Rattle.mysql_values.specs.declared.typed_value.TypedValue.{TypedValue}
 use Rattle.mysql_values.specs.TypedValue.{typed_bytes}
 use Rattle.mysql_bulk.specs.BulkValue.{indicator_bytes}
 use Rattle.mysql_bulk.specs.declared.bulk_value.TypedCell.{TypedCell}

@@ -1,4 +1,4 @@
-use Rattle.std.proofs.Common.{◌≡◌, ◌++◌, List, ℕ, length, map, drop, get_or, ◌+◌, sym, ap, ◌∙◌, arith, append_assoc}
+use Rattle.std.proofs.Common.{◌++◌, List, ℕ, length, map, drop, get_or, ◌+◌, sym, ap, ◌∙◌, arith, append_assoc}
 use Rattle.std.proofs.lemmas.List.{length-append}
 use Rattle.mysql_wire.specs.declared.codes.column_type.ColumnType.TheVariants as column
 use Rattle.mysql_values.specs.declared.param_type.ParamType.{ParamType}

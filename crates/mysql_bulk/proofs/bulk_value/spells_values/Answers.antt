@@ -1,4 +1,4 @@
-use Rattle.std.proofs.Common.{◌≡◌, Bool, false, ◌&&◌, map, drop, ◌+◌, sym, ap, ◌∙◌}
+use Rattle.std.proofs.Common.{Bool, ◌&&◌, map, drop, ◌+◌, sym, ap, ◌∙◌}
 use Rattle.mysql_bulk.specs.BulkValue.{cell_of, spells_cells}
 use Rattle.mysql_bulk.proofs.BulkValues.{not_as_long, spells_from}
 use Rattle.mysql_bulk.proofs.bulk_value.spells_values.Goals as goal

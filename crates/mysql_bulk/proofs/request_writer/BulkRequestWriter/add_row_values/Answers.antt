@@ -1,4 +1,4 @@
-use Rattle.std.proofs.Common.{◌≡◌, true, length, map, Ok, sym, ◌∙◌, ap, subst, rules}
+use Rattle.std.proofs.Common.{true, map, Ok, sym, ◌∙◌, ap, subst, rules}
 use Rattle.mysql_bulk.specs.BulkValue.{cell_of}
 use Rattle.mysql_bulk.specs.RequestWriter.{WriterState}
 use Rattle.mysql_bulk.specs.ValueRows.{AddsCells, Spells}
