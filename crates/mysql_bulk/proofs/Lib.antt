@@ -25,3 +25,4 @@ pub mod BulkValues
 pub mod ValueRows
 pub mod StreamedCells
 pub mod ValuesAgain
+pub mod ValuesRun

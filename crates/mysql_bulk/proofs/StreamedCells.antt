@@ -16,6 +16,10 @@ some_last : {X : Type 0} (xs : List X) (x : X) → xs ++ x ∷ [] ≢ []
 some_last [] x e = cc
 some_last (y ∷ xs) x e = cc
 
+none_long : {X : Type 0} (xs : List X) → length xs ≡ 0 → xs ≡ []
+none_long [] e = refl
+none_long (x ∷ xs) e = absurd cc
+
 -- the writer with the settings of one, and what another has written
 abbrev with_settings : WriterState → (types_due : Bool) → WriterState → WriterState
 with_settings w due u = record w { types_due = due; count = u.count; size = u.size; bytes = u.bytes; capacity = u.capacity }
@@ -122,10 +126,6 @@ one_sent {w} {u} {before} {requests} row rest v g adds go =
       settings = subst S (sym left) is;
       bytes = requests_push w true g.cut requests g.waiting u.bytes g.bytes (open_bytes w u due g.waiting a.2 (subst B g.settings g.holds.bytes));
     }
-  where
-    none_long : {X : Type 0} (xs : List X) → length xs ≡ 0 → xs ≡ []
-    none_long [] e = refl
-    none_long (x ∷ xs) e = absurd cc
 
 gone : {w : WriterState} (rows rest before : List (List Cell)) (u t : WriterState) (requests more : List (List ℕ)) → Waits w before (rows ++ rest) requests u → StreamsCells u rows more t
     → Waits w (before ++ rows) rest (requests ++ more) t
@@ -168,11 +168,11 @@ too_large : (k : Packing (List Cell)) (u v : WriterState) (cut : List (List (Lis
 too_large k u v cut [] rows later row p n e = packed_stuck k cut rows row later p n
 too_large k u v cut (r ∷ waiting) rows later row p n e = absurd cc
 
-pub cells_refused : (w u v : WriterState) (rows later : List (List Cell)) (requests : List (List ℕ)) (row : List Cell) (e : BulkRowRefusal) → HoldsCells w [] → w.types_due ≡ true → StreamsCells w rows requests u
-    → AddsCells u row (Err e) v → CellsEndRefused w rows requests row later e u
-cells_refused w u v rows later requests row e h due s adds =
+-- a row is refused
+going_refused : (w u v : WriterState) (rows later : List (List Cell)) (requests : List (List ℕ)) (row : List Cell) (e : BulkRowRefusal) → Going w rows (row ∷ later) requests u → AddsCells u row (Err e) v
+    → CellsEndRefused w rows requests row later e u
+going_refused w u v rows later requests row e g adds =
     let k = packing w in
-    let g = (gone rows (row ∷ later) [] w u [] requests (begins w (rows ++ row ∷ later) h due) s).going in
     let a = adds g.waiting g.holds in
     let A : BulkRowRefusal → Type 0 = λ x. AddsAfter u g.waiting row (Err x) v in
     let types : u.types ≡ w.types = ap (λ (x : WriterState). x.types) g.settings in
@@ -189,3 +189,24 @@ cells_refused w u v rows later requests row e h due s adds =
       arity = λ is long. let b : A refused.MixedArity = subst A is a in b.0 (long ∙ ap length (sym types));
       types = λ is spells. let b : A refused.MixedTypes = subst A is a in let P : List ParamType → Type 0 = λ ts. Spells ts row in b.1 (subst P (sym types) spells);
     }
+
+pub cells_refused : (w u v : WriterState) (rows later : List (List Cell)) (requests : List (List ℕ)) (row : List Cell) (e : BulkRowRefusal) → HoldsCells w [] → w.types_due ≡ true → StreamsCells w rows requests u
+    → AddsCells u row (Err e) v → CellsEndRefused w rows requests row later e u
+cells_refused w u v rows later requests row e h due s adds = going_refused w u v rows later requests row e (gone rows (row ∷ later) [] w u [] requests (begins w (rows ++ row ∷ later) h due) s).going adds
+
+-- a row is refused after a request was let go
+pub sent_refused : (w u v x : WriterState) (rows later : List (List Cell)) (requests : List (List ℕ)) (row : List Cell) (e : BulkRowRefusal) → HoldsCells w [] → w.types_due ≡ true → StreamsCells w rows requests u
+    → AddsCells u row (Ok false) u → LetsGo u v → AddsCells v row (Err e) x → CellsEndRefused w rows (requests ++ u.bytes ∷ []) row later e v
+sent_refused w u v x rows later requests row e h due s full go adds =
+    going_refused w v x rows later (requests ++ u.bytes ∷ []) row e (one_sent row later v (gone rows (row ∷ later) [] w u [] requests (begins w (rows ++ row ∷ later) h due) s).going full go) adds
+
+-- a row that is offered where none waits is not kept back
+pub never_kept : (w u v : WriterState) (rows : List (List Cell)) (requests : List (List ℕ)) (row : List Cell) → HoldsCells w [] → w.types_due ≡ true → StreamsCells w rows requests u
+    → AddsCells u row (Ok false) u → LetsGo u v → AddsCells v row (Ok false) v → ⊥
+never_kept w u v rows requests row h due s full go adds =
+    let g = (gone rows [] [] w u [] requests (begins w (rows ++ []) h due) s).going in
+    let some = (full g.waiting g.holds).2 in
+    let counted : u.count ≢ 0 = λ e. some (none_long g.waiting (sym g.holds.count ∙ e)) in
+    let left : v ≡ let_go u = let_go_is u v counted go in
+    let H : WriterState → Type 0 = λ y. HoldsCells y [] in
+    (adds [] (subst H (sym left) (holds_none (let_go u) refl refl refl))).2 refl

@@ -28,3 +28,4 @@ pub mod BulkValue
 pub mod TypedCell
 pub mod ValueRows
 pub mod ReadValues
+pub mod ValuesRun

@@ -34,7 +34,8 @@ ghost use Rattle.mysql_bulk.specs.Run.{RunState, NextRequest};
 ghost use Rattle.mysql_values.specs.TypedValue.{is_unsigned_type};
 ghost use Rattle.mysql_bulk.specs.BulkValue.{Cell, cell_spelled, cells_bytes, spells_cells};
 ghost use Rattle.mysql_bulk.specs.ReadValues.{CellFits, cell_read, row_read};
-ghost use Rattle.mysql_bulk.specs.ValueRows.{AddsCells, AreFewestOfCells, CellsEndRefused, HoldsCells, StreamsCells, new_writer};
+ghost use Rattle.mysql_bulk.specs.ValueRows.{AddsCells, AreFewestOfCells, CellsEndRefused, HoldsCells, StreamsCells};
+ghost use Rattle.mysql_bulk.specs.ValuesRun.{IsNewWriter};
 ghost use Rattle.mysql_bulk.specs.WholeRun.{IsNew, RunGives};
 
 use mysql_values::{Params, Value};
@@ -133,7 +134,7 @@ pub fn streamed_values_are_sent_in_the_fewest_requests()
         → AreFewestOfCells w rows (requests ++ u.bytes ∷ []) }
     ensures refused { (w u v : WriterState) (rows later : List (List Cell)) (requests : List (List ℕ)) (row : List Cell) (e : BulkRowRefusal) → HoldsCells w [] → w.types_due ≡ true
         → StreamsCells w rows requests u → AddsCells u row (Err e) v → CellsEndRefused w rows requests row later e u }
-    ensures new { (stmt_id limit capacity : ℕ) (types : List ParamType) → HoldsCells (new_writer stmt_id limit types capacity) [] }
+    ensures new { (w : WriterState) → w.count ≡ 0 → w.size ≡ 0 → w.bytes ≡ [] → w.types_due ≡ true → IsNewWriter w }
 {}
 
 /// Rows that are streamed through a new writer, where each request is let go once a row does not fit with those that wait, are

@@ -35,7 +35,7 @@ pub use param_values::StmtBulkExecuteParamValues;
 pub use params_run::BulkParamsRequests;
 pub use read_rows::read_bulk_rows;
 pub use request::ComStmtBulkExecuteRequest;
-pub use request_writer::BulkRequestWriter;
+pub use request_writer::{BulkRequestWriter, BulkValuesRun};
 pub use row::bulk_row_size;
 pub use run::BulkRequests;
 pub use whole_run::BulkRun;

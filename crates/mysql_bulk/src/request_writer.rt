@@ -23,7 +23,10 @@ use mysql_wire::{
 };
 use std::marker::Model;
 
+mod run;
 mod values;
+
+pub use run::BulkValuesRun;
 
 /// Writes the rows of a bulk execution straight into the bytes of its requests, none of which is past the limit.
 ///

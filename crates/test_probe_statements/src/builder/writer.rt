@@ -4,7 +4,7 @@
 //! the builder's are: `build` is `request` and `finish`. After all of them stands what is left in the buffer.
 //!
 //! With the setting `any` the types are of any width, and `values:ROW` offers a row of values and of the words `default` and `ignore`;
-//! `id=N` is the statement's number then.
+//! `all:ROW/ROW` is a whole run, and `id=N` the statement's number then.
 
 use crate::builder::answers::{show_copied, show_error, show_undeclared};
 use crate::builder::settings::{list_in, setting, typed_writer_of, writer_of};
@@ -50,6 +50,32 @@ fn cells_of<'v>(out: &mut Out, text: &str, values: &'v [Value]) -> Vec<BulkValue
     or_empty(out, pairs.map(cell_of).collect(out.alloc()))
 }
 
+/// Adds what a whole run over these rows gives.
+fn show_run(out: &mut Out, writer: &mut BulkRequestWriter<'_>, text: &str) {
+    let alloc = out.alloc();
+    let mut values = Vec::new(alloc);
+    for word in text.split('/') {
+        let row = Vec::<Value>::from_word(out, word);
+        push(out, &mut values, row);
+    }
+    let mut rows = Vec::new(alloc);
+    for (row, word) in values.iter().zip(text.split('/')) {
+        let cells = cells_of(out, word, row);
+        push(out, &mut rows, cells);
+    }
+    let run = counted!(alloc; value writer.build_all_values(alloc, &rows));
+    for request in &run.requests {
+        out.show("request", request.as_slice());
+    }
+    match run.refusal {
+        Some(refusal) => {
+            out.item(Variant(&refusal));
+            out.text("text", &refusal);
+        }
+        None => out.word("sent"),
+    }
+}
+
 /// Makes a call, and adds what it answered.
 fn answer(out: &mut Out, writer: &mut BulkRequestWriter<'_>, call: &str) {
     let alloc = out.alloc();
@@ -65,6 +91,7 @@ fn answer(out: &mut Out, writer: &mut BulkRequestWriter<'_>, call: &str) {
             let cells = cells_of(out, argument, &row);
             show_copied(out, counted!(alloc; writer.add_row_values(&cells)));
         }
+        "all" => show_run(out, writer, argument),
         "build" => {
             match counted!(alloc; value writer.request()) {
                 Some(bytes) => out.show("request", bytes),

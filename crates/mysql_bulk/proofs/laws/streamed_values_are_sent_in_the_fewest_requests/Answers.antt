@@ -1,5 +1,3 @@
-use Rattle.std.proofs.Common.{refl}
-use Rattle.mysql_bulk.specs.ValueRows.{new_writer}
 use Rattle.mysql_bulk.proofs.StreamedCells.{cells_fewest, cells_refused}
 use Rattle.mysql_bulk.proofs.ValueRows.{holds_none}
 use Rattle.mysql_bulk.proofs.laws.streamed_values_are_sent_in_the_fewest_requests.Goals as goal
@@ -11,4 +9,4 @@ pub returns-clause-refused : goal.returns-clause-refused
 returns-clause-refused c = cells_refused
 
 pub returns-clause-new : goal.returns-clause-new
-returns-clause-new c = λ stmt_id limit capacity types. holds_none (new_writer stmt_id limit types capacity) refl refl refl
+returns-clause-new c = λ w count size bytes due. record { none = holds_none w count size bytes; due = due }
