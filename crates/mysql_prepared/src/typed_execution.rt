@@ -123,6 +123,7 @@ impl ComStmtExecuteTypedBuilder {
         ensures as_long_data { IfOk result (λ made. IsTrue (spec.as_long_data made.0) ↔ (max_payload < length (spec.whole_bytes made.0))) }
         ensures answer { IfOk result (λ made. made.1 ≡ spec.as_long_data made.0) }
         ensures refused { IfErr result (λ e. spec.Refuses params.now e) }
+        ensures early { spec.first_unspelled params.now ≢ None → result ≢ Err refusal.Memory }
     {
         if let Some(place) = first_unspelled(params) {
             return Err(TypedExecutionError::UnspelledValue { place });
@@ -157,6 +158,7 @@ impl ComStmtExecuteTypedBuilder {
         ensures spelled { IfOk result (λ long. spec.first_unspelled params.now ≡ None) }
         ensures as_long_data { IfOk result (λ long. IsTrue long ↔ (max_payload < spec.execution_size self.sends_types false params.now)) }
         ensures refused { IfErr result (λ e. spec.Refuses params.now e) }
+        ensures early { spec.first_unspelled params.now ≢ None → result ≢ Err refusal.Memory }
         ensures err { OnErr result (out.new.items ≡ out.old.items) }
         ensures no_memory { vec_len out.old + spec.written_size self.sends_types params.now ≤ vec_capacity out.old → result ≢ Err refusal.Memory }
     {

@@ -43,7 +43,7 @@ fn of_statements(out: &mut Out, request: &Request<'_>) -> bool {
 fn of_values(out: &mut Out, request: &Request<'_>) -> bool {
     answers!(Statements, out, request, request.word(0);
         with () => "param_type": ParamType,
-        call "value_text": borrowed::value_text, "value": borrowed::value, "cell": forms::cell, "bin": forms::bin, "bin_len": forms::bin_len, "bit_offsets": bitmaps::bit_offsets,
+        call "value_text": borrowed::value_text, "value": borrowed::value, "cell": forms::cell, "bin": forms::bin, "typed": forms::typed, "bin_len": forms::bin_len, "bit_offsets": bitmaps::bit_offsets,
             "from_value": forms::from_value, "sizes": forms::sizes, "params": params::into_values, "params_same": params::are_same,)
 }
 
