@@ -14,6 +14,7 @@ from lines import TOP, summary
 NAMES = {
     "no_memory": "memory is no answer there",
     "memory": "memory is an answer there alone",
+    "asked": "memory is an answer only where something is kept",
     "early": "what is refused before the first allocation is never refused for memory",
 }
 # what a clause says by these words

@@ -72,6 +72,7 @@ pub use Rattle.mysql_values.specs.Params
 pub use Rattle.mysql_values.specs.ReadingBack
 pub use Rattle.mysql_values.specs.SentType
 pub use Rattle.mysql_values.specs.Temporal
+pub use Rattle.mysql_values.specs.TypedValue
 pub use Rattle.mysql_values.specs.Value
 pub use Rattle.mysql_values.specs.ValueDeserializer
 pub use Rattle.mysql_values.specs.ValueKind
@@ -124,10 +125,13 @@ pub use Rattle.mysql_prepared.specs.RowView
 pub use Rattle.mysql_prepared.specs.Stmt
 pub use Rattle.mysql_prepared.specs.StmtWithMetadata
 pub use Rattle.mysql_prepared.specs.TextRow
+pub use Rattle.mysql_prepared.specs.TypedExecution
+pub use Rattle.mysql_prepared.specs.TypedReadAgain
 pub use Rattle.mysql_prepared.specs.WrittenExecution
 pub use Rattle.mysql_cuts.specs.Cut
 pub use Rattle.mysql_cuts.specs.Fewest
 pub use Rattle.mysql_bulk.specs.Builder
+pub use Rattle.mysql_bulk.specs.BulkValue
 pub use Rattle.mysql_bulk.specs.CollectedRows
 pub use Rattle.mysql_bulk.specs.ColumnTypes
 pub use Rattle.mysql_bulk.specs.DeclaredTypes
@@ -137,6 +141,7 @@ pub use Rattle.mysql_bulk.specs.ParamValue
 pub use Rattle.mysql_bulk.specs.ParamValues
 pub use Rattle.mysql_bulk.specs.ParamsRun
 pub use Rattle.mysql_bulk.specs.ReadRows
+pub use Rattle.mysql_bulk.specs.ReadValues
 pub use Rattle.mysql_bulk.specs.ReadingBack as BulkReadingBack
 pub use Rattle.mysql_bulk.specs.Request
 pub use Rattle.mysql_bulk.specs.RequestForm
@@ -147,6 +152,9 @@ pub use Rattle.mysql_bulk.specs.Run
 pub use Rattle.mysql_bulk.specs.RunLoop
 pub use Rattle.mysql_bulk.specs.SentValues
 pub use Rattle.mysql_bulk.specs.StreamedRows
+pub use Rattle.mysql_bulk.specs.TypedCell
+pub use Rattle.mysql_bulk.specs.ValueRows
+pub use Rattle.mysql_bulk.specs.ValuesRun
 pub use Rattle.mysql_bulk.specs.WholeRun
 pub use Rattle.mysql_bulk.specs.WholeRunRefusal
 pub use Rattle.mysql_auth.specs.AttributeBytes

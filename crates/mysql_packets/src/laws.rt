@@ -9,6 +9,7 @@ pub use mysql_commands::laws as commands;
 pub use mysql_conversation::laws as conversation;
 pub use mysql_cuts::laws as cuts;
 pub use mysql_frames::laws as frames;
+pub use mysql_observer::laws as observer;
 pub use mysql_repl::laws as repl;
 pub use mysql_replies::laws as replies;
 pub use mysql_session::laws as session;

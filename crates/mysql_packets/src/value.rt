@@ -1,7 +1,7 @@
 //! The values of statements and rows.
 
 pub use mysql_values::{
-    BinValue, ClientSide, ParamType, SerializationSide, ServerSide, TextValue, Value,
+    BinValue, ClientSide, ParamType, SerializationSide, ServerSide, TextValue, TypedValue, Value,
     ValueDeserializer, ValueRef, read_bin_cell, read_bin_ref, read_text_ref,
 };
 

@@ -2,7 +2,7 @@
 //!
 //! `statements STATEMENTS TYPES EARLY MYSQL MARIADB WORD ..`: so many are kept, with so many types, and so many commands wait that come early,
 //! in a connection that is taken up between two commands under these capabilities. A word is `>` or `<` with the bytes of a payload of the
-//! client or the server. Of an execution its parameters are read, and of each binary row its values.
+//! client or the server; `?` and a number asks what is known of that statement, and `clear` forgets all. Of an execution its parameters are read, and of each binary row its values.
 
 use crate::conversation::{agreed_by, piece_of};
 use mysql_packets::conversation::{Format, Kind, Opening, Pipeline};
@@ -148,6 +148,26 @@ fn hold(out: &mut Out, watcher: &mut Watcher, number: u64, payload: &[u8]) {
     }
 }
 
+/// Adds what a word asks of the table: `?` and a statement's number, what is known of it; `clear`, nothing is known any more.
+fn show_known(out: &mut Out, statements: &mut Statements, word: &str) -> bool {
+    if word == "clear" {
+        statements.clear();
+        return true;
+    }
+    let Some(number) = word.strip_prefix('?') else {
+        return false;
+    };
+    match statements.statement(number.parse::<u32>().unwrap_or(u32::MAX)) {
+        Some(statement) => {
+            out.show("id", statement.id());
+            out.show("width", statement.width());
+            out.show("bound", statement.is_bound());
+        }
+        None => out.word("unknown"),
+    }
+    true
+}
+
 /// Adds what becomes of the packets.
 pub fn statements(out: &mut Out, request: &Request<'_>) {
     let agreed = agreed_by(request, 4);
@@ -171,6 +191,9 @@ pub fn statements(out: &mut Out, request: &Request<'_>) {
         ),
     };
     for word in request.line.split(' ').skip(6) {
+        if show_known(out, &mut watcher.statements, word) {
+            continue;
+        }
         let Some((side, payload)) = piece_of(request.alloc, word) else {
             return out.word("bad");
         };
