@@ -1,0 +1,57 @@
+//! What an OK packet says of the session.
+
+use crate::field::Field;
+use crate::values::fault_name;
+use mysql_replies::OkPacketRef;
+use mysql_session::{ChangeRef, SystemVariablesRef};
+use mysql_wire::FaultOf;
+use std::alloc::AllocError;
+
+/// Appends the changes of the session, as servers send them.
+pub(crate) fn append_changes<'p>(
+    ok: &OkPacketRef<'p>,
+    fields: &mut Vec<Field<'p>>,
+) -> Result<(), AllocError> {
+    for change in ok.session_state_changes() {
+        match change {
+            Ok(change) => append_change(change.into_change(), fields)?,
+            Err(fault) => {
+                let fault = FaultOf::from(fault);
+                fields.extend_from_slice(&[Field::word("refused", fault_name(&fault))])?;
+            }
+        }
+    }
+    Ok(())
+}
+
+fn append_change<'p>(
+    change: ChangeRef<'p>,
+    fields: &mut Vec<Field<'p>>,
+) -> Result<(), AllocError> {
+    let field = match change {
+        ChangeRef::IsTracked(is_tracked) => Field::flag("state_changed", is_tracked),
+        ChangeRef::Schema(schema) => Field::bytes("schema", schema),
+        ChangeRef::SystemVariables(variables) => return append_variables(variables, fields),
+        ChangeRef::Gtids(gtids) => Field::bytes("gtids", gtids),
+        ChangeRef::TransactionCharacteristics(statements) => {
+            Field::bytes("transaction_characteristics", statements)
+        }
+        ChangeRef::TransactionState(state) => Field::bytes("transaction_state", state),
+    };
+    fields.extend_from_slice(&[field])
+}
+
+fn append_variables<'p>(
+    variables: SystemVariablesRef<'p>,
+    fields: &mut Vec<Field<'p>>,
+) -> Result<(), AllocError> {
+    for variable in variables {
+        fields.extend_from_slice(
+            &[
+                Field::bytes("variable", variable.name()),
+                Field::bytes("variable_value", variable.value()),
+            ],
+        )?;
+    }
+    Ok(())
+}

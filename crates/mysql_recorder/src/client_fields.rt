@@ -1,0 +1,69 @@
+//! What a packet of the client says.
+
+use crate::command_fields::append_command;
+use crate::field::Field;
+use mysql_auth::{HandshakeResponseRef, SslRequest};
+use mysql_observer::ClientPacket;
+use mysql_wire::Flags;
+use std::alloc::AllocError;
+
+/// Appends the fields of a packet of the client.
+pub(crate) fn client_fields<'p>(
+    packet: &ClientPacket<'p>,
+    fields: &mut Vec<Field<'p>>,
+) -> Result<(), AllocError> {
+    match packet {
+        ClientPacket::SslRequest(request) => append_ssl_request(request, fields),
+        ClientPacket::Login(login) => append_login(login, fields),
+        // (what a client proves itself by is not shown)
+        ClientPacket::AuthData(_) => Ok(()),
+        ClientPacket::Command(command) => append_command(command, fields),
+        ClientPacket::InfileContent(content) => append_length(content.as_bytes(), fields),
+        ClientPacket::InfileEnd => Ok(()),
+        ClientPacket::SemiSyncAck(ack) => {
+            fields.extend_from_slice(&[Field::number("position", ack.position())])
+        }
+    }
+}
+
+/// How many bytes there are.
+fn append_length<'p>(bytes: &[u8], fields: &mut Vec<Field<'p>>) -> Result<(), AllocError> {
+    fields.extend_from_slice(&[Field::number("length", bytes.len() as u64)])
+}
+
+fn append_ssl_request<'p>(
+    request: &SslRequest,
+    fields: &mut Vec<Field<'p>>,
+) -> Result<(), AllocError> {
+    fields.extend_from_slice(
+        &[
+            Field::number("capabilities", u64::from(request.capabilities().bits())),
+            Field::number("max_packet_size", u64::from(request.max_packet_size())),
+            Field::number("collation", u64::from(request.character_set())),
+            Field::number(
+                "mariadb_ext_capabilities",
+                u64::from(request.mariadb_capabilities().bits()),
+            ),
+        ],
+    )
+}
+
+fn append_login<'p>(
+    login: &HandshakeResponseRef<'p>,
+    fields: &mut Vec<Field<'p>>,
+) -> Result<(), AllocError> {
+    fields.extend_from_slice(
+        &[
+            Field::number("capabilities", u64::from(login.capabilities().bits())),
+            Field::number("max_packet_size", u64::from(login.max_packet_size())),
+            Field::number("collation", u64::from(login.collation())),
+            Field::number(
+                "mariadb_ext_capabilities",
+                u64::from(login.mariadb_ext_capabilities().bits()),
+            ),
+            Field::bytes("user", login.user()),
+            Field::optional_bytes("db_name", login.db_name()),
+            Field::optional_bytes("auth_plugin_name", login.auth_plugin_name()),
+        ],
+    )
+}

@@ -1,0 +1,229 @@
+//! What a command says.
+
+use crate::field::Field;
+use crate::values::fault_name;
+use mysql_auth::ComChangeUserRef;
+use mysql_commands::{
+    Command, ComQueryRef, ComStmtBulkExecuteRef, ComStmtExecuteRef, QueryAttributesView,
+    ServerOption,
+};
+use mysql_repl::{ComBinlogDumpGtidRef, ComBinlogDumpRef, ComRegisterSlaveRef};
+use mysql_wire::Flags;
+use std::alloc::AllocError;
+
+/// Appends the fields of a command, after its name.
+pub(crate) fn append_command<'p>(
+    command: &Command<'p>,
+    fields: &mut Vec<Field<'p>>,
+) -> Result<(), AllocError> {
+    match command {
+        Command::InitDb(schema) | Command::CreateDb(schema) | Command::DropDb(schema) => {
+            append(Field::bytes("schema", schema.as_bytes()), fields)
+        }
+        Command::Query(query) => append_query(query, fields),
+        Command::StmtPrepare(text) => append(Field::bytes("query", text.as_bytes()), fields),
+        Command::FieldList(list) => fields.extend_from_slice(
+            &[
+                Field::bytes("table", list.table()),
+                Field::bytes("wildcard", list.wildcard()),
+            ],
+        ),
+        Command::ChangeUser(change) => append_change_user(change.value(), fields),
+        Command::Unknown(unknown) => append(Field::bytes("content", unknown.content()), fields),
+        _ => append_number(command, fields),
+    }
+}
+
+fn append<'p>(field: Field<'p>, fields: &mut Vec<Field<'p>>) -> Result<(), AllocError> {
+    fields.extend_from_slice(&[field])
+}
+
+/// Those that say a number first.
+fn append_number<'p>(
+    command: &Command<'p>,
+    fields: &mut Vec<Field<'p>>,
+) -> Result<(), AllocError> {
+    match command {
+        Command::Refresh(options) => append(Field::number("options", u64::from(*options)), fields),
+        Command::Shutdown(Some(level)) => {
+            append(Field::number("level", u64::from(*level)), fields)
+        }
+        Command::ProcessKill(id) => append(Field::number("connection_id", u64::from(*id)), fields),
+        Command::SetOption(option) => append_option(option.option(), fields),
+        _ => append_statement(command, fields),
+    }
+}
+
+fn append_option<'p>(
+    option: Option<ServerOption>,
+    fields: &mut Vec<Field<'p>>,
+) -> Result<(), AllocError> {
+    match option {
+        Some(ServerOption::MultiStatementsOn) => {
+            append(Field::flag("multi_statements", true), fields)
+        }
+        Some(ServerOption::MultiStatementsOff) => {
+            append(Field::flag("multi_statements", false), fields)
+        }
+        None => Ok(()),
+    }
+}
+
+/// Those of a statement.
+fn append_statement<'p>(
+    command: &Command<'p>,
+    fields: &mut Vec<Field<'p>>,
+) -> Result<(), AllocError> {
+    match command {
+        Command::StmtExecute(execution) => append_execution(execution, fields),
+        Command::StmtSendLongData(data) => fields.extend_from_slice(
+            &[
+                Field::number("statement_id", u64::from(data.stmt_id())),
+                Field::number("param_index", u64::from(data.param_index())),
+                Field::number("length", data.data().len() as u64),
+            ],
+        ),
+        Command::StmtClose(close) => {
+            append(Field::number("statement_id", u64::from(close.stmt_id)), fields)
+        }
+        Command::StmtReset(reset) => {
+            append(Field::number("statement_id", u64::from(reset.stmt_id)), fields)
+        }
+        Command::StmtFetch(fetch) => fields.extend_from_slice(
+            &[
+                Field::number("statement_id", u64::from(fetch.stmt_id)),
+                Field::number("num_rows", u64::from(fetch.num_rows)),
+            ],
+        ),
+        Command::StmtBulkExecute(bulk) => append_bulk(bulk, fields),
+        _ => append_replication(command, fields),
+    }
+}
+
+fn append_execution<'p>(
+    execution: &ComStmtExecuteRef<'p>,
+    fields: &mut Vec<Field<'p>>,
+) -> Result<(), AllocError> {
+    let head = execution.head();
+    fields.extend_from_slice(
+        &[
+            Field::number("statement_id", u64::from(head.stmt_id())),
+            Field::number("cursor_flags", u64::from(head.flags().bits())),
+            Field::number("length", execution.params().len() as u64),
+        ],
+    )
+}
+
+fn append_bulk<'p>(
+    bulk: &ComStmtBulkExecuteRef<'p>,
+    fields: &mut Vec<Field<'p>>,
+) -> Result<(), AllocError> {
+    fields.extend_from_slice(
+        &[
+            Field::number("statement_id", u64::from(bulk.stmt_id())),
+            Field::number("bulk_flags", u64::from(bulk.bulk_flags().bits())),
+            Field::number("length", bulk.rows().len() as u64),
+        ],
+    )
+}
+
+/// Those of a replica.
+fn append_replication<'p>(
+    command: &Command<'p>,
+    fields: &mut Vec<Field<'p>>,
+) -> Result<(), AllocError> {
+    match command {
+        Command::BinlogDump(dump) => append_dump(dump, fields),
+        Command::BinlogDumpGtid(dump) => append_gtid_dump(dump.value(), fields),
+        Command::RegisterSlave(replica) => append_replica(replica, fields),
+        _ => Ok(()),
+    }
+}
+
+fn append_dump<'p>(
+    dump: &ComBinlogDumpRef<'p>,
+    fields: &mut Vec<Field<'p>>,
+) -> Result<(), AllocError> {
+    fields.extend_from_slice(
+        &[
+            Field::number("position", u64::from(dump.pos())),
+            Field::number("dump_flags", u64::from(dump.flags().bits())),
+            Field::number("server_id", u64::from(dump.server_id())),
+            Field::bytes("file_name", dump.filename()),
+        ],
+    )
+}
+
+fn append_gtid_dump<'p>(
+    dump: &ComBinlogDumpGtidRef<'p>,
+    fields: &mut Vec<Field<'p>>,
+) -> Result<(), AllocError> {
+    fields.extend_from_slice(
+        &[
+            Field::number("position", dump.pos()),
+            Field::number("dump_flags", u64::from(dump.flags().bits())),
+            Field::number("server_id", u64::from(dump.server_id())),
+            Field::bytes("file_name", dump.filename()),
+        ],
+    )
+}
+
+/// A replica's password is not shown.
+fn append_replica<'p>(
+    replica: &ComRegisterSlaveRef<'p>,
+    fields: &mut Vec<Field<'p>>,
+) -> Result<(), AllocError> {
+    fields.extend_from_slice(
+        &[
+            Field::number("server_id", u64::from(replica.server_id())),
+            Field::bytes("hostname", replica.hostname()),
+            Field::bytes("user", replica.user()),
+            Field::number("port", u64::from(replica.port())),
+        ],
+    )
+}
+
+/// What the user proves itself by is not shown.
+fn append_change_user<'p>(
+    change: &ComChangeUserRef<'p>,
+    fields: &mut Vec<Field<'p>>,
+) -> Result<(), AllocError> {
+    fields.extend_from_slice(
+        &[
+            Field::bytes("user", change.user()),
+            Field::bytes("database", change.database()),
+        ],
+    )
+}
+
+/// The text of a query, and its attributes.
+fn append_query<'p>(
+    query: &ComQueryRef<'p>,
+    fields: &mut Vec<Field<'p>>,
+) -> Result<(), AllocError> {
+    append(Field::bytes("query", query.text()), fields)?;
+    match query.attributes() {
+        Some(attributes) => append_attributes(attributes.view(), fields),
+        None => Ok(()),
+    }
+}
+
+fn append_attributes<'p>(
+    attributes: QueryAttributesView<'p>,
+    fields: &mut Vec<Field<'p>>,
+) -> Result<(), AllocError> {
+    let mut attributes = attributes;
+    for _ in 0..attributes.left() {
+        match attributes.next_attribute() {
+            Ok(Some(attribute)) => fields.extend_from_slice(
+                &[
+                    Field::bytes("attribute", attribute.name()),
+                    Field::value("attribute_value", attribute.value()),
+                ],
+            )?,
+            Ok(None) => return Ok(()),
+            Err(fault) => return append(Field::word("refused", fault_name(&fault)), fields),
+        }
+    }
+    Ok(())
+}

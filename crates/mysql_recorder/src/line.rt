@@ -1,0 +1,98 @@
+//! The lines that a recording is given by.
+//!
+//! A line is a piece of one side's stream, in hexadecimal digits: after `>` of the client's, after `<` of the server's. What
+//! `tshark -z follow,tcp,raw` prints is read too: lower-case digits at the line's beginning are of the client, after a tab of the
+//! server, and its other lines (`===`, `Follow:`, `Filter:`, `Node`) say nothing. An empty line and one after `#` say nothing either.
+
+use mysql_conversation::Side;
+use thiserror::Error;
+
+/// A byte that stands in no line there.
+#[derive(Clone, Copy, Debug, PartialEq, Eq, Error)]
+#[error("no line of a recording")]
+pub struct LineError;
+
+/// How far a line has come.
+#[derive(Clone, Copy, Debug, PartialEq, Eq)]
+pub(crate) enum Place {
+    /// At its beginning.
+    Start,
+    /// Between two bytes of a side's piece.
+    Between(Side),
+    /// After the first digit of a byte.
+    Half(Side, u8),
+    /// In a line that says nothing.
+    Silent,
+}
+
+/// The value of a digit in lower case.
+fn lower_digit(byte: u8) -> Option<u8> {
+    match byte {
+        b'0'..=b'9' => Some(byte - b'0'),
+        b'a'..=b'f' => Some(byte - b'a' + 10),
+        _ => None,
+    }
+}
+
+/// The value of a digit.
+fn digit(byte: u8) -> Option<u8> {
+    match byte {
+        b'A'..=b'F' => Some(byte - b'A' + 10),
+        _ => lower_digit(byte),
+    }
+}
+
+impl Place {
+    /// Goes past a byte of the input, and answers the byte of a stream that it ends, with its side.
+    pub(crate) fn pass(&mut self, byte: u8) -> Result<Option<(Side, u8)>, LineError> {
+        match *self {
+            Place::Start => {
+                *self = begun_by(byte)?;
+                Ok(None)
+            }
+            Place::Between(side) => {
+                *self = after_byte(side, byte)?;
+                Ok(None)
+            }
+            Place::Half(side, high) => {
+                let Some(low) = digit(byte) else {
+                    return Err(LineError);
+                };
+                *self = Place::Between(side);
+                Ok(Some((side, (high << 4) | low)))
+            }
+            Place::Silent => {
+                if byte == b'\n' {
+                    *self = Place::Start;
+                }
+                Ok(None)
+            }
+        }
+    }
+}
+
+/// Where a line stands after its first byte.
+fn begun_by(byte: u8) -> Result<Place, LineError> {
+    match byte {
+        b'>' => Ok(Place::Between(Side::Client)),
+        b'<' | b'\t' => Ok(Place::Between(Side::Server)),
+        b'\n' => Ok(Place::Start),
+        b'\r' | b'#' | b'=' | b'F' | b'N' => Ok(Place::Silent),
+        _ => match lower_digit(byte) {
+            Some(high) => Ok(Place::Half(Side::Client, high)),
+            None => Err(LineError),
+        },
+    }
+}
+
+/// Where a side's line stands after one more byte. Spaces may stand between two bytes of a piece.
+fn after_byte(side: Side, byte: u8) -> Result<Place, LineError> {
+    match byte {
+        b'\n' => Ok(Place::Start),
+        b' ' | b'\r' => Ok(Place::Between(side)),
+        _ => match digit(byte) {
+            Some(high) => Ok(Place::Half(side, high)),
+            None => Err(LineError),
+        },
+    }
+}

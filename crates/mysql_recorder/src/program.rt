@@ -1,0 +1,99 @@
+//! `mypackets conversation [MAX] [--json]`.
+
+use crate::packet::Layout;
+use crate::recording::{Recording, RecordingError};
+use std::alloc::Global;
+use std::io::{Read, Write};
+
+/// The longest payload, where the call names none: 64 MiB, as `max_allowed_packet` is by default.
+const LONGEST: usize = 64 << 20;
+
+/// How many commands may wait for the answers to earlier ones.
+const WAITING: usize = 4096;
+
+const USAGE: &[u8] = b"usage: mypackets conversation [MAX] [--json]\n";
+
+/// What is asked for.
+#[derive(Clone, Copy)]
+struct Call {
+    layout: Layout,
+    longest: usize,
+}
+
+/// The call that the words after the command's name give, unless it is a bad one.
+fn call_of(words: &[String]) -> Option<Call> {
+    let mut call = Call {
+        layout: Layout::Lines,
+        longest: LONGEST,
+    };
+    for word in words {
+        match word.as_str() {
+            "--json" => call.layout = Layout::Json,
+            digits => call.longest = digits.parse::<usize>().ok()?,
+        }
+    }
+    if words.len() <= 2 { Some(call) } else { None }
+}
+
+/// Reads a recording, and writes what its packets say, each once it is whole. It answers the status.
+///
+/// | Status | Meaning |
+/// |---|---|
+/// | 0 | the input is read to its end |
+/// | 1 | refused; the last line says why |
+/// | 2 | a bad call; the one line is its usage |
+/// | 3 | a read or a write failed |
+///
+/// It keeps no more of the input than a payload of each side and the commands that wait.
+pub fn run<R: Read, W: Write>(
+    alloc: Global,
+    words: &[String],
+    reader: &mut R,
+    writer: &mut W,
+) -> u8 {
+    let Some(call) = call_of(words) else {
+        return end(writer, USAGE, 2);
+    };
+    let mut recording = Recording::new(alloc, call.layout, call.longest, WAITING);
+    let mut chunk = [0u8; 16384];
+    for _ in 0..u64::MAX {
+        let Ok(count) = reader.read(&mut chunk) else {
+            return 3;
+        };
+        if count == 0 {
+            return 0;
+        }
+        let mut out = String::new(alloc);
+        let taken = recording.take(&chunk[..count], &mut out);
+        if writer.write_all(out.as_bytes()).is_err() {
+            return 3;
+        }
+        if let Err(error) = taken {
+            return refuse(alloc, call.layout, &error, writer);
+        }
+    }
+    3
+}
+
+/// Writes the text, and answers the status; 3 where the write failed.
+fn end<W: Write>(writer: &mut W, text: &[u8], status: u8) -> u8 {
+    match writer.write_all(text) {
+        Ok(()) => status,
+        Err(_) => 3,
+    }
+}
+
+/// Writes why the recording goes no further. A packet that doesn't come has said so itself.
+fn refuse<W: Write>(alloc: Global, layout: Layout, error: &RecordingError, writer: &mut W) -> u8 {
+    if let RecordingError::Refused(_) = error {
+        return 1;
+    }
+    let text = match layout {
+        Layout::Lines => format!(in alloc; "refused: {error}\n"),
+        Layout::Json => format!(in alloc; "{{\"refused\":\"{error}\"}}\n"),
+    };
+    match text {
+        Ok(text) => end(writer, text.as_bytes(), 1),
+        Err(_) => end(writer, b"refused: Memory\n", 1),
+    }
+}

@@ -1,0 +1,51 @@
+//! The values of rows.
+
+use crate::field::Field;
+use mysql_prepared::{BinaryRowView, TextRowView, TypedColumn};
+use mysql_values::ServerSide;
+use mysql_wire::FaultOf;
+use std::alloc::AllocError;
+
+/// The name of a fault.
+pub(crate) fn fault_name(fault: &FaultOf<'_>) -> &'static str {
+    match fault {
+        FaultOf::UnexpectedEof => "UnexpectedEof",
+        FaultOf::InvalidData(_) => "InvalidData",
+        FaultOf::InvalidInput(_) => "InvalidInput",
+        FaultOf::Memory => "Memory",
+    }
+}
+
+/// Appends the values of a row of text, up to the first that is none.
+pub(crate) fn append_text_row<'p>(
+    row: &mut TextRowView<'p>,
+    fields: &mut Vec<Field<'p>>,
+) -> Result<(), AllocError> {
+    for _ in 0..row.left() {
+        match row.next_value() {
+            Ok(Some(value)) => fields.extend_from_slice(&[Field::value("value", value)])?,
+            Ok(None) => return Ok(()),
+            Err(fault) => {
+                return fields.extend_from_slice(&[Field::word("refused", fault_name(&fault))]);
+            }
+        }
+    }
+    Ok(())
+}
+
+/// Appends the values of a binary row, up to the first that is none.
+pub(crate) fn append_row<'p, C: TypedColumn>(
+    row: &mut BinaryRowView<'p, '_, ServerSide, C>,
+    fields: &mut Vec<Field<'p>>,
+) -> Result<(), AllocError> {
+    for _ in 0..row.left() {
+        match row.next_value() {
+            Ok(Some(value)) => fields.extend_from_slice(&[Field::value("value", value)])?,
+            Ok(None) => return Ok(()),
+            Err(fault) => {
+                return fields.extend_from_slice(&[Field::word("refused", fault_name(&fault))]);
+            }
+        }
+    }
+    Ok(())
+}
