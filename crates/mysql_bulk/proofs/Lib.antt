@@ -21,3 +21,8 @@ pub mod NoColumns
 pub mod RequestWriter
 pub mod CollectedRows
 pub mod StreamedRows
+pub mod BulkValues
+pub mod ValueRows
+pub mod StreamedCells
+pub mod ValuesAgain
+pub mod ValuesRun

@@ -24,3 +24,8 @@ pub mod BuilderEq
 pub mod RequestWriter
 pub mod CollectedRows
 pub mod StreamedRows
+pub mod BulkValue
+pub mod TypedCell
+pub mod ValueRows
+pub mod ReadValues
+pub mod ValuesRun

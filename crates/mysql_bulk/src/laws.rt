@@ -2,7 +2,7 @@
 
 ghost use Rattle.std.specs.Prelude.{◌≡◌, ◌≢◌, ◌++◌, ◌∷◌, ℕ, true, List, [], Ok, Err, Some, None, length, map};
 ghost use Rattle.std.specs.Global.{Vec};
-ghost use Rattle.std.specs.List.{AllZip};
+ghost use Rattle.std.specs.List.{All, AllZip};
 ghost use Rattle.mysql_cuts.specs.declared.rule.BulkRule.{BulkRule};
 ghost use Rattle.mysql_cuts.specs.Cut.{IsFewest, ends_after, request_size};
 ghost use Rattle.mysql_cuts.specs.Fewest.{weights, NamesFewest};
@@ -31,6 +31,11 @@ ghost use Rattle.mysql_bulk.specs.RequestWriter.{WriterState, AddsAsBuilder, Hol
 ghost use Rattle.mysql_bulk.specs.StreamedRows.{Streams, AreFewest, StreamEndsRefused};
 ghost use Rattle.mysql_bulk.specs.Row.{contents_of_row, first_length, row_size, rows_packing};
 ghost use Rattle.mysql_bulk.specs.Run.{RunState, NextRequest};
+ghost use Rattle.mysql_values.specs.TypedValue.{is_unsigned_type};
+ghost use Rattle.mysql_bulk.specs.BulkValue.{Cell, cell_spelled, cells_bytes, spells_cells};
+ghost use Rattle.mysql_bulk.specs.ReadValues.{CellFits, cell_read, row_read};
+ghost use Rattle.mysql_bulk.specs.ValueRows.{AddsCells, AreFewestOfCells, CellsEndRefused, HoldsCells, StreamsCells};
+ghost use Rattle.mysql_bulk.specs.ValuesRun.{IsNewWriter};
 ghost use Rattle.mysql_bulk.specs.WholeRun.{IsNew, RunGives};
 
 use mysql_values::{Params, Value};
@@ -107,6 +112,29 @@ pub fn collected_rows_are_sent_in_the_fewest_requests()
         IsConsistent s → Collects s rows requests t → Adds t row (Err e) t → (ends : List ℕ) × RunGives s (s.waiting ++ (rows ++ contents_of_row row ∷ later)) requests ends (Some (refused.Request e)) t }
     ensures copy_refused { (s t : BuilderState) (rows later : List (List Content)) (requests : List BulkRequest) (row : List Content) (e : BulkRowRefusal) →
         IsConsistent s → Collects s rows requests t → AddsCopy t row (Err e) t → EndsRefused s rows requests row later e t }
+{}
+
+/// What is written of a row of values, DEFAULT and IGNORE, which its types spell, is read again under these types, whatever
+/// follows: each value after its indicator, a number of a narrow type as a signed one; DEFAULT and IGNORE as their indicators.
+pub fn value_rows_round_trip()
+    ensures cell { (t : ParamType) (cell : Cell) (bytes rest : List ℕ) → CellFits cell → cell_spelled t cell ≡ Some bytes
+        → (param_value t.column_type (is_unsigned_type t)).Spells (cell_read t cell) (bytes ++ rest) rest }
+    ensures spelled { (types : List ParamType) (row : List Cell) (rest : List ℕ) → spells_cells types row ≡ true → All CellFits row
+        → (values_of_columns (map column_of_type types)).Spells (row_read types row) (cells_bytes types row ++ rest) rest }
+    ensures read { (types : List ParamType) (row : List Cell) (rest : List ℕ) → spells_cells types row ≡ true → All CellFits row
+        → (values_of_columns (map column_of_type types)).reads (cells_bytes types row ++ rest) ≡ Ok (row_read types row, rest) }
+{}
+
+/// Rows of values, DEFAULT and IGNORE that are streamed through a new writer under declared types of any width are sent in the
+/// fewest requests, by their sizes under these types: the last one is that of the rows that wait at the end. Where a row is
+/// refused, the requests before it are full from the front, whatever comes after it, and one that is too large has no fitting cut
+/// with the rows before it.
+pub fn streamed_values_are_sent_in_the_fewest_requests()
+    ensures all { (w u : WriterState) (rows : List (List Cell)) (requests : List (List ℕ)) → HoldsCells w [] → w.types_due ≡ true → StreamsCells w rows requests u → rows ≢ []
+        → AreFewestOfCells w rows (requests ++ u.bytes ∷ []) }
+    ensures refused { (w u v : WriterState) (rows later : List (List Cell)) (requests : List (List ℕ)) (row : List Cell) (e : BulkRowRefusal) → HoldsCells w [] → w.types_due ≡ true
+        → StreamsCells w rows requests u → AddsCells u row (Err e) v → CellsEndRefused w rows requests row later e u }
+    ensures new { (w : WriterState) → w.count ≡ 0 → w.size ≡ 0 → w.bytes ≡ [] → w.types_due ≡ true → IsNewWriter w }
 {}
 
 /// Rows that are streamed through a new writer, where each request is let go once a row does not fit with those that wait, are

@@ -3,6 +3,7 @@
 #![tactic(auto)]
 
 mod builder;
+mod bulk_value;
 mod cells;
 mod column_types;
 mod declared_types;
@@ -23,6 +24,7 @@ mod size;
 mod whole_run;
 
 pub use builder::ComStmtBulkExecuteRequestBuilder;
+pub use bulk_value::BulkValue;
 pub use error::{
     BulkColumnTypeError, BulkExecuteRequestBuilderError, BulkExecuteRequestError, BulkRowRefusal,
 };
@@ -33,7 +35,7 @@ pub use param_values::StmtBulkExecuteParamValues;
 pub use params_run::BulkParamsRequests;
 pub use read_rows::read_bulk_rows;
 pub use request::ComStmtBulkExecuteRequest;
-pub use request_writer::BulkRequestWriter;
+pub use request_writer::{BulkRequestWriter, BulkValuesRun};
 pub use row::bulk_row_size;
 pub use run::BulkRequests;
 pub use whole_run::BulkRun;

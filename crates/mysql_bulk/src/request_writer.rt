@@ -8,6 +8,7 @@ ghost use Rattle.mysql_bulk.specs.Builder.{RowFits};
 ghost use Rattle.mysql_bulk.specs.Head.{head};
 ghost use Rattle.mysql_bulk.specs.RequestWriter.{as_builder, Holds, StartsAsBuilder, AddsAsBuilder, IsBuilt, FinishesAsBuilder, HasRoom, head_bytes, head_size, with_row};
 ghost use Rattle.mysql_bulk.specs.Row.{row_size};
+ghost use Rattle.mysql_bulk.specs.ValueRows.{LetsGo};
 
 use crate::builder::{flags_of, size_with};
 use crate::cells::append_cells;
@@ -21,6 +22,11 @@ use mysql_wire::{
     Const, LeU16, LeU32, MySerialize, RawInt, Seq, StmtBulkExecuteFlags, Unknown, parts,
 };
 use std::marker::Model;
+
+mod run;
+mod values;
+
+pub use run::BulkValuesRun;
 
 /// Writes the rows of a bulk execution straight into the bytes of its requests, none of which is past the limit.
 ///
@@ -305,6 +311,7 @@ impl<'a> BulkRequestWriter<'a> {
     /// written, nothing changes. The memory of the buffer stays.
     pub fn finish(&mut self)
         ensures finishes { FinishesAsBuilder self.old self.new }
+        ensures lets_go { LetsGo self.old self.new }
         ensures capacity { self.new.capacity ≡ self.old.capacity }
     {
         if self.count == 0 {

@@ -23,3 +23,5 @@ pub mod ExecutionAgain
 pub mod BuiltExecution
 mod WrittenExecution
 pub mod QueryParts
+pub mod TypedBytes
+pub mod TypedAgain

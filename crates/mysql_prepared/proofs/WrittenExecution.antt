@@ -20,7 +20,7 @@ after-head : (old head params : List ℕ) → (old ++ head) ++ params ≡ old ++
 after-head old head params = simp (append-nil, append_assoc)
 
 -- a test is what it says
-tested : (b : Bool) (m n : ℕ) → IsTrue b ↔ (m < n) → b ≡ nat_lt m n
+pub tested : (b : Bool) (m n : ℕ) → IsTrue b ↔ (m < n) → b ≡ nat_lt m n
 tested true m n h = sym (lt-ltb m n (h.0 refl))
 tested false m n h = decide (nat_lt m n) refl
   where

@@ -23,3 +23,5 @@ pub mod ExecuteHead
 pub mod ExecuteRead
 pub mod ReadAgain
 pub mod ComQuery
+pub mod TypedExecution
+pub mod TypedReadAgain

@@ -37,7 +37,7 @@ pub enum Cursor {
 }
 
 /// The flags of an execution that opens this cursor.
-fn cursor_bits(cursor: Option<Cursor>) -> u8
+pub(crate) fn cursor_bits(cursor: Option<Cursor>) -> u8
     ensures value { result ≡ request.cursor_bits cursor }
 {
     match cursor {

@@ -28,6 +28,10 @@ ghost use Rattle.mysql_prepared.specs.ExecuteWithOptions as with_options;
 ghost use Rattle.mysql_prepared.specs.NullMarks.{MarksNulls};
 ghost use Rattle.mysql_prepared.specs.PlainExecution.{AsksForNothing};
 ghost use Rattle.mysql_prepared.specs.WrittenExecution.{IsExecutionBytes};
+ghost use Rattle.mysql_prepared.specs.declared.execute_with_options.Cursor.{Cursor};
+ghost use Rattle.mysql_prepared.specs.TypedExecution as typed;
+ghost use Rattle.mysql_prepared.specs.TypedReadAgain as typed_again;
+ghost use Rattle.mysql_prepared.specs.declared.typed_execution.ComStmtExecuteTyped.{ComStmtExecuteTyped};
 ghost use Rattle.mysql_prepared.specs.declared.execute_with_options.ComStmtExecuteWithOptions.{ComStmtExecuteWithOptions};
 ghost use Rattle.mysql_prepared.specs.Row.{AnswersFound, Cells, CopyConvertsTo, FoundConverts};
 ghost use Rattle.mysql_prepared.specs.RowForm.{text_row, bin_row};
@@ -181,12 +185,30 @@ pub fn execution_round_trips<V: AsExecuteParam>()
         → (execute_params bound).reads (bytes_after_head V.param r ++ rest) ≡ Ok (params_as_read V.param r, rest) }
 {}
 
+/// What is written of an execution whose types are chosen, or which sends none, is read again: its head, and then its parameters,
+/// each with its type. The server knows how many there are, which were sent ahead, and where no types are sent, those of an
+/// earlier execution. A number of a narrow type is read as a signed one.
+pub fn typed_execution_round_trips()
+    ensures head { (r : ComStmtExecuteTyped) (rest : List ℕ) → typed.stmt_id r < 2 ^ 32 → typed.flags r < 2 ^ 8
+        → (head.execute_head.form tt).reads (typed.request_bytes r ++ rest) ≡ Ok (typed.head_is r, typed_again.bytes_after_head r ++ rest) }
+    ensures spelled { (bound : List BoundParam) (r : ComStmtExecuteTyped) (rest : List ℕ) → typed_again.IsReadable bound r
+        → (execute_params bound).Spells (typed_again.params_as_read r) (typed_again.bytes_after_head r ++ rest) rest }
+    ensures read { (bound : List BoundParam) (r : ComStmtExecuteTyped) (rest : List ℕ) → typed_again.IsReadable bound r
+        → (execute_params bound).reads (typed_again.bytes_after_head r ++ rest) ≡ Ok (typed_again.params_as_read r, rest) }
+{}
+
 /// An execution that is built without a cursor and attributes has the bytes of one that is written at once, with the same
 /// parameters: so what is written at once is read again, as what is built.
 #[tactic(auto, using(crate::proofs::BuiltExecution::built))]
 pub fn built_executions_are_written_ones<V: AsExecuteParam>()
     ensures bytes { (r : ComStmtExecuteWithOptions V) → with_options.attributes r ≡ None → with_options.flags r ≡ 0 → MarksNulls 0 (with_options.values V.param r) (with_options.bitmap r)
         → IsExecutionBytes V.param (with_options.stmt_id r) (with_options.params r) (with_options.as_long_data r) (with_options.request_bytes V.param r) }
+{}
+
+/// An execution whose types are chosen, or which sends none, has the same bytes where it is built and where it is written at once.
+pub fn built_typed_executions_are_written_ones()
+    ensures bytes { (r : ComStmtExecuteTyped) (cursor : Option Cursor) → typed.flags r ≡ with_options.cursor_bits cursor → MarksNulls 0 (typed.values r) (typed.bitmap r)
+        → typed.IsExecutionBytes (typed.stmt_id r) cursor (typed.sends_types r) (typed.as_long_data r) (typed.params r) (typed.request_bytes r) }
 {}
 
 /// The head of an execution takes 10 bytes.

@@ -31,6 +31,8 @@ mod stmt_with_metadata;
 mod text_row;
 mod text_row_view;
 mod typed_column;
+mod typed_execution;
+mod typed_param;
 mod write_execution;
 
 pub use binary_row::{BinaryRowError, write_binary_row};
@@ -59,3 +61,5 @@ pub use stmt_with_metadata::StmtPacketWithMetadata;
 pub use text_row::write_text_row;
 pub use text_row_view::TextRowView;
 pub use typed_column::TypedColumn;
+pub use typed_execution::{ComStmtExecuteTyped, ComStmtExecuteTypedBuilder};
+pub use typed_param::{TypedExecuteParam, TypedExecutionError};

@@ -4,20 +4,21 @@
 
 pub use mysql_bulk::{
     BulkColumnTypeError, BulkExecuteRequestBuilderError, BulkExecuteRequestError,
-    BulkParamsRequests, BulkRequestWriter, BulkRequests, BulkRowRefusal, BulkRun,
-    ComStmtBulkExecuteHeader, ComStmtBulkExecuteRequest, ComStmtBulkExecuteRequestBuilder,
-    InvalidComStmtBulkExecuteHeader, StmtBulkExecuteParamType, StmtBulkExecuteParamValue,
-    StmtBulkExecuteParamValues, bulk_row_size, read_bulk_rows,
+    BulkParamsRequests, BulkRequestWriter, BulkRequests, BulkRowRefusal, BulkRun, BulkValue,
+    BulkValuesRun, ComStmtBulkExecuteHeader, ComStmtBulkExecuteRequest,
+    ComStmtBulkExecuteRequestBuilder, InvalidComStmtBulkExecuteHeader, StmtBulkExecuteParamType,
+    StmtBulkExecuteParamValue, StmtBulkExecuteParamValues, bulk_row_size, read_bulk_rows,
 };
 pub use mysql_cuts::{BulkRule, cut_is_fewest};
 pub use mysql_prepared::{
     AsExecuteParam, BinaryRowError, BinaryRowView, BoundParam, ColumnIndex, ComQuery, ComStmtClose,
     ComStmtCloseHeader, ComStmtExecuteHead, ComStmtExecuteHeader, ComStmtExecuteOptionsBuilder,
-    ComStmtExecuteRequest, ComStmtExecuteRequestBuilder, ComStmtExecuteWithOptions,
-    ComStmtSendLongData, ComStmtSendLongDataHeader, ComStmtSendLongDataRef, Cursor, ExecuteParam,
-    ExecuteParamsView, InvalidComStmtCloseHeader, InvalidComStmtExecuteHeader,
-    InvalidComStmtSendLongDataHeader, InvalidIterationCount, InvalidStmtPacketStatus,
-    IterationCount, NullBitmap, QueryAttribute, Row, RowDeserializer, RowProtocol, StmtPacket,
-    StmtPacketWithMetadata, TextRowView, TypedColumn, laws, new_row, new_row_raw, write_binary_row,
-    write_text_row,
+    ComStmtExecuteRequest, ComStmtExecuteRequestBuilder, ComStmtExecuteTyped,
+    ComStmtExecuteTypedBuilder, ComStmtExecuteWithOptions, ComStmtSendLongData,
+    ComStmtSendLongDataHeader, ComStmtSendLongDataRef, Cursor, ExecuteParam, ExecuteParamsView,
+    InvalidComStmtCloseHeader, InvalidComStmtExecuteHeader, InvalidComStmtSendLongDataHeader,
+    InvalidIterationCount, InvalidStmtPacketStatus, IterationCount, NullBitmap, QueryAttribute,
+    Row, RowDeserializer, RowProtocol, StmtPacket, StmtPacketWithMetadata, TextRowView,
+    TypedColumn, TypedExecuteParam, TypedExecutionError, laws, new_row, new_row_raw,
+    write_binary_row, write_text_row,
 };

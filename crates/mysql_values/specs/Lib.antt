@@ -14,3 +14,4 @@ pub mod Cells
 pub mod ByContent
 pub mod ValueRef
 pub mod FromValueRef
+pub mod TypedValue

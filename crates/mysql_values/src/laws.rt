@@ -1,8 +1,10 @@
 //! Laws over the forms of values.
 
-ghost use Rattle.std.specs.Prelude.{◌≡◌, ◌<◌, ◌^◌, ◌++◌, ◌↔◌, ℕ, ℤ, List, Bool, String, false, Ok, length, IsTrue};
+ghost use Rattle.std.specs.Prelude.{◌≡◌, ◌<◌, ◌^◌, ◌++◌, ◌↔◌, ℕ, ℤ, List, [], Bool, String, false, Ok, Some, length, IsTrue};
 ghost use Rattle.mysql_wire.specs.declared.codes.column_type.ColumnType.{ColumnType};
-ghost use Rattle.mysql_values.specs.Value.{Content, bin, bin_size, content_of};
+ghost use Rattle.mysql_values.specs.TypedValue.{ReadsUnder, spelled};
+ghost use Rattle.mysql_values.specs.declared.param_type.ParamType.{ParamType};
+ghost use Rattle.mysql_values.specs.Value.{Content, NULL, bin, bin_size, content_of};
 ghost use Rattle.mysql_wire.specs.Flags.{ColumnFlags};
 ghost use Rattle.mysql_values.specs.ValueDeserializer.{bin_value, reads_bytes, starts_null, text_value, value_in_column};
 ghost use Rattle.mysql_values.specs.ReadingBack.{Agrees, IsInRange, ReadsBack};
@@ -46,6 +48,13 @@ pub fn value_round_trips()
 /// is sent as; but a negative span of no time is read without its sign.
 pub fn sent_value_agrees()
     ensures { (content : Content) → IsInRange content → Agrees (sent_type content) (is_uint content) content }
+{}
+
+/// A value that a type spells is read again under it, whatever follows: an integer as a signed one, but under an unsigned type
+/// of eight bytes.
+pub fn value_under_a_type_round_trips()
+    ensures read { (t : ParamType) (content : Content) (bytes : List ℕ) → IsInRange content → spelled t content ≡ Some bytes → ReadsUnder t content bytes }
+    ensures none { (t : ParamType) → spelled t NULL ≡ Some [] }
 {}
 
 /// Values are equal exactly where they hold the same: the same kind, with the same bytes or numbers, and floats with the

@@ -70,7 +70,7 @@ impl FromWord for (Vec<u8>, Value) {
     }
 }
 
-fn cursor_of(word: &str) -> Option<Cursor> {
+pub fn cursor_of(word: &str) -> Option<Cursor> {
     match word {
         "read_only" => Some(Cursor::ReadOnly),
         "for_update" => Some(Cursor::ForUpdate),

@@ -1,7 +1,7 @@
 //! Values that are read and written.
 //!
 //! `cell COLUMN BYTES` reads a value of a binary row; `param_type BYTES` reads a type, `bin VALUE` writes a value, and
-//! `bin_len VALUE` says its length.
+//! `bin_len VALUE` says its length; `typed TYPE VALUE` is a value under a type.
 //!
 //! `from_value TYPE VALUE` converts a value. The types are `value`, `i64`, `u64`, `bytes`, `text`, and each after `option_`.
 //! A refusal hands the value back.
@@ -129,4 +129,18 @@ where
 pub fn sizes(out: &mut Out, _request: &Request<'_>) {
     sizes!(out; ValueDeserializer<TextValue>, ValueDeserializer<BinValue>, NullBitmap<'_, ClientSide>,
         RowDeserializer<ServerSide, Text>, RowDeserializer<ServerSide, Binary>)
+}
+
+/// A value under a type: `typed TYPE VALUE`.
+pub fn typed(out: &mut Out, request: &Request<'_>) {
+    let alloc = out.alloc();
+    let param_type = ParamType::from_word(out, request.word(1));
+    let value = Value::from_word(out, request.word(2));
+    match counted!(alloc; value TypedValue::new(param_type, value.as_ref())) {
+        Some(typed) => {
+            out.show("bin_len", counted!(alloc; value typed.bin_len()));
+            write_made(out, &typed);
+        }
+        None => out.word("none"),
+    }
 }

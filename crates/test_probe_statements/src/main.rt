@@ -8,6 +8,7 @@ mod bulk;
 mod commands;
 mod execute;
 mod execute_read;
+mod execute_typed;
 mod forms;
 mod own;
 mod params;
@@ -32,7 +33,7 @@ fn of_statements(out: &mut Out, request: &Request<'_>) -> bool {
         call "row_text": views::text::<ServerSide>, "row": views::binary::<ServerSide>,
             "row_text_client": views::text::<ClientSide>, "row_client": views::binary::<ClientSide>,
             "execute": execute::execute, "execute_many": execute::execute_many,
-            "execute_with": execute::execute_with, "execute_at_once": execute::at_once, "com_execute": execute_read::com_execute, "long_data": stmt::long_data,
+            "execute_with": execute::execute_with, "execute_at_once": execute::at_once, "execute_typed": execute_typed::execute_typed, "com_execute": execute_read::com_execute, "long_data": stmt::long_data,
             "close": stmt::close, "bitmap": bitmaps::bitmap, "bits": bitmaps::bits, "row_equal": rows::row_equal,
             "write_row_text": written::text, "write_row": written::binary,
             "row_text_again": written::text_again, "row_again": written::binary_again,
@@ -42,7 +43,7 @@ fn of_statements(out: &mut Out, request: &Request<'_>) -> bool {
 fn of_values(out: &mut Out, request: &Request<'_>) -> bool {
     answers!(Statements, out, request, request.word(0);
         with () => "param_type": ParamType,
-        call "value_text": borrowed::value_text, "value": borrowed::value, "cell": forms::cell, "bin": forms::bin, "bin_len": forms::bin_len, "bit_offsets": bitmaps::bit_offsets,
+        call "value_text": borrowed::value_text, "value": borrowed::value, "cell": forms::cell, "bin": forms::bin, "typed": forms::typed, "bin_len": forms::bin_len, "bit_offsets": bitmaps::bit_offsets,
             "from_value": forms::from_value, "sizes": forms::sizes, "params": params::into_values, "params_same": params::are_same,)
 }
 

@@ -99,3 +99,15 @@ pub fn writer_of<'a>(
     let writer = counted!(alloc; BulkRequestWriter::new(buffer, 1, limit, types))?;
     Ok(with_settings!(alloc, settings, writer))
 }
+
+/// The writer with these settings for columns of any types: of the statement that `id=` names, or 1.
+pub fn typed_writer_of<'a>(
+    alloc: Global,
+    settings: &str,
+    types: &'a [StmtBulkExecuteParamType],
+) -> BulkRequestWriter<'a> {
+    let (buffer, limit) = (Vec::new(alloc), number(settings, "").max(4));
+    let id = u32::try_from(number(settings, "id=").max(1)).unwrap_or(1);
+    let writer = counted!(alloc; value BulkRequestWriter::with_types(buffer, id, limit, types));
+    with_settings!(alloc, settings, writer)
+}

@@ -1,0 +1,93 @@
+-- What a writer of requests has written of rows of values, DEFAULT and IGNORE.
+use Rattle.std.proofs.Common.{◌≡◌, ◌≢◌, ℕ, ◌+◌, true, false, List, [], ◌∷◌, ◌++◌, length, map, Ok, Err, refl, sym, ◌∙◌, ap, arith, append_assoc, length-append}
+use Rattle.std.proofs.lemmas.Grind.{flat_map-append}
+use Rattle.std.proofs.lemmas.List.{append-nil, length-map}
+use Rattle.std.proofs.lemmas.List.Elements.{All-nil, All-push}
+use Rattle.std.proofs.lemmas.List.Sums.{sum_by-append}
+use Rattle.mysql_bulk.specs.declared.bulk_value.BulkValue.{BulkValue}
+use Rattle.mysql_bulk.specs.declared.error.BulkRowRefusal.TheVariants as refused
+use Rattle.mysql_bulk.specs.BulkValue.{Cell, cell_of, cells_bytes, cells_size}
+use Rattle.mysql_bulk.specs.RequestWriter.{WriterState, head_bytes}
+use Rattle.mysql_bulk.specs.ValueRows.{AddsCells, CellsFit, HoldsCells, Spells, rows_bytes, so_far, with_cells}
+
+-- ---- the bytes of one row more
+
+rows_more : (w : WriterState) (rows : List (List Cell)) (row : List Cell) → rows_bytes w.types (rows ++ row ∷ []) ≡ rows_bytes w.types rows ++ cells_bytes w.types row
+rows_more w rows row = flat_map-append (cells_bytes w.types) rows (row ∷ []) ∙ ap (λ (l : List ℕ). rows_bytes w.types rows ++ l) (append-nil (cells_bytes w.types row))
+
+first_so_far : (w : WriterState) (rows : List (List Cell)) (row : List Cell) → rows ≡ [] → w.bytes ≡ so_far w rows → so_far w (rows ++ row ∷ []) ≡ (w.bytes ++ head_bytes w) ++ cells_bytes w.types row
+first_so_far w [] row e b = ap (λ (l : List ℕ). head_bytes w ++ l) (append-nil (cells_bytes w.types row)) ∙ ap (λ (l : List ℕ). (l ++ head_bytes w) ++ cells_bytes w.types row) (sym b)
+first_so_far w (r ∷ rows) row e b = cc
+
+further_so_far : (w : WriterState) (rows : List (List Cell)) (row : List Cell) → rows ≢ [] → so_far w (rows ++ row ∷ []) ≡ so_far w rows ++ cells_bytes w.types row
+further_so_far w [] row some = absurd (some refl)
+further_so_far w (r ∷ rows) row some =
+    ap (λ (l : List ℕ). head_bytes w ++ l) (rows_more w (r ∷ rows) row) ∙ sym (append_assoc (head_bytes w) (rows_bytes w.types (r ∷ rows)) (cells_bytes w.types row))
+
+-- ---- a row is offered
+
+-- no row waits where none was counted
+pub none_counted : (w : WriterState) (rows : List (List Cell)) → HoldsCells w rows → w.count ≡ 0 → rows ≡ []
+none_counted w [] h e = refl
+none_counted w (row ∷ rows) h e = absurd (omega (arith, h.count, e))
+
+pub some_counted : (w : WriterState) (rows : List (List Cell)) → HoldsCells w rows → w.count ≢ 0 → rows ≢ []
+some_counted w rows h n e = n (h.count ∙ ap length e)
+
+abbrev pub EachFits : WriterState → List Cell → Type 0
+EachFits w row = (rows : List (List Cell)) → HoldsCells w rows → CellsFit w rows row
+
+abbrev pub NoneFits : WriterState → List Cell → Type 0
+NoneFits w row = (rows : List (List Cell)) → HoldsCells w rows → CellsFit w rows row → ⊥
+
+pub refused_arity : (w : WriterState) (row : List BulkValue) → length row ≢ length w.types → AddsCells w (map cell_of row) (Err refused.MixedArity) w
+refused_arity w row long = λ rows h. ((λ e. long (sym (length-map row cell_of) ∙ e)), refl)
+
+pub refused_types : (w : WriterState) (row : List BulkValue) → length row ≡ length w.types → (Spells w.types (map cell_of row) → ⊥) → AddsCells w (map cell_of row) (Err refused.MixedTypes) w
+refused_types w row long spells = λ rows h. (length-map row cell_of ∙ long, spells, refl)
+
+pub does_not_fit : (w : WriterState) (row : List Cell) → Spells w.types row → w.count ≢ 0 → NoneFits w row → AddsCells w row (Ok false) w
+does_not_fit w row spells some none = λ rows h. (spells, none rows h, some_counted w rows h some, refl)
+
+pub is_too_large : (w : WriterState) (row : List Cell) → Spells w.types row → w.count ≡ 0 → NoneFits w row → AddsCells w row (Err refused.TooLarge) w
+is_too_large w row spells empty none = λ rows h. (spells, none rows h, none_counted w rows h empty, refl)
+
+pub no_memory : (w : WriterState) (row : List Cell) → Spells w.types row → EachFits w row → AddsCells w row (Err refused.Memory) w
+no_memory w row spells fits = λ rows h. (spells, fits rows h, refl)
+
+-- its settings stay, and so do the bytes of its requests
+same : (w : WriterState) (row : List Cell) (size capacity : ℕ) (before : List ℕ) (rows : List (List Cell)) → so_far (with_cells w before size capacity row) (rows ++ row ∷ []) ≡ so_far w (rows ++ row ∷ [])
+same w row size capacity before [] = refl
+same w row size capacity before (r ∷ rows) = refl
+
+-- it was written after these bytes
+wrote : (w : WriterState) (row : List Cell) (size capacity : ℕ) (before : List ℕ) → Spells w.types row → EachFits w row → size ≡ w.size + cells_size w.types row
+    → ((rows : List (List Cell)) → HoldsCells w rows → so_far w (rows ++ row ∷ []) ≡ before ++ cells_bytes w.types row)
+    → AddsCells w row (Ok true) (with_cells w before size capacity row)
+wrote w row size capacity before spells fits total bytes = λ rows h. (
+  spells,
+  fits rows h,
+  (
+    record {
+      count = omega (arith, h.count, length-append rows (row ∷ []));
+      size = omega (arith, total, h.size, sum_by-append (cells_size w.types) rows (row ∷ []));
+      bytes = sym (same w row size capacity before rows ∙ bytes rows h);
+      taken = All-push (Spells w.types) rows row h.taken spells;
+      fits = λ some. fits rows h;
+    },
+    refl,
+  ),
+)
+
+pub wrote_first : (w : WriterState) (row : List Cell) (size capacity : ℕ) → Spells w.types row → EachFits w row → size ≡ w.size + cells_size w.types row → w.count ≡ 0
+    → AddsCells w row (Ok true) (with_cells w (w.bytes ++ head_bytes w) size capacity row)
+wrote_first w row size capacity spells fits total empty = wrote w row size capacity (w.bytes ++ head_bytes w) spells fits total (λ rows h. first_so_far w rows row (none_counted w rows h empty) h.bytes)
+
+pub wrote_further : (w : WriterState) (row : List Cell) (size capacity : ℕ) → Spells w.types row → EachFits w row → size ≡ w.size + cells_size w.types row → w.count ≢ 0
+    → AddsCells w row (Ok true) (with_cells w w.bytes size capacity row)
+wrote_further w row size capacity spells fits total some =
+    wrote w row size capacity w.bytes spells fits total (λ rows h. further_so_far w rows row (some_counted w rows h some) ∙ ap (λ (l : List ℕ). l ++ cells_bytes w.types row) (sym h.bytes))
+
+-- a writer in which no row waits
+pub holds_none : (w : WriterState) → w.count ≡ 0 → w.size ≡ 0 → w.bytes ≡ [] → HoldsCells w []
+holds_none w count size bytes = record { count = count; size = size; bytes = bytes; taken = All-nil (Spells w.types); fits = λ some. absurd (some refl) }

@@ -1,0 +1,38 @@
+use Rattle.std.proofs.Common.{◌≡◌, ◌≤◌, ◌+◌, ◌*◌, vec_len, vec_capacity, if◌then◌else◌, List, length, map, ◌∙◌, ap, arith, length-append, rules}
+use Rattle.mysql_values.specs.declared.param_type.ParamType.{ParamType}
+use Rattle.mysql_bulk.specs.BulkValue.{cell_of, cells_size}
+use Rattle.mysql_bulk.specs.Head.{BulkHead, head}
+use Rattle.mysql_bulk.specs.RequestWriter.{WriterState}
+use Rattle.mysql_bulk.proofs.RequestBytes.{length-head}
+use Rattle.mysql_bulk.proofs.RequestWriter.{length-sent}
+use Rattle.mysql_bulk.proofs.request_writer.BulkRequestWriter.write_first_values.Goals as goal
+
+pub append_head-requires : goal.append_head-requires
+append_head-requires c =
+    let capacity : vec_len c.reserve.new.self + c.in-Some-request_len.bytes ≤ vec_capacity c.reserve.new.self = search rules in
+    let sent : 2 * length c.sent_types-types.result.now ≡ (if c.self.inside.types_due then 2 * length c.self.inside.types.now else 0) =
+    ap (λ (l : List ParamType). 2 * length l) c.sent_types-types.ensures ∙ length-sent c.self.inside.types_due c.self.inside.types.now in
+    let front : BulkHead = record { stmt_id = c.self.inside.stmt_id; bulk_flags = c.flags_of-bulk_flags.result; types = c.sent_types-types.result.now } in
+    omega (arith, capacity, length-head front, sent, c.in-Some-request_len.ensures)
+
+pub append_values-requires-clause-capacity : goal.append_values-requires-clause-capacity
+append_values-requires-clause-capacity c =
+    let capacity : vec_len c.reserve.new.self + c.in-Some-request_len.bytes ≤ vec_capacity c.reserve.new.self = search rules in
+    let sent : 2 * length c.sent_types-types.result.now ≡ (if c.self.inside.types_due then 2 * length c.self.inside.types.now else 0) =
+    ap (λ (l : List ParamType). 2 * length l) c.sent_types-types.ensures ∙ length-sent c.self.inside.types_due c.self.inside.types.now in
+    let front : BulkHead = record { stmt_id = c.self.inside.stmt_id; bulk_flags = c.flags_of-bulk_flags.result; types = c.sent_types-types.result.now } in
+    let so_far = ap length c.append_head.ensures.items ∙ length-append c.reserve.new.self.items (head.bytes front) in
+    let of_types : cells_size c.self.inside.types.now (map cell_of c.args.row.now) ≡ cells_size c.args.self.now.types (map cell_of c.args.row.now) = ap (λ (w : WriterState). cells_size w.types (map cell_of c.args.row.now)) c.self.view_is in
+    omega (
+      arith,
+      capacity,
+      length-head front,
+      sent,
+      c.in-Some-request_len.ensures,
+      so_far,
+      c.append_head.new.out.ok,
+      c.reserve.new.self.ok,
+      c.append_head.ensures.capacity,
+      c.requires.size,
+      of_types,
+    )

@@ -1,0 +1,146 @@
+-- A writer of bulk requests whose rows are values, DEFAULT and IGNORE under declared types of any width.
+use Rattle.std.specs.Prelude.{◌≡◌, ◌≢◌, ◌⊎◌, ℕ, ◌+◌, ◌^◌, ◌<◌, ◌≤◌, ◌==◌, Bool, true, false, if◌then◌else◌, IsTrue, List, [], ◌∷◌, ◌++◌, length, None, Result, Ok, Err, All, sum_by}
+use Rattle.std.specs.List.{flat_map}
+use Rattle.mysql_cuts.specs.declared.rule.BulkRule.{BulkRule}
+use Rattle.mysql_cuts.specs.Cut.{Packing, PartFits, NoneEmpty, HasFittingCut, IsFewest, IsFullFromFront, rows_in}
+use Rattle.mysql_values.specs.declared.param_type.ParamType.{ParamType}
+use Rattle.mysql_bulk.specs.declared.error.BulkRowRefusal.{BulkRowRefusal}
+use Rattle.mysql_bulk.specs.declared.error.BulkRowRefusal.TheVariants as refused
+use Rattle.mysql_bulk.specs.BulkValue.{Cell, cells_bytes, cells_size, spells_cells}
+use Rattle.mysql_bulk.specs.RequestWriter.{WriterState, head_bytes, head_size}
+
+-- ---- rows
+
+-- how requests of such rows are measured: a row by the bytes that it has under the declared types
+abbrev pub cells_packing : BulkRule → (limit : ℕ) → List ParamType → Packing (List Cell)
+cells_packing rule limit types = record {
+  limit = limit;
+  arity = length types;
+  weight = cells_size types;
+  types_always = rule.types_always;
+  max_rows = rule.max_rows;
+}
+
+abbrev pub packing : WriterState → Packing (List Cell)
+packing w = cells_packing w.rule w.limit w.types
+
+-- the declared types spell the row
+abbrev pub Spells : List ParamType → List Cell → Type 0
+Spells types row = IsTrue (spells_cells types row)
+
+abbrev pub rows_bytes : List ParamType → List (List Cell) → List ℕ
+rows_bytes types rows = flat_map (cells_bytes types) rows
+
+-- the bytes of a request of these rows, which sends types or not
+abbrev pub request_of_cells : WriterState → (sends_types : Bool) → List (List Cell) → List ℕ
+request_of_cells w sends_types rows = head_bytes (record w { types_due = sends_types }) ++ rows_bytes w.types rows
+
+-- the request so far: no byte before the first row
+abbrev pub so_far : WriterState → List (List Cell) → List ℕ
+so_far w [] = []
+so_far w (row ∷ rows) = head_bytes w ++ rows_bytes w.types (row ∷ rows)
+
+-- these rows were written, and no more
+pub record HoldsCells (w : WriterState) (rows : List (List Cell)) : Type 0 where
+  pub count : w.count ≡ length rows
+  pub size : w.size ≡ sum_by (cells_size w.types) rows
+  -- the bytes are those of their request
+  pub bytes : w.bytes ≡ so_far w rows
+  -- the declared types spell them, and they may be a request
+  pub taken : All (Spells w.types) rows
+  pub fits : rows ≢ [] → PartFits (packing w) w.types_due rows
+
+-- ---- its steps
+
+-- a writer that was only made
+abbrev pub new_writer : (stmt_id limit : ℕ) → List ParamType → (capacity : ℕ) → WriterState
+new_writer stmt_id limit types capacity = record {
+  stmt_id = stmt_id;
+  limit = limit;
+  results = false;
+  rule = record { types_always = false; max_rows = None };
+  types = types;
+  types_due = true;
+  count = 0;
+  size = 0;
+  bytes = [];
+  capacity = capacity;
+}
+
+-- the row fits with those that were written
+abbrev pub CellsFit : WriterState → List (List Cell) → List Cell → Type 0
+CellsFit w rows row = PartFits (packing w) w.types_due (rows ++ row ∷ [])
+
+-- one row more was written, and the settings stay
+abbrev pub Wrote : WriterState → List (List Cell) → List Cell → WriterState → Type 0
+Wrote w rows row u = HoldsCells u (rows ++ row ∷ []) × (u ≡ record w { count = u.count; size = u.size; bytes = u.bytes; capacity = u.capacity })
+
+-- a row is offered after these: it is written, or it does not fit with them, or it is refused
+abbrev pub AddsAfter : WriterState → List (List Cell) → List Cell → Result Bool BulkRowRefusal → WriterState → Type 0
+AddsAfter w rows row (Ok true) u = Spells w.types row × CellsFit w rows row × Wrote w rows row u
+AddsAfter w rows row (Ok false) u = Spells w.types row × (CellsFit w rows row → ⊥) × (rows ≢ []) × (u ≡ w)
+AddsAfter w rows row (Err refused.MixedArity) u = (length row ≢ length w.types) × (u ≡ w)
+AddsAfter w rows row (Err refused.MixedTypes) u = (length row ≡ length w.types) × (Spells w.types row → ⊥) × (u ≡ w)
+AddsAfter w rows row (Err refused.TooLarge) u = Spells w.types row × (CellsFit w rows row → ⊥) × (rows ≡ []) × (u ≡ w)
+AddsAfter w rows row (Err refused.Memory) u = Spells w.types row × CellsFit w rows row × (u ≡ w)
+
+abbrev pub AddsCells : WriterState → List Cell → Result Bool BulkRowRefusal → WriterState → Type 0
+AddsCells w row result u = (rows : List (List Cell)) → HoldsCells w rows → AddsAfter w rows row result u
+
+-- the request is let go: where a row was written, no row waits, and the rule says whether the next request sends types
+abbrev pub LetsGo : WriterState → WriterState → Type 0
+LetsGo w u = u ≡ (if w.count == 0 then w else record w { types_due = w.rule.types_always; count = 0; size = 0; bytes = [] })
+
+-- one more row was written after these bytes
+abbrev pub with_cells : WriterState → List ℕ → (size capacity : ℕ) → List Cell → WriterState
+with_cells w before size capacity row = record w { count = w.count + 1; size = size; bytes = before ++ cells_bytes w.types row; capacity = capacity }
+
+-- how many bytes are written for a row: before the first one, the head too
+abbrev pub cells_more : WriterState → List Cell → ℕ
+cells_more w row = if w.count == 0 then head_size w + (w.size + cells_size w.types row) else cells_size w.types row
+
+-- the buffer has the memory for a row, and the rows can be counted
+abbrev pub HasRoomFor : WriterState → List Cell → Type 0
+HasRoomFor w row = (length w.bytes + cells_more w row ≤ w.capacity) × (w.count + 1 < 2 ^ 64)
+
+-- ---- a caller's own loop
+
+-- rows were offered one after another, and each was written: where it did not fit with those that waited, their request was let
+-- go first. These are the bytes of the requests that were let go
+abbrev pub StreamsCells : WriterState → List (List Cell) → List (List ℕ) → WriterState → Type 0
+StreamsCells w [] requests u = (requests ≡ []) × (u ≡ w)
+StreamsCells w (row ∷ rows) requests u =
+    ((m : WriterState) × AddsCells w row (Ok true) m × StreamsCells m rows requests u)
+    ⊎ ((v : WriterState) × (m : WriterState) × (later : List (List ℕ)) × AddsCells w row (Ok false) w × LetsGo w v × AddsCells v row (Ok true) m
+    × (requests ≡ w.bytes ∷ later) × StreamsCells m rows later u)
+
+-- these are the bytes of the requests of the parts, of which the first sends types or not
+abbrev pub AreCellRequests : WriterState → (sends_types : Bool) → List (List (List Cell)) → List (List ℕ) → Type 0
+AreCellRequests w types [] [] = Unit {0}
+AreCellRequests w types (part ∷ parts) (bytes ∷ requests) = (bytes ≡ request_of_cells w types part) × AreCellRequests w w.rule.types_always parts requests
+AreCellRequests w types [] (bytes ∷ requests) = ⊥
+AreCellRequests w types (part ∷ parts) [] = ⊥
+
+-- the requests are those of a fewest cut of the rows
+pub record AreFewestOfCells (w : WriterState) (rows : List (List Cell)) (requests : List (List ℕ)) : Type 0 where
+  pub cut : List (List (List Cell))
+  pub fewest : IsFewest (packing w) rows cut
+  pub bytes : AreCellRequests w true cut requests
+
+-- after a refusal of the row that was offered after these rows
+pub record CellsEndRefused (w : WriterState) (rows : List (List Cell)) (requests : List (List ℕ)) (row : List Cell) (later : List (List Cell)) (e : BulkRowRefusal) (u : WriterState) : Type 0 where
+  -- the rows that were sent, in a part for each request, and those that wait: no row is lost
+  pub cut : List (List (List Cell))
+  pub none_empty : NoneEmpty cut
+  pub waiting : List (List Cell)
+  pub all_rows : rows_in cut ++ waiting ≡ rows
+  pub bytes : AreCellRequests w true cut requests
+  pub holds : HoldsCells u waiting
+  -- the requests are full from the front, whatever comes after the row
+  pub full_from_front : IsFullFromFront (packing w) (rows ++ row ∷ later) cut
+  -- the rows have a fitting cut; with a row that is too large they have none
+  pub rows_fit : HasFittingCut (packing w) rows
+  pub too_large : e ≡ refused.TooLarge → HasFittingCut (packing w) (rows ++ row ∷ []) → ⊥
+  -- another row is refused for itself
+  pub arity : e ≡ refused.MixedArity → length row ≢ length w.types
+  pub types : e ≡ refused.MixedTypes → Spells w.types row → ⊥

@@ -1,0 +1,111 @@
+//! A whole run of a writer over rows of values, DEFAULT and IGNORE.
+
+ghost use Rattle.std.specs.Prelude.{◌≡◌, ◌++◌, ◌∷◌, [], map, IfErr, OnOk, Ok, Err, if◌then◌else◌};
+ghost use Rattle.mysql_bulk.specs.declared.error.BulkRowRefusal.TheVariants.{TooLarge};
+ghost use Rattle.mysql_bulk.specs.BulkValue.{cell_of};
+ghost use Rattle.mysql_bulk.specs.ValueRows.{LetsGo};
+ghost use Rattle.mysql_bulk.specs.ValuesRun as spec;
+
+use super::BulkRequestWriter;
+use crate::bulk_value::BulkValue;
+use crate::error::BulkRowRefusal;
+use std::alloc::{AllocError, Global};
+
+/// What a run over rows of values, DEFAULT and IGNORE gives.
+#[derive(Debug, Drop)]
+pub struct BulkValuesRun {
+    /// The bytes of the requests.
+    pub requests: Vec<Vec<u8>>,
+    /// Why the run ended before the rows did, if so.
+    pub refusal: Option<BulkRowRefusal>,
+}
+
+impl<'a> BulkRequestWriter<'a> {
+    /// Puts a copy of the request at the end of others, and lets it go.
+    fn send_request(&mut self, alloc: Global, requests: &mut Vec<Vec<u8>>) -> Result<(), AllocError>
+        ensures sent { OnOk result (spec.bytes_of requests.new.items ≡ spec.bytes_of requests.old.items ++ self.old.bytes ∷ []) }
+        ensures lets_go { OnOk result (LetsGo self.old self.new) }
+    {
+        let request = Vec::from_slice(alloc, self.bytes.as_slice())?;
+        requests.push(request)?;
+        self.finish();
+        Ok(())
+    }
+
+    /// Offers a row, and where it does not fit with those that wait, sends their request first.
+    fn offer_values(
+        &mut self,
+        alloc: Global,
+        row: &[BulkValue<'_>],
+        requests: &mut Vec<Vec<u8>>,
+    ) -> Result<(), BulkRowRefusal>
+        ensures ok { OnOk result (spec.Offered self.old (map cell_of row.now) (spec.bytes_of requests.old.items) self.new (spec.bytes_of requests.new.items)) }
+        ensures refused { IfErr result (λ e. spec.OfferRefused self.old (map cell_of row.now) (spec.bytes_of requests.old.items) e (spec.bytes_of requests.new.items)) }
+    {
+        let is_taken = match self.add_row_values(row) {
+            Ok(is_taken) => is_taken,
+            Err(refusal) => return Err(refusal),
+        };
+        if is_taken {
+            return Ok(());
+        }
+        let Ok(()) = self.send_request(alloc, requests) else {
+            return Err(BulkRowRefusal::Memory);
+        };
+        match self.add_row_values(row) {
+            Ok(fits_alone) => answer_of(fits_alone),
+            Err(refusal) => Err(refusal),
+        }
+    }
+
+    /// Offers rows, and sends the request of the last ones.
+    fn send_all_values(
+        &mut self,
+        alloc: Global,
+        rows: &[Vec<BulkValue<'_>>],
+        requests: &mut Vec<Vec<u8>>,
+    ) -> Result<(), BulkRowRefusal>
+        requires { requests.old.items ≡ [] }
+        ensures { spec.IsNewWriter self.old → spec.CellsRunGives self.old (spec.cells_of_rows rows.now) (spec.bytes_of requests.new.items) (spec.refusal_of result) }
+    {
+        for row in rows {
+            match self.offer_values(alloc, row.as_slice(), requests) {
+                Ok(()) => {}
+                Err(refusal) => return Err(refusal),
+            }
+        }
+        if rows.is_empty() {
+            return Ok(());
+        }
+        let Ok(()) = self.send_request(alloc, requests) else {
+            return Err(BulkRowRefusal::Memory);
+        };
+        Ok(())
+    }
+
+    /// Writes rows, and gives the bytes of all their requests, or those before the row that is refused.
+    ///
+    /// From a new writer they are the fewest requests that fit, by the sizes of the rows under the declared types. A row is refused as by
+    /// [`add_row_values`](Self::add_row_values); `Memory` is also the answer where there is no memory for a request.
+    pub fn build_all_values(&mut self, alloc: Global, rows: &[Vec<BulkValue<'_>>]) -> BulkValuesRun
+        ensures gives { spec.IsNewWriter self.old → spec.CellsRunGives self.old (spec.cells_of_rows rows.now) (spec.bytes_of result.requests.items) result.refusal }
+    {
+        let mut requests = Vec::new(alloc);
+        let refusal = match self.send_all_values(alloc, rows, &mut requests) {
+            Ok(()) => None,
+            Err(refusal) => Some(refusal),
+        };
+        BulkValuesRun { requests, refusal }
+    }
+}
+
+/// A row that is not taken where none waits is too large.
+fn answer_of(fits_alone: bool) -> Result<(), BulkRowRefusal>
+    ensures { result ≡ (if fits_alone then Ok tt else Err TooLarge) }
+{
+    if fits_alone {
+        Ok(())
+    } else {
+        Err(BulkRowRefusal::TooLarge)
+    }
+}

@@ -1,0 +1,181 @@
+//! Rows of values, DEFAULT and IGNORE that a writer of bulk requests is offered, under declared types of any width.
+
+ghost use Rattle.std.specs.Prelude.{◌≡◌, ◌≢◌, ◌+◌, ◌-◌, ◌++◌, ◌∷◌, ◌<◌, ◌≤◌, ◌^◌, IsTrue, IfOk, IfSome, OnErr, MatchOption, [], length, map, false, List, sum_by, vec_capacity, Err};
+ghost use Rattle.std.specs.Bool.{OnTrue, OnFalse};
+ghost use Rattle.mysql_cuts.specs.Cut.{PartFits};
+ghost use Rattle.mysql_bulk.specs.BulkValue.{Cell, cell_of, cells_size};
+ghost use Rattle.mysql_bulk.specs.RequestWriter.{head_bytes, head_size};
+ghost use Rattle.mysql_bulk.specs.ValueRows as spec;
+ghost use Rattle.mysql_bulk.specs.declared.error.BulkRowRefusal.TheVariants as refused;
+
+use super::{BulkRequestWriter, append_head, sent_types};
+use crate::builder::flags_of;
+use crate::bulk_value::{BulkValue, append_values, spells_values, values_len};
+use crate::error::BulkRowRefusal;
+use crate::size::request_len;
+use mysql_cuts::BulkRule;
+use mysql_values::ParamType;
+
+/// The bytes of so many rows with one more, which has a cell for each type, if these may be one request.
+fn size_with_values(
+    rule: BulkRule,
+    limit: u64,
+    types_due: bool,
+    count: usize,
+    size: u64,
+    types: &[ParamType],
+    row: &[BulkValue<'_>],
+) -> Option<u64>
+    requires { length types.now ≡ length row.now }
+    ensures size { IfSome result (λ n. n ≡ size + cells_size types.now (map cell_of row.now)) }
+    ensures fits { (rows : List (List Cell)) → length rows ≡ count → size ≡ sum_by (cells_size types.now) rows →
+        MatchOption result (PartFits (spec.cells_packing rule limit types.now) types_due (rows ++ map cell_of row.now ∷ []) → ⊥)
+        (λ n. PartFits (spec.cells_packing rule limit types.now) types_due (rows ++ map cell_of row.now ∷ [])) }
+{
+    if rule.max_rows.is_some_and(|most| most <= count) {
+        return None;
+    }
+    let rows = size.checked_add(values_len(types, row)?)?;
+    if request_len(types.len(), types_due, rows)? <= limit {
+        Some(rows)
+    } else {
+        None
+    }
+}
+
+impl<'a> BulkRequestWriter<'a> {
+    /// A writer into a buffer, as [`new`](Self::new) makes one, for columns of any types: numbers of any width, floats, dates,
+    /// times and strings.
+    ///
+    /// Its rows are offered to [`add_row_values`](Self::add_row_values), which spells each value under its type.
+    /// [`add_row_refs`](Self::add_row_refs) takes those alone whose values are spelled so without declared types.
+    pub fn with_types(
+        buffer: Vec<u8>,
+        stmt_id: u32,
+        max_allowed_packet: usize,
+        types: &'a [ParamType],
+    ) -> Self
+        requires { 4 ≤ max_allowed_packet }
+        ensures starts { result ≡ spec.new_writer stmt_id (max_allowed_packet - 4) types.now (vec_capacity buffer) }
+    {
+        let mut bytes = buffer;
+        bytes.clear();
+        BulkRequestWriter {
+            stmt_id,
+            limit: (max_allowed_packet - 4) as u64,
+            results: false,
+            rule: BulkRule::PLAIN,
+            types,
+            types_due: true,
+            count: 0,
+            size: 0,
+            bytes,
+        }
+    }
+
+    /// Offers a row of values, DEFAULT and IGNORE, whose bytes are written where it fits.
+    ///
+    /// Where the row fits with those that wait, it is written after them, and the answer is `Ok(true)`; where it does not fit
+    /// with those that wait it is `Ok(false)`, and the request is done with then. A row is refused as `MixedArity` where it has
+    /// not a cell for each type, as `MixedTypes` where a type does not spell its value, as `TooLarge` where it does not fit alone, and
+    /// as `Memory` where the buffer did not grow, but not where it has the memory. Where no row is written, the writer stays as it was.
+    /// The bytes of the row are counted first, by the declared widths, and the buffer grows once at the most.
+    pub fn add_row_values(&mut self, row: &[BulkValue<'_>]) -> Result<bool, BulkRowRefusal>
+        ensures adds { spec.AddsCells self.old (map cell_of row.now) result self.new }
+        ensures waits { IfOk result (λ taken. taken ≡ false → self.new ≡ self.old) }
+        ensures err { OnErr result (self.new ≡ self.old) }
+        ensures capacity { self.old.capacity ≤ self.new.capacity }
+        ensures no_memory { spec.HasRoomFor self.old (map cell_of row.now) → result ≢ Err refused.Memory }
+    {
+        if row.len() != self.types.len() {
+            return Err(BulkRowRefusal::MixedArity);
+        }
+        if !spells_values(self.types, row) {
+            return Err(BulkRowRefusal::MixedTypes);
+        }
+        let Some(size) = self.size_after_values(row) else {
+            return if self.count == 0 {
+                Err(BulkRowRefusal::TooLarge)
+            } else {
+                Ok(false)
+            };
+        };
+        if self.count == 0 {
+            return if self.write_first_values(row, size) {
+                Ok(true)
+            } else {
+                Err(BulkRowRefusal::Memory)
+            };
+        }
+        if self.write_further_values(row, size) {
+            Ok(true)
+        } else {
+            Err(BulkRowRefusal::Memory)
+        }
+    }
+
+    /// The bytes of the rows with one more, if these may be one request.
+    fn size_after_values(&self, row: &[BulkValue<'_>]) -> Option<u64>
+        requires { length self.now.types ≡ length row.now }
+        ensures { MatchOption result ((rows : List (List Cell)) → spec.HoldsCells self.now rows → spec.CellsFit self.now rows (map cell_of row.now) → ⊥)
+            (λ n. (n ≡ self.now.size + cells_size self.now.types (map cell_of row.now)) × ((rows : List (List Cell)) → spec.HoldsCells self.now rows → spec.CellsFit self.now rows (map cell_of row.now))) }
+    {
+        size_with_values(
+            self.rule,
+            self.limit,
+            self.types_due,
+            self.count,
+            self.size,
+            self.types,
+            row,
+        )
+    }
+
+    /// Writes the first row of a request, after what stands before it. Where memory is refused, nothing is written.
+    fn write_first_values(&mut self, row: &[BulkValue<'_>], size: u64) -> bool
+        requires lengths { length self.old.types ≡ length row.now }
+        requires size { size ≡ self.old.size + cells_size self.old.types (map cell_of row.now) }
+        ensures written { OnTrue result (self.new ≡ spec.with_cells self.old (self.old.bytes ++ head_bytes self.old) size self.new.capacity (map cell_of row.now)) }
+        ensures stays { OnFalse result (self.new ≡ self.old) }
+        ensures capacity { self.old.capacity ≤ self.new.capacity }
+        ensures no_memory { self.old.count + 1 < 2 ^ 64 → length self.old.bytes + (head_size self.old + size) ≤ self.old.capacity → IsTrue result }
+    {
+        let Some(count) = self.count.checked_add(1) else {
+            return false;
+        };
+        let Some(bytes) = request_len(self.types.len(), self.types_due, size) else {
+            return false;
+        };
+        let Ok(()) = self.bytes.reserve(bytes as usize) else {
+            return false;
+        };
+        let bulk_flags = flags_of(self.types_due, self.results);
+        let types = sent_types(self.types_due, self.types);
+        append_head(&mut self.bytes, self.stmt_id, bulk_flags, types);
+        append_values(&mut self.bytes, self.types, row);
+        self.size = size;
+        self.count = count;
+        true
+    }
+
+    /// Writes a further row. Where memory is refused, nothing is written.
+    fn write_further_values(&mut self, row: &[BulkValue<'_>], size: u64) -> bool
+        requires lengths { length self.old.types ≡ length row.now }
+        requires size { size ≡ self.old.size + cells_size self.old.types (map cell_of row.now) }
+        ensures written { OnTrue result (self.new ≡ spec.with_cells self.old self.old.bytes size self.new.capacity (map cell_of row.now)) }
+        ensures stays { OnFalse result (self.new ≡ self.old) }
+        ensures capacity { self.old.capacity ≤ self.new.capacity }
+        ensures no_memory { self.old.count + 1 < 2 ^ 64 → length self.old.bytes + cells_size self.old.types (map cell_of row.now) ≤ self.old.capacity → IsTrue result }
+    {
+        let Some(count) = self.count.checked_add(1) else {
+            return false;
+        };
+        let Ok(()) = self.bytes.reserve((size - self.size) as usize) else {
+            return false;
+        };
+        append_values(&mut self.bytes, self.types, row);
+        self.size = size;
+        self.count = count;
+        true
+    }
+}

@@ -1,0 +1,158 @@
+//! A value as it is spelled under a type.
+
+ghost use Rattle.std.specs.Prelude.{◌≡◌, ◌*◌, ◌^◌, ◌≤◌, ◌<◌, length, IfSome, Some, Option, ℕ, None, pos};
+ghost use Rattle.std.specs.Option.{option_map};
+ghost use Rattle.mysql_values.specs.TypedValue.{content_bits, number_bits, spelled, typed_bytes, wide_value};
+ghost use Rattle.mysql_values.specs.ValueRef.{ref_content};
+
+use crate::param_type::ParamType;
+use crate::value_kind::ValueKind;
+use crate::value_ref::ValueRef;
+use mysql_wire::{Buffer, Flags, IntRepr, LeU16, LeU32, MySerialize, StmtExecuteParamFlags};
+
+/// A value as it is spelled under the type of a parameter or of a column, of any width.
+#[derive(Clone, Copy, Debug, PartialEq)]
+pub enum TypedValue<'a> {
+    /// The bits of a number of one byte.
+    Tiny(u8),
+    /// The bits of a number of two bytes.
+    Short(u16),
+    /// The bits of a number of four bytes.
+    Long(u32),
+    /// A number of eight bytes, a float, a date, a time or bytes, in its binary form; NULL, which has no bytes.
+    Wide(ValueRef<'a>),
+}
+
+/// How many negative numbers a signed type of one, of two and of four bytes has.
+const TINY: u32 = 1 << 7;
+
+const SHORT: u32 = 1 << 15;
+
+const LONG: u32 = 1 << 31;
+
+/// The bits of a number that is not negative, where the type has it.
+fn natural_bits(half: u32, is_unsigned: bool, number: u64) -> Option<u64>
+    ensures value { result ≡ number_bits half is_unsigned (pos number) }
+{
+    let half = u64::from(half);
+    let end = if is_unsigned { 2 * half } else { half };
+    if number < end { Some(number) } else { None }
+}
+
+/// The bits of a number in two's complement, where the type has it.
+fn signed_bits(half: u32, is_unsigned: bool, number: i64) -> Option<u64>
+    ensures value { result ≡ number_bits half is_unsigned number }
+{
+    if number >= 0 {
+        return natural_bits(half, is_unsigned, number.cast_unsigned());
+    }
+    let half = u64::from(half);
+    let below = number.unsigned_abs();
+    if is_unsigned || half < below {
+        return None;
+    }
+    Some(2 * half - below)
+}
+
+/// The bits of a value that is a number, where the type has it.
+fn bits_of(half: u32, is_unsigned: bool, value: &ValueRef<'_>) -> Option<u64>
+    requires { half ≤ 2 ^ 31 }
+    ensures value { result ≡ content_bits half is_unsigned (ref_content value.now) }
+    ensures fits { IfSome result (λ bits. bits < 2 * half) }
+{
+    match value {
+        ValueRef::Int(number) => signed_bits(half, is_unsigned, *number),
+        ValueRef::UInt(number) => natural_bits(half, is_unsigned, *number),
+        _ => None,
+    }
+}
+
+impl<'a> TypedValue<'a> {
+    /// The value under the type, where the type spells it: a number that the type has, in as many bytes as the type says; a
+    /// float of four bytes under FLOAT, and one of eight under DOUBLE; a date, which has no time of day under DATE; a span of
+    /// time under TIME; bytes under each type of strings; NULL under any type.
+    pub fn new(param_type: ParamType, value: ValueRef<'a>) -> Option<Self>
+        ensures value { option_map typed_bytes result ≡ spelled param_type (ref_content value.entry) }
+    {
+        if let ValueRef::NULL = value {
+            return Some(TypedValue::Wide(value));
+        }
+        let is_unsigned = param_type.flags().contains(StmtExecuteParamFlags::UNSIGNED);
+        match ValueKind::of(param_type.column_type()) {
+            ValueKind::Tiny => {
+                let bits = bits_of(TINY, is_unsigned, &value)?;
+                Some(TypedValue::Tiny(bits as u8))
+            }
+            ValueKind::Short => {
+                let bits = bits_of(SHORT, is_unsigned, &value)?;
+                Some(TypedValue::Short(bits as u16))
+            }
+            ValueKind::Long => {
+                let bits = bits_of(LONG, is_unsigned, &value)?;
+                Some(TypedValue::Long(bits as u32))
+            }
+            kind => wide(kind, is_unsigned, value),
+        }
+    }
+
+    /// How many bytes it takes.
+    #[tactic(auto, using(crate::proofs::Sizes::sizes), unfolding(mysql_wire::specs::Writing::le_bytes))]
+    #[inline(always)]
+    pub fn bin_len(&self) -> u64
+        ensures { result ≡ length (typed_bytes self.now) }
+    {
+        match self {
+            TypedValue::Tiny(_) => 1,
+            TypedValue::Short(_) => 2,
+            TypedValue::Long(_) => 4,
+            TypedValue::Wide(value) => value.bin_len(),
+        }
+    }
+}
+
+/// A value of eight bytes or of no constant width, where the kind spells it.
+fn wide(kind: ValueKind, is_unsigned: bool, value: ValueRef<'_>) -> Option<TypedValue<'_>>
+    ensures value { option_map typed_bytes result ≡ wide_value kind is_unsigned (ref_content value.entry) }
+{
+    let spells = match value {
+        ValueRef::Int(number) => {
+            matches!(kind, ValueKind::LongLong) && !(is_unsigned && number < 0)
+        }
+        ValueRef::UInt(number) => {
+            matches!(kind, ValueKind::LongLong) && (is_unsigned || number < 1 << 63)
+        }
+        value => kind.suits(&value),
+    };
+    if spells {
+        Some(TypedValue::Wide(value))
+    } else {
+        None
+    }
+}
+
+impl MySerialize for TypedValue<'_> {
+    ghost use Rattle.mysql_values.specs.TypedValue.{typed_bytes};
+
+    ghost bytes = { typed_bytes };
+
+    #[inline(always)]
+    #[tactic(auto, unfolding(mysql_wire::specs::Writing::saturated, mysql_wire::specs::Writing::le_bytes))]
+    fn defined_len(&self) -> usize {
+        match self {
+            TypedValue::Tiny(_) => 1,
+            TypedValue::Short(_) => 2,
+            TypedValue::Long(_) => 4,
+            TypedValue::Wide(value) => value.defined_len(),
+        }
+    }
+
+    #[inline(always)]
+    fn append<O: Buffer>(&self, out: &mut O) {
+        match self {
+            TypedValue::Tiny(bits) => <u8 as IntRepr>::append(*bits, out),
+            TypedValue::Short(bits) => <LeU16 as IntRepr>::append(*bits, out),
+            TypedValue::Long(bits) => <LeU32 as IntRepr>::append(*bits, out),
+            TypedValue::Wide(value) => value.append(out),
+        }
+    }
+}
