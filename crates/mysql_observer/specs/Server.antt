@@ -1,16 +1,14 @@
 -- A packet of the server: which grammar reads it, by its kind.
-use Rattle.std.specs.Prelude.{ℕ, Bool, false, List, Option, Some, None}
+use Rattle.std.specs.Prelude.{ℕ, Bool, List, Option, Some, None}
 use Rattle.mysql_wire.specs.declared.codes.column_type.ColumnType.{ColumnType}
-use Rattle.mysql_wire.specs.declared.fault.FaultOf.{FaultOf}
 use Rattle.mysql_wire.specs.Form.{Form, ◌>>=◌, all_left, map}
-use Rattle.mysql_wire.specs.Reading.{Faults}
 use Rattle.mysql_wire.specs.Skip.{skip}
 use Rattle.mysql_auth.specs.AuthMoreData.{auth_more_data}
 use Rattle.mysql_auth.specs.AuthNextFactor.{auth_next_factor}
 use Rattle.mysql_auth.specs.AuthSwitchRequest.{auth_switch_request}
 use Rattle.mysql_auth.specs.Handshake.{handshake}
 use Rattle.mysql_auth.specs.OldAuthSwitchRequest.{old_auth_switch_request}
-use Rattle.mysql_prepared.specs.RowView.{RowLeft, bin_row_of, ref_cell, row_front, row_left, text_row_left}
+use Rattle.mysql_prepared.specs.RowView.{RowLeft, ref_cell, row_front, row_left, text_row_left}
 use Rattle.mysql_prepared.specs.StmtWithMetadata.{stmt_with_metadata}
 use Rattle.mysql_repl.specs.BinlogStreamEvent.{stream_event}
 use Rattle.mysql_replies.specs.ColumnCount.{column_count}
@@ -50,7 +48,7 @@ ok_terminator_form a = map packet (ok_packet {T = ResultSetTerminator} 0xfe (ter
 abbrev pub report_form : Form ProgressReport
 report_form = skip 3 >>= (λ head. progress_report.form tt)
 
--- ---- rows, whose values are read later: each has all bytes that are left
+-- ---- rows, whose values are read later: each has all bytes that are left, and of a binary row the front alone is read
 
 -- so many values of text
 abbrev pub text_row : ℕ → Form RowLeft
@@ -92,8 +90,3 @@ module _ {C : Type 0} (type_of : C → ColumnType) (unsigned : C → Bool) where
   server_packet c kind.Statistics = map variant.Statistics all_left
   server_packet c kind.BinlogEvent = map variant.BinlogEvent (stream_event.form c.semi_sync)
   server_packet c _ = other_side
-
-  -- A fault is that of the grammar. A binary row's is the first of the whole row.
-  abbrev pub RefusesPacket : ReadContext C → Kind → FaultOf → List ℕ → Type 0
-  RefusesPacket c (kind.Row Binary) e bytes = Faults false e ((bin_row_of type_of unsigned 2 c.columns.now).reads bytes)
-  RefusesPacket c k e bytes = Faults false e ((server_packet c k).reads bytes)

@@ -3,7 +3,6 @@
 
 ghost use Rattle.std.specs.Prelude.{false, ◌≡◌, Ok, List, ℕ, OnErr, IfOk, IfErr};
 ghost use Rattle.mysql_wire.specs.Reading.{Answers, Faults};
-ghost use Rattle.mysql_prepared.specs.RowView.{bin_row_of};
 ghost use Rattle.mysql_observer.specs.Server as spec;
 
 use crate::read_context::{ReadContext, agreed_or_none};
@@ -75,8 +74,7 @@ fn read_binary_row<'s, 'a, 'c, C: TypedColumn>(
     columns: &'c [C],
     buf: &mut ParseBuf<'a>,
 ) -> Result<BinaryRowView<'a, 'c, ServerSide, C>, FaultOf<'s>>
-    ensures row { IfOk result (λ row. (spec.binary_row C.type_of C.unsigned columns.now).reads buf.old ≡ Ok (row, buf.new)) }
-    ensures fault { IfErr result (λ e. Faults false e ((bin_row_of C.type_of C.unsigned 2 columns.now).reads buf.old)) }
+    ensures value { Answers false result buf.new ((spec.binary_row C.type_of C.unsigned columns.now).reads buf.old) }
 {
     let row = BinaryRowView::new(columns, buf.rest())?;
     buf.eat_all();
@@ -89,8 +87,7 @@ fn read_of_kind<'s, 'a, 'c, C: TypedColumn>(
     kind: Kind,
     buf: &mut ParseBuf<'a>,
 ) -> Result<ServerPacket<'a, 'c, C>, FaultOf<'s>>
-    ensures packet { IfOk result (λ p. (spec.server_packet C.type_of C.unsigned context.now kind).reads buf.old ≡ Ok (p, buf.new)) }
-    ensures fault { IfErr result (λ e. spec.RefusesPacket C.type_of C.unsigned context.now kind e buf.old) }
+    ensures value { Answers false result buf.new ((spec.server_packet C.type_of C.unsigned context.now kind).reads buf.old) }
 {
     let agreed = agreed_or_none(context.agreed);
     match kind {
@@ -130,15 +127,15 @@ fn read_of_kind<'s, 'a, 'c, C: TypedColumn>(
 /// What follows the record is left, as the default value after a column that answers `COM_FIELD_LIST`. A row has all bytes, since its
 /// values are read later: [`TextRowView::rest`] and [`BinaryRowView::rest`] answer what follows them.
 ///
-/// A fault is that of the kind's reader. A kind of the client's packets is `InvalidInput`. After a refusal the bytes are as they were. No
-/// memory is taken, so that none is `Memory`.
+/// A fault is that of the kind's reader. A binary row is not refused where its first byte and its bitmap of NULLs are there: a fault of
+/// a value is [`BinaryRowView::next_value`]'s. A kind of the client's packets is `InvalidInput`. After a refusal the bytes are as they
+/// were. No memory is taken, so that none is `Memory`.
 pub fn read_server_packet<'s, 'a, 'c, C: TypedColumn>(
     context: &ReadContext<'c, C>,
     kind: Kind,
     buf: &mut ParseBuf<'a>,
 ) -> Result<ServerPacket<'a, 'c, C>, FaultOf<'s>>
-    ensures packet { IfOk result (λ p. (spec.server_packet C.type_of C.unsigned context.now kind).reads buf.old ≡ Ok (p, buf.new)) }
-    ensures fault { IfErr result (λ e. spec.RefusesPacket C.type_of C.unsigned context.now kind e buf.old) }
+    ensures value { Answers false result buf.new ((spec.server_packet C.type_of C.unsigned context.now kind).reads buf.old) }
     ensures err { OnErr result (buf.new ≡ buf.old) }
 {
     let mut rest = buf.rest();
@@ -155,7 +152,7 @@ pub fn server_packet<'s, 'a, 'c, C: TypedColumn>(
     payload: &'a [u8],
 ) -> Result<ServerPacket<'a, 'c, C>, FaultOf<'s>>
     ensures packet { IfOk result (λ p. (rest : List ℕ) × ((spec.server_packet C.type_of C.unsigned context.now kind).reads payload.now ≡ Ok (p, rest))) }
-    ensures fault { IfErr result (λ e. spec.RefusesPacket C.type_of C.unsigned context.now kind e payload.now) }
+    ensures fault { IfErr result (λ e. Faults false e ((spec.server_packet C.type_of C.unsigned context.now kind).reads payload.now)) }
 {
     let mut buf = ParseBuf::new(alloc, payload);
     let packet = read_server_packet(context, kind, &mut buf)?;

@@ -4,7 +4,7 @@ ghost use Rattle.std.specs.Prelude.{false, ◌≡◌, ◌<◌, ◌≤◌, Ok, So
 ghost use Rattle.mysql_wire.specs.Reading.{Answers, Faults};
 ghost use Rattle.mysql_values.specs.ValueDeserializer.{bin_value};
 ghost use Rattle.mysql_values.specs.ValueRef.{refs_contents};
-ghost use Rattle.mysql_prepared.specs.RowView.{Fills, GivesOne, IsBinaryRow, IsDone, PutsValue, RefusesNext, bin_row_of, read_of, ref_unless};
+ghost use Rattle.mysql_prepared.specs.RowView.{Fills, GivesOne, IsBinaryRow, IsDone, PutsValue, RefusesNext, bin_row_of, read_of, ref_unless, row_front};
 
 use crate::null_bitmap::NullBitmap;
 use crate::row_values::is_null_at;
@@ -131,13 +131,15 @@ impl<'a, 'c, S: SerializationSide, C: TypedColumn> Model for BinaryRowView<'a, '
 }
 
 impl<'a, 'c, S: SerializationSide, C: TypedColumn> BinaryRowView<'a, 'c, S, C> {
-    /// Reads what stands before the values: a byte with any value, and the bitmap of NULLs. Fewer bytes are `UnexpectedEof`.
+    /// Reads what stands before the values: a byte with any value, and the bitmap of NULLs. Fewer bytes are `UnexpectedEof`, and no
+    /// other row is refused here: a fault of a value is `next_value`'s.
     #[inline(always)]
     pub fn new<'s>(columns: &'c [C], buf: ParseBuf<'a>) -> Result<Self, FaultOf<'s>>
         ensures left { IfOk result (λ row. row.left ≡ length columns.now) }
         ensures read { IfOk result (λ row. read_of row ≡ (bin_row_of C.type_of C.unsigned S.BIT_OFFSET columns.now).reads buf.entry) }
         ensures values { IfOk result (IsBinaryRow C.type_of C.unsigned S.BIT_OFFSET columns.now buf.entry) }
         ensures fault { IfErr result (λ e. Faults false e ((bin_row_of C.type_of C.unsigned S.BIT_OFFSET columns.now).reads buf.entry)) }
+        ensures front { IfErr result (λ e. Faults false e ((row_front C.type_of C.unsigned S.BIT_OFFSET columns.now).reads buf.entry)) }
     {
         let mut rest = buf;
         let _header: Skip<1> = rest.parse(())?;
