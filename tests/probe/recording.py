@@ -2,16 +2,12 @@
 """`mypackets conversation`: recorded conversations, and what the program shows of each packet, held to a second tracker and a second decoder
 that are written from the protocol's pages.
 
-recording.py              the program that rt ci leaves
-recording.py --unproved   the program built without proof
-The last line is 'N passed, N failed'."""
+recording.py   asks the program that rt ci leaves. The last line is 'N passed, N failed'."""
 import json
-import resource
+import os
 import subprocess
 import sys
-import tempfile
 import time
-from pathlib import Path
 
 from conversations import FOLDER, Packet, packets_of, pieces_of
 from lines import TOP
@@ -197,28 +193,42 @@ def in_bytes(pieces):
     return "".join(f"{side} {byte:02X}\r\n" for side, piece in pieces for byte in piece).encode()
 
 
-class Runs:
-    """Runs of the program: each with its words and its input."""
+def summed(packets):
+    """What packets come to, by what is wanted of each."""
+    kinds, exchanges, errors, opened = {}, {}, {}, {}
+    for it in packets:
+        tally = kinds.setdefault((it["side"], it["kind"]), [0, 0])
+        tally[0] += 1
+        tally[1] += it["size"]
+        payload = bytes.fromhex(it["payload"])
+        if it["kind"] == "command":
+            name = str(COMMANDS.get(payload[0], payload[0]))
+            exchanges[name] = exchanges.get(name, 0) + 1
+            if name in ("COM_CHANGE_USER", "COM_RESET_CONNECTION"):
+                opened.clear()
+            elif name == "COM_STMT_CLOSE":
+                opened.pop(int.from_bytes(payload[1:5], "little"), None)
+        if it["kind"] in ("error", "unasked_error"):
+            code = str(int.from_bytes(payload[1:3], "little"))
+            errors[code] = errors.get(code, 0) + 1
+        if it["kind"] == "prepare_ok":
+            opened[int.from_bytes(payload[1:5], "little")] = True
+    return {
+        "kind": "sum", "packets": len(packets), "rows": sum(it["kind"] in ("text_row", "binary_row") for it in packets),
+        "exchanges": exchanges, "errors": errors, "open_statements": sorted(opened),
+        "kinds": [{"side": side, "kind": kind, "packets": n, "bytes": size} for (side, kind), (n, size) in kinds.items()],
+    }
 
-    def __init__(self, is_proved):
-        self.is_proved, self.asked = is_proved, []
 
-    def ask(self, words, data):
-        self.asked.append((words, data))
-
-    def answers(self):
-        """What each run wrote, and its status."""
-        if self.is_proved:
-            for words, data in self.asked:
-                run = subprocess.run([PROGRAM, "conversation", *words], input=data, capture_output=True)
-                yield run.stdout, run.returncode
-            return
-        with tempfile.TemporaryDirectory() as folder:
-            for at, (words, data) in enumerate(self.asked):
-                (Path(folder) / f"{at:05}").write_bytes(data)
-                (Path(folder) / f"{at:05}.args").write_text("\n".join(["conversation", *words]) + "\n")
-                (Path(folder) / f"{at:05}.stdout").write_bytes(b"")
-            yield from []
+def sums_differ(name, pieces, wanted):
+    """What is wrong with the sums of a conversation, or no text."""
+    run = subprocess.run([PROGRAM, "conversation", "--json", "--sum"], input=as_lines(pieces), capture_output=True)
+    came = [it for it, comes in wanted if comes]
+    wrong = differs(summed(came), run.stdout.splitlines()[-1])
+    largest = sorted((it["size"] for it in came), reverse=True)[:5]
+    if not wrong and [it["size"] for it in json.loads(run.stdout.splitlines()[-1])["largest"]] != largest:
+        wrong = f"the largest are not {largest}"
+    return wrong and f"{name}: sums: {wrong}"
 
 
 def differs(wanted, line):
@@ -240,9 +250,36 @@ def compared(name, data, wanted, output, status):
     return "" if status == refused else f"{name}: the status is {status}"
 
 
+def taken_up(packets, limit=4):
+    """Places at which a connection is taken up, each with what both sides agreed on and what is wanted from there on."""
+    watcher, wanted, places = Watcher(), [], []
+    for at, packet in enumerate(packets):
+        is_between = not watcher.session.before and watcher.session.is_at_rest()
+        it, comes = watcher.wanted(packet)
+        if not comes:
+            break
+        if is_between and it["kind"] == "command":
+            places.append(at)
+        wanted.append({name: it[name] for name in ("side", "sequence", "kind", "size")})
+    step = max(1, len(places) // limit)
+    for at in places[::step][:limit]:
+        # (an answer that came before is passed over)
+        front = 1 if at and packets[at - 1].side == SERVER else 0
+        yield packets[at - front : len(wanted)], (watcher.session.flags, watcher.session.own), wanted[at:]
+
+
+def wrong_amid(name, packets):
+    """How many places a connection was taken up at, and what was wrong at them."""
+    wrong, places = [], list(taken_up(packets))
+    for rest, (flags, own), wanted in places:
+        words = ["--json", f"caps={flags:x}", f"mariadb={own:x}"]
+        run = subprocess.run([PROGRAM, "conversation", *words], input=as_lines([(it.side, it.bytes()) for it in rest if len(it.payload) < 0xFFFFFF]), capture_output=True)
+        wrong += [it for it in [compared(f"{name}: taken up", b"", [(it, True) for it in wanted], run.stdout, run.returncode)] if it]
+    return len(places), wrong
+
+
 def bounded():
     """100 MB of a recording in bounded memory: what is wrong, or no text."""
-    greeting, login = next(pieces_of(FOLDER / "cli_notrack_13.txt.xz")), None
     pieces = list(pieces_of(FOLDER / "cli_notrack_13.txt.xz"))[:3]
     query = Packet(CLIENT, 0, b"\x03" + b"insert into t values (" + b"7," * 4000 + b"7)").bytes()
     answer = Packet(SERVER, 1, bytes.fromhex("00000002000000")).bytes()
@@ -253,7 +290,7 @@ def bounded():
     for _ in range(100_000_000 // len(exchange) + 1):
         run.stdin.write(exchange)
     run.stdin.close()
-    _, status, used = __import__("os").wait4(run.pid, 0)
+    _, status, used = os.wait4(run.pid, 0)
     if status:
         return f"100 MB: the status is {status}"
     print(f"recording: 100 MB in {time.time() - began:.1f} s, at most {used.ru_maxrss // 1024} MiB of memory")
@@ -284,6 +321,14 @@ def main():
         passed, failed = passed + right, failed + (not right)
         if not right:
             print(f"{path.name}: the lines of its packets differ")
+        places, faults = wrong_amid(path.name, [it for it in packets_of(pieces)]) if all(len(it.payload) < 0xFFFFFF for it in packets_of(pieces)) else (0, [])
+        passed, failed = passed + places - len(faults), failed + len(faults)
+        for wrong in faults:
+            print(wrong)
+        wrong = sums_differ(path.name, pieces, wanted)
+        passed, failed = passed + (not wrong), failed + bool(wrong)
+        if wrong:
+            print(wrong)
     for wrong in [bounded()]:
         passed, failed = passed + (not wrong), failed + bool(wrong)
         if wrong:

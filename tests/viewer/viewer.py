@@ -23,6 +23,7 @@ PAGE = TOP / "examples/viewer/index.html"
 # what runs in the page after its own script: it acts as a user does, and leaves what it saw in the document
 ACTS = """
 const wait = () => new Promise((done) => setTimeout(done, 150));
+const until = async (is) => { for (let at = 0; at < 60 && !is(); at++) await wait(); return is(); };
 const by = (id) => document.getElementById(id);
 const load = (content) => { by("paste").value = content; by("paste").dispatchEvent(new Event("input")); };
 const press = (key) => by("list").dispatchEvent(new KeyboardEvent("keydown", { key, bubbles: true }));
@@ -59,7 +60,7 @@ def chromium(path, *words):
 def seen(acts, data=""):
     """What acts left in the document."""
     with tempfile.TemporaryDirectory() as folder:
-        dom = chromium(page_with(folder, acts, data), "--virtual-time-budget=20000", "--dump-dom")
+        dom = chromium(page_with(folder, acts, data), "--virtual-time-budget=60000", "--dump-dom")
     found = re.search(r'<pre id="seen">(.*?)</pre>', dom, re.S)
     return json.loads(html.unescape(found[1])) if found else {"error": "the page left nothing"}
 
@@ -171,8 +172,8 @@ def many():
         await set("fold", false);
         seen.rows = Math.round(parseFloat(by("height").style.height) / 26);
         seen.made = document.querySelectorAll("#list .row").length;
-        by("list").scrollTop = 26 * 150000; await wait();
-        seen.scrolled = labels().some((it) => it.startsWith("packet 150010,"));
+        by("list").scrollTop = 26 * 150000;
+        seen.scrolled = await until(() => labels().some((it) => it.startsWith("packet 150010,")));
         """
     )
     hold("200,000 packets", answer.get("rows"), 200000)

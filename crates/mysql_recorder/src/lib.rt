@@ -6,6 +6,7 @@ mod client_fields;
 mod command_fields;
 mod field;
 mod float;
+mod followed;
 mod json;
 mod kind_name;
 mod line;
@@ -14,6 +15,7 @@ mod prepared;
 mod program;
 mod recording;
 mod server_fields;
+mod sums;
 mod text;
 mod values;
 

@@ -58,7 +58,7 @@ impl<'a> Packet<'a> {
     }
 
     /// The name of the packet's side.
-    fn side_name(&self) -> &'static str {
+    pub(crate) fn side_name(&self) -> &'static str {
         match self.side {
             Side::Client => "client",
             Side::Server => "server",

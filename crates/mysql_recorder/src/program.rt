@@ -1,7 +1,10 @@
-//! `mypackets conversation [MAX] [--json]`.
+//! `mypackets conversation [MAX] [caps=CAPS] [mariadb=CAPS] [--json] [--sum]`.
 
 use crate::packet::Layout;
 use crate::recording::{Recording, RecordingError};
+use bitflags::Flags;
+use mysql_replies::SessionCapabilities;
+use mysql_wire::{CapabilityFlags, MariadbCapabilities};
 use std::alloc::Global;
 use std::io::{Read, Write};
 
@@ -11,13 +14,17 @@ const LONGEST: usize = 64 << 20;
 /// How many commands may wait for the answers to earlier ones.
 const WAITING: usize = 4096;
 
-const USAGE: &[u8] = b"usage: mypackets conversation [MAX] [--json]\n";
+const USAGE: &[u8] = b"usage: mypackets conversation [MAX] [caps=CAPS] [mariadb=CAPS] [--json] [--sum]\n";
 
 /// What is asked for.
 #[derive(Clone, Copy)]
 struct Call {
     layout: Layout,
     longest: usize,
+    /// Whether sums end the output.
+    sums: bool,
+    /// What both sides agreed on, where the connection is taken up amid it.
+    agreed: Option<SessionCapabilities>,
 }
 
 /// The call that the words after the command's name give, unless it is a bad one.
@@ -25,14 +32,41 @@ fn call_of(words: &[String]) -> Option<Call> {
     let mut call = Call {
         layout: Layout::Lines,
         longest: LONGEST,
+        sums: false,
+        agreed: None,
     };
+    let (mut caps, mut mariadb) = (None, 0);
     for word in words {
         match word.as_str() {
             "--json" => call.layout = Layout::Json,
-            digits => call.longest = digits.parse::<usize>().ok()?,
+            "--sum" => call.sums = true,
+            word => {
+                if let Some(digits) = word.strip_prefix("caps=") {
+                    caps = Some(flags_of(digits)?);
+                } else if let Some(digits) = word.strip_prefix("mariadb=") {
+                    mariadb = flags_of(digits)?;
+                } else {
+                    call.longest = word.parse::<usize>().ok()?;
+                }
+            }
         }
     }
-    if words.len() <= 2 { Some(call) } else { None }
+    call.agreed = agreed_of(caps, mariadb);
+    if words.len() <= 5 { Some(call) } else { None }
+}
+
+/// Flags in hexadecimal.
+fn flags_of(digits: &str) -> Option<u32> {
+    u32::from_str_radix(digits, 16).ok()
+}
+
+/// What both sides agreed on, where that is said.
+fn agreed_of(caps: Option<u32>, mariadb: u32) -> Option<SessionCapabilities> {
+    let caps = caps?;
+    Some(SessionCapabilities {
+        mysql: CapabilityFlags::from_bits_retain(caps),
+        mariadb: MariadbCapabilities::from_bits_retain(mariadb),
+    })
 }
 
 /// Reads a recording, and writes what its packets say, each once it is whole. It answers the status.
@@ -55,13 +89,19 @@ pub fn run<R: Read, W: Write>(
         return end(writer, USAGE, 2);
     };
     let mut recording = Recording::new(alloc, call.layout, call.longest, WAITING);
+    if let Some(agreed) = call.agreed {
+        recording = recording.taken_up(agreed, WAITING);
+    }
+    if call.sums {
+        recording = recording.with_sums();
+    }
     let mut chunk = [0u8; 16384];
     for _ in 0..u64::MAX {
         let Ok(count) = reader.read(&mut chunk) else {
             return 3;
         };
         if count == 0 {
-            return 0;
+            return end_with_sums(alloc, &recording, writer, 0);
         }
         let mut out = String::new(alloc);
         let taken = recording.take(&chunk[..count], &mut out);
@@ -69,10 +109,25 @@ pub fn run<R: Read, W: Write>(
             return 3;
         }
         if let Err(error) = taken {
-            return refuse(alloc, call.layout, &error, writer);
+            let status = refuse(alloc, call.layout, &error, writer);
+            return end_with_sums(alloc, &recording, writer, status);
         }
     }
     3
+}
+
+/// Writes the sums, where they are asked for, and answers the status; 3 where the write failed.
+fn end_with_sums<W: Write>(
+    alloc: Global,
+    recording: &Recording,
+    writer: &mut W,
+    status: u8,
+) -> u8 {
+    let mut out = String::new(alloc);
+    match recording.append_sums(&mut out) {
+        Ok(()) => end(writer, out.as_bytes(), status),
+        Err(_) => end(writer, b"refused: Memory\n", 1),
+    }
 }
 
 /// Writes the text, and answers the status; 3 where the write failed.

@@ -2,15 +2,18 @@
 
 use crate::client_fields::client_fields;
 use crate::field::Field;
+use crate::followed::Followed;
 use crate::kind_name::name_of;
 use crate::line::{LineError, Place};
 use crate::packet::{Layout, Packet};
 use crate::prepared::{Prepared, append_params};
 use crate::server_fields::server_fields;
+use crate::sums::Sums;
 use crate::values::fault_name;
-use mysql_conversation::{Kind, Refusal, Session, Side};
+use mysql_conversation::{Kind, Refusal, Side};
 use mysql_frames::{FrameError, FrameReader};
 use mysql_observer::{ReadContext, client_packet, server_packet};
+use mysql_replies::SessionCapabilities;
 use mysql_statements::RowColumn;
 use std::alloc::{AllocError, Global};
 use thiserror::Error;
@@ -95,10 +98,12 @@ pub struct Recording {
     place: Place,
     client: FrameReader,
     server: FrameReader,
-    session: Session,
+    followed: Followed,
     prepared: Prepared,
     /// How many columns a row of text has: the count that its result began with.
     columns: usize,
+    /// What the packets come to, where that is asked for.
+    sums: Option<Sums>,
 }
 
 impl Recording {
@@ -110,15 +115,39 @@ impl Recording {
             place: Place::Start,
             client: FrameReader::new(alloc, longest),
             server: FrameReader::new(alloc, longest),
-            session: Session::new(alloc, waiting),
+            followed: Followed::whole(alloc, waiting),
             prepared: Prepared::new(alloc, waiting),
             columns: 0,
+            sums: None,
+        }
+    }
+
+    /// Takes up a connection at its next command, under what both sides agreed on: its greeting and its login were not seen. What
+    /// stands before that command is passed over.
+    pub fn taken_up(self, agreed: SessionCapabilities, waiting: usize) -> Self {
+        let mut recording = self;
+        recording.followed = Followed::taken_up(recording.alloc, agreed, waiting);
+        recording
+    }
+
+    /// Sums what comes from here on.
+    pub fn with_sums(self) -> Self {
+        let mut recording = self;
+        recording.sums = Some(Sums::new(recording.alloc));
+        recording
+    }
+
+    /// Appends the sums, where they are asked for.
+    pub fn append_sums(&self, out: &mut String) -> Result<(), AllocError> {
+        match &self.sums {
+            Some(sums) => sums.append(self.layout, out),
+            None => Ok(()),
         }
     }
 
     /// Whether all that was asked for is answered, and no packet is cut.
     pub fn is_whole(&self) -> bool {
-        self.client.is_between() && self.server.is_between() && self.session.is_at_rest()
+        self.client.is_between() && self.server.is_between() && self.followed.is_at_rest()
     }
 
     /// Takes a piece of the input, and appends what its packets say.
@@ -178,6 +207,9 @@ impl Recording {
         payload: &[u8],
         out: &mut String,
     ) -> Result<(), RecordingError> {
+        if self.followed.passes_over(side, sequence) {
+            return Ok(());
+        }
         let mut packet = Packet {
             side,
             sequence,
@@ -185,11 +217,14 @@ impl Recording {
             kind: "refused",
             payload,
         };
-        let is_between = self.session.is_at_rest();
-        match self.session.next(side, payload) {
+        let is_between = self.followed.is_at_rest();
+        match self.followed.next(side, payload) {
             Ok((kind, exchange)) => {
                 packet.exchange = exchange;
                 packet.kind = name_of(kind);
+                if let Some(sums) = &mut self.sums {
+                    sums.add(&packet, kind)?;
+                }
                 let is_early = !is_between && matches!(kind, Kind::Command(_));
                 self.show(&packet, kind, is_early, out)?;
                 Ok(())
@@ -226,7 +261,7 @@ impl Recording {
 
     /// Keeps what a packet says of statements.
     fn keep(&mut self, packet: &Packet<'_>, kind: Kind, is_early: bool) -> Result<(), AllocError> {
-        let Some(agreed) = self.session.agreed() else {
+        let Some(agreed) = self.followed.agreed() else {
             return Ok(());
         };
         if is_early {
@@ -259,7 +294,7 @@ impl Recording {
         is_early: bool,
         out: &mut String,
     ) -> Result<(), AllocError> {
-        let read = client_packet(self.alloc, self.session.agreed(), kind, packet.payload);
+        let read = client_packet(self.alloc, self.followed.agreed(), kind, packet.payload);
         let mut fields = Vec::new(self.alloc);
         if let Kind::Command(code) = kind {
             fields.extend_from_slice(&[Field::command("command", code)])?;
@@ -281,7 +316,7 @@ impl Recording {
         kind: Kind,
         fields: &mut Vec<Field<'p>>,
     ) -> Result<(), AllocError> {
-        match (self.session.agreed(), self.prepared.executed(kind, packet.payload)) {
+        match (self.followed.agreed(), self.prepared.executed(kind, packet.payload)) {
             (Some(agreed), Some(statement)) => {
                 append_params(self.alloc, agreed, statement, packet.payload, fields)
             }
@@ -297,7 +332,7 @@ impl Recording {
     ) -> Result<(), AllocError> {
         let columns: &[RowColumn] = self.prepared.columns().unwrap_or(&[]);
         let context = ReadContext {
-            agreed: self.session.agreed(),
+            agreed: self.followed.agreed(),
             column_count: self.columns,
             columns,
             semi_sync: false,

@@ -1,0 +1,309 @@
+//! What a recording comes to.
+
+use crate::packet::{Layout, Packet};
+use mysql_conversation::{Kind, Side};
+use mysql_wire::{ConstValue, ServerCommand};
+use serde_json::{Map, Value, push, put};
+use std::alloc::{AllocError, Global};
+use std::collections::BTreeMap;
+
+/// How many of the largest packets are named.
+const LARGEST: usize = 5;
+
+/// How many statements that are open are named at most.
+const OPEN: usize = 4096;
+
+/// What the packets of one side and kind come to.
+#[derive(Clone, Copy)]
+struct Tally {
+    side: Side,
+    kind: &'static str,
+    packets: u64,
+    bytes: u64,
+}
+
+/// One of the largest packets: its size, and its number among all, the first being 1.
+#[derive(Clone, Copy)]
+struct Large {
+    size: usize,
+    number: u64,
+    side: &'static str,
+    kind: &'static str,
+}
+
+/// The sums of a recording.
+#[derive(Drop)]
+pub(crate) struct Sums {
+    alloc: Global,
+    packets: u64,
+    rows: u64,
+    /// By the first byte of their commands.
+    exchanges: BTreeMap<u8, u64>,
+    /// By side and kind, in the order in which they came first.
+    tallies: Vec<Tally>,
+    /// By code.
+    errors: BTreeMap<u16, u64>,
+    /// The largest first.
+    largest: Vec<Large>,
+    /// The statements that are prepared and not closed.
+    open: BTreeMap<u32, u64>,
+}
+
+impl Sums {
+    /// Of no packet.
+    pub(crate) fn new(alloc: Global) -> Self {
+        Sums {
+            alloc,
+            packets: 0,
+            rows: 0,
+            exchanges: BTreeMap::new(alloc),
+            tallies: Vec::new(alloc),
+            errors: BTreeMap::new(alloc),
+            largest: Vec::new(alloc),
+            open: BTreeMap::new(alloc),
+        }
+    }
+
+    /// Counts a packet that came.
+    pub(crate) fn add(&mut self, packet: &Packet<'_>, kind: Kind) -> Result<(), AllocError> {
+        self.packets = self.packets.saturating_add(1);
+        self.tally(packet)?;
+        self.rank(packet)?;
+        match kind {
+            Kind::Command(code) => {
+                count(&mut self.exchanges, code)?;
+                self.close(code, packet.payload);
+                Ok(())
+            }
+            Kind::Row(_) => {
+                self.rows = self.rows.saturating_add(1);
+                Ok(())
+            }
+            Kind::Error | Kind::UnaskedError => self.fail(packet.payload),
+            Kind::PrepareOk(_, _, _) => self.prepare(packet),
+            _ => Ok(()),
+        }
+    }
+
+    fn tally(&mut self, packet: &Packet<'_>) -> Result<(), AllocError> {
+        let size = packet.payload.len() as u64;
+        for tally in self.tallies.iter_mut() {
+            if tally.side == packet.side && tally.kind == packet.kind {
+                tally.packets = tally.packets.saturating_add(1);
+                tally.bytes = tally.bytes.saturating_add(size);
+                return Ok(());
+            }
+        }
+        self.tallies.extend_from_slice(
+            &[
+                Tally {
+                    side: packet.side,
+                    kind: packet.kind,
+                    packets: 1,
+                    bytes: size,
+                },
+            ],
+        )
+    }
+
+    /// Puts a packet among the largest, where it is one.
+    fn rank(&mut self, packet: &Packet<'_>) -> Result<(), AllocError> {
+        let size = packet.payload.len();
+        let place = self
+            .largest
+            .iter()
+            .position(|it| it.size < size)
+            .unwrap_or(self.largest.len());
+        if place >= LARGEST {
+            return Ok(());
+        }
+        let large = Large {
+            size,
+            number: self.packets,
+            side: packet.side_name(),
+            kind: packet.kind,
+        };
+        self.largest.insert(place, large)?;
+        self.largest.truncate(LARGEST);
+        Ok(())
+    }
+
+    /// Counts an error by its code, which stands after the first byte.
+    fn fail(&mut self, payload: &[u8]) -> Result<(), AllocError> {
+        match payload {
+            [_, low, high, ..] => count(&mut self.errors, u16::from_le_bytes([*low, *high])),
+            _ => Ok(()),
+        }
+    }
+
+    /// A statement is open from its preparation on, with the number of that packet.
+    fn prepare(&mut self, packet: &Packet<'_>) -> Result<(), AllocError> {
+        if let [_, a, b, c, d, ..] = packet.payload {
+            if self.open.len() < OPEN {
+                let id = u32::from_le_bytes([*a, *b, *c, *d]);
+                self.open.insert(id, self.packets)?;
+            }
+        }
+        Ok(())
+    }
+
+    /// A command that closes a statement, or all.
+    fn close(&mut self, code: u8, payload: &[u8]) {
+        match (ServerCommand::from_code(code), payload) {
+            (Some(ServerCommand::COM_STMT_CLOSE), [_, a, b, c, d, ..]) => {
+                let _closed = self.open.remove(&u32::from_le_bytes([*a, *b, *c, *d]));
+            }
+            (Some(ServerCommand::COM_CHANGE_USER | ServerCommand::COM_RESET_CONNECTION), _) => {
+                self.open.clear();
+            }
+            _ => {}
+        }
+    }
+
+    /// Appends the sums.
+    pub(crate) fn append(&self, layout: Layout, out: &mut String) -> Result<(), AllocError> {
+        match layout {
+            Layout::Lines => self.append_lines(out),
+            Layout::Json => {
+                let text = self.object()?.to_string(self.alloc)?;
+                write!(out, "{text}\n")
+            }
+        }
+    }
+
+    fn append_lines(&self, out: &mut String) -> Result<(), AllocError> {
+        let (packets, rows) = (self.packets, self.rows);
+        write!(out, "sum: {packets} packets\n")?;
+        for (code, count) in self.exchanges.iter() {
+            append_exchanges(out, *code, *count)?;
+        }
+        for tally in self.tallies.iter() {
+            let (sign, kind) = (sign_of(tally.side), tally.kind);
+            let (packets, bytes) = (tally.packets, tally.bytes);
+            write!(out, "packets: {sign} {kind} {packets}, {bytes} bytes\n")?;
+        }
+        write!(out, "rows: {rows}\n")?;
+        for (code, count) in self.errors.iter() {
+            write!(out, "error: {code} {count}\n")?;
+        }
+        for large in self.largest.iter() {
+            let (size, number) = (large.size, large.number);
+            let (side, kind) = (large.side, large.kind);
+            write!(out, "largest: {size} bytes, packet {number}, {kind} of the {side}\n")?;
+        }
+        for (id, number) in self.open.iter() {
+            write!(out, "open_statement: {id}, prepared by packet {number}\n")?;
+        }
+        Ok(())
+    }
+
+    /// The sums as an object.
+    fn object(&self) -> Result<Value, AllocError> {
+        let alloc = self.alloc;
+        let mut object = Map::new(alloc);
+        put(&mut object, alloc, "kind", Value::String(String::from_str(alloc, "sum")?))?;
+        put(&mut object, alloc, "packets", Value::from(self.packets))?;
+        put(&mut object, alloc, "rows", Value::from(self.rows))?;
+        put(&mut object, alloc, "exchanges", self.exchanges_value()?)?;
+        put(&mut object, alloc, "kinds", self.kinds_value()?)?;
+        put(&mut object, alloc, "errors", self.errors_value()?)?;
+        put(&mut object, alloc, "largest", self.largest_value()?)?;
+        put(&mut object, alloc, "open_statements", self.open_value()?)?;
+        Ok(Value::Object(object))
+    }
+
+    fn exchanges_value(&self) -> Result<Value, AllocError> {
+        let mut object = Map::new(self.alloc);
+        for (code, count) in self.exchanges.iter() {
+            let name = name_of(self.alloc, *code)?;
+            put(&mut object, self.alloc, name.as_str(), Value::from(*count))?;
+        }
+        Ok(Value::Object(object))
+    }
+
+    fn kinds_value(&self) -> Result<Value, AllocError> {
+        let mut list = Vec::new(self.alloc);
+        for tally in self.tallies.iter() {
+            push(&mut list, self.tally_value(tally)?)?;
+        }
+        Ok(Value::Array(list))
+    }
+
+    fn tally_value(&self, tally: &Tally) -> Result<Value, AllocError> {
+        let alloc = self.alloc;
+        let mut object = Map::new(alloc);
+        let side = match tally.side {
+            Side::Client => "client",
+            Side::Server => "server",
+        };
+        put(&mut object, alloc, "side", Value::String(String::from_str(alloc, side)?))?;
+        put(&mut object, alloc, "kind", Value::String(String::from_str(alloc, tally.kind)?))?;
+        put(&mut object, alloc, "packets", Value::from(tally.packets))?;
+        put(&mut object, alloc, "bytes", Value::from(tally.bytes))?;
+        Ok(Value::Object(object))
+    }
+
+    fn errors_value(&self) -> Result<Value, AllocError> {
+        let mut object = Map::new(self.alloc);
+        for (code, count) in self.errors.iter() {
+            let code = format!(in self.alloc; "{code}")?;
+            put(&mut object, self.alloc, code.as_str(), Value::from(*count))?;
+        }
+        Ok(Value::Object(object))
+    }
+
+    fn largest_value(&self) -> Result<Value, AllocError> {
+        let alloc = self.alloc;
+        let mut list = Vec::new(alloc);
+        for large in self.largest.iter() {
+            let mut object = Map::new(alloc);
+            put(&mut object, alloc, "size", Value::from(large.size))?;
+            put(&mut object, alloc, "packet", Value::from(large.number))?;
+            put(&mut object, alloc, "side", Value::String(String::from_str(alloc, large.side)?))?;
+            put(&mut object, alloc, "kind", Value::String(String::from_str(alloc, large.kind)?))?;
+            push(&mut list, Value::Object(object))?;
+        }
+        Ok(Value::Array(list))
+    }
+
+    fn open_value(&self) -> Result<Value, AllocError> {
+        let mut list = Vec::new(self.alloc);
+        for (id, _) in self.open.iter() {
+            push(&mut list, Value::from(*id))?;
+        }
+        Ok(Value::Array(list))
+    }
+}
+
+/// Counts one more.
+fn count<K: Ord + Drop>(counts: &mut BTreeMap<K, u64>, key: K) -> Result<(), AllocError> {
+    if let Some(count) = counts.get_mut(&key) {
+        *count = count.saturating_add(1);
+        return Ok(());
+    }
+    counts.insert(key, 1)?;
+    Ok(())
+}
+
+/// The sign of a side.
+fn sign_of(side: Side) -> &'static str {
+    match side {
+        Side::Client => ">",
+        Side::Server => "<",
+    }
+}
+
+/// The name of a command; its number where it has none.
+fn name_of(alloc: Global, code: u8) -> Result<String, AllocError> {
+    match ServerCommand::from_code(code) {
+        Some(command) => format!(in alloc; "{command:?}"),
+        None => format!(in alloc; "{code}"),
+    }
+}
+
+fn append_exchanges(out: &mut String, code: u8, count: u64) -> Result<(), AllocError> {
+    match ServerCommand::from_code(code) {
+        Some(command) => write!(out, "exchanges: {command:?} {count}\n"),
+        None => write!(out, "exchanges: {code} {count}\n"),
+    }
+}
