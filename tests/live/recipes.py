@@ -1,10 +1,12 @@
 """The recipes of crates/examples_driver, each played by the program with a socket as its standard input and output."""
 import hashlib
 import os
+import select
 import socket
 import struct
 import subprocess
 import tempfile
+import threading
 import time
 from pathlib import Path
 
@@ -62,7 +64,7 @@ class Recipes:
         self.check("the program of the recipes is built", built())
         for program in built():
             self.program = program
-            for recipe in ("login", "sha2", "query", "execute", "changes", "bulk", "errors", "infile", "replica"):
+            for recipe in ("login", "sha2", "query", "execute", "changes", "bulk", "errors", "infile", "replica", "proxy"):
                 getattr(self, f"recipe_{recipe}")()
 
     def played(self, recipe, *arguments, **how):
@@ -199,6 +201,52 @@ class Recipes:
                    and b"create table live.replicated (n int)" in statements[0] and b"insert into live.replicated values (12345)" in statements[1],
                    (kinds, got.lines[-2:]))
         it.close()
+
+    def recipe_proxy(self):
+        """recorded sessions of the other recipes: what goes on is what came, whichever pieces a side sends"""
+        file = Path(__file__)
+        local = ["load data local infile '/x' into table live.loaded lines starting by 'no such'", "/x", file]
+        # (what goes on as it came: rows, the parts of a file and its end, reports of progress)
+        for recipe, arguments, as_sent in (("query", ["select 1, 'a', null union select 22, '', 'z'"], 2), ("query", ["select no_such_column"], 0),
+                                           ("infile", local, -(-file.stat().st_size // 8192) + 1), ("execute", ["select ?, ? union select 'z', null", "i-5", "x616263"], 2),
+                                           ("query", [f"select repeat('r', {0xFFFFFF + 100})"], 1)):
+            lines = []
+            with socket.create_server(("127.0.0.1", 0)) as listener:
+                relay = threading.Thread(target=relayed, args=(listener, self.port, lines))
+                relay.start()
+                as_sent += len(played(self.program, listener.getsockname()[1], recipe, *arguments).of("report"))
+                relay.join()
+            for size in (1 << 30, 3, 1000):
+                if size == 3 and len(lines) > 100:
+                    continue
+                came = [f"{side} {digits[k:k + 2 * size]}" for side, digits in lines for k in range(0, len(digits), 2 * size)]
+                it = subprocess.run([self.program, "proxy"], input="\n".join(came) + "\n", capture_output=True, text=True)
+                self.check(f"the proxy of {recipe}, in pieces of {size}", len(came) >= 5 and it.returncode == 0 and joined(it.stdout) == joined("\n".join(came))
+                           and it.stderr.endswith(f", as sent: {as_sent}\n"), (len(came), it.stderr[-300:]))
+
+
+def relayed(listener, port, lines):
+    """Passes one connection on to the server, and keeps each piece of a side."""
+    client, _ = listener.accept()
+    with client, socket.create_connection(("127.0.0.1", port), 60) as server:
+        sides = {client: ("client", server), server: ("server", client)}
+        while True:
+            for it in select.select(list(sides), [], [])[0]:
+                piece = it.recv(1 << 16)
+                if not piece:
+                    return
+                name, other = sides[it]
+                lines.append((name, piece.hex()))
+                other.sendall(piece)
+
+
+def joined(text):
+    """What each side sent in all."""
+    sides = {"client": [], "server": []}
+    for line in text.splitlines():
+        side, digits = line.split(" ")
+        sides[side].append(digits)
+    return {side: "".join(them) for side, them in sides.items()}
 
 
 def bits(kind, number):

@@ -1,5 +1,6 @@
 //! Why a session ended.
 
+use mysql_packets::conversation::Refusal;
 use mysql_packets::frames::FrameError;
 use mysql_packets::io::Fault;
 use mysql_packets::packets::{
@@ -19,6 +20,8 @@ pub enum Error {
     Frames(FrameError),
     /// A packet is none of those that may stand there.
     Fault(Fault),
+    /// A packet does not come there, or is none that a proxy reads.
+    Session(Refusal),
     /// The server answered with an error.
     Server(ServerError<'static>),
     /// A type may not be declared for a column of a bulk insert.
@@ -41,6 +44,7 @@ impl fmt::Display for Error {
             Error::Memory => write!(f, "out of memory"),
             Error::Frames(error) => write!(f, "frames: {error}"),
             Error::Fault(fault) => write!(f, "fault: {fault}"),
+            Error::Session(refusal) => write!(f, "session: {refusal:?}"),
             Error::Server(error) => write!(f, "{error}"),
             Error::Types(error) => write!(f, "types: {error}"),
             Error::Rows(error) => write!(f, "rows: {error}"),
@@ -79,6 +83,12 @@ impl From<FrameError> for Error {
 impl From<Fault> for Error {
     fn from(fault: Fault) -> Error {
         Error::Fault(fault)
+    }
+}
+
+impl From<Refusal> for Error {
+    fn from(refusal: Refusal) -> Error {
+        Error::Session(refusal)
     }
 }
 

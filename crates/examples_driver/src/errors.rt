@@ -3,12 +3,27 @@
 use crate::connection::Connection;
 use crate::error::{Error, Result};
 use mysql_packets::io::ParseBuf;
-use mysql_packets::packets::ErrPacket;
+use mysql_packets::packets::{ErrPacket, GreetingErrorRef, ServerError};
+use std::alloc::Global;
 use std::io::{Read, Write};
 
+/// The server's greeting. An error may stand in its place, as where there are too many connections.
+pub fn greeting<R: Read, W: Write>(connection: &mut Connection<R, W>) -> Result<Vec<u8>> {
+    let payload = connection.receive()?;
+    if payload.first().copied() != Some(0xff) {
+        return Ok(payload);
+    }
+    Err(Error::Server(greeting_error(connection.alloc, &payload)?))
+}
+
+/// What stands in place of the greeting. Nothing is agreed on yet, so that its own bytes say whether there is an SQL state.
+fn greeting_error(alloc: Global, payload: &[u8]) -> Result<ServerError<'static>> {
+    let packet: GreetingErrorRef<'_> = ParseBuf::new(alloc, payload).parse(())?;
+    let error = packet.server_error().to_error();
+    Ok(error.into_owned(alloc)?)
+}
+
 /// The next packet that is neither an error nor a report of progress. Reports are kept, an error ends the wait.
-///
-/// In place of the greeting, as where there are too many connections, an error has no SQL state: there are no capabilities yet.
 pub fn answer<R: Read, W: Write>(connection: &mut Connection<R, W>) -> Result<Vec<u8>> {
     for _ in 0..u64::MAX {
         let payload = connection.receive()?;

@@ -3,7 +3,7 @@
 use crate::authenticate::{Answers, authenticate};
 use crate::connection::Connection;
 use crate::error::Result;
-use crate::errors::answer;
+use crate::errors::greeting;
 use mysql_packets::constants::{
     CapabilityFlags, Flags, MariadbCapabilities, supported_capabilities,
 };
@@ -104,7 +104,7 @@ pub fn login<R: Read, W: Write, A: Answers>(
     database: &str,
     answers: &mut A,
 ) -> Result<()> {
-    let payload = answer(connection)?;
+    let payload = greeting(connection)?;
     let mut scramble = greeted(connection, &payload, user, database, answers)?;
     authenticate(connection, &mut scramble, answers)
 }

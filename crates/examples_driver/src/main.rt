@@ -2,6 +2,7 @@
 //!
 //! `examples_driver RECIPE USER PASSWORD PATH DATABASE ARG ..` speaks with a server on its standard input and output, and writes what it
 //! read as lines of standard error. The file PATH has what is computed of the password elsewhere: see [`passwords`].
+//! `examples_driver proxy` speaks with none, and plays a recorded conversation: see [`relay`].
 #![tactic(auto)]
 
 mod authenticate;
@@ -14,7 +15,9 @@ mod infile;
 mod login;
 mod passwords;
 mod play;
+mod proxy;
 mod query;
+mod relay;
 mod replica;
 mod rows;
 mod session_changes;
@@ -25,6 +28,7 @@ use crate::error::Result;
 use crate::login::login;
 use crate::passwords::Passwords;
 use crate::play::{Arguments, play};
+use crate::relay::relay;
 use std::process::ExitCode;
 use std::{env, io};
 
@@ -43,6 +47,9 @@ fn word(words: &[String], place: usize) -> &str {
 
 fn run(rt: &HostRuntime) -> Result<()> {
     let words = command_line(rt)?;
+    if word(&words, 0) == "proxy" {
+        return relay(rt);
+    }
     let mut connection = Connection::new(rt.alloc(), rt.reader(), io::writer(rt));
     let mut answers = Passwords {
         rt,

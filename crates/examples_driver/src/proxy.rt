@@ -1,0 +1,227 @@
+//! A proxy: what a side sends is read, and written on to the other.
+//!
+//! There is no IO in it. Whoever drives it passes on the bytes of each side as they come, in any pieces, and sends what is appended.
+
+use crate::error::{Error, Result};
+use mysql_packets::constants::{CapabilityFlags, Flags};
+use mysql_packets::conversation::{Kind, Refusal, Session, Side};
+use mysql_packets::frames::{FrameReader, write_frames};
+use mysql_packets::observer::{
+    ClientPacket, ReadContext, ServerPacket, client_packet, server_packet,
+};
+use mysql_packets::packets::{
+    Column, CommonOkPacket, OkPacketLayout, OkPacketRef, OkPacketSerializer, OldEofPacket,
+    ResultSetTerminator,
+};
+use mysql_packets::proto::MySerialize;
+use std::alloc::{AllocError, Global};
+
+/// The longest payload that goes on: the most that a server's `max_allowed_packet` can be.
+const LONGEST: usize = 1 << 30;
+
+/// How many commands a client may send before the answers to earlier ones.
+const WAITING: usize = 1 << 10;
+
+/// What stands between a client and a server.
+#[derive(Drop)]
+pub struct Proxy {
+    /// How many packets went on as their records are written.
+    pub as_read: u64,
+    /// How many went on as the bytes that came.
+    pub as_sent: u64,
+    alloc: Global,
+    session: Session,
+    client: FrameReader,
+    server: FrameReader,
+}
+
+impl Proxy {
+    /// A proxy through which nothing went yet.
+    pub fn new(alloc: Global) -> Self {
+        Proxy {
+            as_read: 0,
+            as_sent: 0,
+            alloc,
+            session: Session::new(alloc, WAITING),
+            client: FrameReader::new(alloc, LONGEST),
+            server: FrameReader::new(alloc, LONGEST),
+        }
+    }
+
+    /// Takes the next bytes of a side, and appends what goes on to the other: the packets that are whole.
+    ///
+    /// An error ends the connection. A request to go on in TLS is one, and so is a login that agrees on compression, since no packet
+    /// is found in what follows: a proxy that is to read takes these capabilities out of the greeting.
+    pub fn pass(&mut self, from: Side, bytes: &[u8], out: &mut Vec<u8>) -> Result<()> {
+        let mut bytes = bytes;
+        for _ in 0..u64::MAX {
+            // Each command begins the numbers anew, so the number of a frame is the one that it was sent with.
+            let frames = self.frames(from);
+            frames.expect_as_sent(bytes);
+            let number = frames.number();
+            let Some(payload) = frames.read(&mut bytes)? else {
+                break;
+            };
+            self.write_on(from, number, payload.as_slice(), out)?;
+            self.frames(from).give_back(payload);
+        }
+        Ok(())
+    }
+
+    /// What holds the bytes of a side whose packet is not whole.
+    fn frames(&mut self, from: Side) -> &mut FrameReader {
+        match from {
+            Side::Client => &mut self.client,
+            Side::Server => &mut self.server,
+        }
+    }
+
+    /// Appends a packet in frames of the numbers that it came with: the other side counts them on.
+    fn write_on(
+        &mut self,
+        from: Side,
+        number: u8,
+        payload: &[u8],
+        out: &mut Vec<u8>,
+    ) -> Result<()> {
+        let (kind, _command) = self.session.next(from, payload)?;
+        if let Kind::SslRequest = kind {
+            return Err(Error::Session(Refusal::Encrypted));
+        }
+        let mut written = Vec::new(self.alloc);
+        let is_as_read = match from {
+            Side::Client => self.client_as_read(kind, payload, &mut written),
+            Side::Server => self.server_as_read(kind, payload, &mut written),
+        }?;
+        if is_as_read {
+            self.as_read = self.as_read.saturating_add(1);
+        } else {
+            written.extend_from_slice(payload)?;
+            self.as_sent = self.as_sent.saturating_add(1);
+        }
+        write_frames(out, number, &written)?;
+        Ok(())
+    }
+
+    /// Writes what is read of the client. Whether it is what came.
+    ///
+    /// What a reader refuses goes on as it came: the session knows its kind, and the other side answers it.
+    fn client_as_read(
+        &self,
+        kind: Kind,
+        payload: &[u8],
+        written: &mut Vec<u8>,
+    ) -> Result<bool, AllocError> {
+        match client_packet(self.alloc, self.session.agreed(), kind, payload) {
+            Ok(packet) => write_client(self.alloc, &packet, payload, written),
+            Err(_) => Ok(false),
+        }
+    }
+
+    /// Writes what is read of the server. Whether it is what came.
+    ///
+    /// No value of a row is read, so that no column is kept. Who reads them passes the columns in the context.
+    fn server_as_read(
+        &self,
+        kind: Kind,
+        payload: &[u8],
+        written: &mut Vec<u8>,
+    ) -> Result<bool, AllocError> {
+        let agreed = self.session.agreed();
+        let context = ReadContext::<Column> {
+            agreed,
+            column_count: 0,
+            columns: &[],
+            semi_sync: false,
+        };
+        let capabilities = match agreed {
+            Some(agreed) => agreed.mysql,
+            None => CapabilityFlags::from_bits_retain(0),
+        };
+        match server_packet(self.alloc, &context, kind, payload) {
+            Ok(packet) => write_server(self.alloc, capabilities, &packet, payload, written),
+            Err(_) => Ok(false),
+        }
+    }
+}
+
+/// Writes a record, where its writer writes the bytes that came.
+///
+/// A number may come in more bytes than it takes, and bytes may follow a record: then nothing is written, so that they are not lost. Who
+/// changes a packet writes the other one in place of this.
+fn as_read<P: MySerialize>(
+    packet: &P,
+    payload: &[u8],
+    written: &mut Vec<u8>,
+) -> Result<bool, AllocError> {
+    packet.serialize(written)?;
+    let is_as_read = written.as_slice() == payload;
+    if !is_as_read {
+        written.clear();
+    }
+    Ok(is_as_read)
+}
+
+/// Writes an OK packet of the kind `T`, under what both sides can do.
+fn ok_as_read<T: OkPacketLayout>(
+    capabilities: CapabilityFlags,
+    packet: &OkPacketRef<'_>,
+    payload: &[u8],
+    written: &mut Vec<u8>,
+) -> Result<bool, AllocError> {
+    let packet = packet.to_ok_packet();
+    let sent = OkPacketSerializer::<T>::new(&packet, capabilities);
+    as_read(&sent, payload, written)
+}
+
+/// Writes a packet of the client. A part of a file goes on as it came, and so does its end.
+fn write_client(
+    alloc: Global,
+    packet: &ClientPacket<'_>,
+    payload: &[u8],
+    written: &mut Vec<u8>,
+) -> Result<bool, AllocError> {
+    match packet {
+        ClientPacket::Login(packet) => as_read(&packet.to_response(alloc)?, payload, written),
+        ClientPacket::AuthData(data) => as_read(data, payload, written),
+        ClientPacket::Command(command) => as_read(command, payload, written),
+        ClientPacket::SemiSyncAck(packet) => as_read(packet, payload, written),
+        ClientPacket::SslRequest(_) | ClientPacket::InfileContent(_) | ClientPacket::InfileEnd => {
+            Ok(false)
+        }
+    }
+}
+
+/// Writes a packet of the server. A row goes on as it came, and so does a report of progress.
+fn write_server(
+    alloc: Global,
+    capabilities: CapabilityFlags,
+    packet: &ServerPacket<'_, '_, Column>,
+    payload: &[u8],
+    written: &mut Vec<u8>,
+) -> Result<bool, AllocError> {
+    match packet {
+        ServerPacket::Handshake(packet) => as_read(&packet.to_packet(), payload, written),
+        ServerPacket::GreetingError(packet) => as_read(&packet.to_packet(), payload, written),
+        ServerPacket::AuthSwitch(packet) => as_read(&packet.to_packet(), payload, written),
+        ServerPacket::OldAuthSwitch(packet) => as_read(packet, payload, written),
+        ServerPacket::AuthMoreData(packet) => as_read(&packet.to_packet(), payload, written),
+        ServerPacket::AuthNextFactor(packet) => as_read(&packet.to_packet(), payload, written),
+        ServerPacket::AuthPluginData(data) => as_read(data, payload, written),
+        ServerPacket::Ok(ok) => ok_as_read::<CommonOkPacket>(capabilities, ok, payload, written),
+        ServerPacket::Eof(eof) => ok_as_read::<OldEofPacket>(capabilities, eof, payload, written),
+        ServerPacket::OkTerminator(ok) => {
+            ok_as_read::<ResultSetTerminator>(capabilities, ok, payload, written)
+        }
+        ServerPacket::Error(error) => as_read(&error.to_packet(), payload, written),
+        ServerPacket::UnaskedError(error) => as_read(&error.to_packet(), payload, written),
+        ServerPacket::LocalInfile(packet) => as_read(&packet.to_packet(), payload, written),
+        ServerPacket::ColumnCount(count) => as_read(count, payload, written),
+        ServerPacket::Column(column) => as_read(&column.to_column(alloc)?, payload, written),
+        ServerPacket::PrepareOk(statement) => as_read(statement, payload, written),
+        ServerPacket::Statistics(text) => as_read(text, payload, written),
+        ServerPacket::BinlogEvent(event) => as_read(event, payload, written),
+        ServerPacket::ProgressReport(_) | ServerPacket::TextRow(_) | ServerPacket::BinaryRow(_) =>
+            Ok(false),
+    }
+}
