@@ -202,6 +202,30 @@ bulk_on $'i1\nx\n' 'a line that is no row' 2 "$usage" 1 31
 bulk_on $'i1\n' 'a limit below 4' 2 "$usage" 1 3
 bulk_on $'i1\n' 'no row a request' 2 "$usage" 1 31 rows=0
 bulk_on $'i1\n' 'options in the other order' 2 "$usage" 1 31 rows=1 types
+
+# recorded INPUT WHAT STATUS OUTPUT WORD ..: `conversation` with these words, on this input
+recorded() {
+    printf '%s' "$1" >input
+    expect "$2" "$3" "$4" "$top/mypackets" conversation "${@:5}"
+    : >input
+}
+
+# (too many connections, as MariaDB says it in place of the greeting)
+many='< 17000000ff1004546f6f206d616e7920636f6e6e656374696f6e73'
+asked=$'usage: mypackets conversation [MAX] [caps=CAPS] [mariadb=CAPS] [--json] [--sum]\n'
+recorded '' 'no recording' 0 ''
+recorded "$many" 'an error in place of the greeting' 0 $'< 0 unasked_error\nerror: 1040\nsql_state: none\nmessage: x546f6f206d616e7920636f6e6e656374696f6e73\n'
+recorded $'# a ping\n\n> 0100 0000 0e\r\n< 07000001 00\n< 000002000000\n' 'a connection that is taken up' 0 \
+    $'> 0 command\ncommand: COM_PING\n< 1 ok\naffected_rows: 0\nlast_insert_id: none\nstatus_flags: 2\nwarnings: 0\ninfo: none\n' caps=0200
+recorded "$many" 'a payload past the limit' 1 $'refused: TooLong\n' 22
+recorded "$many"$'\n> 010000000e\n' 'a packet that does not come' 1 \
+    $'< 0 unasked_error\nerror: 1040\nsql_state: none\nmessage: x546f6f206d616e7920636f6e6e656374696f6e73\n> 0 refused\nbegins: x0e\nrefused: Unexpected\n'
+recorded '< 0100000' 'half a byte at the end' 0 ''
+recorded '< 01x0' 'a line that is none' 1 $'refused: InvalidInput\n'
+recorded '! 00' 'another sign' 1 $'refused: InvalidInput\n'
+recorded "$many" 'no number' 2 "$asked" many
+recorded "$many" 'no flags' 2 "$asked" caps=
+fails_to_write 'a conversation on a full device' "$top/mypackets" conversation --sum
 fails_to_write 'bulk requests on a full device' "$top/mypackets" bulk 1 31
 "$top/mypackets" bulk 1 31 <. >output 2>errors
 hold 'an input that cannot be read' "$( (($? == 3)) && [[ ! -s output && ! -s errors ]] || printf 'it did not end with status 3 alone')"
