@@ -24,10 +24,7 @@ pub(crate) fn append_changes<'p>(
     Ok(())
 }
 
-fn append_change<'p>(
-    change: ChangeRef<'p>,
-    fields: &mut Vec<Field<'p>>,
-) -> Result<(), AllocError> {
+fn append_change<'p>(change: ChangeRef<'p>, fields: &mut Vec<Field<'p>>) -> Result<(), AllocError> {
     let field = match change {
         ChangeRef::IsTracked(is_tracked) => Field::flag("state_changed", is_tracked),
         ChangeRef::Schema(schema) => Field::bytes("schema", schema),
@@ -46,12 +43,10 @@ fn append_variables<'p>(
     fields: &mut Vec<Field<'p>>,
 ) -> Result<(), AllocError> {
     for variable in variables {
-        fields.extend_from_slice(
-            &[
-                Field::bytes("variable", variable.name()),
-                Field::bytes("variable_value", variable.value()),
-            ],
-        )?;
+        fields.extend_from_slice(&[
+            Field::bytes("variable", variable.name()),
+            Field::bytes("variable_value", variable.value()),
+        ])?;
     }
     Ok(())
 }

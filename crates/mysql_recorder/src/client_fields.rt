@@ -35,35 +35,31 @@ fn append_ssl_request<'p>(
     request: &SslRequest,
     fields: &mut Vec<Field<'p>>,
 ) -> Result<(), AllocError> {
-    fields.extend_from_slice(
-        &[
-            Field::number("capabilities", u64::from(request.capabilities().bits())),
-            Field::number("max_packet_size", u64::from(request.max_packet_size())),
-            Field::number("collation", u64::from(request.character_set())),
-            Field::number(
-                "mariadb_ext_capabilities",
-                u64::from(request.mariadb_capabilities().bits()),
-            ),
-        ],
-    )
+    fields.extend_from_slice(&[
+        Field::number("capabilities", u64::from(request.capabilities().bits())),
+        Field::number("max_packet_size", u64::from(request.max_packet_size())),
+        Field::number("collation", u64::from(request.character_set())),
+        Field::number(
+            "mariadb_ext_capabilities",
+            u64::from(request.mariadb_capabilities().bits()),
+        ),
+    ])
 }
 
 fn append_login<'p>(
     login: &HandshakeResponseRef<'p>,
     fields: &mut Vec<Field<'p>>,
 ) -> Result<(), AllocError> {
-    fields.extend_from_slice(
-        &[
-            Field::number("capabilities", u64::from(login.capabilities().bits())),
-            Field::number("max_packet_size", u64::from(login.max_packet_size())),
-            Field::number("collation", u64::from(login.collation())),
-            Field::number(
-                "mariadb_ext_capabilities",
-                u64::from(login.mariadb_ext_capabilities().bits()),
-            ),
-            Field::bytes("user", login.user()),
-            Field::optional_bytes("db_name", login.db_name()),
-            Field::optional_bytes("auth_plugin_name", login.auth_plugin_name()),
-        ],
-    )
+    fields.extend_from_slice(&[
+        Field::number("capabilities", u64::from(login.capabilities().bits())),
+        Field::number("max_packet_size", u64::from(login.max_packet_size())),
+        Field::number("collation", u64::from(login.collation())),
+        Field::number(
+            "mariadb_ext_capabilities",
+            u64::from(login.mariadb_ext_capabilities().bits()),
+        ),
+        Field::bytes("user", login.user()),
+        Field::optional_bytes("db_name", login.db_name()),
+        Field::optional_bytes("auth_plugin_name", login.auth_plugin_name()),
+    ])
 }

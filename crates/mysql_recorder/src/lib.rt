@@ -21,6 +21,6 @@ mod values;
 
 pub use field::{Field, Shown};
 pub use kind_name::name_of;
-pub use program::run;
 pub use packet::Layout;
+pub use program::run;
 pub use recording::{Recording, RecordingError};

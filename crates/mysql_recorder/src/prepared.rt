@@ -81,7 +81,9 @@ impl Prepared {
             return None;
         }
         match payload {
-            [_, a, b, c, d, ..] => self.statements.statement(u32::from_le_bytes([*a, *b, *c, *d])),
+            [_, a, b, c, d, ..] => self
+                .statements
+                .statement(u32::from_le_bytes([*a, *b, *c, *d])),
             _ => None,
         }
     }
@@ -96,7 +98,10 @@ pub(crate) fn append_params<'p>(
     fields: &mut Vec<Field<'p>>,
 ) -> Result<(), AllocError> {
     // (executions with attributes have another layout)
-    if agreed.mysql.contains(CapabilityFlags::CLIENT_QUERY_ATTRIBUTES) {
+    if agreed
+        .mysql
+        .contains(CapabilityFlags::CLIENT_QUERY_ATTRIBUTES)
+    {
         return Ok(());
     }
     match view_of(alloc, statement, payload) {

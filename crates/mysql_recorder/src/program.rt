@@ -14,7 +14,8 @@ const LONGEST: usize = 64 << 20;
 /// How many commands may wait for the answers to earlier ones.
 const WAITING: usize = 4096;
 
-const USAGE: &[u8] = b"usage: mypackets conversation [MAX] [caps=CAPS] [mariadb=CAPS] [--json] [--sum]\n";
+const USAGE: &[u8] =
+    b"usage: mypackets conversation [MAX] [caps=CAPS] [mariadb=CAPS] [--json] [--sum]\n";
 
 /// What is asked for.
 #[derive(Clone, Copy)]
@@ -117,12 +118,7 @@ pub fn run<R: Read, W: Write>(
 }
 
 /// Writes the sums, where they are asked for, and answers the status; 3 where the write failed.
-fn end_with_sums<W: Write>(
-    alloc: Global,
-    recording: &Recording,
-    writer: &mut W,
-    status: u8,
-) -> u8 {
+fn end_with_sums<W: Write>(alloc: Global, recording: &Recording, writer: &mut W, status: u8) -> u8 {
     let mut out = String::new(alloc);
     match recording.append_sums(&mut out) {
         Ok(()) => end(writer, out.as_bytes(), status),

@@ -316,7 +316,10 @@ impl Recording {
         kind: Kind,
         fields: &mut Vec<Field<'p>>,
     ) -> Result<(), AllocError> {
-        match (self.followed.agreed(), self.prepared.executed(kind, packet.payload)) {
+        match (
+            self.followed.agreed(),
+            self.prepared.executed(kind, packet.payload),
+        ) {
             (Some(agreed), Some(statement)) => {
                 append_params(self.alloc, agreed, statement, packet.payload, fields)
             }

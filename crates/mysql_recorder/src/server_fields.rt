@@ -55,36 +55,32 @@ fn append_handshake<'p>(
     greeting: &HandshakePacketRef<'p>,
     fields: &mut Vec<Field<'p>>,
 ) -> Result<(), AllocError> {
-    fields.extend_from_slice(
-        &[
-            Field::number("protocol_version", u64::from(greeting.protocol_version())),
-            Field::bytes("server_version", greeting.server_version()),
-            Field::number("connection_id", u64::from(greeting.connection_id())),
-            Field::bytes("scramble_1", greeting.scramble_1()),
-            Field::optional_bytes("scramble_2", greeting.scramble_2()),
-            Field::number("capabilities", u64::from(greeting.capabilities().bits())),
-            Field::number("default_collation", u64::from(greeting.default_collation())),
-            Field::number("status_flags", u64::from(greeting.status_flags().bits())),
-            Field::number(
-                "mariadb_ext_capabilities",
-                u64::from(greeting.mariadb_ext_capabilities().bits()),
-            ),
-            Field::optional_bytes("auth_plugin_name", greeting.auth_plugin_name()),
-        ],
-    )
+    fields.extend_from_slice(&[
+        Field::number("protocol_version", u64::from(greeting.protocol_version())),
+        Field::bytes("server_version", greeting.server_version()),
+        Field::number("connection_id", u64::from(greeting.connection_id())),
+        Field::bytes("scramble_1", greeting.scramble_1()),
+        Field::optional_bytes("scramble_2", greeting.scramble_2()),
+        Field::number("capabilities", u64::from(greeting.capabilities().bits())),
+        Field::number("default_collation", u64::from(greeting.default_collation())),
+        Field::number("status_flags", u64::from(greeting.status_flags().bits())),
+        Field::number(
+            "mariadb_ext_capabilities",
+            u64::from(greeting.mariadb_ext_capabilities().bits()),
+        ),
+        Field::optional_bytes("auth_plugin_name", greeting.auth_plugin_name()),
+    ])
 }
 
 fn append_error<'p>(
     error: &ServerErrorRef<'p>,
     fields: &mut Vec<Field<'p>>,
 ) -> Result<(), AllocError> {
-    fields.extend_from_slice(
-        &[
-            Field::number("error", u64::from(error.error_code())),
-            Field::optional_bytes("sql_state", error.sql_state()),
-            Field::bytes("message", error.message()),
-        ],
-    )
+    fields.extend_from_slice(&[
+        Field::number("error", u64::from(error.error_code())),
+        Field::optional_bytes("sql_state", error.sql_state()),
+        Field::bytes("message", error.message()),
+    ])
 }
 
 fn append_err<'p>(
@@ -102,70 +98,58 @@ fn append_report<'p>(
     report: &ProgressReportRef<'p>,
     fields: &mut Vec<Field<'p>>,
 ) -> Result<(), AllocError> {
-    fields.extend_from_slice(
-        &[
-            Field::number("progress", u64::from(report.progress())),
-            Field::number("stage", u64::from(report.stage())),
-            Field::number("max_stage", u64::from(report.max_stage())),
-            Field::bytes("stage_info", report.stage_info()),
-        ],
-    )
+    fields.extend_from_slice(&[
+        Field::number("progress", u64::from(report.progress())),
+        Field::number("stage", u64::from(report.stage())),
+        Field::number("max_stage", u64::from(report.max_stage())),
+        Field::bytes("stage_info", report.stage_info()),
+    ])
 }
 
 fn append_switch<'p>(
     switch: &AuthSwitchRequestRef<'p>,
     fields: &mut Vec<Field<'p>>,
 ) -> Result<(), AllocError> {
-    fields.extend_from_slice(
-        &[
-            Field::bytes("auth_plugin_name", switch.auth_plugin_name()),
-            Field::bytes("plugin_data", switch.plugin_data()),
-        ],
-    )
+    fields.extend_from_slice(&[
+        Field::bytes("auth_plugin_name", switch.auth_plugin_name()),
+        Field::bytes("plugin_data", switch.plugin_data()),
+    ])
 }
 
 fn append_factor<'p>(
     factor: &AuthNextFactorRef<'p>,
     fields: &mut Vec<Field<'p>>,
 ) -> Result<(), AllocError> {
-    fields.extend_from_slice(
-        &[
-            Field::bytes("auth_plugin_name", factor.auth_plugin_name()),
-            Field::bytes("plugin_data", factor.plugin_data()),
-        ],
-    )
+    fields.extend_from_slice(&[
+        Field::bytes("auth_plugin_name", factor.auth_plugin_name()),
+        Field::bytes("plugin_data", factor.plugin_data()),
+    ])
 }
 
 fn append_ok<'p>(ok: &OkPacketRef<'p>, fields: &mut Vec<Field<'p>>) -> Result<(), AllocError> {
-    fields.extend_from_slice(
-        &[
-            Field::number("affected_rows", ok.affected_rows()),
-            Field::optional_number("last_insert_id", ok.last_insert_id()),
-            Field::number("status_flags", u64::from(ok.status_flags().bits())),
-            Field::number("warnings", u64::from(ok.warnings())),
-            Field::optional_bytes("info", ok.info()),
-        ],
-    )?;
+    fields.extend_from_slice(&[
+        Field::number("affected_rows", ok.affected_rows()),
+        Field::optional_number("last_insert_id", ok.last_insert_id()),
+        Field::number("status_flags", u64::from(ok.status_flags().bits())),
+        Field::number("warnings", u64::from(ok.warnings())),
+        Field::optional_bytes("info", ok.info()),
+    ])?;
     append_changes(ok, fields)
 }
 
 /// An EOF packet says no more than these two.
 fn append_end<'p>(end: &OkPacketRef<'p>, fields: &mut Vec<Field<'p>>) -> Result<(), AllocError> {
-    fields.extend_from_slice(
-        &[
-            Field::number("status_flags", u64::from(end.status_flags().bits())),
-            Field::number("warnings", u64::from(end.warnings())),
-        ],
-    )
+    fields.extend_from_slice(&[
+        Field::number("status_flags", u64::from(end.status_flags().bits())),
+        Field::number("warnings", u64::from(end.warnings())),
+    ])
 }
 
 fn append_count<'p>(count: &ColumnCount, fields: &mut Vec<Field<'p>>) -> Result<(), AllocError> {
-    fields.extend_from_slice(
-        &[
-            Field::number("count", count.count()),
-            Field::flag("metadata_follows", count.metadata_follows()),
-        ],
-    )
+    fields.extend_from_slice(&[
+        Field::number("count", count.count()),
+        Field::flag("metadata_follows", count.metadata_follows()),
+    ])
 }
 
 fn append_column<'p>(
@@ -173,20 +157,18 @@ fn append_column<'p>(
     fields: &mut Vec<Field<'p>>,
 ) -> Result<(), AllocError> {
     let column = extended.column();
-    fields.extend_from_slice(
-        &[
-            Field::bytes("schema", column.schema()),
-            Field::bytes("table", column.table()),
-            Field::bytes("org_table", column.org_table()),
-            Field::bytes("name", column.name()),
-            Field::bytes("org_name", column.org_name()),
-            Field::number("character_set", u64::from(column.character_set())),
-            Field::number("column_length", u64::from(column.column_length())),
-            Field::number("column_type", column.column_type() as u64),
-            Field::number("flags", u64::from(column.flags().bits())),
-            Field::number("decimals", u64::from(column.decimals())),
-        ],
-    )?;
+    fields.extend_from_slice(&[
+        Field::bytes("schema", column.schema()),
+        Field::bytes("table", column.table()),
+        Field::bytes("org_table", column.org_table()),
+        Field::bytes("name", column.name()),
+        Field::bytes("org_name", column.org_name()),
+        Field::number("character_set", u64::from(column.character_set())),
+        Field::number("column_length", u64::from(column.column_length())),
+        Field::number("column_type", column.column_type() as u64),
+        Field::number("flags", u64::from(column.flags().bits())),
+        Field::number("decimals", u64::from(column.decimals())),
+    ])?;
     match extended.metadata() {
         Some(metadata) => append_bytes("extended_metadata", metadata, fields),
         None => Ok(()),
@@ -198,14 +180,12 @@ fn append_statement<'p>(
     fields: &mut Vec<Field<'p>>,
 ) -> Result<(), AllocError> {
     let packet = statement.packet();
-    fields.extend_from_slice(
-        &[
-            Field::number("statement_id", u64::from(packet.statement_id())),
-            Field::number("num_columns", u64::from(packet.num_columns())),
-            Field::number("num_params", u64::from(packet.num_params())),
-            Field::number("warning_count", u64::from(packet.warning_count())),
-        ],
-    )
+    fields.extend_from_slice(&[
+        Field::number("statement_id", u64::from(packet.statement_id())),
+        Field::number("num_columns", u64::from(packet.num_columns())),
+        Field::number("num_params", u64::from(packet.num_params())),
+        Field::number("warning_count", u64::from(packet.warning_count())),
+    ])
 }
 
 /// An event is shown by its first 19 bytes, the header that all have.

@@ -94,16 +94,12 @@ impl Sums {
                 return Ok(());
             }
         }
-        self.tallies.extend_from_slice(
-            &[
-                Tally {
-                    side: packet.side,
-                    kind: packet.kind,
-                    packets: 1,
-                    bytes: size,
-                },
-            ],
-        )
+        self.tallies.extend_from_slice(&[Tally {
+            side: packet.side,
+            kind: packet.kind,
+            packets: 1,
+            bytes: size,
+        }])
     }
 
     /// Puts a packet among the largest, where it is one.
@@ -189,7 +185,10 @@ impl Sums {
         for large in self.largest.iter() {
             let (size, number) = (large.size, large.number);
             let (side, kind) = (large.side, large.kind);
-            write!(out, "largest: {size} bytes, packet {number}, {kind} of the {side}\n")?;
+            write!(
+                out,
+                "largest: {size} bytes, packet {number}, {kind} of the {side}\n"
+            )?;
         }
         for (id, number) in self.open.iter() {
             write!(out, "open_statement: {id}, prepared by packet {number}\n")?;
@@ -201,7 +200,12 @@ impl Sums {
     fn object(&self) -> Result<Value, AllocError> {
         let alloc = self.alloc;
         let mut object = Map::new(alloc);
-        put(&mut object, alloc, "kind", Value::String(String::from_str(alloc, "sum")?))?;
+        put(
+            &mut object,
+            alloc,
+            "kind",
+            Value::String(String::from_str(alloc, "sum")?),
+        )?;
         put(&mut object, alloc, "packets", Value::from(self.packets))?;
         put(&mut object, alloc, "rows", Value::from(self.rows))?;
         put(&mut object, alloc, "exchanges", self.exchanges_value()?)?;
@@ -236,8 +240,18 @@ impl Sums {
             Side::Client => "client",
             Side::Server => "server",
         };
-        put(&mut object, alloc, "side", Value::String(String::from_str(alloc, side)?))?;
-        put(&mut object, alloc, "kind", Value::String(String::from_str(alloc, tally.kind)?))?;
+        put(
+            &mut object,
+            alloc,
+            "side",
+            Value::String(String::from_str(alloc, side)?),
+        )?;
+        put(
+            &mut object,
+            alloc,
+            "kind",
+            Value::String(String::from_str(alloc, tally.kind)?),
+        )?;
         put(&mut object, alloc, "packets", Value::from(tally.packets))?;
         put(&mut object, alloc, "bytes", Value::from(tally.bytes))?;
         Ok(Value::Object(object))
@@ -259,8 +273,18 @@ impl Sums {
             let mut object = Map::new(alloc);
             put(&mut object, alloc, "size", Value::from(large.size))?;
             put(&mut object, alloc, "packet", Value::from(large.number))?;
-            put(&mut object, alloc, "side", Value::String(String::from_str(alloc, large.side)?))?;
-            put(&mut object, alloc, "kind", Value::String(String::from_str(alloc, large.kind)?))?;
+            put(
+                &mut object,
+                alloc,
+                "side",
+                Value::String(String::from_str(alloc, large.side)?),
+            )?;
+            put(
+                &mut object,
+                alloc,
+                "kind",
+                Value::String(String::from_str(alloc, large.kind)?),
+            )?;
             push(&mut list, Value::Object(object))?;
         }
         Ok(Value::Array(list))

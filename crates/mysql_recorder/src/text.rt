@@ -78,8 +78,7 @@ pub(crate) fn float_text(alloc: Global, value: &ValueRef<'_>) -> Result<String, 
 /// A date with its time of day, or a time: `2024-02-29 23:59:59.000001`, `-1 02:03:04.000000` with the days before the hours.
 pub(crate) fn temporal_text(alloc: Global, value: &ValueRef<'_>) -> Result<String, AllocError> {
     match value {
-        ValueRef::Date(year, month, day, hour, minute, second, micros) => format!(
-            in alloc;
+        ValueRef::Date(year, month, day, hour, minute, second, micros) => format!(in alloc;
             "{year:04}-{month:02}-{day:02} {hour:02}:{minute:02}:{second:02}.{micros:06}"
         ),
         ValueRef::Time(negative, days, hours, minutes, seconds, micros) => {
