@@ -11,6 +11,7 @@ builders.py --answers     prints the model's answers to the rows, and asks nothi
 The last line is 'N passed, N failed', where a sequence is one."""
 import copy
 import random
+import re
 import sys
 
 from lines import PROBES, answers, built, summary, vectors
@@ -409,7 +410,9 @@ def random_requests():
 
 
 def main(*programs):
-    rows = [it.request for it in vectors("statements") if it.request.startswith(("builder ", "writer "))]
+    # (rows of values under types of any width are rows alone: the model has none of them)
+    asked = [it.request for it in vectors("statements") if it.request.startswith(("builder ", "writer "))]
+    rows = [it for it in asked if not (it.startswith("writer ") and re.search(r"[ ,]any[ ,]| (values|all):", it))]
     if programs == ("--answers",):
         for request in rows:
             print(f"{request}\n  {modelled(request)}")
