@@ -4,10 +4,10 @@ that are written from the protocol's pages.
 
 recording.py   asks the program that rt ci leaves. The last line is 'N passed, N failed'."""
 import json
-import os
 import subprocess
 import sys
 import time
+from pathlib import Path
 
 from conversations import FOLDER, Packet, packets_of, pieces_of
 from lines import TOP
@@ -114,8 +114,8 @@ class Watcher:
         if payload[0] in (0x17, 0xFA, 0x1C, 0x1A, 0x19):
             number = int.from_bytes(payload[1:5], "little")
             self.runs = self.last if number == 0xFFFFFFFF else number
-            if payload[0] != 0x1C:
-                self.columns = []
+            # (several cursors may be open)
+            self.columns = self.statements.get(self.runs, []) if payload[0] == 0x1C else []
         else:
             self.runs, self.columns = None, []
 
@@ -285,16 +285,22 @@ def bounded():
     answer = Packet(SERVER, 1, bytes.fromhex("00000002000000")).bytes()
     exchange = as_lines([(CLIENT, query), (SERVER, answer)])
     began = time.time()
-    run = subprocess.Popen([PROGRAM, "conversation"], stdin=subprocess.PIPE, stdout=subprocess.DEVNULL)
+    count = 100_000_000 // len(exchange) + 1
+    run = subprocess.Popen([PROGRAM, "conversation", "--sum"], stdin=subprocess.PIPE, stdout=subprocess.PIPE)
+    tail = subprocess.Popen(["tail", "-n", "40"], stdin=run.stdout, stdout=subprocess.PIPE, text=True)
     run.stdin.write(as_lines(pieces))
-    for _ in range(100_000_000 // len(exchange) + 1):
+    for _ in range(count):
         run.stdin.write(exchange)
+    run.stdin.flush()
+    status = Path(f"/proc/{run.pid}/status").read_text()
     run.stdin.close()
-    _, status, used = os.wait4(run.pid, 0)
-    if status:
-        return f"100 MB: the status is {status}"
-    print(f"recording: 100 MB in {time.time() - began:.1f} s, at most {used.ru_maxrss // 1024} MiB of memory")
-    return "" if used.ru_maxrss < 64 * 1024 else f"100 MB take {used.ru_maxrss} KiB of memory"
+    run.stdout.close()
+    said, ended = tail.communicate()[0], run.wait()
+    used = int(next(line.split()[1] for line in status.splitlines() if line.startswith("VmHWM")))
+    print(f"recording: 100 MB in {time.time() - began:.1f} s, at most {used // 1024} MiB of memory")
+    if ended or f"packets: > command {count}, {count * (len(query) - 4)} bytes" not in said:
+        return f"100 MB: the status is {ended}, and it says {said!r}"
+    return "" if used < 32 * 1024 else f"100 MB take {used} KiB of memory"
 
 
 def main():

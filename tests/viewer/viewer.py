@@ -173,6 +173,7 @@ def many():
         seen.rows = Math.round(parseFloat(by("height").style.height) / 26);
         seen.made = document.querySelectorAll("#list .row").length;
         by("list").scrollTop = 26 * 150000;
+        by("list").dispatchEvent(new Event("scroll"));
         seen.scrolled = await until(() => labels().some((it) => it.startsWith("packet 150010,")));
         """
     )
