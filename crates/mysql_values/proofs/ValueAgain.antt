@@ -46,28 +46,28 @@ zero_clock hour minute second h m s = cc
 zero_date : (year month day : ℕ) → year ≡ 0 → month ≡ 0 → day ≡ 0 → (let d : Day = record { year = year; month = month; day = day } in d) ≡ zero_day
 zero_date year month day y m d = cc
 
-midnight_tells : (c : Clock) → (is_midnight c ≡ true) × (c ≡ midnight) ⊎ (is_midnight c ≡ false)
-midnight_tells c = elim (eqb_tells c.hour 0) [
-  | inr h ↦ inr (rw h.0 refl)
-  | inl h ↦ elim (eqb_tells c.minute 0) [
-    | inr m ↦ inr (rw (h.0, m.0) refl)
-    | inl m ↦ elim (eqb_tells c.second 0) [
-      | inr s ↦ inr (rw (h.0, m.0, s.0) refl)
-      | inl s ↦ inl (rw (h.0, m.0, s.0) refl, zero_clock c.hour c.minute c.second h.1 m.1 s.1)
+zeros_tell : (a b c : ℕ) → (((a == 0 && (b == 0 && c == 0)) ≡ true) × (a ≡ 0) × (b ≡ 0) × (c ≡ 0)) ⊎ ((a == 0 && (b == 0 && c == 0)) ≡ false)
+zeros_tell a b c = elim (eqb_tells a 0) [
+  | inr x ↦ inr (rw x.0 refl)
+  | inl x ↦ elim (eqb_tells b 0) [
+    | inr y ↦ inr (rw (x.0, y.0) refl)
+    | inl y ↦ elim (eqb_tells c 0) [
+      | inr z ↦ inr (rw (x.0, y.0, z.0) refl)
+      | inl z ↦ inl (rw (x.0, y.0, z.0) refl, x.1, y.1, z.1)
     ]
   ]
 ]
 
+midnight_tells : (c : Clock) → (is_midnight c ≡ true) × (c ≡ midnight) ⊎ (is_midnight c ≡ false)
+midnight_tells c = elim (zeros_tell c.hour c.minute c.second) [
+  | inr h ↦ inr h
+  | inl h ↦ inl (h.0, zero_clock c.hour c.minute c.second h.1 h.2 h.3)
+]
+
 zero_day_tells : (d : Day) → (is_zero_day d ≡ true) × (d ≡ zero_day) ⊎ (is_zero_day d ≡ false)
-zero_day_tells d = elim (eqb_tells d.year 0) [
-  | inr y ↦ inr (rw y.0 refl)
-  | inl y ↦ elim (eqb_tells d.month 0) [
-    | inr m ↦ inr (rw (y.0, m.0) refl)
-    | inl m ↦ elim (eqb_tells d.day 0) [
-      | inr n ↦ inr (rw (y.0, m.0, n.0) refl)
-      | inl n ↦ inl (rw (y.0, m.0, n.0) refl, zero_date d.year d.month d.day y.1 m.1 n.1)
-    ]
-  ]
+zero_day_tells d = elim (zeros_tell d.year d.month d.day) [
+  | inr h ↦ inr h
+  | inl h ↦ inl (h.0, zero_date d.year d.month d.day h.1 h.2 h.3)
 ]
 
 date_parts : (t : DateTime) (d : Day) (c : Clock) (m : ℕ) → t.day ≡ d → t.clock ≡ c → t.micros ≡ m → t ≡ record { day = d; clock = c; micros = m }

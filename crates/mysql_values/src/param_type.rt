@@ -20,24 +20,29 @@ pub struct ParamType {
 }
 
 impl ParamType {
-    ghost use Rattle.mysql_values.specs.ParamType.{type_of, type_with_flags, type_column, type_flags};
+    ghost use Rattle.mysql_values.specs.ParamType.{type_of, typed, type_with_flags, type_column, type_flags};
     ghost use Rattle.mysql_values.specs.Value.{content_of};
     ghost use Rattle.mysql_values.specs.ValueRef.{ref_content};
+
+    /// The type that is `UNSIGNED` or not.
+    #[inline(always)]
+    fn typed(column_type: ColumnType, is_unsigned: bool) -> Self
+        ensures value { result ≡ typed column_type is_unsigned }
+    {
+        let flags = if is_unsigned {
+            StmtExecuteParamFlags::UNSIGNED
+        } else {
+            StmtExecuteParamFlags::from_bits_retain(0)
+        };
+        ParamType { column_type, flags }
+    }
 
     /// The type that a value is sent as.
     #[inline]
     pub fn from_value(value: &Value) -> Self
         ensures value { result ≡ type_of (content_of value.now) }
     {
-        let flags = if value.is_uint() {
-            StmtExecuteParamFlags::UNSIGNED
-        } else {
-            StmtExecuteParamFlags::from_bits_retain(0)
-        };
-        ParamType {
-            column_type: value.sent_type(),
-            flags,
-        }
+        ParamType::typed(value.sent_type(), value.is_uint())
     }
 
     /// The type that a borrowed value is sent as.
@@ -45,15 +50,7 @@ impl ParamType {
     pub fn from_value_ref(value: &ValueRef<'_>) -> Self
         ensures value { result ≡ type_of (ref_content value.now) }
     {
-        let flags = if value.is_uint() {
-            StmtExecuteParamFlags::UNSIGNED
-        } else {
-            StmtExecuteParamFlags::from_bits_retain(0)
-        };
-        ParamType {
-            column_type: value.sent_type(),
-            flags,
-        }
+        ParamType::typed(value.sent_type(), value.is_uint())
     }
 
     /// The type with its flags.

@@ -1,10 +1,10 @@
 //! Values of rows and requests, read where they lie.
 
-ghost use Rattle.std.specs.Int.{w8, w16, w32};
-ghost use Rattle.std.specs.Prelude.{false, ◌≡◌, OnErr};
+ghost use Rattle.std.specs.Prelude.{false, ◌≡◌, IsFalse, IsTrue, OnErr};
 ghost use Rattle.mysql_wire.specs.Reading.{Answers, IsTail};
-ghost use Rattle.mysql_values.specs.ValueRef.{refs_contents};
-ghost use Rattle.mysql_values.specs.ValueDeserializer.{text_value, bin_value, value_of_kind, string_value, short_integer, long_integer, date_value, time_value};
+ghost use Rattle.mysql_values.specs.Value.{Int};
+ghost use Rattle.mysql_values.specs.ValueRef.{ref_content, refs_contents};
+ghost use Rattle.mysql_values.specs.ValueDeserializer.{text_value, bin_value, value_of_kind, string_value, long_integer, date_value, time_value};
 
 use crate::temporal::{DateTime, TimeSpan};
 use crate::value_kind::ValueKind;
@@ -68,58 +68,13 @@ fn time_ref<'s, 'de>(buf: &mut ParseBuf<'de>) -> Result<ValueRef<'de>, FaultOf<'
     ))
 }
 
-/// An integer of one byte, with a sign unless the column has none.
-#[tactic(auto, unfolding(mysql_wire::specs::Int::raw))]
+/// An integer of fewer than eight bytes, of its two readings: with a sign unless the column has none.
 #[inline(always)]
-fn tiny_ref<'s, 'de>(
-    is_unsigned: bool,
-    buf: &mut ParseBuf<'de>,
-) -> Result<ValueRef<'de>, FaultOf<'s>>
-    ensures value { Answers false (refs_contents result) buf.new ((short_integer w8 1 is_unsigned).reads buf.old) }
-    ensures tail { OnErr result (IsTail buf.new buf.old) }
+fn short_integer<'de>(is_unsigned: bool, unsigned: i64, signed: i64) -> ValueRef<'de>
+    ensures unsigned { IsTrue is_unsigned → ref_content result ≡ Int unsigned }
+    ensures signed { IsFalse is_unsigned → ref_content result ≡ Int signed }
 {
-    let number: RawInt<u8> = buf.parse(())?;
-    Ok(ValueRef::Int(if is_unsigned {
-        i64::from(number.0)
-    } else {
-        i64::from(number.0.cast_signed())
-    }))
-}
-
-/// An integer of two bytes, with a sign unless the column has none.
-#[tactic(auto, unfolding(mysql_wire::specs::Int::raw))]
-#[inline(always)]
-fn short_ref<'s, 'de>(
-    is_unsigned: bool,
-    buf: &mut ParseBuf<'de>,
-) -> Result<ValueRef<'de>, FaultOf<'s>>
-    ensures value { Answers false (refs_contents result) buf.new ((short_integer w16 2 is_unsigned).reads buf.old) }
-    ensures tail { OnErr result (IsTail buf.new buf.old) }
-{
-    let number: RawInt<LeU16> = buf.parse(())?;
-    Ok(ValueRef::Int(if is_unsigned {
-        i64::from(number.0)
-    } else {
-        i64::from(number.0.cast_signed())
-    }))
-}
-
-/// An integer of four bytes, with a sign unless the column has none.
-#[tactic(auto, unfolding(mysql_wire::specs::Int::raw))]
-#[inline(always)]
-fn long_ref<'s, 'de>(
-    is_unsigned: bool,
-    buf: &mut ParseBuf<'de>,
-) -> Result<ValueRef<'de>, FaultOf<'s>>
-    ensures value { Answers false (refs_contents result) buf.new ((short_integer w32 4 is_unsigned).reads buf.old) }
-    ensures tail { OnErr result (IsTail buf.new buf.old) }
-{
-    let number: RawInt<LeU32> = buf.parse(())?;
-    Ok(ValueRef::Int(if is_unsigned {
-        i64::from(number.0)
-    } else {
-        i64::from(number.0.cast_signed())
-    }))
+    ValueRef::Int(if is_unsigned { unsigned } else { signed })
 }
 
 /// An integer of eight bytes.
@@ -153,9 +108,21 @@ pub fn read_kind_ref<'s, 'de>(
 {
     match kind {
         ValueKind::String => string_ref(buf),
-        ValueKind::Tiny => tiny_ref(is_unsigned, buf),
-        ValueKind::Short => short_ref(is_unsigned, buf),
-        ValueKind::Long => long_ref(is_unsigned, buf),
+        ValueKind::Tiny => {
+            let number: RawInt<u8> = buf.parse(())?;
+            let signed = i64::from(number.0.cast_signed());
+            Ok(short_integer(is_unsigned, i64::from(number.0), signed))
+        }
+        ValueKind::Short => {
+            let number: RawInt<LeU16> = buf.parse(())?;
+            let signed = i64::from(number.0.cast_signed());
+            Ok(short_integer(is_unsigned, i64::from(number.0), signed))
+        }
+        ValueKind::Long => {
+            let number: RawInt<LeU32> = buf.parse(())?;
+            let signed = i64::from(number.0.cast_signed());
+            Ok(short_integer(is_unsigned, i64::from(number.0), signed))
+        }
         ValueKind::LongLong => longlong_ref(is_unsigned, buf),
         ValueKind::Float => {
             let bits: RawInt<LeU32> = buf.parse(())?;
