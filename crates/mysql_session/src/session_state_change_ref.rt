@@ -6,6 +6,7 @@ ghost use Rattle.mysql_wire.specs.LenEnc.{lenenc_string};
 ghost use Rattle.mysql_wire.specs.Reading.{Answers, IsTail};
 ghost use Rattle.mysql_session.specs.SessionStateChange as spec;
 ghost use Rattle.mysql_session.specs.SessionStateChangeRef.{change_of, ListsVariables};
+ghost use Rattle.mysql_session.specs.declared.session_state_change.SessionStateChange.{SessionStateChange};
 
 use crate::session_state_change::SessionStateChange;
 use crate::session_text::{Gtids, Schema, TransactionCharacteristics, TransactionState};
@@ -45,9 +46,6 @@ pub struct SessionStateChangeRef<'a> {
 }
 
 impl<'a> Model for SessionStateChangeRef<'a> {
-    ghost use Rattle.mysql_session.specs.declared.session_state_change.SessionStateChange.{SessionStateChange};
-    ghost use Rattle.mysql_session.specs.SessionStateChangeRef.{change_of};
-
     ghost Value = { SessionStateChange };
 
     ghost view = { λ c. change_of c.change };

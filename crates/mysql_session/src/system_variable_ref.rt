@@ -3,6 +3,8 @@
 
 ghost use Rattle.std.specs.Prelude.{◌≡◌, None, refl};
 ghost use Rattle.mysql_session.specs.SystemVariable as spec;
+ghost use Rattle.mysql_session.specs.declared.system_variable.SystemVariable.{SystemVariable};
+ghost use Rattle.mysql_session.specs.SystemVariable.{variable_of};
 
 use crate::system_variable::SystemVariable;
 use mysql_wire::{AnyWidth, BytesRepr, FaultOf, LenEnc, MyDeserialize, ParseBuf};
@@ -19,9 +21,6 @@ pub struct SystemVariableRef<'a> {
 }
 
 impl<'a> Model for SystemVariableRef<'a> {
-    ghost use Rattle.mysql_session.specs.declared.system_variable.SystemVariable.{SystemVariable};
-    ghost use Rattle.mysql_session.specs.SystemVariable.{variable_of};
-
     ghost Value = { SystemVariable };
 
     ghost view = { λ v. variable_of v.name.now v.value.now };

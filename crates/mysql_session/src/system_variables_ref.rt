@@ -1,11 +1,12 @@
 //! System variables and their values, where they lie.
 
-ghost use Rattle.std.specs.Prelude.{◌≡◌, ◌≢◌, [], List, false, refl, IfOk, IfErr, OnOk, OnErr, Ok};
+ghost use Rattle.std.specs.Prelude.{◌≡◌, ◌≢◌, [], List, false, refl, IfOk, IfErr, OnOk, OnErr, Ok, length, ⊤};
 ghost use Rattle.mysql_wire.specs.Many.{size-many};
 ghost use Rattle.mysql_wire.specs.Reading.{Faults};
 ghost use Rattle.mysql_session.specs.declared.system_variable.SystemVariable.{SystemVariable};
 ghost use Rattle.mysql_session.specs.SystemVariables as spec;
 ghost use Rattle.mysql_session.specs.SystemVariablesRef.{AreVariables, NextVariable, variables_in};
+ghost use Rattle.std.specs.Iterator.{at_most};
 
 use crate::system_variable_ref::SystemVariableRef;
 use crate::system_variables::SystemVariables;
@@ -24,10 +25,6 @@ pub struct SystemVariablesRef<'a> {
 }
 
 impl<'a> Model for SystemVariablesRef<'a> {
-    ghost use Rattle.std.specs.Prelude.{List};
-    ghost use Rattle.mysql_session.specs.declared.system_variable.SystemVariable.{SystemVariable};
-    ghost use Rattle.mysql_session.specs.SystemVariablesRef.{variables_in, AreVariables};
-
     ghost Value = { List SystemVariable };
 
     ghost view = { λ v. variables_in v.variables };
@@ -92,9 +89,6 @@ impl<'a> SystemVariablesRef<'a> {
 
 impl<'a> Iterator for SystemVariablesRef<'a> {
     type Item = SystemVariableRef<'a>;
-
-    ghost use Rattle.std.specs.Prelude.{length, ⊤};
-    ghost use Rattle.std.specs.Iterator.{at_most};
 
     ghost can_next = { λ _. ⊤ };
 
