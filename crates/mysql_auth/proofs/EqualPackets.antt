@@ -6,11 +6,9 @@ use Rattle.std.specs.Cmp.Lexicographic.{pointwise}
 use borrow.Author.Tests.{clash}
 use Rattle.mysql_wire.proofs.Same.{and-true, numbers-same, bytes-same, options-same, parts-same}
 use Rattle.mysql_auth.specs.contracts.auth_more_data.AuthMoreDataPartialEq.TheImpl as derived_more
-use Rattle.mysql_auth.specs.contracts.auth_next_factor.AuthNextFactorPartialEq.TheImpl as derived_factor
 use Rattle.mysql_auth.specs.contracts.auth_plugin.AuthPluginPartialEq.TheImpl as derived_plugin
 use Rattle.mysql_auth.specs.contracts.auth_plugin_data.AuthPluginDataPartialEq.TheImpl as derived_answer
 use Rattle.mysql_auth.specs.contracts.auth_reply.AuthReplyPartialEq.TheImpl as derived_reply
-use Rattle.mysql_auth.specs.contracts.auth_switch_request.AuthSwitchRequestPartialEq.TheImpl as derived_switch
 use Rattle.mysql_auth.specs.contracts.com_change_user.ComChangeUserPartialEq.TheImpl as derived_change
 use Rattle.mysql_auth.specs.contracts.com_change_user_more_data.ComChangeUserMoreDataPartialEq.TheImpl as derived_change_data
 use Rattle.mysql_auth.specs.contracts.handshake.HandshakePacketPartialEq.TheImpl as derived_handshake
@@ -19,14 +17,12 @@ use Rattle.mysql_auth.specs.contracts.handshake_response.HandshakeResponsePartia
 use Rattle.mysql_auth.specs.contracts.public_key_response.PublicKeyResponsePartialEq.TheImpl as derived_key
 use Rattle.mysql_auth.specs.contracts.ssl_request.SslRequestPartialEq.TheImpl as derived_ssl
 use Rattle.mysql_auth.specs.declared.auth_more_data.AuthMoreData.{AuthMoreData}
-use Rattle.mysql_auth.specs.declared.auth_next_factor.AuthNextFactor.{AuthNextFactor}
 use Rattle.mysql_auth.specs.declared.auth_plugin.AuthPlugin.{AuthPlugin}
 use Rattle.mysql_auth.specs.declared.auth_plugin.AuthPlugin.TheVariants as plugin
 use Rattle.mysql_auth.specs.declared.auth_plugin_data.AuthPluginData.{AuthPluginData}
 use Rattle.mysql_auth.specs.declared.auth_plugin_data.AuthPluginData.TheVariants as answer
 use Rattle.mysql_auth.specs.declared.auth_reply.AuthReply.{AuthReply}
 use Rattle.mysql_auth.specs.declared.auth_reply.AuthReply.TheVariants as reply
-use Rattle.mysql_auth.specs.declared.auth_switch_request.AuthSwitchRequest.{AuthSwitchRequest}
 use Rattle.mysql_auth.specs.declared.com_change_user.ComChangeUser.{ComChangeUser}
 use Rattle.mysql_auth.specs.declared.com_change_user_more_data.ComChangeUserMoreData.{ComChangeUserMoreData}
 use Rattle.mysql_auth.specs.declared.handshake.HandshakePacket.{HandshakePacket}
@@ -36,8 +32,8 @@ use Rattle.mysql_auth.specs.declared.public_key_response.PublicKeyResponse.{Publ
 use Rattle.mysql_auth.specs.declared.ssl_request.SslRequest.{SslRequest}
 use Rattle.mysql_auth.specs.Attributes.{Attribute, attribute_eq}
 use Rattle.mysql_auth.specs.AuthMoreData as more
-use Rattle.mysql_auth.specs.AuthNextFactor.{next_factor_by}
-use Rattle.mysql_auth.specs.AuthSwitchRequest.{switch_to}
+use Rattle.mysql_auth.specs.declared.plugin_request.PluginRequest.{PluginRequest}
+use Rattle.mysql_auth.specs.PluginRequest.{plugin_name, plugin_data, request_of, request_eq}
 use Rattle.mysql_auth.specs.PublicKeyResponse as key
 
 -- ---- fields
@@ -120,36 +116,29 @@ pub keys-same : (a b : PublicKeyResponse) → Decides (derived_key.ghosts.eq a b
 keys-same =
     parts-same derived_key.ghosts.eq (λ a b. a.rsa_key ≡ b.rsa_key) (λ a b. bytes-same a.rsa_key b.rsa_key) (λ a b s i. key.response_of (s i)) (λ a. refl)
 
-pub switches-same : (a b : AuthSwitchRequest) → Decides (derived_switch.ghosts.eq a b) (a ≡ b)
-switches-same =
-    parts-same derived_switch.ghosts.eq (λ a b. (a.auth_plugin ≡ b.auth_plugin) × (a.plugin_data ≡ b.plugin_data))
-    (λ a b. Decides-and _ _ (bytes-same a.auth_plugin b.auth_plugin) (bytes-same a.plugin_data b.plugin_data))
-    (λ a b s i. switch_to (s.0 i) (s.1 i))
-    (λ a. (refl, refl))
-
-pub factors-same : (a b : AuthNextFactor) → Decides (derived_factor.ghosts.eq a b) (a ≡ b)
-factors-same =
-    parts-same derived_factor.ghosts.eq (λ a b. (a.auth_plugin ≡ b.auth_plugin) × (a.plugin_data ≡ b.plugin_data))
-    (λ a b. Decides-and _ _ (bytes-same a.auth_plugin b.auth_plugin) (bytes-same a.plugin_data b.plugin_data))
-    (λ a b s i. next_factor_by (s.0 i) (s.1 i))
+pub requests-same : {T : Type 0} {first : ℕ} (a b : PluginRequest T first) → Decides (request_eq a b) (a ≡ b)
+requests-same =
+    parts-same request_eq (λ a b. (plugin_name a ≡ plugin_name b) × (plugin_data a ≡ plugin_data b))
+    (λ a b. Decides-and _ _ (bytes-same (plugin_name a) (plugin_name b)) (bytes-same (plugin_data a) (plugin_data b)))
+    (λ a b s i. request_of (s.0 i) (s.1 i))
     (λ a. (refl, refl))
 
 reply-equals_itself : (a : AuthReply) → IsTrue (derived_reply.ghosts.eq a a)
 reply-equals_itself (reply.OkPacket a) = (bytes-same a a).1 refl
 reply-equals_itself (reply.ErrPacket a) = (bytes-same a a).1 refl
-reply-equals_itself (reply.Switch a) = (switches-same a a).1 refl
+reply-equals_itself (reply.Switch a) = (requests-same a a).1 refl
 reply-equals_itself reply.OldSwitch = refl
 reply-equals_itself (reply.MoreData a) = (more_data-same a a).1 refl
-reply-equals_itself (reply.NextFactor a) = (factors-same a a).1 refl
+reply-equals_itself (reply.NextFactor a) = (requests-same a a).1 refl
 reply-equals_itself (reply.PluginData a) = (bytes-same a a).1 refl
 
 equal-replies : (a b : AuthReply) → IsTrue (derived_reply.ghosts.eq a b) → a ≡ b
 equal-replies (reply.OkPacket a) (reply.OkPacket b) e = ap reply.OkPacket ((bytes-same a b).0 e)
 equal-replies (reply.ErrPacket a) (reply.ErrPacket b) e = ap reply.ErrPacket ((bytes-same a b).0 e)
-equal-replies (reply.Switch a) (reply.Switch b) e = ap reply.Switch ((switches-same a b).0 e)
+equal-replies (reply.Switch a) (reply.Switch b) e = ap reply.Switch ((requests-same a b).0 e)
 equal-replies reply.OldSwitch reply.OldSwitch e = refl
 equal-replies (reply.MoreData a) (reply.MoreData b) e = ap reply.MoreData ((more_data-same a b).0 e)
-equal-replies (reply.NextFactor a) (reply.NextFactor b) e = ap reply.NextFactor ((factors-same a b).0 e)
+equal-replies (reply.NextFactor a) (reply.NextFactor b) e = ap reply.NextFactor ((requests-same a b).0 e)
 equal-replies (reply.PluginData a) (reply.PluginData b) e = ap reply.PluginData ((bytes-same a b).0 e)
 equal-replies _ _ e = absurd (clash e)
 
@@ -239,4 +228,4 @@ changes-same =
     (λ a b s i. record { header = record { 0 = record {} }; user = s.0 i; auth_plugin_data = s.1.0 i; database = s.1.1.0 i; more_data = s.1.1.1 i })
     (λ a. (refl, (refl, (refl, refl))))
 
-pub ruleset equal_packets = (plugins-same, answers-same, more_data-same, keys-same, switches-same, factors-same, replies-same, handshakes-same, ssl_requests-same, responses-same, change_data-same, changes-same)
+pub ruleset equal_packets = (plugins-same, answers-same, more_data-same, keys-same, requests-same, replies-same, handshakes-same, ssl_requests-same, responses-same, change_data-same, changes-same)

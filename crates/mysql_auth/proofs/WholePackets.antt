@@ -9,15 +9,16 @@ use Rattle.mysql_auth.specs.AuthNextFactor.{auth_next_factor}
 use Rattle.mysql_auth.specs.AuthPlugin.{auth_plugin, plugin_name, plugin_named, named-again}
 use Rattle.mysql_auth.specs.AuthSwitchRequest as switch
 use Rattle.mysql_auth.specs.AuthSwitchRequest.{auth_switch_request}
+use Rattle.mysql_auth.specs.PluginRequest.{plugin_request}
 use Rattle.mysql_auth.specs.OldAuthSwitchRequest.{old_auth_switch_request}
 use Rattle.mysql_auth.specs.PublicKeyRequest.{public_key_request}
 use Rattle.mysql_auth.specs.PublicKeyResponse.{public_key_response}
 use Rattle.mysql_auth.specs.SslRequest.{ssl_request, SslRequestFits}
 use Rattle.mysql_auth.specs.EofName.{without_last_zero}
 use Rattle.mysql_auth.specs.declared.auth_more_data.AuthMoreData.{AuthMoreData}
-use Rattle.mysql_auth.specs.declared.auth_next_factor.AuthNextFactor.{AuthNextFactor}
+use Rattle.mysql_auth.specs.AuthNextFactor.{AuthNextFactor}
 use Rattle.mysql_auth.specs.declared.auth_plugin.AuthPlugin.{AuthPlugin}
-use Rattle.mysql_auth.specs.declared.auth_switch_request.AuthSwitchRequest.{AuthSwitchRequest}
+use Rattle.mysql_auth.specs.AuthSwitchRequest.{AuthSwitchRequest}
 use Rattle.mysql_auth.specs.declared.old_auth_switch_request.OldAuthSwitchRequest.{OldAuthSwitchRequest}
 use Rattle.mysql_auth.specs.declared.public_key_request.PublicKeyRequest.{PublicKeyRequest}
 use Rattle.mysql_auth.specs.declared.public_key_response.PublicKeyResponse.{PublicKeyResponse}
@@ -54,11 +55,11 @@ unfolding old_auth_switch_request
 old_switch-again p rest = old_auth_switch_request.again tt p rest (tt, tt)
 
 pub switch-again : (p : AuthSwitchRequest) → HasNoZero (switch.plugin_name p) → (auth_switch_request.form tt).Spells p (auth_switch_request.bytes p) []
-unfolding auth_switch_request
+unfolding plugin_request
 switch-again p h = at-end auth_switch_request p (tt, (h, (refl, tt)))
 
 pub factor-again : (p : AuthNextFactor) → HasNoZero (factor.plugin_name p) → (auth_next_factor.form tt).Spells p (auth_next_factor.bytes p) []
-unfolding auth_next_factor
+unfolding plugin_request
 factor-again p h = at-end auth_next_factor p (tt, (h, (refl, tt)))
 
 pub request-again : (p : SslRequest) (rest : List ℕ) → SslRequestFits p → (ssl_request.form tt).Spells p (ssl_request.bytes p ++ rest) rest

@@ -1,6 +1,7 @@
 -- Attributes of a connection: keys with their values, each key once, in the order of their first places.
 use Rattle.std.specs.Prelude.{◌≡◌, ℕ, ◌<◌, ◌≤◌, ◌^◌, Bool, ◌&&◌, nat_eq, List, [], ◌∷◌, ◌++◌, length, map, string_bytes, Option, Some, None, refl}
-use Rattle.std.specs.Cmp.Lexicographic.{pointwise}
+use Rattle.std.specs.Cmp.{IsPartialEquivalence, IsEquivalence, and_per, on_per, and_equiv, on_equiv, partial_equiv_from_equiv}
+use Rattle.std.specs.Cmp.Lexicographic.{pointwise, nat_list_eq_equiv}
 use Rattle.std.specs.List.{flat_map}
 use Rattle.std.specs.Global.{Global}
 use Rattle.std.specs.declared.string.String.{String}
@@ -27,6 +28,12 @@ merged pairs = insert_all (pointwise nat_eq) [] pairs
 -- the same key with the same value
 abbrev pub attribute_eq : Attribute → Attribute → Bool
 attribute_eq p q = pointwise nat_eq p.0 q.0 && pointwise nat_eq p.1 q.1
+
+pub attribute_per : IsPartialEquivalence attribute_eq
+attribute_per = let texts = partial_equiv_from_equiv nat_list_eq_equiv in and_per (on_per (λ p. p.0) texts) (on_per (λ p. p.1) texts)
+
+pub attribute_equiv : IsEquivalence attribute_eq
+attribute_equiv = and_equiv (on_equiv (λ p. p.0) nat_list_eq_equiv) (on_equiv (λ p. p.1) nat_list_eq_equiv)
 
 -- the bytes of a pair of texts
 abbrev pub text_pair : String Global × String Global → Attribute

@@ -1,31 +1,24 @@
 -- The switch to another plugin.
-use Rattle.std.specs.Prelude.{◌≡◌, ℕ, List, None, refl}
+use Rattle.std.specs.Prelude.{◌≡◌, ℕ, List, None}
 use Rattle.mysql_wire.specs.Codec.{Codec, Fields}
-use Rattle.mysql_wire.specs.Codecs.{◌>>=◌, give, field, packet, const_u8, string_null, string_eof}
-use Rattle.mysql_auth.specs.declared.auth_switch_request.AuthSwitchRequest.{AuthSwitchRequest}
+use Rattle.mysql_auth.specs.declared.faults.InvalidAuthSwitchRequestHeader.{InvalidAuthSwitchRequestHeader}
+use Rattle.mysql_auth.specs.declared.plugin_request.PluginRequest.{PluginRequest}
+use Rattle.mysql_auth.specs.PluginRequest.{request_of, plugin_request, plugin_request_fields, size-plugin_request}
+pub use Rattle.mysql_auth.specs.PluginRequest.{plugin_name, plugin_data}
 
--- the plugin's name and its data, as they stand in the packet
-abbrev pub plugin_name : AuthSwitchRequest → List ℕ
-plugin_name p = p.auth_plugin
+abbrev pub AuthSwitchRequest : Type 0
+AuthSwitchRequest = PluginRequest InvalidAuthSwitchRequestHeader 0xfe
 
-abbrev pub plugin_data : AuthSwitchRequest → List ℕ
-plugin_data p = p.plugin_data
-
--- the packet of these
+-- the packet of a plugin's name and its data
 abbrev pub switch_to : List ℕ → List ℕ → AuthSwitchRequest
-switch_to name content = record { header = record { 0 = record {} }; auth_plugin = name; plugin_data = content }
+switch_to = request_of
 
 -- fe, the plugin's name with a zero, and its data to the end
 abbrev pub auth_switch_request_fields : Fields (Unit {0}) AuthSwitchRequest AuthSwitchRequest
-auth_switch_request_fields = do
-  header ← field (λ p. p.header) (const_u8 0xfe)
-  name ← field plugin_name string_null
-  content ← field plugin_data string_eof
-  give (record { header = header; auth_plugin = name; plugin_data = content })
+auth_switch_request_fields = plugin_request_fields 0xfe
 
-unfoldable pub auth_switch_request : Codec (Unit {0}) AuthSwitchRequest
-auth_switch_request = packet auth_switch_request_fields (λ p. refl)
+abbrev pub auth_switch_request : Codec (Unit {0}) AuthSwitchRequest
+auth_switch_request = plugin_request 0xfe
 
 pub size-auth_switch_request : (auth_switch_request.form tt).size ≡ None
-unfolding auth_switch_request
-size-auth_switch_request = refl
+size-auth_switch_request = size-plugin_request _ 0xfe

@@ -9,7 +9,7 @@ use Rattle.mysql_wire.specs.Null.{null_string}
 use Rattle.mysql_wire.specs.declared.constant.ConstU8.{ConstU8}
 use Rattle.mysql_auth.specs.ComChangeUser.{named_plugin}
 use Rattle.mysql_auth.specs.declared.com_change_user.ComChangeUser.{ComChangeUser}
-use Rattle.mysql_auth.specs.declared.com_change_user.InvalidComChangeUserHeader.{InvalidComChangeUserHeader}
+use Rattle.mysql_auth.specs.declared.faults.InvalidComChangeUserHeader.{InvalidComChangeUserHeader}
 use Rattle.mysql_auth.specs.declared.com_change_user_more_data.ComChangeUserMoreData.{ComChangeUserMoreData}
 
 abbrev pub change_header : Form (ConstU8 InvalidComChangeUserHeader 0x11)

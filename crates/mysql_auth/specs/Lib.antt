@@ -15,6 +15,7 @@ pub mod Handshake
 pub mod Version
 pub mod Scan
 pub mod PluginName
+pub mod PluginRequest
 pub mod Attributes
 pub mod ConnectAttributesRef
 pub mod HandshakeResponse

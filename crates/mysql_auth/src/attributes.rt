@@ -189,12 +189,11 @@ impl Clone for Attributes<'_> {
 }
 
 impl PartialEq for Attributes<'_> {
-    ghost use Rattle.std.specs.Cmp.{and_per, on_per, partial_equiv_from_equiv};
-    ghost use Rattle.std.specs.Cmp.Lexicographic.{pointwise, lists_per, nat_list_eq_equiv};
+    ghost use Rattle.std.specs.Cmp.Lexicographic.{pointwise, lists_per};
 
     ghost eq = { pointwise spec.attribute_eq };
 
-    ghost laws = { let texts = partial_equiv_from_equiv nat_list_eq_equiv in lists_per (and_per (on_per (λ p. p.0) texts) (on_per (λ p. p.1) texts)) };
+    ghost laws = { lists_per spec.attribute_per };
 
     /// The same pairs in the same order.
     fn eq(&self, other: &Self) -> bool {
@@ -203,10 +202,9 @@ impl PartialEq for Attributes<'_> {
 }
 
 impl Eq for Attributes<'_> {
-    ghost use Rattle.std.specs.Cmp.{and_equiv, on_equiv};
-    ghost use Rattle.std.specs.Cmp.Lexicographic.{lists_equiv, nat_list_eq_equiv};
+    ghost use Rattle.std.specs.Cmp.Lexicographic.{lists_equiv};
 
-    ghost laws = { lists_equiv (and_equiv (on_equiv (λ p. p.0) nat_list_eq_equiv) (on_equiv (λ p. p.1) nat_list_eq_equiv)) };
+    ghost laws = { lists_equiv spec.attribute_equiv };
 }
 
 impl Debug for Attributes<'_> {

@@ -6,22 +6,12 @@ ghost use Rattle.std.specs.Cow.{cow_slice_items};
 ghost use Rattle.mysql_auth.specs.AuthMoreData as spec;
 
 use crate::auth_more_data_ref::AuthMoreDataRef;
+use crate::faults::InvalidAuthMoreDataHeader;
 use mysql_wire::{
-    AnyWidth, ConstFault, ConstU8, EofBytes, FaultOf, MyDeserialize, ParseBuf, Parts, RawBytes,
-    Sink, parts,
+    AnyWidth, ConstU8, EofBytes, FaultOf, MyDeserialize, ParseBuf, Parts, RawBytes, Sink, parts,
 };
 use std::alloc::{AllocError, Global};
 use std::borrow::CowSlice;
-use thiserror::Error;
-
-/// The first byte of further data is not `01`.
-#[derive(Clone, Copy, Debug, Default, PartialEq, Eq, Hash, Error)]
-#[error("Invalid AuthMoreData header")]
-pub struct InvalidAuthMoreDataHeader;
-
-impl ConstFault for InvalidAuthMoreDataHeader {
-    const MESSAGE: &'static str = "Invalid AuthMoreData header";
-}
 
 /// The first byte of further data: `01`.
 pub type AuthMoreDataHeader = ConstU8<InvalidAuthMoreDataHeader, 0x01>;

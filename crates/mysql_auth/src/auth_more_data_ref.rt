@@ -3,6 +3,8 @@
 
 ghost use Rattle.std.specs.Prelude.{◌≡◌};
 ghost use Rattle.mysql_auth.specs.AuthMoreData as spec;
+ghost use Rattle.mysql_auth.specs.declared.auth_more_data.AuthMoreData.{AuthMoreData};
+ghost use Rattle.mysql_auth.specs.AuthMoreData.{more_data_of};
 
 use crate::auth_more_data::{AuthMoreData, AuthMoreDataHeader};
 use mysql_wire::{AnyWidth, FaultOf, MyDeserialize, ParseBuf};
@@ -22,9 +24,6 @@ pub struct AuthMoreDataRef<'a> {
 }
 
 impl<'a> Model for AuthMoreDataRef<'a> {
-    ghost use Rattle.mysql_auth.specs.declared.auth_more_data.AuthMoreData.{AuthMoreData};
-    ghost use Rattle.mysql_auth.specs.AuthMoreData.{more_data_of};
-
     ghost Value = { AuthMoreData };
 
     ghost view = { λ p. more_data_of p.content.now };

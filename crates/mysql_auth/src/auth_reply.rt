@@ -6,8 +6,8 @@ ghost use Rattle.mysql_wire.specs.Reading.{Answers, IsTail};
 ghost use Rattle.mysql_auth.specs.AuthReply as spec;
 
 use crate::auth_more_data_ref::AuthMoreDataRef;
-use crate::auth_next_factor_ref::AuthNextFactorRef;
-use crate::auth_switch_request_ref::AuthSwitchRequestRef;
+use crate::auth_next_factor::AuthNextFactorRef;
+use crate::auth_switch_request::AuthSwitchRequestRef;
 use crate::old_auth_switch_request::OldAuthSwitchRequest;
 use bitflags::Flags;
 use mysql_wire::{AnyWidth, CapabilityFlags, EofBytes, FaultOf, MyDeserialize, ParseBuf, RawBytes};
@@ -92,10 +92,7 @@ impl<'de> MyDeserialize<'de> for AuthReply<'de> {
 
     ghost form = { spec.auth_reply };
 
-    fn deserialize<'s>(
-        capabilities: CapabilityFlags,
-        buf: &mut ParseBuf<'de>,
-    ) -> Result<Self, FaultOf<'s>> {
+    fn deserialize<'s>(agreed: Self::Ctx, buf: &mut ParseBuf<'de>) -> Result<Self, FaultOf<'s>> {
         let Some(first) = buf.first() else {
             return Ok(AuthReply::PluginData(all_of(buf)));
         };
@@ -112,7 +109,7 @@ impl<'de> MyDeserialize<'de> for AuthReply<'de> {
             return Ok(AuthReply::MoreData(buf.parse(())?));
         }
         if first == 0x02 {
-            return read_factor(capabilities, buf);
+            return read_factor(agreed, buf);
         }
         Ok(AuthReply::PluginData(all_of(buf)))
     }

@@ -13,22 +13,13 @@ ghost use Rattle.mysql_auth.specs.declared.com_change_user_more_data.ComChangeUs
 
 use crate::com_change_user_more_data::ComChangeUserMoreData;
 use crate::com_change_user_ref::ComChangeUserRef;
+use crate::faults::InvalidComChangeUserHeader;
 use mysql_wire::{
-    AnyWidth, CapabilityFlags, ConstFault, ConstU8, FaultOf, MyDeserialize, NullBytes, ParseBuf,
-    Parts, RawBytes, Sink, U8Bytes, parts,
+    AnyWidth, CapabilityFlags, ConstU8, FaultOf, MyDeserialize, NullBytes, ParseBuf, Parts,
+    RawBytes, Sink, U8Bytes, parts,
 };
 use std::alloc::{AllocError, Global};
 use std::borrow::CowSlice;
-use thiserror::Error;
-
-/// The first byte of a change of user is not `11`.
-#[derive(Clone, Copy, Debug, Default, PartialEq, Eq, Hash, Error)]
-#[error("Invalid COM_CHANGE_USER header")]
-pub struct InvalidComChangeUserHeader;
-
-impl ConstFault for InvalidComChangeUserHeader {
-    const MESSAGE: &'static str = "Invalid COM_CHANGE_USER header";
-}
 
 /// The first byte of a change of user: `11`.
 pub type ComChangeUserHeader = ConstU8<InvalidComChangeUserHeader, 0x11>;
@@ -201,13 +192,10 @@ impl<'de> MyDeserialize<'de> for ComChangeUser<'de> {
     ghost form = { spec.change_user.form };
 
     #[tactic(auto, using(crate::proofs::ChangeRead::changes_read))]
-    fn deserialize<'s>(
-        capabilities: CapabilityFlags,
-        buf: &mut ParseBuf<'de>,
-    ) -> Result<Self, FaultOf<'s>> {
+    fn deserialize<'s>(agreed: Self::Ctx, buf: &mut ParseBuf<'de>) -> Result<Self, FaultOf<'s>> {
         let mut rest = buf.rest();
         let change = ComChangeUserRef::read_before_more_data(&mut rest)?;
-        let more_data = read_more_data(capabilities, &mut rest)?;
+        let more_data = read_more_data(agreed, &mut rest)?;
         *buf = rest;
         Ok(change.with_more_data(more_data))
     }

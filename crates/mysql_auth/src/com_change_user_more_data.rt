@@ -149,13 +149,10 @@ impl<'de> MyDeserialize<'de> for ComChangeUserMoreData<'de> {
     ghost form = { spec.more_data.form };
 
     #[tactic(auto, using(crate::proofs::ChangeRead::more_data_read))]
-    fn deserialize<'s>(
-        capabilities: CapabilityFlags,
-        buf: &mut ParseBuf<'de>,
-    ) -> Result<Self, FaultOf<'s>> {
+    fn deserialize<'s>(agreed: Self::Ctx, buf: &mut ParseBuf<'de>) -> Result<Self, FaultOf<'s>> {
         let mut rest = buf.rest();
-        let more = ComChangeUserMoreDataRef::read_before_attributes(capabilities, &mut rest)?;
-        let connect_attributes = read_attributes(capabilities, &mut rest)?;
+        let more = ComChangeUserMoreDataRef::read_before_attributes(agreed, &mut rest)?;
+        let connect_attributes = read_attributes(agreed, &mut rest)?;
         *buf = rest;
         Ok(more.with_attributes(connect_attributes))
     }

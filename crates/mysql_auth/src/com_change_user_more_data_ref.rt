@@ -9,6 +9,7 @@ ghost use Rattle.mysql_auth.specs.AuthPlugin.{plugin_of};
 ghost use Rattle.mysql_auth.specs.ComChangeUser as spec;
 ghost use Rattle.mysql_auth.specs.ComChangeUserRef.{before_attributes};
 ghost use Rattle.mysql_auth.specs.ConnectAttributesRef.{AnswersGiven};
+ghost use Rattle.mysql_auth.specs.declared.com_change_user_more_data.ComChangeUserMoreData.{ComChangeUserMoreData};
 
 use crate::attributes::Attributes;
 use crate::auth_plugin::AuthPlugin;
@@ -34,10 +35,6 @@ pub struct ComChangeUserMoreDataRef<'a> {
 }
 
 impl<'a> Model for ComChangeUserMoreDataRef<'a> {
-    ghost use Rattle.std.specs.Prelude.{option_map};
-    ghost use Rattle.mysql_auth.specs.Attributes.{merged};
-    ghost use Rattle.mysql_auth.specs.declared.com_change_user_more_data.ComChangeUserMoreData.{ComChangeUserMoreData};
-
     ghost Value = { ComChangeUserMoreData };
 
     ghost view = { λ p. record {
@@ -183,13 +180,10 @@ impl<'de> MyDeserialize<'de> for ComChangeUserMoreDataRef<'de> {
     ghost form = { spec.more_data.form };
 
     #[tactic(auto, using(crate::proofs::ChangeRead::more_data_parts))]
-    fn deserialize<'s>(
-        capabilities: CapabilityFlags,
-        buf: &mut ParseBuf<'de>,
-    ) -> Result<Self, FaultOf<'s>> {
+    fn deserialize<'s>(agreed: Self::Ctx, buf: &mut ParseBuf<'de>) -> Result<Self, FaultOf<'s>> {
         let mut rest = buf.rest();
-        let mut more = ComChangeUserMoreDataRef::read_before_attributes(capabilities, &mut rest)?;
-        more.connect_attributes = read_attributes(capabilities, &mut rest)?;
+        let mut more = ComChangeUserMoreDataRef::read_before_attributes(agreed, &mut rest)?;
+        more.connect_attributes = read_attributes(agreed, &mut rest)?;
         *buf = rest;
         Ok(more)
     }

@@ -6,6 +6,8 @@ ghost use Rattle.std.specs.Option.{unwrap_or};
 ghost use Rattle.mysql_wire.specs.Reading.{Answers};
 ghost use Rattle.mysql_auth.specs.ComChangeUser as spec;
 ghost use Rattle.mysql_auth.specs.ComChangeUserRef.{before_more_data};
+ghost use Rattle.mysql_auth.specs.declared.com_change_user.ComChangeUser.{ComChangeUser};
+ghost use Rattle.mysql_auth.specs.ComChangeUser.{change_of};
 
 use crate::com_change_user::{ComChangeUser, ComChangeUserHeader};
 use crate::com_change_user_more_data::ComChangeUserMoreData;
@@ -34,9 +36,6 @@ pub struct ComChangeUserRef<'a> {
 }
 
 impl<'a> Model for ComChangeUserRef<'a> {
-    ghost use Rattle.mysql_auth.specs.declared.com_change_user.ComChangeUser.{ComChangeUser};
-    ghost use Rattle.mysql_auth.specs.ComChangeUser.{change_of};
-
     ghost Value = { ComChangeUser };
 
     ghost view = { λ p. change_of p.user p.auth_plugin_data p.database p.more_data };
@@ -179,13 +178,10 @@ impl<'de> MyDeserialize<'de> for ComChangeUserRef<'de> {
     ghost form = { spec.change_user.form };
 
     #[tactic(auto, using(crate::proofs::ChangeRead::change_parts))]
-    fn deserialize<'s>(
-        capabilities: CapabilityFlags,
-        buf: &mut ParseBuf<'de>,
-    ) -> Result<Self, FaultOf<'s>> {
+    fn deserialize<'s>(agreed: Self::Ctx, buf: &mut ParseBuf<'de>) -> Result<Self, FaultOf<'s>> {
         let mut rest = buf.rest();
         let mut change = ComChangeUserRef::read_before_more_data(&mut rest)?;
-        change.more_data = read_more_data(capabilities, &mut rest)?;
+        change.more_data = read_more_data(agreed, &mut rest)?;
         *buf = rest;
         Ok(change)
     }

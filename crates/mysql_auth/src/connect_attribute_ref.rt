@@ -58,12 +58,9 @@ impl Clone for ConnectAttributeRef<'_> {
 }
 
 impl PartialEq for ConnectAttributeRef<'_> {
-    ghost use Rattle.std.specs.Cmp.{and_per, on_per, partial_equiv_from_equiv};
-    ghost use Rattle.std.specs.Cmp.Lexicographic.{nat_list_eq_equiv};
-
     ghost eq = { spec.attribute_eq };
 
-    ghost laws = { let texts = partial_equiv_from_equiv nat_list_eq_equiv in and_per (on_per (λ p. p.0) texts) (on_per (λ p. p.1) texts) };
+    ghost laws = { spec.attribute_per };
 
     fn eq(&self, other: &Self) -> bool {
         self.key == other.key && self.value == other.value
@@ -71,10 +68,7 @@ impl PartialEq for ConnectAttributeRef<'_> {
 }
 
 impl Eq for ConnectAttributeRef<'_> {
-    ghost use Rattle.std.specs.Cmp.{and_equiv, on_equiv};
-    ghost use Rattle.std.specs.Cmp.Lexicographic.{nat_list_eq_equiv};
-
-    ghost laws = { and_equiv (on_equiv (λ p. p.0) nat_list_eq_equiv) (on_equiv (λ p. p.1) nat_list_eq_equiv) };
+    ghost laws = { spec.attribute_equiv };
 }
 
 impl Debug for ConnectAttributeRef<'_> {

@@ -1,13 +1,14 @@
 //! Attributes of a connection, where they lie.
 #![tactic(auto, using(crate::proofs::PairsPassed::pairs_passed))]
 
-ghost use Rattle.std.specs.Prelude.{false, [], ◌≡◌, List, IfErr, IfOk, IsOk, OnOk, option_map};
+ghost use Rattle.std.specs.Prelude.{false, [], ◌≡◌, List, IfErr, IfOk, IsOk, OnOk, option_map, length, ⊤};
 ghost use Rattle.std.specs.Cmp.Lexicographic.{pointwise};
 ghost use Rattle.std.specs.Option.{unwrap_or};
 ghost use Rattle.mysql_wire.specs.Reading.{Faults};
 ghost use Rattle.mysql_auth.specs.Attributes as spec;
 ghost use Rattle.mysql_auth.specs.Attributes.{Attribute};
 ghost use Rattle.mysql_auth.specs.ConnectAttributesRef.{AnswersPairs, ArePairs, NextPair, pairs_in, sent_pairs};
+ghost use Rattle.std.specs.Iterator.{at_most};
 
 use crate::attributes::{Attributes, read_pairs};
 use crate::connect_attribute_ref::ConnectAttributeRef;
@@ -29,10 +30,6 @@ pub struct ConnectAttributesRef<'a> {
 }
 
 impl<'a> Model for ConnectAttributesRef<'a> {
-    ghost use Rattle.std.specs.Prelude.{List};
-    ghost use Rattle.mysql_auth.specs.Attributes.{Attribute};
-    ghost use Rattle.mysql_auth.specs.ConnectAttributesRef.{ArePairs, pairs_in};
-
     ghost Value = { List Attribute };
 
     ghost view = { λ a. pairs_in a.pairs };
@@ -166,12 +163,11 @@ impl Clone for ConnectAttributesRef<'_> {
 
 /// The same pairs in the same order, as they were sent.
 impl PartialEq for ConnectAttributesRef<'_> {
-    ghost use Rattle.std.specs.Cmp.{and_per, on_per, partial_equiv_from_equiv};
-    ghost use Rattle.std.specs.Cmp.Lexicographic.{pointwise, lists_per, nat_list_eq_equiv};
+    ghost use Rattle.std.specs.Cmp.Lexicographic.{pointwise, lists_per};
 
     ghost eq = { pointwise spec.attribute_eq };
 
-    ghost laws = { let texts = partial_equiv_from_equiv nat_list_eq_equiv in lists_per (and_per (on_per (λ p. p.0) texts) (on_per (λ p. p.1) texts)) };
+    ghost laws = { lists_per spec.attribute_per };
 
     fn eq(&self, other: &Self) -> bool {
         give_the_same(self, other)
@@ -179,10 +175,9 @@ impl PartialEq for ConnectAttributesRef<'_> {
 }
 
 impl Eq for ConnectAttributesRef<'_> {
-    ghost use Rattle.std.specs.Cmp.{and_equiv, on_equiv};
-    ghost use Rattle.std.specs.Cmp.Lexicographic.{lists_equiv, nat_list_eq_equiv};
+    ghost use Rattle.std.specs.Cmp.Lexicographic.{lists_equiv};
 
-    ghost laws = { lists_equiv (and_equiv (on_equiv (λ p. p.0) nat_list_eq_equiv) (on_equiv (λ p. p.1) nat_list_eq_equiv)) };
+    ghost laws = { lists_equiv spec.attribute_equiv };
 }
 
 impl Debug for ConnectAttributesRef<'_> {
@@ -197,9 +192,6 @@ impl Debug for ConnectAttributesRef<'_> {
 
 impl<'a> Iterator for ConnectAttributesRef<'a> {
     type Item = ConnectAttributeRef<'a>;
-
-    ghost use Rattle.std.specs.Prelude.{length, ⊤};
-    ghost use Rattle.std.specs.Iterator.{at_most};
 
     ghost can_next = { λ _. ⊤ };
 

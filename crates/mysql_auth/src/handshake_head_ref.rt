@@ -1,10 +1,11 @@
 //! What every handshake has, where it lies.
 #![tactic(auto, using(mysql_wire::proofs::Packets::packets), unfolding(crate::specs::Handshake::handshake_head, crate::specs::Handshake::handshake_block))]
 
-ghost use Rattle.std.specs.Prelude.{false, ◌+◌, ◌≡◌, ◌≤◌, length, Ok};
+ghost use Rattle.std.specs.Prelude.{false, ◌+◌, ◌≡◌, ◌≤◌, length, Ok, ℕ, List};
 ghost use Rattle.mysql_wire.specs.Form.{bytes};
 ghost use Rattle.mysql_wire.specs.Reading.{Answers};
 ghost use Rattle.mysql_auth.specs.Handshake as spec;
+ghost use Rattle.mysql_auth.specs.declared.handshake_head.HandshakeHead.{HandshakeHead};
 
 use crate::handshake_head::HandshakeHead;
 use bitflags::Flags;
@@ -22,8 +23,6 @@ pub(crate) struct FirstScramble<'a> {
 }
 
 impl<'a> Model for FirstScramble<'a> {
-    ghost use Rattle.std.specs.Prelude.{ℕ, List};
-
     ghost Value = { List ℕ };
 
     ghost view = { λ s. s.bytes.now };
@@ -62,8 +61,6 @@ pub(crate) struct HandshakeHeadRef<'a> {
 }
 
 impl<'a> Model for HandshakeHeadRef<'a> {
-    ghost use Rattle.mysql_auth.specs.declared.handshake_head.HandshakeHead.{HandshakeHead};
-
     ghost Value = { HandshakeHead };
 
     ghost view = { λ h. record {

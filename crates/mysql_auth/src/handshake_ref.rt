@@ -3,6 +3,7 @@
 
 ghost use Rattle.std.specs.Prelude.{◌≡◌, length, option_map};
 ghost use Rattle.mysql_auth.specs.Handshake as spec;
+ghost use Rattle.mysql_auth.specs.declared.handshake.HandshakePacket.{HandshakePacket};
 
 use crate::auth_plugin::AuthPlugin;
 use crate::eof_name::{EofName, without_last_zero};
@@ -32,8 +33,6 @@ pub struct HandshakePacketRef<'a> {
 }
 
 impl<'a> Model for HandshakePacketRef<'a> {
-    ghost use Rattle.mysql_auth.specs.declared.handshake.HandshakePacket.{HandshakePacket};
-
     ghost Value = { HandshakePacket };
 
     ghost view = { λ p. record { head = p.head; scramble_2 = p.scramble_2; auth_plugin_name = p.auth_plugin_name } };

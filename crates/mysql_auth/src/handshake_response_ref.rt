@@ -9,6 +9,7 @@ ghost use Rattle.mysql_auth.specs.AuthPlugin.{plugin_of};
 ghost use Rattle.mysql_auth.specs.ConnectAttributesRef.{AnswersGiven};
 ghost use Rattle.mysql_auth.specs.HandshakeResponse as spec;
 ghost use Rattle.mysql_auth.specs.HandshakeResponseRef.{before_attributes, with_attributes};
+ghost use Rattle.mysql_auth.specs.declared.handshake_response.HandshakeResponse.{HandshakeResponse};
 
 use crate::attributes::Attributes;
 use crate::auth_plugin::AuthPlugin;
@@ -43,10 +44,6 @@ pub struct HandshakeResponseRef<'a> {
 }
 
 impl<'a> Model for HandshakeResponseRef<'a> {
-    ghost use Rattle.std.specs.Prelude.{option_map};
-    ghost use Rattle.mysql_auth.specs.Attributes.{merged};
-    ghost use Rattle.mysql_auth.specs.declared.handshake_response.HandshakeResponse.{HandshakeResponse};
-
     ghost Value = { HandshakeResponse };
 
     ghost view = { λ p. record {

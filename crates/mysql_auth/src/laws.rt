@@ -6,8 +6,8 @@
 
 ghost use Rattle.std.specs.Prelude.{◌≡◌, ◌++◌, ℕ, List, [], Some, None};
 ghost use Rattle.mysql_auth.specs.declared.auth_more_data.AuthMoreData.{AuthMoreData};
-ghost use Rattle.mysql_auth.specs.declared.auth_next_factor.AuthNextFactor.{AuthNextFactor};
-ghost use Rattle.mysql_auth.specs.declared.auth_switch_request.AuthSwitchRequest.{AuthSwitchRequest};
+ghost use Rattle.mysql_auth.specs.AuthNextFactor.{AuthNextFactor};
+ghost use Rattle.mysql_auth.specs.AuthSwitchRequest.{AuthSwitchRequest};
 ghost use Rattle.mysql_auth.specs.declared.old_auth_switch_request.OldAuthSwitchRequest.{OldAuthSwitchRequest};
 ghost use Rattle.mysql_auth.specs.declared.public_key_request.PublicKeyRequest.{PublicKeyRequest};
 ghost use Rattle.mysql_auth.specs.declared.public_key_response.PublicKeyResponse.{PublicKeyResponse};
@@ -35,7 +35,7 @@ ghost use Rattle.mysql_auth.specs.PublicKeyResponse.{public_key_response};
 ghost use Rattle.mysql_auth.specs.SslRequest.{ssl_request, SslRequestFits};
 ghost use Rattle.mysql_wire.specs.Null.{HasNoZero};
 
-use mysql_wire::MyDeserialize;
+use mysql_wire::{MyDeserialize, Width};
 
 mod borrowed;
 mod equal;
@@ -181,14 +181,14 @@ pub fn public_key_response_has_no_constant_size() -> Option<usize>
 pub fn auth_switch_request_has_no_constant_size() -> Option<usize>
     ensures value { result ≡ None }
 {
-    <crate::auth_switch_request::AuthSwitchRequest<'static> as MyDeserialize>::SIZE
+    <<crate::auth_switch_request::AuthSwitchRequest<'static> as MyDeserialize>::Size as Width>::SIZE
 }
 
 /// A request for the next factor has no constant size.
 pub fn auth_next_factor_has_no_constant_size() -> Option<usize>
     ensures value { result ≡ None }
 {
-    <crate::auth_next_factor::AuthNextFactor<'static> as MyDeserialize>::SIZE
+    <<crate::auth_next_factor::AuthNextFactor<'static> as MyDeserialize>::Size as Width>::SIZE
 }
 
 /// A reply has no constant size.

@@ -7,12 +7,10 @@ mod attributes;
 mod auth_more_data;
 mod auth_more_data_ref;
 mod auth_next_factor;
-mod auth_next_factor_ref;
 mod auth_plugin;
 mod auth_plugin_data;
 mod auth_reply;
 mod auth_switch_request;
-mod auth_switch_request_ref;
 mod com_change_user;
 mod com_change_user_more_data;
 mod com_change_user_more_data_ref;
@@ -20,6 +18,7 @@ mod com_change_user_ref;
 mod connect_attribute_ref;
 mod connect_attributes_ref;
 mod eof_name;
+mod faults;
 mod handshake;
 mod handshake_head;
 mod handshake_head_ref;
@@ -31,6 +30,8 @@ mod merged;
 mod old_auth_switch_request;
 mod parsec;
 mod plugin_name;
+mod plugin_request;
+mod plugin_request_ref;
 mod public_key_request;
 mod public_key_response;
 mod public_key_response_ref;
@@ -38,34 +39,34 @@ mod ssl_request;
 mod supported;
 mod version;
 
-pub use auth_more_data::{AuthMoreData, AuthMoreDataHeader, InvalidAuthMoreDataHeader};
+pub use auth_more_data::{AuthMoreData, AuthMoreDataHeader};
 pub use auth_more_data_ref::AuthMoreDataRef;
-pub use auth_next_factor::{AuthNextFactor, AuthNextFactorHeader, InvalidAuthNextFactorHeader};
-pub use auth_next_factor_ref::AuthNextFactorRef;
+pub use auth_next_factor::{AuthNextFactor, AuthNextFactorHeader, AuthNextFactorRef};
 pub use auth_plugin::AuthPlugin;
 pub use auth_plugin_data::AuthPluginData;
 pub use auth_reply::AuthReply;
-pub use auth_switch_request::{
-    AuthSwitchRequest, AuthSwitchRequestHeader, InvalidAuthSwitchRequestHeader,
-};
-pub use auth_switch_request_ref::AuthSwitchRequestRef;
-pub use com_change_user::{ComChangeUser, ComChangeUserHeader, InvalidComChangeUserHeader};
+pub use auth_switch_request::{AuthSwitchRequest, AuthSwitchRequestHeader, AuthSwitchRequestRef};
+pub use com_change_user::{ComChangeUser, ComChangeUserHeader};
 pub use com_change_user_more_data::ComChangeUserMoreData;
 pub use com_change_user_more_data_ref::ComChangeUserMoreDataRef;
 pub use com_change_user_ref::ComChangeUserRef;
 pub use connect_attribute_ref::ConnectAttributeRef;
 pub use connect_attributes_ref::ConnectAttributesRef;
 pub use eof_name::EofName;
+pub use faults::{
+    InvalidAuthMoreDataHeader, InvalidAuthNextFactorHeader, InvalidAuthSwitchRequestHeader,
+    InvalidComChangeUserHeader, InvalidPublicKeyRequest, InvalidPublicKeyResponse,
+};
 pub use handshake::HandshakePacket;
 pub use handshake_ref::HandshakePacketRef;
 pub use handshake_response::HandshakeResponse;
 pub use handshake_response_ref::HandshakeResponseRef;
 pub use old_auth_switch_request::OldAuthSwitchRequest;
 pub use parsec::parse_parsec_salt;
-pub use public_key_request::{InvalidPublicKeyRequest, PublicKeyRequest, PublicKeyRequestHeader};
-pub use public_key_response::{
-    InvalidPublicKeyResponse, PublicKeyResponse, PublicKeyResponseHeader,
-};
+pub use plugin_request::{PluginRequest, PluginRequestHeader};
+pub use plugin_request_ref::PluginRequestRef;
+pub use public_key_request::{PublicKeyRequest, PublicKeyRequestHeader};
+pub use public_key_response::{PublicKeyResponse, PublicKeyResponseHeader};
 pub use public_key_response_ref::PublicKeyResponseRef;
 pub use ssl_request::SslRequest;
 pub use supported::supported_capabilities;

@@ -5,6 +5,7 @@ ghost use Rattle.std.specs.Prelude.{false, ◌≡◌, Ok, option_map};
 ghost use Rattle.mysql_wire.specs.Reading.{Answers};
 ghost use Rattle.mysql_auth.specs.AuthPlugin.{plugin_of};
 ghost use Rattle.mysql_auth.specs.PluginName as spec;
+ghost use Rattle.mysql_auth.specs.declared.auth_plugin.AuthPlugin.{AuthPlugin};
 
 use crate::auth_plugin::AuthPlugin;
 use mysql_wire::{BytesRepr, FaultOf, NullBytes, ParseBuf};
@@ -17,9 +18,6 @@ pub(crate) struct AuthPluginRef<'a> {
 }
 
 impl<'a> Model for AuthPluginRef<'a> {
-    ghost use Rattle.mysql_auth.specs.declared.auth_plugin.AuthPlugin.{AuthPlugin};
-    ghost use Rattle.mysql_auth.specs.AuthPlugin.{plugin_of};
-
     ghost Value = { AuthPlugin };
 
     ghost view = { λ p. plugin_of p.name.now };

@@ -4,19 +4,8 @@
 ghost use Rattle.std.specs.Prelude.{◌≡◌};
 ghost use Rattle.mysql_auth.specs.PublicKeyRequest as spec;
 
-use mysql_wire::{
-    AnyWidth, ConstFault, ConstU8, FaultOf, MyDeserialize, ParseBuf, Parts, Sink, parts,
-};
-use thiserror::Error;
-
-/// The first byte of a request for a public key is not `02`.
-#[derive(Clone, Copy, Debug, Default, PartialEq, Eq, Hash, Error)]
-#[error("Invalid PublicKeyRequest header")]
-pub struct InvalidPublicKeyRequest;
-
-impl ConstFault for InvalidPublicKeyRequest {
-    const MESSAGE: &'static str = "Invalid PublicKeyRequest header";
-}
+use crate::faults::InvalidPublicKeyRequest;
+use mysql_wire::{AnyWidth, ConstU8, FaultOf, MyDeserialize, ParseBuf, Parts, Sink, parts};
 
 /// The first byte of a request for a public key: `02`.
 pub type PublicKeyRequestHeader = ConstU8<InvalidPublicKeyRequest, 0x02>;

@@ -6,23 +6,13 @@ ghost use Rattle.std.specs.Cow.{cow_slice_items, cow_str_bytes};
 ghost use Rattle.mysql_wire.specs.Text.{lossy_text, BorrowsUtf8};
 ghost use Rattle.mysql_auth.specs.PublicKeyResponse as spec;
 
+use crate::faults::InvalidPublicKeyResponse;
 use crate::public_key_response_ref::PublicKeyResponseRef;
 use mysql_wire::{
-    AnyWidth, ConstFault, ConstU8, EofBytes, FaultOf, MyDeserialize, ParseBuf, Parts, RawBytes,
-    Sink, parts,
+    AnyWidth, ConstU8, EofBytes, FaultOf, MyDeserialize, ParseBuf, Parts, RawBytes, Sink, parts,
 };
 use std::alloc::{AllocError, Global};
 use std::borrow::{CowSlice, CowStr};
-use thiserror::Error;
-
-/// The first byte of an answer with a public key is not `01`.
-#[derive(Clone, Copy, Debug, Default, PartialEq, Eq, Hash, Error)]
-#[error("Invalid PublicKeyResponse header")]
-pub struct InvalidPublicKeyResponse;
-
-impl ConstFault for InvalidPublicKeyResponse {
-    const MESSAGE: &'static str = "Invalid PublicKeyResponse header";
-}
 
 /// The first byte of an answer with a public key: `01`.
 pub type PublicKeyResponseHeader = ConstU8<InvalidPublicKeyResponse, 0x01>;

@@ -3,6 +3,8 @@
 
 ghost use Rattle.std.specs.Prelude.{◌≡◌};
 ghost use Rattle.mysql_auth.specs.PublicKeyResponse as spec;
+ghost use Rattle.mysql_auth.specs.declared.public_key_response.PublicKeyResponse.{PublicKeyResponse};
+ghost use Rattle.mysql_auth.specs.PublicKeyResponse.{response_of};
 
 use crate::public_key_response::{PublicKeyResponse, PublicKeyResponseHeader};
 use mysql_wire::{AnyWidth, FaultOf, MyDeserialize, ParseBuf};
@@ -21,9 +23,6 @@ pub struct PublicKeyResponseRef<'a> {
 }
 
 impl<'a> Model for PublicKeyResponseRef<'a> {
-    ghost use Rattle.mysql_auth.specs.declared.public_key_response.PublicKeyResponse.{PublicKeyResponse};
-    ghost use Rattle.mysql_auth.specs.PublicKeyResponse.{response_of};
-
     ghost Value = { PublicKeyResponse };
 
     ghost view = { λ p. response_of p.rsa_key.now };

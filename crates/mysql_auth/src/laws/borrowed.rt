@@ -36,12 +36,12 @@ pub fn borrowed_more_data_reads_more_data()
 
 /// So is a switch to another plugin.
 pub fn borrowed_auth_switch_requests_read_auth_switch_requests()
-    ensures read { (bytes : List ℕ) → (⟦<crate::auth_switch_request_ref::AuthSwitchRequestRef<'static> as MyDeserialize<'static>>⟧.form tt).reads bytes ≡ (auth_switch_request.form tt).reads bytes }
+    ensures read { (bytes : List ℕ) → (⟦<crate::auth_switch_request::AuthSwitchRequestRef<'static> as MyDeserialize<'static>>⟧.form tt).reads bytes ≡ (auth_switch_request.form tt).reads bytes }
 {}
 
 /// So is a request for the next factor.
 pub fn borrowed_auth_next_factors_read_auth_next_factors()
-    ensures read { (bytes : List ℕ) → (⟦<crate::auth_next_factor_ref::AuthNextFactorRef<'static> as MyDeserialize<'static>>⟧.form tt).reads bytes ≡ (auth_next_factor.form tt).reads bytes }
+    ensures read { (bytes : List ℕ) → (⟦<crate::auth_next_factor::AuthNextFactorRef<'static> as MyDeserialize<'static>>⟧.form tt).reads bytes ≡ (auth_next_factor.form tt).reads bytes }
 {}
 
 /// So is further data of an authentication.

@@ -3,11 +3,11 @@
 
 ghost use Rattle.std.specs.Prelude.{◌≡◌, ◌↔◌, IsTrue};
 ghost use Rattle.mysql_auth.specs.declared.auth_more_data.AuthMoreData.{AuthMoreData};
-ghost use Rattle.mysql_auth.specs.declared.auth_next_factor.AuthNextFactor.{AuthNextFactor};
+ghost use Rattle.mysql_auth.specs.AuthNextFactor.{AuthNextFactor};
 ghost use Rattle.mysql_auth.specs.declared.auth_plugin.AuthPlugin.{AuthPlugin};
 ghost use Rattle.mysql_auth.specs.declared.auth_plugin_data.AuthPluginData.{AuthPluginData};
 ghost use Rattle.mysql_auth.specs.declared.auth_reply.AuthReply.{AuthReply};
-ghost use Rattle.mysql_auth.specs.declared.auth_switch_request.AuthSwitchRequest.{AuthSwitchRequest};
+ghost use Rattle.mysql_auth.specs.AuthSwitchRequest.{AuthSwitchRequest};
 ghost use Rattle.mysql_auth.specs.declared.com_change_user.ComChangeUser.{ComChangeUser};
 ghost use Rattle.mysql_auth.specs.declared.com_change_user_more_data.ComChangeUserMoreData.{ComChangeUserMoreData};
 ghost use Rattle.mysql_auth.specs.declared.handshake.HandshakePacket.{HandshakePacket};

@@ -1,42 +1,43 @@
-//! The switch to another plugin, where it lies.
-#![tactic(auto, using(mysql_wire::proofs::Packets::packets), unfolding(crate::specs::AuthSwitchRequest::auth_switch_request))]
+//! What asks a client for a plugin, where it lies.
+#![tactic(auto, using(mysql_wire::proofs::Packets::packets), unfolding(crate::specs::PluginRequest::plugin_request))]
 
 ghost use Rattle.std.specs.Prelude.{◌≡◌};
 ghost use Rattle.mysql_auth.specs.AuthPlugin.{plugin_of};
-ghost use Rattle.mysql_auth.specs.AuthSwitchRequest as spec;
 ghost use Rattle.mysql_auth.specs.EofName.{without_last_zero};
+ghost use Rattle.mysql_auth.specs.PluginRequest as spec;
+ghost use Rattle.mysql_auth.specs.declared.plugin_request.PluginRequest.{PluginRequest};
+ghost use Rattle.mysql_auth.specs.PluginRequest.{request_of};
 
 use crate::auth_plugin::AuthPlugin;
-use crate::auth_switch_request::{AuthSwitchRequest, AuthSwitchRequestHeader};
 use crate::eof_name::without_last_zero;
-use mysql_wire::{AnyWidth, BytesRepr, FaultOf, MyDeserialize, NullBytes, ParseBuf};
+use crate::plugin_request::{PluginRequest, PluginRequestHeader};
+use mysql_wire::{
+    AnyWidth, BytesRepr, ConstFault, ConstU8, FaultOf, MyDeserialize, NullBytes, ParseBuf,
+};
 use std::alloc::AllocError;
 use std::borrow::CowSlice;
 use std::fmt;
 use std::fmt::Debug;
-use std::marker::Model;
+use std::marker::{Model, PhantomData};
 
-/// A server's request to switch to another plugin, whose texts stay in the packet: an [`AuthSwitchRequest`] for as long as
-/// the packet lives.
+/// A server's request for a plugin, whose texts stay in the packet: a [`PluginRequest`] for as long as the packet lives.
 ///
 /// It is read of the same bytes with the same faults, and in a clause it is that request.
 #[derive(Drop)]
-pub struct AuthSwitchRequestRef<'a> {
+pub struct PluginRequestRef<'a, T, const HEADER: u8> {
     auth_plugin: &'a [u8],
     plugin_data: &'a [u8],
+    packet: PhantomData<T>,
 }
 
-impl<'a> Model for AuthSwitchRequestRef<'a> {
-    ghost use Rattle.mysql_auth.specs.declared.auth_switch_request.AuthSwitchRequest.{AuthSwitchRequest};
-    ghost use Rattle.mysql_auth.specs.AuthSwitchRequest.{switch_to};
+impl<'a, T, const HEADER: u8> Model for PluginRequestRef<'a, T, HEADER> {
+    ghost Value = { PluginRequest T HEADER };
 
-    ghost Value = { AuthSwitchRequest };
-
-    ghost view = { λ p. switch_to p.auth_plugin.now p.plugin_data.now };
+    ghost view = { λ p. request_of p.auth_plugin.now p.plugin_data.now };
 }
 
-impl<'a> AuthSwitchRequestRef<'a> {
-    /// The name of the plugin to switch to.
+impl<'a, T, const HEADER: u8> PluginRequestRef<'a, T, HEADER> {
+    /// The name of the plugin that is asked for.
     #[inline]
     pub fn auth_plugin_name(&self) -> &'a [u8]
         ensures value { result.now ≡ spec.plugin_name self.now }
@@ -44,7 +45,7 @@ impl<'a> AuthSwitchRequestRef<'a> {
         self.auth_plugin
     }
 
-    /// The plugin to switch to.
+    /// The plugin that is asked for: to switch to, or of the next factor.
     #[inline]
     pub fn auth_plugin(&self) -> AuthPlugin<'a>
         ensures value { result ≡ plugin_of (spec.plugin_name self.now) }
@@ -52,7 +53,7 @@ impl<'a> AuthSwitchRequestRef<'a> {
         AuthPlugin::from_bytes(self.auth_plugin)
     }
 
-    /// The plugin's data, without one zero at its end, as [`AuthSwitchRequest::plugin_data`] says.
+    /// The plugin's data, without one zero at its end, as [`PluginRequest::plugin_data`] says.
     #[inline]
     pub fn plugin_data(&self) -> &'a [u8]
         ensures value { result.now ≡ without_last_zero (spec.plugin_data self.now) }
@@ -70,70 +71,69 @@ impl<'a> AuthSwitchRequestRef<'a> {
 
     /// The request in its other form, which borrows the texts still. It takes no memory.
     #[inline]
-    pub fn to_packet(&self) -> AuthSwitchRequest<'a>
+    pub fn to_packet(&self) -> PluginRequest<'a, T, HEADER>
         ensures value { result ≡ self.now }
     {
-        AuthSwitchRequest::new(
+        PluginRequest::new(
             CowSlice::Borrowed(self.auth_plugin),
             CowSlice::Borrowed(self.plugin_data),
         )
     }
 }
 
-impl Clone for AuthSwitchRequestRef<'_> {
+impl<T, const HEADER: u8> Clone for PluginRequestRef<'_, T, HEADER> {
     ghost is_clone = { λ p copy. copy ≡ p };
 
     fn clone(&self) -> Result<Self, AllocError> {
-        Ok(AuthSwitchRequestRef {
+        Ok(PluginRequestRef {
             auth_plugin: self.auth_plugin,
             plugin_data: self.plugin_data,
+            packet: PhantomData,
         })
     }
 }
 
-impl PartialEq for AuthSwitchRequestRef<'_> {
-    ghost use Rattle.mysql_auth.specs.contracts.auth_switch_request.AuthSwitchRequestPartialEq.TheImpl.Laws.{laws-law};
+/// As a [`PluginRequest`].
+impl<T, const HEADER: u8> PartialEq for PluginRequestRef<'_, T, HEADER> {
+    ghost eq = { spec.request_eq };
 
-    ghost eq = { ⟦<AuthSwitchRequest<'static> as PartialEq>⟧.eq };
-
-    ghost laws = { laws-law };
+    ghost laws = { spec.request_per };
 
     fn eq(&self, other: &Self) -> bool {
         self.to_packet() == other.to_packet()
     }
 }
 
-impl Eq for AuthSwitchRequestRef<'_> {
-    ghost use Rattle.mysql_auth.specs.contracts.auth_switch_request.AuthSwitchRequestEq.TheImpl.Laws.{laws-law};
-
-    ghost laws = { laws-law };
+impl<T, const HEADER: u8> Eq for PluginRequestRef<'_, T, HEADER> {
+    ghost laws = { spec.request_equiv };
 }
 
-impl Debug for AuthSwitchRequestRef<'_> {
+impl<T: PluginRequestHeader, const HEADER: u8> Debug for PluginRequestRef<'_, T, HEADER> {
     fn fmt<W: fmt::Write>(&self, f: &mut fmt::Formatter<W>) -> fmt::Result {
         self.to_packet().fmt(f)
     }
 }
 
-/// As an [`AuthSwitchRequest`].
-impl<'de> MyDeserialize<'de> for AuthSwitchRequestRef<'de> {
+/// As a [`PluginRequest`].
+impl<'de, T: ConstFault, const HEADER: u8> MyDeserialize<'de> for PluginRequestRef<'de, T, HEADER> {
     const SIZE: Option<usize> = None;
 
     type Size = AnyWidth;
 
     type Ctx = ();
 
-    ghost form = { spec.auth_switch_request.form };
+    ghost form = { (spec.plugin_request HEADER).form };
 
     #[inline]
     fn deserialize<'s>(_ctx: (), buf: &mut ParseBuf<'de>) -> Result<Self, FaultOf<'s>> {
-        let _header: AuthSwitchRequestHeader = buf.parse(())?;
+        let _header: ConstU8<T, HEADER> = buf.parse(())?;
         let mut auth_plugin: ParseBuf<'de> = <NullBytes as BytesRepr>::deserialize((), buf)?;
-        Ok(AuthSwitchRequestRef {
+        Ok(PluginRequestRef {
             auth_plugin: auth_plugin.eat_all(),
             plugin_data: buf.eat_all(),
+            packet: PhantomData,
         })
     }
 
-    ghost size_is = { λ _. spec.size-auth_switch_request };
+    ghost size_is = { λ _. spec.size-plugin_request _ HEADER };
 }

@@ -1,0 +1,43 @@
+-- What asks a client for a plugin: the switch to it, and the next factor by it.
+use Rattle.std.specs.Prelude.{◌≡◌, ℕ, List, None, Bool, ◌&&◌, nat_eq, refl}
+use Rattle.std.specs.Cmp.{IsPartialEquivalence, IsEquivalence, and_per, on_per, and_equiv, on_equiv, partial_equiv_from_equiv}
+use Rattle.std.specs.Cmp.Lexicographic.{pointwise, nat_list_eq_equiv}
+use Rattle.mysql_wire.specs.Codec.{Codec, Fields}
+use Rattle.mysql_wire.specs.Codecs.{◌>>=◌, give, field, packet, const_u8, string_null, string_eof}
+use Rattle.mysql_auth.specs.declared.plugin_request.PluginRequest.{PluginRequest}
+
+-- the plugin's name and its data, as they stand in the packet
+abbrev pub plugin_name : {T : Type 0} {first : ℕ} → PluginRequest T first → List ℕ
+plugin_name p = p.auth_plugin
+
+abbrev pub plugin_data : {T : Type 0} {first : ℕ} → PluginRequest T first → List ℕ
+plugin_data p = p.plugin_data
+
+-- the packet of these
+abbrev pub request_of : {T : Type 0} {first : ℕ} → List ℕ → List ℕ → PluginRequest T first
+request_of name content = record { header = record { 0 = record {} }; auth_plugin = name; plugin_data = content }
+
+-- the same name with the same data
+abbrev pub request_eq : {T : Type 0} {first : ℕ} → PluginRequest T first → PluginRequest T first → Bool
+request_eq p q = pointwise nat_eq p.auth_plugin q.auth_plugin && pointwise nat_eq p.plugin_data q.plugin_data
+
+pub request_per : {T : Type 0} {first : ℕ} → IsPartialEquivalence (request_eq {T = T} {first = first})
+request_per = let texts = partial_equiv_from_equiv nat_list_eq_equiv in and_per (on_per plugin_name texts) (on_per plugin_data texts)
+
+pub request_equiv : {T : Type 0} {first : ℕ} → IsEquivalence (request_eq {T = T} {first = first})
+request_equiv = and_equiv (on_equiv plugin_name nat_list_eq_equiv) (on_equiv plugin_data nat_list_eq_equiv)
+
+-- the first byte, the plugin's name with a zero, and its data to the end
+abbrev pub plugin_request_fields : {T : Type 0} (first : ℕ) → Fields (Unit {0}) (PluginRequest T first) (PluginRequest T first)
+plugin_request_fields first = do
+  header ← field (λ p. p.header) (const_u8 first)
+  name ← field plugin_name string_null
+  content ← field plugin_data string_eof
+  give (record { header = header; auth_plugin = name; plugin_data = content })
+
+unfoldable pub plugin_request : {T : Type 0} (first : ℕ) → Codec (Unit {0}) (PluginRequest T first)
+plugin_request first = packet (plugin_request_fields first) (λ p. refl)
+
+pub size-plugin_request : (T : Type 0) (first : ℕ) → ((plugin_request {T = T} first).form tt).size ≡ None
+unfolding plugin_request
+size-plugin_request T first = refl

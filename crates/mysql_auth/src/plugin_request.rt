@@ -1,0 +1,162 @@
+//! What asks a client for a plugin: the switch to it, and the next factor by it.
+#![tactic(auto, using(mysql_wire::proofs::Packets::packets), unfolding(crate::specs::PluginRequest::plugin_request))]
+
+ghost use Rattle.std.specs.Prelude.{[], ◌≡◌, IfOk, IsOk};
+ghost use Rattle.std.specs.Cow.{cow_slice_items};
+ghost use Rattle.mysql_auth.specs.AuthPlugin.{plugin_of};
+ghost use Rattle.mysql_auth.specs.EofName.{without_last_zero};
+ghost use Rattle.mysql_auth.specs.PluginRequest as spec;
+
+use crate::auth_plugin::AuthPlugin;
+use crate::eof_name::without_last_zero;
+use crate::plugin_request_ref::PluginRequestRef;
+use mysql_wire::{
+    AnyWidth, ConstFault, ConstU8, EofBytes, FaultOf, MyDeserialize, NullBytes, ParseBuf, Parts,
+    RawBytes, Sink, parts,
+};
+use std::alloc::{AllocError, Global};
+use std::borrow::CowSlice;
+use std::fmt;
+use std::fmt::Debug;
+
+/// The marker of a request's first byte: which packet it begins.
+pub trait PluginRequestHeader: ConstFault {
+    /// The packet's name, as it is shown.
+    const NAME: &'static str;
+}
+
+/// A server's request for a plugin: its first byte `HEADER`, the plugin's name, which ends in a zero, and the plugin's data to
+/// the end of the packet.
+///
+/// It is written once for both of them: [`AuthSwitchRequest`](crate::AuthSwitchRequest) and
+/// [`AuthNextFactor`](crate::AuthNextFactor). A packet that begins with another byte is `InvalidData`; an empty one, or a name
+/// without its zero, is `UnexpectedEof`.
+#[derive_where(Clone)]
+pub struct PluginRequest<'a, T, const HEADER: u8> {
+    header: ConstU8<T, HEADER>,
+    auth_plugin: RawBytes<'a, NullBytes>,
+    plugin_data: RawBytes<'a, EofBytes>,
+}
+
+impl<T, const HEADER: u8> Drop for PluginRequest<'_, T, HEADER> {
+    #[inline(always)]
+    fn drop(self) {
+        let PluginRequest {
+            header: _,
+            auth_plugin: _,
+            plugin_data: _,
+        } = self;
+    }
+}
+
+impl<'a, T, const HEADER: u8> PluginRequest<'a, T, HEADER> {
+    /// The request for the plugin of this name, with this data.
+    #[inline]
+    pub fn new(auth_plugin: CowSlice<'a, u8>, plugin_data: CowSlice<'a, u8>) -> Self
+        ensures value { result ≡ spec.request_of (cow_slice_items auth_plugin.entry) (cow_slice_items plugin_data.entry) }
+    {
+        PluginRequest {
+            header: ConstU8::new(),
+            auth_plugin: RawBytes::new(auth_plugin),
+            plugin_data: RawBytes::new(plugin_data),
+        }
+    }
+
+    /// The plugin that is asked for: to switch to, or of the next factor.
+    #[inline]
+    pub fn auth_plugin(&self) -> AuthPlugin<'_>
+        ensures value { result ≡ plugin_of (spec.plugin_name self.now) }
+    {
+        AuthPlugin::from_bytes(self.auth_plugin.as_bytes())
+    }
+
+    /// The plugin's data, mostly a new scramble, without one zero at its end.
+    ///
+    /// `mysql_native_password` and `caching_sha2_password` want this: their scramble of 20 bytes has a zero after it. A
+    /// scramble without one, as that of `client_ed25519`, may end in a zero of its own, which is missing here:
+    /// [`plugin_data_raw`](PluginRequest::plugin_data_raw) has it.
+    #[inline]
+    pub fn plugin_data(&self) -> &[u8]
+        ensures value { result.now ≡ without_last_zero (spec.plugin_data self.now) }
+    {
+        without_last_zero(self.plugin_data.as_bytes())
+    }
+
+    /// The plugin's data, whole: each byte after the zero of the plugin's name, to the end of the packet.
+    ///
+    /// `client_ed25519` and `parsec` want this: their scramble is 32 random bytes with no zero after them. Of
+    /// `mysql_native_password` and `caching_sha2_password` it is the scramble of 20 bytes and a zero, which
+    /// [`plugin_data`](PluginRequest::plugin_data) takes off.
+    #[inline]
+    pub fn plugin_data_raw(&self) -> &[u8]
+        ensures value { result.now ≡ spec.plugin_data self.now }
+    {
+        self.plugin_data.as_bytes()
+    }
+
+    /// The same request, on memory of its own. Empty bytes take none.
+    pub fn into_owned(self, alloc: Global) -> Result<PluginRequest<'static, T, HEADER>, AllocError>
+        ensures value { IfOk result (λ owned. owned ≡ self.entry) }
+        ensures no_memory { spec.plugin_name self.entry ≡ [] → spec.plugin_data self.entry ≡ [] → IsOk result }
+    {
+        let PluginRequest {
+            header,
+            auth_plugin,
+            plugin_data,
+        } = self;
+        Ok(PluginRequest {
+            header,
+            auth_plugin: auth_plugin.into_owned(alloc)?,
+            plugin_data: plugin_data.into_owned(alloc)?,
+        })
+    }
+}
+
+impl<T, const HEADER: u8> PartialEq for PluginRequest<'_, T, HEADER> {
+    ghost eq = { spec.request_eq };
+
+    ghost laws = { spec.request_per };
+
+    fn eq(&self, other: &Self) -> bool {
+        self.auth_plugin == other.auth_plugin && self.plugin_data == other.plugin_data
+    }
+}
+
+impl<T, const HEADER: u8> Eq for PluginRequest<'_, T, HEADER> {
+    ghost laws = { spec.request_equiv };
+}
+
+impl<T: PluginRequestHeader, const HEADER: u8> Debug for PluginRequest<'_, T, HEADER> {
+    fn fmt<W: fmt::Write>(&self, f: &mut fmt::Formatter<W>) -> fmt::Result {
+        f.debug_struct(T::NAME)
+            .field("header", &self.header)
+            .field("auth_plugin", &self.auth_plugin)
+            .field("plugin_data", &self.plugin_data)
+            .finish()
+    }
+}
+
+impl<'de, T: ConstFault, const HEADER: u8> MyDeserialize<'de> for PluginRequest<'de, T, HEADER> {
+    const SIZE: Option<usize> = None;
+
+    type Size = AnyWidth;
+
+    type Ctx = ();
+
+    ghost form = { (spec.plugin_request HEADER).form };
+
+    fn deserialize<'s>(_ctx: (), buf: &mut ParseBuf<'de>) -> Result<Self, FaultOf<'s>> {
+        Ok(PluginRequestRef::deserialize((), buf)?.to_packet())
+    }
+
+    ghost size_is = { λ _. spec.size-plugin_request _ HEADER };
+}
+
+impl<T, const HEADER: u8> Parts for PluginRequest<'_, T, HEADER> {
+    ghost bytes = { (spec.plugin_request HEADER).bytes };
+
+    #[inline(always)]
+    fn put<S: Sink>(&self, sink: &mut S) {
+        sink.part(&parts!(self.header, self.auth_plugin, self.plugin_data));
+    }
+}
