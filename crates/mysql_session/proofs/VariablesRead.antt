@@ -9,6 +9,7 @@ use Rattle.mysql_wire.specs.Reading.{Reading, Answers, then_read, Faults, done-v
 use Rattle.mysql_wire.specs.Form.{Form}
 use Rattle.mysql_wire.specs.Many.{many, value_and_more}
 use Rattle.mysql_wire.specs.Many.Laws.{many-next}
+use Rattle.mysql_wire.proofs.AllRead as all_read
 use Rattle.mysql_wire.proofs.Counted.{with_front}
 use Rattle.mysql_wire.proofs.ReadAll.{one-more, no-more, takes-none, tail-shorter}
 use Rattle.mysql_session.specs.declared.system_variable.SystemVariable.{SystemVariable}
@@ -22,65 +23,21 @@ one = system_variable.form tt
 abbrev pub all : Form (List SystemVariable)
 all = many one
 
--- what is read where bytes are left
-opened : (bytes : List ℕ) → bytes ≢ [] → all.reads bytes ≡ then_read (one.reads bytes) (value_and_more (length bytes) all.reads)
-unfolding many
-opened [] ne = absurd (ne refl)
-opened (b ∷ bs) ne = many-next one b bs
-
 -- ---- the first one and the others
 
 abbrev Whole : Reading (List SystemVariable) → Type 0
-Whole read = read ≡ Ok (variables_read read, [])
-
--- after one variable come others to the end
-abbrev Goes : SystemVariable → Reading (List SystemVariable) → Reading (List SystemVariable) → Type 0
-Goes v total after = Whole after × (variables_read total ≡ v ∷ variables_read after)
-
-joined : (v : SystemVariable) (total after : Reading (List SystemVariable)) → total ≡ then_read after (λ xs rest. Ok (v ∷ xs, rest)) → Whole total → Goes v total after
-joined v total (Ok x) e w =
-    let same : ◌≡◌ {A = Reading (List SystemVariable)} (Ok (v ∷ x.0, x.1)) (Ok (variables_read total, [])) = sym e ∙ w in
-    let end : x.1 ≡ [] = done-rest (v ∷ x.0) (variables_read total) x.1 [] same in
-    let items : v ∷ x.0 ≡ variables_read total = done-value (v ∷ x.0) (variables_read total) x.1 [] same in
-    (rw end refl, sym items)
-joined v total (Err k) e w =
-    let same : ◌≡◌ {A = Reading (List SystemVariable)} (Err k) (Ok (variables_read total, [])) = sym e ∙ w in
-    absurd cc
-
-guarded : (v : SystemVariable) (b : Bool) (total after : Reading (List SystemVariable))
-    → total ≡ (if b then then_read after (λ xs rest. Ok (v ∷ xs, rest)) else Err kind.InvalidData) → Whole total → Goes v total after
-guarded v true total after e w = joined v total after e w
-guarded v false total after e w =
-    let same : ◌≡◌ {A = Reading (List SystemVariable)} (Err kind.InvalidData) (Ok (variables_read total, [])) = sym e ∙ w in
-    absurd cc
-
-goes-on : (bytes after : List ℕ) (v : SystemVariable) → bytes ≢ [] → Whole (all.reads bytes) → one.reads bytes ≡ Ok (v, after) → Goes v (all.reads bytes) (all.reads after)
-goes-on bytes after v some w e =
-    guarded v (nat_lt (length after) (length bytes)) (all.reads bytes) (all.reads after) (rw (opened bytes some, e) refl) w
-
--- none of them is refused
-refused : (bytes : List ℕ) (k : FaultKind) → bytes ≢ [] → Whole (all.reads bytes) → one.reads bytes ≡ Err k → ⊥
-refused bytes k some w h =
-    let e : all.reads bytes ≡ Err k = rw (opened bytes some, h) refl in
-    let same : ◌≡◌ {A = Reading (List SystemVariable)} (Err k) (Ok (variables_read (all.reads bytes), [])) = sym e ∙ w in
-    absurd cc
-
-none-refused : (bytes : List ℕ) (e : FaultOf) → bytes ≢ [] → Whole (all.reads bytes) → Faults {A = SystemVariable} false e (one.reads bytes) → ⊥
-none-refused bytes fault.Memory some w h = absurd cc
-none-refused bytes fault.UnexpectedEof some w h = refused bytes _ some w h
-none-refused bytes (fault.InvalidData text) some w h = refused bytes _ some w h
-none-refused bytes (fault.InvalidInput text) some w h = refused bytes _ some w h
+Whole = all_read.Whole one variables_read (λ x. refl)
 
 pub answered-next : (bytes after : List ℕ) (r : Result SystemVariable FaultOf) (next : Option SystemVariable) → next ≡ result_ok r → bytes ≢ [] → AreVariables bytes
     → Answers false r after (one.reads bytes) → NextVariable (variables_in bytes) next (variables_in after)
 unfolding system_variables
-answered-next bytes after (Ok v) next same some w h = rw same ((goes-on bytes after v some w h).1)
-answered-next bytes after (Err e) next same some w h = absurd (none-refused bytes e some w h)
+answered-next bytes after (Ok v) next same some w h = rw same ((all_read.goes-on one variables_read (λ x. refl) bytes after v some w h).1)
+answered-next bytes after (Err e) next same some w h = absurd (all_read.none-refused one variables_read (λ x. refl) bytes e some w h)
 
 pub answered-others : (bytes after : List ℕ) (r : Result SystemVariable FaultOf) → bytes ≢ [] → AreVariables bytes → Answers false r after (one.reads bytes) → AreVariables after
 unfolding system_variables
-answered-others bytes after (Ok v) some w h = (goes-on bytes after v some w h).0
-answered-others bytes after (Err e) some w h = absurd (none-refused bytes e some w h)
+answered-others bytes after (Ok v) some w h = (all_read.goes-on one variables_read (λ x. refl) bytes after v some w h).0
+answered-others bytes after (Err e) some w h = absurd (all_read.none-refused one variables_read (λ x. refl) bytes e some w h)
 
 pub none-left : (bytes : List ℕ) → bytes ≡ [] → NextVariable (variables_in bytes) None (variables_in bytes)
 unfolding system_variables many
@@ -113,7 +70,7 @@ all-read rest bytes s e = whole s.0 (all.reads bytes) (no-more one s.0 rest (all
 
 fails-with : (rest bytes : List ℕ) (k : FaultKind) → SoFar rest bytes → rest ≢ [] → one.reads rest ≡ Err k → all.reads bytes ≡ Err k
 fails-with rest bytes k s some h =
-    let e : with_front s.0 (all.reads rest) ≡ Err k = rw (opened rest some, h) refl in
+    let e : with_front s.0 (all.reads rest) ≡ Err k = rw (all_read.opened one variables_read (λ x. refl) rest some, h) refl in
     sym s.1 ∙ e
 
 one-fails : (rest bytes : List ℕ) (e : FaultOf) → SoFar rest bytes → rest ≢ [] → Faults {A = SystemVariable} false e (one.reads rest) → Faults {A = List SystemVariable} false e (all.reads bytes)

@@ -41,14 +41,12 @@ pub enum ChangeRef<'a> {
 /// It is read of the same bytes with the same faults but for `Memory`, and in a clause it is that change. Reading is passed
 /// the entry's [`SessionStateType`](mysql_wire::SessionStateType).
 #[derive(Drop)]
-pub struct SessionStateChangeRef<'a> {
-    change: ChangeRef<'a>,
-}
+pub struct SessionStateChangeRef<'a>(ChangeRef<'a>);
 
 impl<'a> Model for SessionStateChangeRef<'a> {
     ghost Value = { SessionStateChange };
 
-    ghost view = { λ c. change_of c.change };
+    ghost view = { λ c. change_of c.0 };
 }
 
 impl<'a> SessionStateChangeRef<'a> {
@@ -57,7 +55,7 @@ impl<'a> SessionStateChangeRef<'a> {
     pub fn new(change: ChangeRef<'a>) -> Self
         ensures value { result ≡ change_of change.entry }
     {
-        SessionStateChangeRef { change }
+        SessionStateChangeRef(change)
     }
 
     /// What it tells.
@@ -65,7 +63,7 @@ impl<'a> SessionStateChangeRef<'a> {
     pub fn change(&self) -> &ChangeRef<'a>
         ensures value { change_of result.now ≡ self.now }
     {
-        &self.change
+        &self.0
     }
 
     /// What it tells.
@@ -73,7 +71,7 @@ impl<'a> SessionStateChangeRef<'a> {
     pub fn into_change(self) -> ChangeRef<'a>
         ensures value { change_of result ≡ self.entry }
     {
-        self.change
+        self.0
     }
 
     /// The change in its other form, which borrows the texts still. Memory is taken for a list of system variables alone,
@@ -85,7 +83,7 @@ impl<'a> SessionStateChangeRef<'a> {
         ensures value { IfOk result (λ change. change ≡ self.now) }
         ensures memory { OnErr result (ListsVariables self.now) }
     {
-        Ok(match &self.change {
+        Ok(match &self.0 {
             ChangeRef::IsTracked(is_tracked) => SessionStateChange::IsTracked(*is_tracked),
             ChangeRef::Schema(name) => {
                 SessionStateChange::Schema(Schema::new(CowSlice::Borrowed(*name)))
@@ -145,7 +143,7 @@ impl<'de> MyDeserialize<'de> for SessionStateChangeRef<'de> {
                 ChangeRef::TransactionState(text(buf)?.eat_all())
             }
         };
-        Ok(SessionStateChangeRef { change })
+        Ok(SessionStateChangeRef(change))
     }
 
     ghost size_is = { spec.size-session_state_change };

@@ -1,0 +1,59 @@
+-- Values that all of the bytes spell, one after another: where they are read, the first one is, and so are the others.
+use Rattle.std.proofs.Common.{◌≡◌, ◌≢◌, ℕ, List, [], ◌∷◌, length, Ok, Err, Bool, true, false, if◌then◌else◌, nat_lt, refl, sym, ap, ◌∙◌}
+use Rattle.mysql_wire.specs.declared.fault.FaultOf.{FaultOf}
+use Rattle.mysql_wire.specs.declared.fault.FaultOf.TheVariants as fault
+use Rattle.mysql_wire.specs.declared.fault.FaultKind.{FaultKind}
+use Rattle.mysql_wire.specs.declared.fault.FaultKind.TheVariants as kind
+use Rattle.mysql_wire.specs.Form.{Form}
+use Rattle.mysql_wire.specs.Many.{many, value_and_more}
+use Rattle.mysql_wire.specs.Many.Laws.{many-next}
+use Rattle.mysql_wire.specs.Reading.{Reading, Faults, then_read, done-value, done-rest}
+
+-- of one form, and of what a reading of all of them gives
+module _ {A : Type 0} (one : Form A) (items : Reading (List A) → List A) (gives : (x : List A × List ℕ) → items (Ok x) ≡ x.0) where
+  -- what is read where bytes are left
+  pub opened : (bytes : List ℕ) → bytes ≢ [] → (many one).reads bytes ≡ then_read (one.reads bytes) (value_and_more (length bytes) (many one).reads)
+  unfolding many
+  opened [] ne = absurd (ne refl)
+  opened (b ∷ bs) ne = many-next one b bs
+
+  abbrev pub Whole : Reading (List A) → Type 0
+  Whole read = read ≡ Ok (items read, [])
+
+  -- after one come others to the end
+  abbrev pub Goes : A → Reading (List A) → Reading (List A) → Type 0
+  Goes v total after = Whole after × (items total ≡ v ∷ items after)
+
+  joined : (v : A) (total after : Reading (List A)) → total ≡ then_read after (λ xs rest. Ok (v ∷ xs, rest)) → Whole total → Goes v total after
+  joined v total (Ok x) e w =
+      let same : ◌≡◌ {A = Reading (List A)} (Ok (v ∷ x.0, x.1)) (Ok (items total, [])) = sym e ∙ w in
+      let end : x.1 ≡ [] = done-rest (v ∷ x.0) (items total) x.1 [] same in
+      let all : v ∷ x.0 ≡ items total = done-value (v ∷ x.0) (items total) x.1 [] same in
+      (rw (gives x, end) refl, sym all ∙ ap (λ (l : List A). v ∷ l) (sym (gives x)))
+  joined v total (Err k) e w =
+      let same : ◌≡◌ {A = Reading (List A)} (Err k) (Ok (items total, [])) = sym e ∙ w in
+      absurd cc
+
+  guarded : (v : A) (b : Bool) (total after : Reading (List A))
+      → total ≡ (if b then then_read after (λ xs rest. Ok (v ∷ xs, rest)) else Err kind.InvalidData) → Whole total → Goes v total after
+  guarded v true total after e w = joined v total after e w
+  guarded v false total after e w =
+      let same : ◌≡◌ {A = Reading (List A)} (Err kind.InvalidData) (Ok (items total, [])) = sym e ∙ w in
+      absurd cc
+
+  pub goes-on : (bytes after : List ℕ) (v : A) → bytes ≢ [] → Whole ((many one).reads bytes) → one.reads bytes ≡ Ok (v, after) → Goes v ((many one).reads bytes) ((many one).reads after)
+  goes-on bytes after v some w e =
+      guarded v (nat_lt (length after) (length bytes)) ((many one).reads bytes) ((many one).reads after) (rw (opened bytes some, e) refl) w
+
+  -- none of them is refused
+  pub refused : (bytes : List ℕ) (k : FaultKind) → bytes ≢ [] → Whole ((many one).reads bytes) → one.reads bytes ≡ Err k → ⊥
+  refused bytes k some w h =
+      let e : (many one).reads bytes ≡ Err k = rw (opened bytes some, h) refl in
+      let same : ◌≡◌ {A = Reading (List A)} (Err k) (Ok (items ((many one).reads bytes), [])) = sym e ∙ w in
+      absurd cc
+
+  pub none-refused : (bytes : List ℕ) (e : FaultOf) → bytes ≢ [] → Whole ((many one).reads bytes) → Faults {A = A} false e (one.reads bytes) → ⊥
+  none-refused bytes fault.Memory some w h = absurd cc
+  none-refused bytes fault.UnexpectedEof some w h = refused bytes _ some w h
+  none-refused bytes (fault.InvalidData text) some w h = refused bytes _ some w h
+  none-refused bytes (fault.InvalidInput text) some w h = refused bytes _ some w h
