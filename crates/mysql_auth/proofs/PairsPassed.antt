@@ -4,6 +4,7 @@ use Rattle.std.specs.Cmp.Lexicographic.{pointwise}
 use Rattle.std.specs.Prelude.{nat_eq}
 use Rattle.std.specs.Result.{result_ok}
 use Rattle.indexmap.specs.IndexMap.{insert_entry, insert_all}
+use Rattle.mysql_wire.proofs.AllRead as all_read
 use Rattle.mysql_wire.proofs.Counted.{with_front}
 use Rattle.mysql_wire.proofs.ReadAll.{one-more, no-more, one-fails}
 use Rattle.mysql_wire.specs.declared.fault.FaultOf.{FaultOf}
@@ -36,7 +37,7 @@ pub passed-one : (p : Attribute) (rest after bytes : List ℕ) → f.reads rest 
 passed-one p rest after bytes e so_far = record { before = so_far.before ++ p ∷ []; same = one-more f so_far.before rest _ so_far.same p after (pair-shorter p rest after e) e }
 
 abbrev Whole : Reading (List Attribute) → Type 0
-Whole read = read ≡ Ok (pairs_read read, [])
+Whole = all_read.Whole f pairs_read (λ x. refl)
 
 whole : (before : List Attribute) (total : Reading (List Attribute)) → total ≡ Ok (before, []) → Whole total
 whole before total e = rw e refl
@@ -55,52 +56,14 @@ passed-fault (fault.InvalidInput text) rest bytes some h so_far = faults-all byt
 
 -- ---- the first one and the others
 
--- after one pair come others to the end
-abbrev Goes : Attribute → Reading (List Attribute) → Reading (List Attribute) → Type 0
-Goes p total after = Whole after × (pairs_read total ≡ p ∷ pairs_read after)
-
-joined : (p : Attribute) (total after : Reading (List Attribute)) → total ≡ then_read after (λ xs rest. Ok (p ∷ xs, rest)) → Whole total → Goes p total after
-joined p total (Ok x) e w =
-    let same : ◌≡◌ {A = Reading (List Attribute)} (Ok (p ∷ x.0, x.1)) (Ok (pairs_read total, [])) = sym e ∙ w in
-    let end : x.1 ≡ [] = done-rest (p ∷ x.0) (pairs_read total) x.1 [] same in
-    let items : p ∷ x.0 ≡ pairs_read total = done-value (p ∷ x.0) (pairs_read total) x.1 [] same in
-    (rw end refl, sym items)
-joined p total (Err k) e w =
-    let same : ◌≡◌ {A = Reading (List Attribute)} (Err k) (Ok (pairs_read total, [])) = sym e ∙ w in
-    absurd cc
-
-guarded : (p : Attribute) (b : Bool) (total after : Reading (List Attribute))
-    → total ≡ (if b then then_read after (λ xs rest. Ok (p ∷ xs, rest)) else Err kind.InvalidData) → Whole total → Goes p total after
-guarded p true total after e w = joined p total after e w
-guarded p false total after e w =
-    let same : ◌≡◌ {A = Reading (List Attribute)} (Err kind.InvalidData) (Ok (pairs_read total, [])) = sym e ∙ w in
-    absurd cc
-
-goes-on : (bytes after : List ℕ) (p : Attribute) → bytes ≢ [] → ArePairs bytes → f.reads bytes ≡ Ok (p, after) → Goes p ((many f).reads bytes) ((many f).reads after)
-goes-on bytes after p some w e =
-    guarded p (nat_lt (length after) (length bytes)) ((many f).reads bytes) ((many f).reads after) (rw (opened bytes some, e) refl) w
-
--- none of them is refused
-refused : (bytes : List ℕ) (k : FaultKind) → bytes ≢ [] → ArePairs bytes → f.reads bytes ≡ Err k → ⊥
-refused bytes k some w h =
-    let e : (many f).reads bytes ≡ Err k = rw (opened bytes some, h) refl in
-    let same : ◌≡◌ {A = Reading (List Attribute)} (Err k) (Ok (pairs_in bytes, [])) = sym e ∙ w in
-    absurd cc
-
-none-refused : (bytes : List ℕ) (e : FaultOf) → bytes ≢ [] → ArePairs bytes → Faults {A = Attribute} false e (f.reads bytes) → ⊥
-none-refused bytes fault.Memory some w h = absurd cc
-none-refused bytes fault.UnexpectedEof some w h = refused bytes _ some w h
-none-refused bytes (fault.InvalidData text) some w h = refused bytes _ some w h
-none-refused bytes (fault.InvalidInput text) some w h = refused bytes _ some w h
-
 pub answered-next : (bytes after : List ℕ) (r : Result Attribute FaultOf) (next : Option Attribute) → next ≡ result_ok r → bytes ≢ [] → ArePairs bytes
     → Answers false r after (f.reads bytes) → NextPair (pairs_in bytes) next (pairs_in after)
-answered-next bytes after (Ok p) next same some w h = rw same ((goes-on bytes after p some w h).1)
-answered-next bytes after (Err e) next same some w h = absurd (none-refused bytes e some w h)
+answered-next bytes after (Ok p) next same some w h = rw same ((all_read.goes-on f pairs_read (λ x. refl) bytes after p some w h).1)
+answered-next bytes after (Err e) next same some w h = absurd (all_read.none-refused f pairs_read (λ x. refl) bytes e some w h)
 
 pub answered-others : (bytes after : List ℕ) (r : Result Attribute FaultOf) → bytes ≢ [] → ArePairs bytes → Answers false r after (f.reads bytes) → ArePairs after
-answered-others bytes after (Ok p) some w h = (goes-on bytes after p some w h).0
-answered-others bytes after (Err e) some w h = absurd (none-refused bytes e some w h)
+answered-others bytes after (Ok p) some w h = (all_read.goes-on f pairs_read (λ x. refl) bytes after p some w h).0
+answered-others bytes after (Err e) some w h = absurd (all_read.none-refused f pairs_read (λ x. refl) bytes e some w h)
 
 pub none-left : (bytes : List ℕ) → bytes ≡ [] → NextPair (pairs_in bytes) None (pairs_in bytes)
 unfolding many
@@ -139,10 +102,10 @@ none-merged (p ∷ ps) h = absurd (all-some (insert_entry (pointwise nat_eq) [] 
 -- bytes that spell no pair are none
 no-pairs-by : (bytes : List ℕ) (read : Reading Attribute) → f.reads bytes ≡ read → bytes ≢ [] → ArePairs bytes → pairs_in bytes ≡ [] → ⊥
 no-pairs-by bytes (Ok x) e some w none =
-    let first : pairs_in bytes ≡ x.0 ∷ pairs_in x.1 = (goes-on bytes x.1 x.0 some w e).1 in
+    let first : pairs_in bytes ≡ x.0 ∷ pairs_in x.1 = (all_read.goes-on f pairs_read (λ x. refl) bytes x.1 x.0 some w e).1 in
     let h : ◌≡◌ {A = List Attribute} [] (x.0 ∷ pairs_in x.1) = sym none ∙ first in
     cc
-no-pairs-by bytes (Err k) e some w none = refused bytes k some w e
+no-pairs-by bytes (Err k) e some w none = all_read.refused f pairs_read (λ x. refl) bytes k some w e
 
 read-once : (bytes : List ℕ) (k : FaultKind) → ArePairs bytes → pairs.reads bytes ≡ Err k → ⊥
 read-once bytes k w h = let same : ◌≡◌ {A = Reading (List Attribute)} (Ok (merged (pairs_in bytes), [])) (Err k) = sym (merged-read bytes w) ∙ h in cc

@@ -175,6 +175,7 @@ pub use Rattle.mysql_auth.specs.HandshakeResponseRef
 pub use Rattle.mysql_auth.specs.OldAuthSwitchRequest
 pub use Rattle.mysql_auth.specs.Parsec
 pub use Rattle.mysql_auth.specs.PluginName
+pub use Rattle.mysql_auth.specs.PluginRequest
 pub use Rattle.mysql_auth.specs.PublicKeyRequest
 pub use Rattle.mysql_auth.specs.PublicKeyResponse
 pub use Rattle.mysql_auth.specs.SslRequest

@@ -1,7 +1,6 @@
 -- The switch to another plugin, as C has it.
 use Rattle.std.specs.Prelude.{◌≡◌, ℕ, List}
-use Rattle.mysql_auth.specs.AuthSwitchRequest.{plugin_name, plugin_data}
-use Rattle.mysql_auth.specs.declared.auth_switch_request.AuthSwitchRequest.{AuthSwitchRequest}
+use Rattle.mysql_auth.specs.AuthSwitchRequest.{AuthSwitchRequest, plugin_name, plugin_data}
 use Rattle.mysql_packets_c.specs.declared.auth_switch.CAuthSwitch.{CAuthSwitch}
 
 -- the plugin's name and its data
