@@ -27,18 +27,22 @@ no-longer tail bytes t = rw (t.parts, length-append) (omega arith)
 pub string_shorter : (bytes content rest : List ℕ) → lenenc_string.reads bytes ≡ Ok (content, rest) → length rest ≤ length bytes
 string_shorter bytes content rest e = no-longer rest bytes (lenenc_string.front content bytes rest e)
 
+-- a code of one byte and a string take a byte at least
+pub coded_shorter : {K A : Type 0} (code : Form K) (make : K → List ℕ → A) → ((k : K) (bytes rest : List ℕ) → code.reads bytes ≡ Ok (k, rest) → length bytes ≡ 1 + length rest)
+    → (bytes rest : List ℕ) (a : A) → then_read (code.reads bytes) (λ t mid. then_read (lenenc_string.reads mid) (λ c left. Ok (make t c, left))) ≡ Ok (a, rest) → length rest < length bytes
+coded_shorter code make exact bytes rest a e =
+    let r = then_read-ok (code.reads bytes) (λ t mid. then_read (lenenc_string.reads mid) (λ c left. Ok (make t c, left))) (a, rest) e in
+    let s = then_read-ok (lenenc_string.reads r.1) (λ c left. Ok (make r.0 c, left)) (a, rest) r.3 in
+    let same : s.1 ≡ rest = done-rest (make r.0 s.0) a s.1 rest s.3 in
+    omega (arith, exact r.0 bytes r.1 r.2, string_shorter r.1 s.0 s.1 s.2, ap length same)
+
 type_form : Form (Const SessionStateType ℕ)
 type_form = (coded session_state_type_code session_state_type_of session_state_type-again).form (tt {0})
 
 -- an entry takes a byte at least
 pub entry_shorter : (bytes rest : List ℕ) (i : SessionStateInfo) → (session_state_info.form tt).reads bytes ≡ Ok (i, rest) → length rest < length bytes
 unfolding session_state_info type_form coded_value number so_many_bytes
-entry_shorter bytes rest i e =
-    let r = then_read-ok (type_form.reads bytes) (λ t mid. then_read (lenenc_string.reads mid) (λ c left. Ok (record { data_type = t; content = c }, left))) (i, rest) e in
-    let s = then_read-ok (lenenc_string.reads r.1) (λ c left. Ok (record { data_type = r.0; content = c }, left)) (i, rest) r.3 in
-    let same : s.1 ≡ rest = done-rest (record { data_type = r.0; content = s.0 }) i s.1 rest s.3 in
-    let one : length bytes ≡ 1 + length r.1 = type_form.sized.exact r.0 bytes r.1 r.2 in
-    omega (arith, one, string_shorter r.1 s.0 s.1 s.2, ap length same)
+entry_shorter bytes rest i e = coded_shorter type_form (λ t c. record { data_type = t; content = c }) type_form.sized.exact bytes rest i e
 
 goes-on : (takes : SessionStateInfo → Bool) (bytes rest : List ℕ) (read : Reading SessionStateInfo) (i : SessionStateInfo) (r : Result SessionStateChange FaultOf) → read ≡ Ok (i, rest)
     → Answers (takes i) r [] (decoded_as_sent i) → ChangeOf takes bytes read r rest

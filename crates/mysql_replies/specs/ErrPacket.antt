@@ -4,7 +4,7 @@ use Rattle.std.proofs.Common.{◌⊎◌, inl, inr}
 use Rattle.mysql_wire.specs.FlagMasks.{CLIENT_PROGRESS_OBSOLETE, CLIENT_PROTOCOL_41}
 use Rattle.mysql_wire.specs.Flags.{CapabilityFlags, has}
 use Rattle.mysql_wire.specs.Codecs.{Codec, Fields, ◌>>=◌, give, field, block, packet, with_context, without_context, either, const_u8, u16, raw_int}
-use Rattle.mysql_replies.specs.declared.err_packet.InvalidErrPacketHeader.{InvalidErrPacketHeader}
+use Rattle.mysql_replies.specs.declared.faults.InvalidErrPacketHeader.{InvalidErrPacketHeader}
 use Rattle.mysql_replies.specs.declared.err_packet.ErrPacket.{ErrPacket}
 use Rattle.mysql_replies.specs.declared.err_packet.ErrPacket.TheVariants as err
 use Rattle.mysql_replies.specs.declared.progress_report.ProgressReport.{ProgressReport}

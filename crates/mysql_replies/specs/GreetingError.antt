@@ -5,7 +5,7 @@ use Rattle.mysql_wire.specs.Codecs.{◌>>=◌, give, field, block, packet, with_
 use Rattle.mysql_wire.specs.Form as form
 use Rattle.mysql_replies.specs.ServerError.{error_code, message, server_error, sql_state_of}
 use Rattle.mysql_replies.specs.SqlState.{state_bytes}
-use Rattle.mysql_replies.specs.declared.err_packet.InvalidErrPacketHeader.{InvalidErrPacketHeader}
+use Rattle.mysql_replies.specs.declared.faults.InvalidErrPacketHeader.{InvalidErrPacketHeader}
 use Rattle.mysql_replies.specs.declared.greeting_error.GreetingError.{GreetingError}
 use Rattle.mysql_replies.specs.declared.server_error.ServerError.{ServerError}
 use Rattle.mysql_replies.specs.declared.sql_state.SqlState.{SqlState}

@@ -8,23 +8,14 @@ ghost use Rattle.mysql_replies.specs.ColumnNames.{has_a_name};
 
 use crate::column_fields::{ColumnFields, fields_of};
 use crate::column_names::{ColumnNames, Names};
+use crate::faults::InvalidCatalog;
 use bstr::ByteSlice;
 use mysql_wire::{
-    AnyWidth, ColumnFlags, ColumnType, Const, ConstBytes, ConstBytesValue, ConstFault, ConstU8,
-    FaultOf, MyDeserialize, ParseBuf, Parts, RawInt, Sink, Skip, parts,
+    AnyWidth, ColumnFlags, ColumnType, Const, ConstBytes, ConstBytesValue, ConstU8, FaultOf,
+    MyDeserialize, ParseBuf, Parts, RawInt, Sink, Skip, parts,
 };
 use std::alloc::{AllocError, Global};
 use std::borrow::CowStr;
-use thiserror::Error;
-
-/// A column's definition does not begin with the catalog `def`.
-#[derive(Clone, Copy, Debug, Default, PartialEq, Eq, Hash, Error)]
-#[error("Invalid catalog value in the column definition")]
-pub struct InvalidCatalog;
-
-impl ConstFault for InvalidCatalog {
-    const MESSAGE: &'static str = "Invalid catalog value in the column definition";
-}
 
 /// The catalog of every column: `def`, length-encoded.
 #[derive(Clone, Copy, Debug, Default, PartialEq, Eq, Hash)]

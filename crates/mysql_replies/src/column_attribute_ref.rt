@@ -3,6 +3,8 @@
 
 ghost use Rattle.std.specs.Prelude.{◌≡◌, None, refl};
 ghost use Rattle.mysql_replies.specs.ColumnAttribute as spec;
+ghost use Rattle.mysql_replies.specs.declared.column_attribute.ColumnAttribute.{ColumnAttribute};
+ghost use Rattle.mysql_replies.specs.ColumnAttribute.{attribute_of};
 
 use crate::column_attribute::{ColumnAttribute, ColumnAttributeKind};
 use mysql_wire::{AnyWidth, BytesRepr, FaultOf, LenEnc, MyDeserialize, ParseBuf, RawInt};
@@ -22,9 +24,6 @@ pub struct ColumnAttributeRef<'a> {
 }
 
 impl<'a> Model for ColumnAttributeRef<'a> {
-    ghost use Rattle.mysql_replies.specs.declared.column_attribute.ColumnAttribute.{ColumnAttribute};
-    ghost use Rattle.mysql_replies.specs.ColumnAttribute.{attribute_of};
-
     ghost Value = { ColumnAttribute };
 
     ghost view = { λ a. attribute_of a.code a.text.now };

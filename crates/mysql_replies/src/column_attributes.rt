@@ -1,7 +1,8 @@
 //! The attributes of a column, one after another.
 
-ghost use Rattle.std.specs.Prelude.{◌≡◌, ◌<◌, length, IfSome};
+ghost use Rattle.std.specs.Prelude.{◌≡◌, ◌<◌, length, IfSome, ℕ, List, ⊤};
 ghost use Rattle.mysql_replies.specs.ColumnAttributes as spec;
+ghost use Rattle.std.specs.Iterator.{at_most};
 
 use crate::column_attribute_ref::ColumnAttributeRef;
 use mysql_wire::{Fault, ParseBuf};
@@ -17,8 +18,6 @@ pub struct ColumnAttributes<'a> {
 }
 
 impl<'a> Model for ColumnAttributes<'a> {
-    ghost use Rattle.std.specs.Prelude.{ℕ, List};
-
     ghost Value = { List ℕ };
 
     ghost view = { λ c. c.attributes };
@@ -55,9 +54,6 @@ impl<'a> ColumnAttributes<'a> {
 
 impl<'a> Iterator for ColumnAttributes<'a> {
     type Item = Result<ColumnAttributeRef<'a>, Fault>;
-
-    ghost use Rattle.std.specs.Prelude.{length, ⊤};
-    ghost use Rattle.std.specs.Iterator.{at_most};
 
     ghost can_next = { λ _. ⊤ };
 

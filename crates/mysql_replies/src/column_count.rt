@@ -128,20 +128,17 @@ impl<'de> MyDeserialize<'de> for ColumnCount {
 
     ghost form = { spec.column_count.form };
 
-    fn deserialize<'s>(
-        capabilities: SessionCapabilities,
-        buf: &mut ParseBuf<'de>,
-    ) -> Result<Self, FaultOf<'s>> {
+    fn deserialize<'s>(agreed: Self::Ctx, buf: &mut ParseBuf<'de>) -> Result<Self, FaultOf<'s>> {
         let mut rest = buf.rest();
         let optional = CapabilityFlags::CLIENT_OPTIONAL_RESULTSET_METADATA;
-        let optional_metadata = if capabilities.mysql.contains(optional) {
+        let optional_metadata = if agreed.mysql.contains(optional) {
             Some(rest.parse(())?)
         } else {
             None
         };
         let count = rest.parse(())?;
         let cached = MariadbCapabilities::MARIADB_CLIENT_CACHE_METADATA;
-        let metadata_follows = if capabilities.mariadb.contains(cached) {
+        let metadata_follows = if agreed.mariadb.contains(cached) {
             Some(rest.parse(())?)
         } else {
             None

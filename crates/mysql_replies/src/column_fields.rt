@@ -5,20 +5,11 @@ ghost use Rattle.std.specs.Prelude.{◌≡◌, Some};
 ghost use Rattle.mysql_wire.specs.Form.{size-block};
 ghost use Rattle.mysql_replies.specs.ColumnFields as spec;
 
+use crate::faults::InvalidFixedLengthFieldsLen;
 use mysql_wire::{
-    ColumnFlags, ColumnType, Const, ConstFault, ConstU8, FaultOf, Fixed, LeU16, LeU32,
-    MyDeserialize, ParseBuf, Parts, RawInt, Sink, Skip, parts,
+    ColumnFlags, ColumnType, Const, ConstU8, FaultOf, Fixed, LeU16, LeU32, MyDeserialize, ParseBuf,
+    Parts, RawInt, Sink, Skip, parts,
 };
-use thiserror::Error;
-
-/// The byte in front of a column's fixed fields is not `0c`, their length.
-#[derive(Clone, Copy, Debug, Default, PartialEq, Eq, Hash, Error)]
-#[error("Invalid fixed length field length in the column definition")]
-pub struct InvalidFixedLengthFieldsLen;
-
-impl ConstFault for InvalidFixedLengthFieldsLen {
-    const MESSAGE: &'static str = "Invalid fixed length field length in the column definition";
-}
 
 /// The length of a column's fixed fields: `0c`.
 pub type FixedLengthFieldsLen = ConstU8<InvalidFixedLengthFieldsLen, 0x0c>;

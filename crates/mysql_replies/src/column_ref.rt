@@ -4,6 +4,8 @@
 ghost use Rattle.std.specs.Prelude.{◌≡◌, None, refl, IfOk, IfErr, IsTrue};
 ghost use Rattle.mysql_replies.specs.Column as spec;
 ghost use Rattle.mysql_replies.specs.ColumnNames.{has_a_name};
+ghost use Rattle.mysql_replies.specs.declared.column.Column.{Column};
+ghost use Rattle.mysql_replies.specs.ColumnFields.{fields_of};
 
 use crate::column::{Column, ColumnDefinitionCatalog, named};
 use crate::column_fields::{ColumnFields, fields_of};
@@ -28,9 +30,6 @@ pub struct ColumnRef<'a> {
 }
 
 impl<'a> Model for ColumnRef<'a> {
-    ghost use Rattle.mysql_replies.specs.declared.column.Column.{Column};
-    ghost use Rattle.mysql_replies.specs.ColumnFields.{fields_of};
-
     ghost Value = { Column };
 
     ghost view = { λ c. record {

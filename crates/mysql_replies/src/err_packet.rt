@@ -6,24 +6,15 @@ ghost use Rattle.mysql_replies.specs.ErrPacket as spec;
 ghost use Rattle.mysql_replies.specs.declared.err_packet.ErrPacket.TheVariants as err;
 
 use crate::err_packet_ref::ErrPacketRef;
+use crate::faults::InvalidErrPacketHeader;
 use crate::progress_report::ProgressReport;
 use crate::server_error::ServerError;
 use bitflags::Flags;
 use mysql_wire::{
-    AnyWidth, CapabilityFlags, ConstFault, ConstU8, FaultOf, LeU16, MyDeserialize, ParseBuf, Parts,
-    RawInt, Sink, parts,
+    AnyWidth, CapabilityFlags, ConstU8, FaultOf, LeU16, MyDeserialize, ParseBuf, Parts, RawInt,
+    Sink, parts,
 };
 use std::fmt;
-use thiserror::Error;
-
-/// The first byte of an error packet is not `ff`.
-#[derive(Clone, Copy, Debug, Default, PartialEq, Eq, Hash, Error)]
-#[error("Invalid error packet header")]
-pub struct InvalidErrPacketHeader;
-
-impl ConstFault for InvalidErrPacketHeader {
-    const MESSAGE: &'static str = "Invalid error packet header";
-}
 
 /// The first byte of an error packet: `ff`.
 pub type ErrPacketHeader = ConstU8<InvalidErrPacketHeader, 0xff>;
@@ -111,12 +102,8 @@ impl<'de> MyDeserialize<'de> for ErrPacket<'de> {
 
     ghost form = { spec.err_packet.form };
 
-    fn deserialize<'s>(
-        capabilities: CapabilityFlags,
-        buf: &mut ParseBuf<'de>,
-    ) -> Result<Self, FaultOf<'s>> {
-        let packet: ErrPacketRef<'de> = buf.parse(capabilities)?;
-        Ok(packet.to_packet())
+    fn deserialize<'s>(agreed: Self::Ctx, buf: &mut ParseBuf<'de>) -> Result<Self, FaultOf<'s>> {
+        Ok(ErrPacketRef::deserialize(agreed, buf)?.to_packet())
     }
 
     ghost size_is = { λ _. unfold spec.err_packet in refl };

@@ -4,6 +4,8 @@
 ghost use Rattle.std.specs.Prelude.{◌≡◌, None, refl, IsTrue};
 ghost use Rattle.mysql_replies.specs.ErrPacket as spec;
 ghost use Rattle.mysql_replies.specs.declared.err_packet.ErrPacket.TheVariants as err;
+ghost use Rattle.mysql_replies.specs.declared.err_packet.ErrPacket.{ErrPacket};
+ghost use Rattle.mysql_replies.specs.ErrPacketRef.{packet_of_answer};
 
 use crate::err_packet::{ErrPacket, ErrPacketHeader, PROGRESS_CODE};
 use crate::progress_report_ref::ProgressReportRef;
@@ -28,9 +30,6 @@ pub struct ErrPacketRef<'a> {
 }
 
 impl<'a> Model for ErrPacketRef<'a> {
-    ghost use Rattle.mysql_replies.specs.declared.err_packet.ErrPacket.{ErrPacket};
-    ghost use Rattle.mysql_replies.specs.ErrPacketRef.{packet_of_answer};
-
     ghost Value = { ErrPacket };
 
     ghost view = { λ p. packet_of_answer p.answer };
@@ -99,18 +98,15 @@ impl<'de> MyDeserialize<'de> for ErrPacketRef<'de> {
 
     #[inline]
     #[tactic(auto, using(mysql_wire::proofs::Blocks::blocks), unfolding(crate::specs::ErrPacket::err_packet))]
-    fn deserialize<'s>(
-        capabilities: CapabilityFlags,
-        buf: &mut ParseBuf<'de>,
-    ) -> Result<Self, FaultOf<'s>> {
+    fn deserialize<'s>(agreed: Self::Ctx, buf: &mut ParseBuf<'de>) -> Result<Self, FaultOf<'s>> {
         let mut head: ParseBuf<'de> = buf.parse(3)?;
         let _header: ErrPacketHeader = head.parse_unchecked(())?;
         let code: RawInt<LeU16> = RawInt::take(&mut head);
-        let takes_progress = capabilities.contains(CapabilityFlags::CLIENT_PROGRESS_OBSOLETE);
+        let takes_progress = agreed.contains(CapabilityFlags::CLIENT_PROGRESS_OBSOLETE);
         let answer = if takes_progress && code.0 == PROGRESS_CODE {
             Answer::Progress(buf.parse(())?)
         } else {
-            let has_state = capabilities.contains(CapabilityFlags::CLIENT_PROTOCOL_41);
+            let has_state = agreed.contains(CapabilityFlags::CLIENT_PROTOCOL_41);
             Answer::Error(buf.parse((code.0, has_state))?)
         };
         Ok(ErrPacketRef { answer })

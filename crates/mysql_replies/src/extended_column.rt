@@ -151,11 +151,8 @@ impl<'de> MyDeserialize<'de> for ExtendedColumn {
     ghost form = { spec.extended_column.form };
 
     #[tactic(auto, using(mysql_wire::proofs::Packets::packets, crate::proofs::ExtendedColumns::texts))]
-    fn deserialize<'s>(
-        capabilities: MariadbCapabilities,
-        buf: &mut ParseBuf<'de>,
-    ) -> Result<Self, FaultOf<'s>> {
-        let column: ExtendedColumnRef<'de> = buf.parse(capabilities)?;
+    fn deserialize<'s>(agreed: Self::Ctx, buf: &mut ParseBuf<'de>) -> Result<Self, FaultOf<'s>> {
+        let column: ExtendedColumnRef<'de> = buf.parse(agreed)?;
         Ok(column.to_column(buf.alloc())?)
     }
 

@@ -3,6 +3,8 @@
 
 ghost use Rattle.std.specs.Prelude.{◌≡◌, None, refl, IfOk, OnErr, IsTrue, option_map};
 ghost use Rattle.mysql_replies.specs.ExtendedColumn as spec;
+ghost use Rattle.mysql_replies.specs.declared.extended_column.ExtendedColumn.{ExtendedColumn};
+ghost use Rattle.mysql_replies.specs.ExtendedColumn.{extended};
 
 use crate::column::ColumnDefinitionCatalog;
 use crate::column_attributes::ColumnAttributes;
@@ -31,10 +33,6 @@ pub struct ExtendedColumnRef<'a> {
 }
 
 impl<'a> Model for ExtendedColumnRef<'a> {
-    ghost use Rattle.std.specs.Prelude.{option_map};
-    ghost use Rattle.mysql_replies.specs.declared.extended_column.ExtendedColumn.{ExtendedColumn};
-    ghost use Rattle.mysql_replies.specs.ExtendedColumn.{extended};
-
     ghost Value = { ExtendedColumn };
 
     ghost view = { λ c. extended c.column (option_map (λ m. m.now) c.metadata) };
@@ -148,15 +146,12 @@ impl<'de> MyDeserialize<'de> for ExtendedColumnRef<'de> {
 
     #[inline]
     #[tactic(auto, using(mysql_wire::proofs::Tails::tails), unfolding(crate::specs::ExtendedColumn::extended_column, crate::specs::ColumnNames::column_meta))]
-    fn deserialize<'s>(
-        capabilities: MariadbCapabilities,
-        buf: &mut ParseBuf<'de>,
-    ) -> Result<Self, FaultOf<'s>> {
+    fn deserialize<'s>(agreed: Self::Ctx, buf: &mut ParseBuf<'de>) -> Result<Self, FaultOf<'s>> {
         let mut rest = buf.rest();
         let _catalog: ColumnDefinitionCatalog = rest.parse(())?;
         let names = read_names::<false>(&mut rest)?;
         let extended = MariadbCapabilities::MARIADB_CLIENT_EXTENDED_METADATA;
-        let metadata = if capabilities.contains(extended) {
+        let metadata = if agreed.contains(extended) {
             Some(read_name(&mut rest)?)
         } else {
             None

@@ -3,6 +3,8 @@
 
 ghost use Rattle.std.specs.Prelude.{◌≡◌, None, refl};
 ghost use Rattle.mysql_replies.specs.GreetingError as spec;
+ghost use Rattle.mysql_replies.specs.declared.greeting_error.GreetingError.{GreetingError};
+ghost use Rattle.mysql_replies.specs.GreetingError.{greeting_error_of};
 
 use crate::err_packet::ErrPacketHeader;
 use crate::greeting_error::GreetingError;
@@ -17,17 +19,12 @@ use std::marker::Model;
 ///
 /// It is read of the same bytes with the same faults, and in a clause it is that packet.
 #[derive(Drop)]
-pub struct GreetingErrorRef<'a> {
-    error: ServerErrorRef<'a>,
-}
+pub struct GreetingErrorRef<'a>(ServerErrorRef<'a>);
 
 impl<'a> Model for GreetingErrorRef<'a> {
-    ghost use Rattle.mysql_replies.specs.declared.greeting_error.GreetingError.{GreetingError};
-    ghost use Rattle.mysql_replies.specs.GreetingError.{greeting_error_of};
-
     ghost Value = { GreetingError };
 
-    ghost view = { λ g. greeting_error_of g.error };
+    ghost view = { λ g. greeting_error_of g.0 };
 }
 
 impl<'a> GreetingErrorRef<'a> {
@@ -36,14 +33,14 @@ impl<'a> GreetingErrorRef<'a> {
     pub fn server_error(&self) -> &ServerErrorRef<'a>
         ensures value { result.now ≡ spec.error_of_greeting self.now }
     {
-        &self.error
+        &self.0
     }
 
     /// The packet in its other form, which borrows the message still. It takes no memory.
     pub fn to_packet(&self) -> GreetingError<'a>
         ensures value { result ≡ self.now }
     {
-        GreetingError::new(self.error.to_error())
+        GreetingError::new(self.0.to_error())
     }
 }
 
@@ -59,9 +56,7 @@ impl Clone for GreetingErrorRef<'_> {
     ghost is_clone = { λ x copy. copy ≡ x };
 
     fn clone(&self) -> Result<Self, AllocError> {
-        Ok(GreetingErrorRef {
-            error: self.error.clone()?,
-        })
+        Ok(GreetingErrorRef(self.0.clone()?))
     }
 }
 
@@ -100,9 +95,7 @@ impl<'de> MyDeserialize<'de> for GreetingErrorRef<'de> {
         let _header: ErrPacketHeader = head.parse_unchecked(())?;
         let code: RawInt<LeU16> = RawInt::take(&mut head);
         let has_state = begins_with_state(buf);
-        Ok(GreetingErrorRef {
-            error: buf.parse((code.0, has_state))?,
-        })
+        Ok(GreetingErrorRef(buf.parse((code.0, has_state))?))
     }
 
     ghost size_is = { λ _. unfold spec.greeting_error in refl };

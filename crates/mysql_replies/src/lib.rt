@@ -14,6 +14,7 @@ mod err_packet;
 mod err_packet_ref;
 mod extended_column;
 mod extended_column_ref;
+mod faults;
 mod greeting_error;
 mod greeting_error_ref;
 pub mod laws;
@@ -38,32 +39,36 @@ mod session_state_info_ref;
 mod sql_state;
 mod sql_state_ref;
 
-pub use column::{Catalog, Column, ColumnDefinitionCatalog, InvalidCatalog};
+pub use column::{Catalog, Column, ColumnDefinitionCatalog};
 pub use column_attribute::{ColumnAttribute, ColumnAttributeKind};
 pub use column_attribute_ref::ColumnAttributeRef;
 pub use column_attributes::ColumnAttributes;
 pub use column_count::ColumnCount;
-pub use column_fields::{FixedLengthFieldsLen, InvalidFixedLengthFieldsLen};
+pub use column_fields::FixedLengthFieldsLen;
 pub use column_ref::ColumnRef;
-pub use err_packet::{ErrPacket, ErrPacketHeader, InvalidErrPacketHeader};
+pub use err_packet::{ErrPacket, ErrPacketHeader};
 pub use err_packet_ref::ErrPacketRef;
 pub use extended_column::ExtendedColumn;
 pub use extended_column_ref::ExtendedColumnRef;
+pub use faults::{
+    InvalidCatalog, InvalidErrPacketHeader, InvalidFixedLengthFieldsLen, InvalidGtidsEncoding,
+    InvalidLocalInfileHeader, InvalidOkPacketHeader, InvalidSqlStateMarker,
+};
 pub use greeting_error::GreetingError;
 pub use greeting_error_ref::GreetingErrorRef;
-pub use local_infile::{InvalidLocalInfileHeader, LocalInfileHeader, LocalInfilePacket};
+pub use local_infile::{LocalInfileHeader, LocalInfilePacket};
 pub use local_infile_ref::LocalInfilePacketRef;
 pub use ok_body::OkPacketBodyRef;
 pub use ok_kind::{
     CommonOkPacket, NetworkStreamTerminator, OkPacketBody, OkPacketKind, OkPacketRefKind,
     OldEofPacket, ResultSetTerminator,
 };
-pub use ok_packet::{InvalidOkPacketHeader, OkPacket, OkPacketDeserializer};
+pub use ok_packet::{OkPacket, OkPacketDeserializer};
 pub use ok_packet_ref::{OkPacketRef, OkPacketRefDeserializer};
 pub use ok_packet_serializer::{OkPacketLayout, OkPacketSerializer};
 pub use progress_report::ProgressReport;
 pub use progress_report_ref::ProgressReportRef;
-pub use sent_gtids::{GtidsEncoding, InvalidGtidsEncoding};
+pub use sent_gtids::GtidsEncoding;
 pub use server_error::ServerError;
 pub use server_error_ref::ServerErrorRef;
 pub use session_capabilities::SessionCapabilities;
@@ -71,5 +76,5 @@ pub use session_state_changes::SessionStateChanges;
 pub use session_state_changes_ref::SessionStateChangesRef;
 pub use session_state_info::SessionStateInfo;
 pub use session_state_info_ref::SessionStateInfoRef;
-pub use sql_state::{InvalidSqlStateMarker, SqlState, SqlStateMarker};
+pub use sql_state::{SqlState, SqlStateMarker};
 pub use sql_state_ref::SqlStateRef;

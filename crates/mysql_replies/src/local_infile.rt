@@ -6,23 +6,13 @@ ghost use Rattle.std.specs.Cow.{cow_slice_items};
 ghost use Rattle.mysql_wire.specs.Text.{GivesText};
 ghost use Rattle.mysql_replies.specs.LocalInfile as infile;
 
+use crate::faults::InvalidLocalInfileHeader;
 use crate::local_infile_ref::LocalInfilePacketRef;
 use mysql_wire::{
-    AnyWidth, ConstFault, ConstU8, EofBytes, FaultOf, MyDeserialize, ParseBuf, Parts, RawBytes,
-    Sink, parts,
+    AnyWidth, ConstU8, EofBytes, FaultOf, MyDeserialize, ParseBuf, Parts, RawBytes, Sink, parts,
 };
 use std::alloc::{AllocError, Global};
 use std::borrow::{CowSlice, CowStr};
-use thiserror::Error;
-
-/// The first byte of a request for a local file is not `fb`.
-#[derive(Clone, Copy, Debug, Default, PartialEq, Eq, Hash, Error)]
-#[error("Invalid LOCAL_INFILE header")]
-pub struct InvalidLocalInfileHeader;
-
-impl ConstFault for InvalidLocalInfileHeader {
-    const MESSAGE: &'static str = "Invalid LOCAL_INFILE header";
-}
 
 /// The first byte of a request for a local file: `fb`.
 pub type LocalInfileHeader = ConstU8<InvalidLocalInfileHeader, 0xfb>;

@@ -3,6 +3,8 @@
 
 ghost use Rattle.std.specs.Prelude.{◌≡◌, None, refl};
 ghost use Rattle.mysql_replies.specs.LocalInfile as infile;
+ghost use Rattle.mysql_replies.specs.declared.local_infile.LocalInfilePacket.{LocalInfilePacket};
+ghost use Rattle.mysql_replies.specs.LocalInfile.{request_for};
 
 use crate::local_infile::{LocalInfileHeader, LocalInfilePacket};
 use mysql_wire::{AnyWidth, FaultOf, MyDeserialize, ParseBuf};
@@ -19,9 +21,6 @@ pub struct LocalInfilePacketRef<'a> {
 }
 
 impl<'a> Model for LocalInfilePacketRef<'a> {
-    ghost use Rattle.mysql_replies.specs.declared.local_infile.LocalInfilePacket.{LocalInfilePacket};
-    ghost use Rattle.mysql_replies.specs.LocalInfile.{request_for};
-
     ghost Value = { LocalInfilePacket };
 
     ghost view = { λ p. request_for p.file_name.now };

@@ -9,6 +9,7 @@ ghost use Rattle.mysql_replies.specs.OkKind.{body_of};
 ghost use Rattle.mysql_replies.specs.OkPacket as spec;
 ghost use Rattle.mysql_replies.specs.SessionStateInfo.{begins_with_entry, state_string};
 
+use crate::faults::InvalidOkPacketHeader;
 use crate::ok_kind::{OkPacketBody, OkPacketKind};
 use crate::session_state_changes::SessionStateChanges;
 use crate::session_state_info::SessionStateInfo;
@@ -19,7 +20,6 @@ use mysql_wire::{
 use std::alloc::{AllocError, Global};
 use std::borrow::{CowSlice, CowStr};
 use std::marker::PhantomData;
-use thiserror::Error;
 
 /// An OK packet of any kind. An insert id of 0, an empty info and an empty state are absent.
 #[derive(Clone, Debug, PartialEq, Eq)]
@@ -267,15 +267,6 @@ impl<'a> TryFrom<OkPacketBody<'a>> for OkPacket<'a> {
     }
 }
 
-/// The first byte of an OK packet is not that of its kind.
-#[derive(Clone, Copy, Debug, Default, PartialEq, Eq, Hash, Error)]
-#[error("Invalid OK packet header")]
-pub struct InvalidOkPacketHeader;
-
-impl ConstFault for InvalidOkPacketHeader {
-    const MESSAGE: &'static str = "Invalid OK packet header";
-}
-
 /// Reads the header of a kind.
 #[inline(always)]
 #[tactic(auto, unfolding(crate::specs::OkPacket::ok_header))]
@@ -333,13 +324,10 @@ impl<'de, T: OkPacketKind> MyDeserialize<'de> for OkPacketDeserializer<'de, T> {
     // (a caller that has it in line knows that the texts are borrowed, and need not be released)
     #[inline(always)]
     #[tactic(auto, unfolding(crate::specs::OkPacket::ok_packet))]
-    fn deserialize<'s>(
-        capabilities: CapabilityFlags,
-        buf: &mut ParseBuf<'de>,
-    ) -> Result<Self, FaultOf<'s>> {
+    fn deserialize<'s>(agreed: Self::Ctx, buf: &mut ParseBuf<'de>) -> Result<Self, FaultOf<'s>> {
         let mut rest = buf.rest();
         read_header::<T>(&mut rest)?;
-        let body = T::parse_body(capabilities, &mut rest)?;
+        let body = T::parse_body(agreed, &mut rest)?;
         *buf = rest;
         Ok(OkPacketDeserializer(OkPacket::from_body(body), PhantomData))
     }

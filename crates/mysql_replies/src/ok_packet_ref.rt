@@ -2,6 +2,9 @@
 
 ghost use Rattle.std.specs.Prelude.{◌≡◌, option_map};
 ghost use Rattle.mysql_replies.specs.OkPacket as spec;
+ghost use Rattle.mysql_replies.specs.declared.ok_packet.OkPacket.{OkPacket};
+ghost use Rattle.mysql_replies.specs.OkPacket.{packet_of};
+ghost use Rattle.mysql_replies.specs.declared.ok_packet.OkPacketDeserializer.{OkPacketDeserializer};
 
 use crate::ok_body::OkPacketBodyRef;
 use crate::ok_kind::OkPacketRefKind;
@@ -19,9 +22,6 @@ pub struct OkPacketRef<'a> {
 }
 
 impl<'a> Model for OkPacketRef<'a> {
-    ghost use Rattle.mysql_replies.specs.declared.ok_packet.OkPacket.{OkPacket};
-    ghost use Rattle.mysql_replies.specs.OkPacket.{packet_of};
-
     ghost Value = { OkPacket };
 
     ghost view = { λ p. packet_of p.body };
@@ -119,8 +119,6 @@ pub struct OkPacketRefDeserializer<'de, T> {
 }
 
 impl<'de, T> Model for OkPacketRefDeserializer<'de, T> {
-    ghost use Rattle.mysql_replies.specs.declared.ok_packet.OkPacketDeserializer.{OkPacketDeserializer};
-
     ghost Value = { OkPacketDeserializer T };
 
     ghost view = { λ d. record { 0 = d.packet; 1 = record {} } };
@@ -148,13 +146,10 @@ impl<'de, T: OkPacketRefKind> MyDeserialize<'de> for OkPacketRefDeserializer<'de
 
     #[inline]
     #[tactic(auto, unfolding(crate::specs::OkPacket::ok_packet))]
-    fn deserialize<'s>(
-        capabilities: CapabilityFlags,
-        buf: &mut ParseBuf<'de>,
-    ) -> Result<Self, FaultOf<'s>> {
+    fn deserialize<'s>(agreed: Self::Ctx, buf: &mut ParseBuf<'de>) -> Result<Self, FaultOf<'s>> {
         let mut rest = buf.rest();
         read_header::<T>(&mut rest)?;
-        let body = T::parse_body_ref(capabilities, &mut rest)?;
+        let body = T::parse_body_ref(agreed, &mut rest)?;
         *buf = rest;
         let packet = OkPacketRef { body };
         Ok(OkPacketRefDeserializer {

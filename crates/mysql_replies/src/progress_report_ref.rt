@@ -3,6 +3,8 @@
 
 ghost use Rattle.std.specs.Prelude.{◌≡◌, None, refl};
 ghost use Rattle.mysql_replies.specs.ProgressReport as spec;
+ghost use Rattle.mysql_replies.specs.declared.progress_report.ProgressReport.{ProgressReport};
+ghost use Rattle.mysql_replies.specs.ProgressReport.{report_of};
 
 use crate::progress_report::ProgressReport;
 use mysql_wire::{AnyWidth, BytesRepr, FaultOf, LeU24, LenEnc, MyDeserialize, ParseBuf, RawInt};
@@ -21,9 +23,6 @@ pub struct ProgressReportRef<'a> {
 }
 
 impl<'a> Model for ProgressReportRef<'a> {
-    ghost use Rattle.mysql_replies.specs.declared.progress_report.ProgressReport.{ProgressReport};
-    ghost use Rattle.mysql_replies.specs.ProgressReport.{report_of};
-
     ghost Value = { ProgressReport };
 
     ghost view = { λ r. report_of r.stage r.max_stage r.progress r.stage_info.now };

@@ -3,23 +3,16 @@
 
 ghost use Rattle.std.specs.Prelude.{◌≡◌, None, refl};
 ghost use Rattle.mysql_replies.specs.SentGtids as spec;
+ghost use Rattle.mysql_replies.specs.declared.sent_gtids.SentGtids.{SentGtids};
+ghost use Rattle.mysql_replies.specs.SentGtids.{sent_text};
 
+use crate::faults::InvalidGtidsEncoding;
 use mysql_wire::{
-    AnyWidth, BytesRepr, ConstFault, ConstU8, FaultOf, LenEnc, MyDeserialize, ParseBuf, Parts,
-    RawBytes, Sink, parts,
+    AnyWidth, BytesRepr, ConstU8, FaultOf, LenEnc, MyDeserialize, ParseBuf, Parts, RawBytes, Sink,
+    parts,
 };
 use std::borrow::CowSlice;
 use std::marker::Model;
-use thiserror::Error;
-
-/// The encoding of a set of GTIDs is not `00`.
-#[derive(Clone, Copy, Debug, Default, PartialEq, Eq, Hash, Error)]
-#[error("Invalid encoding of GTIDs")]
-pub struct InvalidGtidsEncoding;
-
-impl ConstFault for InvalidGtidsEncoding {
-    const MESSAGE: &'static str = "Invalid encoding of GTIDs";
-}
 
 /// The encoding of a set of GTIDs: `00`, its text.
 pub type GtidsEncoding = ConstU8<InvalidGtidsEncoding, 0x00>;
@@ -59,9 +52,6 @@ pub(crate) struct SentGtidsRef<'a> {
 }
 
 impl<'a> Model for SentGtidsRef<'a> {
-    ghost use Rattle.mysql_replies.specs.declared.sent_gtids.SentGtids.{SentGtids};
-    ghost use Rattle.mysql_replies.specs.SentGtids.{sent_text};
-
     ghost Value = { SentGtids };
 
     ghost view = { λ g. sent_text g.text.now };

@@ -4,6 +4,8 @@
 ghost use Rattle.std.specs.Prelude.{◌≡◌, None, refl, option_map};
 ghost use Rattle.mysql_replies.specs.ServerError as spec;
 ghost use Rattle.mysql_replies.specs.SqlState.{state_bytes};
+ghost use Rattle.mysql_replies.specs.declared.server_error.ServerError.{ServerError};
+ghost use Rattle.mysql_replies.specs.ServerError.{error_of};
 
 use crate::server_error::ServerError;
 use crate::sql_state_ref::SqlStateRef;
@@ -25,9 +27,6 @@ pub struct ServerErrorRef<'a> {
 }
 
 impl<'a> Model for ServerErrorRef<'a> {
-    ghost use Rattle.mysql_replies.specs.declared.server_error.ServerError.{ServerError};
-    ghost use Rattle.mysql_replies.specs.ServerError.{error_of};
-
     ghost Value = { ServerError };
 
     ghost view = { λ e. error_of e.code e.state e.message.now };

@@ -1,8 +1,9 @@
 //! The session's changes that an OK packet carries, one after another.
 #![tactic(auto, using(mysql_wire::proofs::Packets::packets), unfolding(crate::specs::SessionStateInfo::session_state_info))]
 
-ghost use Rattle.std.specs.Prelude.{◌≡◌, ◌≢◌, ◌<◌, length, [], IfSome};
+ghost use Rattle.std.specs.Prelude.{◌≡◌, ◌≢◌, ◌<◌, length, [], IfSome, ℕ, List, ⊤};
 ghost use Rattle.mysql_replies.specs.SessionStateChanges as spec;
+ghost use Rattle.std.specs.Iterator.{at_most};
 
 use crate::session_state_info::read_as_sent;
 use crate::session_state_info_ref::SessionStateInfoRef;
@@ -57,8 +58,6 @@ pub struct SessionStateChanges<'a> {
 }
 
 impl<'a> Model for SessionStateChanges<'a> {
-    ghost use Rattle.std.specs.Prelude.{ℕ, List};
-
     ghost Value = { List ℕ };
 
     ghost view = { λ c. c.entries };
@@ -75,9 +74,6 @@ impl<'a> SessionStateChanges<'a> {
 
 impl<'a> Iterator for SessionStateChanges<'a> {
     type Item = Result<SessionStateChange<'a>, Fault>;
-
-    ghost use Rattle.std.specs.Prelude.{length, ⊤};
-    ghost use Rattle.std.specs.Iterator.{at_most};
 
     ghost can_next = { λ _. ⊤ };
 

@@ -1,8 +1,9 @@
 //! The session's changes that an OK packet carries, one after another, where they lie.
 #![tactic(auto, using(mysql_wire::proofs::Packets::packets), unfolding(crate::specs::SessionStateInfo::session_state_info))]
 
-ghost use Rattle.std.specs.Prelude.{◌≡◌};
+ghost use Rattle.std.specs.Prelude.{◌≡◌, ℕ, List, length, ⊤};
 ghost use Rattle.mysql_replies.specs.SessionStateChangesRef as spec;
+ghost use Rattle.std.specs.Iterator.{at_most};
 
 use crate::session_state_changes::next_entry;
 use mysql_session::SessionStateChangeRef;
@@ -20,8 +21,6 @@ pub struct SessionStateChangesRef<'a> {
 }
 
 impl<'a> Model for SessionStateChangesRef<'a> {
-    ghost use Rattle.std.specs.Prelude.{ℕ, List};
-
     ghost Value = { List ℕ };
 
     ghost view = { λ c. c.entries };
@@ -38,9 +37,6 @@ impl<'a> SessionStateChangesRef<'a> {
 
 impl<'a> Iterator for SessionStateChangesRef<'a> {
     type Item = Result<SessionStateChangeRef<'a>, Fault>;
-
-    ghost use Rattle.std.specs.Prelude.{length, ⊤};
-    ghost use Rattle.std.specs.Iterator.{at_most};
 
     ghost can_next = { λ _. ⊤ };
 

@@ -6,6 +6,7 @@ ghost use Rattle.mysql_wire.specs.Reading.{Answers};
 ghost use Rattle.mysql_session.specs.SessionStateChange.{session_state_change};
 ghost use Rattle.mysql_replies.specs.SessionStateInfo as spec;
 ghost use Rattle.mysql_replies.specs.SessionStateChanges as changes;
+ghost use Rattle.mysql_replies.specs.declared.session_state_info.SessionStateInfo.{SessionStateInfo};
 
 use crate::sent_gtids::SentGtidsRef;
 use crate::session_state_info::{SessionStateInfo, is_gtids, is_state_change};
@@ -28,8 +29,6 @@ pub struct SessionStateInfoRef<'a> {
 }
 
 impl<'a> Model for SessionStateInfoRef<'a> {
-    ghost use Rattle.mysql_replies.specs.declared.session_state_info.SessionStateInfo.{SessionStateInfo};
-
     ghost Value = { SessionStateInfo };
 
     ghost view = { λ i. record { data_type = i.data_type; content = i.content } };

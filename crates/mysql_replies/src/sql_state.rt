@@ -6,23 +6,12 @@ ghost use Rattle.mysql_wire.specs.Form.{size-block};
 ghost use Rattle.mysql_wire.specs.Text.{GivesText};
 ghost use Rattle.mysql_replies.specs.SqlState as spec;
 
+use crate::faults::InvalidSqlStateMarker;
 use crate::sql_state_ref::SqlStateRef;
 use bstr::ByteSlice;
-use mysql_wire::{
-    ConstFault, ConstU8, FaultOf, Fixed, MyDeserialize, ParseBuf, Parts, Sink, parts,
-};
+use mysql_wire::{ConstU8, FaultOf, Fixed, MyDeserialize, ParseBuf, Parts, Sink, parts};
 use std::alloc::{AllocError, Global};
 use std::borrow::CowStr;
-use thiserror::Error;
-
-/// The byte in front of an SQL state is not `#`.
-#[derive(Clone, Copy, Debug, Default, PartialEq, Eq, Hash, Error)]
-#[error("Invalid SqlStateMarker value")]
-pub struct InvalidSqlStateMarker;
-
-impl ConstFault for InvalidSqlStateMarker {
-    const MESSAGE: &'static str = "Invalid SqlStateMarker value";
-}
 
 /// The byte in front of an SQL state: `#`.
 pub type SqlStateMarker = ConstU8<InvalidSqlStateMarker, 35>;

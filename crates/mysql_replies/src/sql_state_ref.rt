@@ -4,6 +4,8 @@
 ghost use Rattle.std.specs.Prelude.{◌≡◌, Some};
 ghost use Rattle.mysql_wire.specs.Form.{size-block};
 ghost use Rattle.mysql_replies.specs.SqlState as spec;
+ghost use Rattle.mysql_replies.specs.declared.sql_state.SqlState.{SqlState};
+ghost use Rattle.mysql_replies.specs.SqlState.{state_of};
 
 use crate::sql_state::{SqlState, SqlStateMarker};
 use mysql_wire::{FaultOf, Fixed, MyDeserialize, ParseBuf};
@@ -21,9 +23,6 @@ pub struct SqlStateRef<'a> {
 }
 
 impl<'a> Model for SqlStateRef<'a> {
-    ghost use Rattle.mysql_replies.specs.declared.sql_state.SqlState.{SqlState};
-    ghost use Rattle.mysql_replies.specs.SqlState.{state_of};
-
     ghost Value = { SqlState };
 
     ghost view = { λ s. state_of s.state.now };
