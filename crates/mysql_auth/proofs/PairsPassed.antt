@@ -1,5 +1,5 @@
 -- Pairs are read one after another, and are those that all of the bytes spell.
-use Rattle.std.proofs.Common.{◌≡◌, ◌≢◌, ℕ, List, [], ◌∷◌, ◌++◌, length, Option, None, Result, Ok, Err, Bool, true, false, if◌then◌else◌, nat_lt, refl, sym, ◌∙◌}
+use Rattle.std.proofs.Common.{◌≡◌, ◌≢◌, ℕ, List, [], ◌∷◌, ◌++◌, length, Option, None, Result, Ok, Err, Bool, true, false, if◌then◌else◌, refl, sym, ◌∙◌}
 use Rattle.std.specs.Cmp.Lexicographic.{pointwise}
 use Rattle.std.specs.Prelude.{nat_eq}
 use Rattle.std.specs.Result.{result_ok}
@@ -10,10 +10,9 @@ use Rattle.mysql_wire.proofs.ReadAll.{one-more, no-more, one-fails}
 use Rattle.mysql_wire.specs.declared.fault.FaultOf.{FaultOf}
 use Rattle.mysql_wire.specs.declared.fault.FaultOf.TheVariants as fault
 use Rattle.mysql_wire.specs.declared.fault.FaultKind.{FaultKind}
-use Rattle.mysql_wire.specs.declared.fault.FaultKind.TheVariants as kind
 use Rattle.mysql_wire.specs.Many.{many}
 use Rattle.mysql_wire.specs.Seq.{is_any}
-use Rattle.mysql_wire.specs.Reading.{Reading, Answers, Faults, then_read, done-value, done-rest}
+use Rattle.mysql_wire.specs.Reading.{Reading, Answers, Faults, then_read, done-value}
 use Rattle.mysql_auth.specs.AttributeBytes.{pairs_room}
 use Rattle.mysql_auth.specs.Attributes.{Attribute, merged, pairs}
 use Rattle.mysql_auth.specs.ConnectAttributesRef.{ArePairs, NextPair, pairs_in, pairs_read}

@@ -1,14 +1,13 @@
 -- Variables are read one after another, and are those that all of the bytes spell.
-use Rattle.std.proofs.Common.{◌≡◌, ◌≢◌, ℕ, ◌<◌, List, [], ◌∷◌, ◌++◌, length, Option, None, Result, Ok, Err, Bool, true, false, if◌then◌else◌, nat_lt, refl, sym, ◌∙◌}
+use Rattle.std.proofs.Common.{◌≡◌, ◌≢◌, ℕ, ◌<◌, List, [], ◌∷◌, ◌++◌, length, Option, None, Result, Ok, Err, false, refl, sym, ◌∙◌}
 use Rattle.mysql_wire.specs.declared.fault.FaultOf.{FaultOf}
 use Rattle.mysql_wire.specs.declared.fault.FaultOf.TheVariants as fault
 use Rattle.mysql_wire.specs.declared.fault.FaultKind.{FaultKind}
 use Rattle.mysql_wire.specs.declared.fault.FaultKind.TheVariants as kind
 use Rattle.std.specs.Result.{result_ok}
-use Rattle.mysql_wire.specs.Reading.{Reading, Answers, then_read, Faults, done-value, done-rest}
+use Rattle.mysql_wire.specs.Reading.{Reading, Answers, Faults}
 use Rattle.mysql_wire.specs.Form.{Form}
-use Rattle.mysql_wire.specs.Many.{many, value_and_more}
-use Rattle.mysql_wire.specs.Many.Laws.{many-next}
+use Rattle.mysql_wire.specs.Many.{many}
 use Rattle.mysql_wire.proofs.AllRead as all_read
 use Rattle.mysql_wire.proofs.Counted.{with_front}
 use Rattle.mysql_wire.proofs.ReadAll.{one-more, no-more, takes-none, tail-shorter}
