@@ -278,6 +278,10 @@ impl Tracker for Watched {
         self.session.next(from, payload)
     }
 
+    fn expects(&self, from: Side, name: KindName) -> bool {
+        self.session.expects(from, name)
+    }
+
     fn decipher(&mut self) {
         self.session.decipher()
     }
