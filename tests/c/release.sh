@@ -18,8 +18,8 @@ expect() {
     fi
 }
 
-# says_version PROGRAM: it runs, and its usage shows that it was linked
-runs() { LD_LIBRARY_PATH=${2:-} "$1" </dev/null 2>&1 | grep -q usage; }
+# runs PROGRAM [FOLDER]: every call of it is found, and it says what it takes
+runs() { LD_BIND_NOW=1 LD_LIBRARY_PATH=${2:-} "$1" </dev/null 2>&1 | grep -q 'it takes HOST'; }
 
 # by_pkg_config FOLDER LIBDIR EXAMPLES: the driver over the shared library and over the archive
 by_pkg_config() {
