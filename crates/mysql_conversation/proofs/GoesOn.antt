@@ -1,6 +1,6 @@
 -- Which kinds go on with what was taken.
-use Rattle.std.proofs.Common.{◌≡◌, ◌↔◌, ◌+◌, ℕ, List, [], ◌∷◌, ◌++◌, ◌⊎◌, inl, inr, Option, Some, None, refl, sym, ap, subst, ◌∙◌, Bool, true, false, cond}
-use Rattle.std.specs.Prelude.{IsTrue, ◌&&◌, ◌||◌, ◌==◌, not}
+use Rattle.std.proofs.Common.{◌≡◌, ◌↔◌, ◌+◌, ℕ, List, [], ◌∷◌, ◌++◌, inl, inr, Option, Some, None, refl, sym, ap, subst, ◌∙◌, Bool, true, false, cond}
+use Rattle.std.specs.Prelude.{◌&&◌, ◌||◌, ◌==◌, not}
 use Rattle.std.proofs.lemmas.Bool.{eqb-true}
 use Rattle.mysql_conversation.specs.Agreements.{Agreed}
 use Rattle.mysql_conversation.specs.Conversation.{Packet, IsBeginning, asks}
@@ -12,12 +12,13 @@ use Rattle.mysql_conversation.specs.Piped.{place}
 use Rattle.mysql_conversation.specs.Pipelined.{Numbered, IsPipelinedBeginning}
 use Rattle.mysql_conversation.specs.Standing.{Standing, standing, start, PipeRun, pipe_step, command_of, waits, push, settle, early, aside, in_turn, served}
 use Rattle.mysql_conversation.proofs.Begun.{beginning_takes, takes_is_beginning, takes_part, takes_once, one_more}
-use Rattle.mysql_conversation.proofs.Classes.{chosen, some_is}
-use Rattle.mysql_conversation.proofs.Expected.{same, and_both, or_split, or_right, what_comes_is_named}
-use Rattle.mysql_conversation.proofs.Witnesses.{Comes, what_is_named_comes}
+use Rattle.mysql_conversation.proofs.Classes.{some_is}
+use Rattle.mysql_conversation.proofs.Named.{same, and_both, or_split, or_right, what_comes_is_named}
+use Rattle.mysql_conversation.proofs.Witnesses.{what_is_named_comes}
 use Rattle.mysql_conversation.proofs.States.{take_listens}
 use Rattle.mysql_conversation.proofs.Stood.{beginning_runs, run_is_beginning, pipe_part, pipe_once, pipe_one_more}
 use Rattle.mysql_conversation.proofs.Turns.{no_aside}
+use Rattle.mysql_conversation.specs.declared.kind.Format.TheVariants.{Text, Binary}
 use Rattle.mysql_conversation.specs.declared.kind.Kind.{Kind}
 use Rattle.mysql_conversation.specs.declared.kind.Kind.TheVariants as kind
 use Rattle.mysql_conversation.specs.declared.kind.Opening.{Opening}
@@ -42,11 +43,11 @@ pub goes_on : (a : Agreed) (o : Opening) (items : List Packet) (s : State) (side
     → expects a s side n ≡ true ↔ ((p : List ℕ) × (k : Kind) × (name_of k ≡ n) × IsBeginning a o (items ++ packet side p k ∷ []))
 goes_on a o items s side n r = (
   (λ h.
-    let c = what_is_named_comes a s side n h in
-    (c.0, c.1, c.3, takes_is_beginning a o (items ++ packet side c.0 c.1 ∷ []) c.2 (one_more a o items s side c.0 c.1 c.2 r c.4))),
+      let c = what_is_named_comes a s side n h in
+      (c.0, c.1, c.3, takes_is_beginning a o (items ++ packet side c.0 c.1 ∷ []) c.2 (one_more a o items s side c.0 c.1 c.2 r c.4))),
   (λ h.
-    let c = came a o items s side h.0 h.1 r h.3 in
-    subst (λ n. expects a s side n ≡ true) h.2 (what_comes_is_named a s side h.0 h.1 c.0 c.1)),
+      let c = came a o items s side h.0 h.1 r h.3 in
+      subst (λ n. expects a s side n ≡ true) h.2 (what_comes_is_named a s side h.0 h.1 c.0 c.1)),
 )
 
 -- ---- a pipeline
@@ -152,25 +153,34 @@ in_turn_taken : (w : Standing) (x : Kind × State) (b : Bool) → rests w.state 
 in_turn_taken w x true e = (w.last + 1, standing x.1 (w.last + 1) (w.last + 1) w.waiting, rw e refl)
 in_turn_taken w x false e = (w.number, standing x.1 w.number w.last w.waiting, rw e refl)
 
+due_step : (a : Agreed) (w : Standing) (p : List ℕ) → is_due w.state ≡ true → pipe_step a w Client p ≡ aside w (take_step a w.state Client p) (command_of p)
+due_step a w p d = rw d refl
+
+turn_step : (a : Agreed) (w : Standing) (p : List ℕ) → is_due w.state ≡ false → pipe_step a w Client p ≡ in_turn w (take_step a w.state Client p)
+turn_step a w p d = rw d refl
+
+aside_taken : (w : Standing) (x : Kind × State) (c : Option Command) → waits w.waiting ≡ false → aside w (Some x) c ≡ Some (x.0, w.number, standing x.1 w.number w.last w.waiting)
+aside_taken w x c e = rw e refl
+
 -- a ping, whatever waits
 early_comes : (a : Agreed) (w : Standing) (n : KindName) → is_due w.state ≡ true → n ≡ name.Command → Stepping a w Client n
 early_comes a w n d e =
     let c : Command = record { code = 0x0e; answer = answer.Acknowledgement } in
     let none = no_aside a w.state (0x0e ∷ []) c d refl in
-    (0x0e ∷ [], kind.Command 0x0e, w.last + 1, push w c, sym e, rw (d, none) refl)
+    (0x0e ∷ [], kind.Command 0x0e, w.last + 1, push w c, sym e, due_step a w (0x0e ∷ []) d ∙ ap (λ o. aside w o (Some c)) none)
 
 client_comes : (a : Agreed) (w : Standing) (n : KindName) (b : Bool) → is_due w.state ≡ b
     → cond b ((expects a w.state Client n && not (waits w.waiting)) || index n == index name.Command) (expects a w.state Client n) ≡ true → Stepping a w Client n
 client_comes a w n true d h = elim (or_split (expects a w.state Client n && not (waits w.waiting)) _ h) [
   | inl g ↦ (let q = and_both (expects a w.state Client n) _ g in
-    let c = what_is_named_comes a w.state Client n q.0 in
-    (c.0, c.1, w.number, standing c.2 w.number w.last w.waiting, c.3, rw (d, c.4, not_true (waits w.waiting) q.1) refl))
+      let c = what_is_named_comes a w.state Client n q.0 in
+      (c.0, c.1, w.number, standing c.2 w.number w.last w.waiting, c.3, due_step a w c.0 d ∙ ap (λ o. aside w o (command_of c.0)) c.4 ∙ aside_taken w (c.1, c.2) (command_of c.0) (not_true (waits w.waiting) q.1)))
   | inr g ↦ early_comes a w n d (same n name.Command (eqb-true (index n) (index name.Command) g))
 ]
 client_comes a w n false d h =
     let c = what_is_named_comes a w.state Client n h in
     let t = in_turn_taken w (c.1, c.2) (rests w.state) refl in
-    (c.0, c.1, t.0, t.1, c.3, rw (d, c.4) t.2)
+    (c.0, c.1, t.0, t.1, c.3, turn_step a w c.0 d ∙ ap (in_turn w) c.4 ∙ t.2)
 
 server_comes : (a : Agreed) (w : Standing) (n : KindName) → (expects a w.state Server n && not (waits w.waiting && is_in n asking_names)) ≡ true → Stepping a w Server n
 server_comes a w n h =
@@ -188,9 +198,9 @@ pub pipe_goes_on : (a : Agreed) (o : Opening) (items : List Numbered) (w : Stand
     → pipe_expects a w side n ≡ true ↔ ((p : List ℕ) × (k : Kind) × (i : ℕ) × (name_of k ≡ n) × IsPipelinedBeginning a o (items ++ place side p k i ∷ []))
 pipe_goes_on a o items w side n r = (
   (λ h.
-    let c = pipe_comes a w side n h in
-    (c.0, c.1, c.2, c.4, run_is_beginning a o (items ++ place side c.0 c.1 c.2 ∷ []) c.3 (pipe_one_more a o items w side c.0 c.1 c.2 c.3 r c.5))),
+      let c = pipe_comes a w side n h in
+      (c.0, c.1, c.2, c.4, run_is_beginning a o (items ++ place side c.0 c.1 c.2 ∷ []) c.3 (pipe_one_more a o items w side c.0 c.1 c.2 c.3 r c.5))),
   (λ h.
-    let c = pipe_came a o items w side h.0 h.1 h.2 r h.4 in
-    subst (λ n. pipe_expects a w side n ≡ true) h.3 (pipe_named a w side h.0 h.1 h.2 c.0 c.1)),
+      let c = pipe_came a o items w side h.0 h.1 h.2 r h.4 in
+      subst (λ n. pipe_expects a w side n ≡ true) h.3 (pipe_named a w side h.0 h.1 h.2 c.0 c.1)),
 )

@@ -13,7 +13,7 @@ pub mod Pipes
 pub mod Stood
 pub mod Sessions
 pub mod SessionEnds
-pub mod Expected
+pub mod Named
 pub mod Witnesses
 pub mod GoesOn
 pub mod SessionGoesOn

@@ -2,17 +2,14 @@
 use Rattle.mysql_conversation.specs.Agreements.{Agreed}
 use Rattle.std.proofs.Common.{◌≡◌, ℕ, ◌+◌, List, [], ◌∷◌, ◌++◌, ◌⊎◌, inl, inr, Option, Some, None, refl, sym, ap, subst, ◌∙◌, Bool, true, false, cond}
 use Rattle.std.specs.Prelude.{◌&&◌, not}
-use Rattle.mysql_conversation.specs.Conversation.{Packet}
-use Rattle.mysql_conversation.specs.Conversation.{asks, commands, inside}
-use Rattle.mysql_conversation.specs.Machine.{take_step, Takes, rests, listens, is_due}
-use Rattle.mysql_conversation.specs.Taken.{packet}
-use Rattle.mysql_conversation.specs.Pipelined.{Numbered, packets, is_client, is_command, counted, AreNumbered, passes, ArePassed, Early}
-use Rattle.mysql_conversation.specs.Standing.{Standing, standing, command_of, kind_of, begin, wait, waits, settle, push, early, aside, in_turn, served, pipe_step, Steps, PipeRun}
+use Rattle.mysql_conversation.specs.Conversation.{commands}
+use Rattle.mysql_conversation.specs.Machine.{take_step, rests, listens, is_due}
+use Rattle.mysql_conversation.specs.Pipelined.{Numbered, is_client, is_command}
+use Rattle.mysql_conversation.specs.Standing.{Standing, standing, command_of, kind_of, begin, wait, waits, settle, push, early, aside, in_turn, served, pipe_step, Steps}
 use Rattle.mysql_conversation.proofs.Classes.{some_is, chosen}
-use Rattle.mysql_conversation.proofs.States.{Turn, turn, due_of, due_runs, rests_is, take_listens, inside_command}
-use Rattle.mysql_conversation.proofs.Turns.{command_step, rest_step_is, kind_is_command, begin_listens, running_kind, no_aside, command_kind, rest_plain}
+use Rattle.mysql_conversation.proofs.States.{Turn, turn, due_runs, rests_is}
+use Rattle.mysql_conversation.proofs.Turns.{command_step, rest_step_is, kind_is_command, begin_listens, running_kind, no_aside}
 use Rattle.mysql_conversation.specs.declared.kind.Kind.{Kind}
-use Rattle.mysql_conversation.specs.declared.kind.Kind.TheVariants as kind
 use Rattle.mysql_conversation.specs.declared.kind.Side.{Side}
 use Rattle.mysql_conversation.specs.declared.kind.Side.TheVariants.{Client, Server}
 use Rattle.mysql_conversation.specs.declared.state.State.{State}

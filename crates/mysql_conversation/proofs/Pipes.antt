@@ -1,16 +1,15 @@
 -- Commands that come early, and the machine with commands that wait.
 use Rattle.mysql_conversation.specs.Agreements.{Agreed}
-use Rattle.std.proofs.Common.{◌≡◌, ℕ, ◌+◌, List, [], ◌∷◌, ◌++◌, ◌⊎◌, inl, inr, Option, Some, None, refl, sym, ap, subst, ◌∙◌, Bool, true, false, cond}
+use Rattle.std.proofs.Common.{◌≡◌, ℕ, ◌+◌, List, [], ◌∷◌, ◌++◌, ◌⊎◌, inl, inr, Some, refl, sym, ap, subst, ◌∙◌, Bool, true, false}
 use Rattle.std.specs.Prelude.{◌&&◌, not}
 use Rattle.mysql_conversation.specs.Conversation.{Packet}
 use Rattle.mysql_conversation.specs.Conversation.{asks, commands, inside}
 use Rattle.mysql_conversation.specs.Machine.{take_step, Takes, rests, listens, is_due}
 use Rattle.mysql_conversation.specs.Taken.{packet}
 use Rattle.mysql_conversation.specs.Pipelined.{Numbered, packets, is_client, is_command, counted, AreNumbered, passes, ArePassed, Early}
-use Rattle.mysql_conversation.specs.Standing.{Standing, standing, command_of, kind_of, begin, wait, waits, settle, push, early, aside, in_turn, served, pipe_step, Steps, PipeRun}
-use Rattle.mysql_conversation.proofs.Classes.{some_is, chosen}
-use Rattle.mysql_conversation.proofs.States.{Turn, turn, due_of, due_runs, rests_is, take_listens, inside_command}
-use Rattle.mysql_conversation.proofs.Turns.{command_step, rest_step_is, kind_is_command, begin_listens, running_kind, no_aside, command_kind, rest_plain}
+use Rattle.mysql_conversation.specs.Standing.{Standing, standing, kind_of, begin, wait, waits, settle, push, pipe_step, Steps, PipeRun}
+use Rattle.mysql_conversation.proofs.States.{Turn, turn, due_of, due_runs, take_listens, inside_command}
+use Rattle.mysql_conversation.proofs.Turns.{kind_is_command, begin_listens, running_kind, command_kind, rest_plain}
 use Rattle.mysql_conversation.specs.declared.kind.Kind.{Kind}
 use Rattle.mysql_conversation.specs.declared.kind.Kind.TheVariants as kind
 use Rattle.mysql_conversation.specs.declared.kind.Side.{Side}
@@ -18,7 +17,6 @@ use Rattle.mysql_conversation.specs.declared.kind.Side.TheVariants.{Client, Serv
 use Rattle.mysql_conversation.specs.declared.state.State.{State}
 use Rattle.mysql_conversation.specs.declared.state.State.TheVariants as state
 use Rattle.mysql_conversation.specs.declared.state.Command.{Command}
-use Rattle.mysql_conversation.specs.declared.pipeline.Waiting.{Waiting}
 use Rattle.mysql_conversation.proofs.PipeSteps.{outcome, Over, which, both, not_both, not_true, side_is, waits_more, after, settle_more, settle_last, settle_listens, served_back, server_back, server_next, IsOf, taken_early, taken_at_rest, Began, loaded_back, client_turn, client_due, client_rest, command_due, aside_due, by_client, command_back}
 
 -- ---- whether the client is asked

@@ -1,25 +1,25 @@
 -- Which kinds go on with a session.
-use Rattle.std.proofs.Common.{◌≡◌, ◌↔◌, ℕ, List, [], ◌∷◌, ◌++◌, ◌⊎◌, inl, inr, Option, Some, None, Ok, refl, sym, ap, subst, ◌∙◌, Bool, true, false, append_assoc}
+use Rattle.std.proofs.Common.{◌≡◌, ◌↔◌, ℕ, List, [], ◌∷◌, ◌++◌, ◌⊎◌, inl, inr, Some, Ok, refl, sym, ap, subst, ◌∙◌, Bool, true, false, append_assoc}
 use Rattle.mysql_wire.specs.Form.{bytes, number}
 use Rattle.mysql_wire.specs.Int.{raw}
 use Rattle.mysql_wire.specs.ConstantValue.{coded}
-use Rattle.mysql_wire.specs.Null.{null_bytes}
+use Rattle.mysql_wire.specs.Null.{null_string}
 use Rattle.mysql_wire.specs.Skip.{skip}
 use Rattle.mysql_auth.specs.Handshake.{handshake, handshake_block, handshake_head}
 use Rattle.mysql_auth.specs.SslRequest.{ssl_request, request_of}
 use Rattle.mysql_auth.specs.declared.ssl_request.SslRequest.{SslRequest}
 use Rattle.mysql_conversation.specs.Agreements.{Agreed, agreed_on}
 use Rattle.mysql_conversation.specs.Expected.{greeting_names, login_names}
-use Rattle.mysql_conversation.specs.KindName.{name_of, index, is_in}
+use Rattle.mysql_conversation.specs.KindName.{name_of, is_in}
 use Rattle.mysql_conversation.specs.Payloads.{first_is}
 use Rattle.mysql_conversation.specs.Piped.{PipeTaken, place}
 use Rattle.mysql_conversation.specs.Pipelined.{Numbered, IsPipelined, IsPipelinedBeginning}
-use Rattle.mysql_conversation.specs.Session.{client_of, asks_tls, IsGreeting, IsGreetingError, IsSslRequest, IsLogin, Before, IsLoggedIn, IsSession, IsSessionBeginning, TakenIn, GoesOn}
-use Rattle.mysql_conversation.specs.SessionSteps.{greeting_in, greeting_at}
+use Rattle.mysql_conversation.specs.Session.{client_of, asks_tls, IsGreeting, IsGreetingError, IsSslRequest, IsLogin, Before, IsSession, TakenIn, GoesOn}
+use Rattle.mysql_conversation.specs.SessionSteps.{greeting_at}
 use Rattle.mysql_conversation.specs.Standing.{start}
-use Rattle.mysql_conversation.proofs.Expected.{All, pick}
-use Rattle.mysql_conversation.proofs.SessionEnds.{zeros, nothing_asked, zeros_read, may, logged_in, taken_is_beginning}
-use Rattle.mysql_conversation.proofs.Sessions.{greeting_at_is, greeting_at_of, head_is, after_one, after_two, one_or_two, login_or_tls, not_alone, session_rest, begins_with, two_or_more, more_of}
+use Rattle.mysql_conversation.proofs.Named.{All, pick}
+use Rattle.mysql_conversation.proofs.SessionEnds.{zeros, nothing_asked, logged_in, taken_is_beginning}
+use Rattle.mysql_conversation.proofs.Sessions.{greeting_at_is, head_is, after_one, after_two, one_or_two, login_or_tls, session_rest, begins_with, two_or_more, more_of}
 use Rattle.mysql_conversation.proofs.Stood.{run_is_beginning}
 use Rattle.mysql_conversation.specs.declared.kind.Kind.{Kind}
 use Rattle.mysql_conversation.specs.declared.kind.Kind.TheVariants as kind
@@ -29,7 +29,6 @@ use Rattle.mysql_conversation.specs.declared.kind.Side.TheVariants.{Client, Serv
 use Rattle.mysql_conversation.specs.declared.kind_name.KindName.{KindName}
 use Rattle.mysql_conversation.specs.declared.kind_name.KindName.TheVariants as name
 use Rattle.mysql_conversation.specs.declared.pipeline.Pipeline.{Pipeline}
-use Rattle.mysql_conversation.specs.declared.session.Phase.{Phase}
 use Rattle.mysql_conversation.specs.declared.session.Phase.TheVariants as phase
 
 -- ---- the greeting
@@ -42,18 +41,18 @@ no_flags : Agreed
 no_flags = record { mysql = record { 0 = 0; 1 = record {} }; mariadb = record { 0 = 0; 1 = record {} } }
 
 greeting_found : greeting_at greeting_bytes ≡ Some no_flags
-unfolding greeting_bytes no_flags greeting_at handshake handshake_head handshake_block bytes number raw coded skip null_bytes
+unfolding greeting_bytes no_flags greeting_at handshake handshake_head handshake_block bytes number raw coded skip null_string
 greeting_found = refl
+
+not_error : first_is 0xff greeting_bytes ≡ false
+unfolding greeting_bytes
+not_error = refl
 
 greeting_comes : GoesOn Server name.Handshake []
 greeting_comes =
     let y = place Server greeting_bytes kind.Handshake 0 in
     let f = greeting_at_is no_flags greeting_bytes greeting_found in
     (greeting_bytes, kind.Handshake, 0, refl, taken_is_beginning (phase.Login no_flags) (y ∷ []) (y, refl, ((refl, refl, refl), not_error, f.0, f.1, f.2, f.3)))
-  where
-    not_error : first_is 0xff greeting_bytes ≡ false
-    unfolding greeting_bytes
-    not_error = refl
 
 error_comes : GoesOn Server name.UnaskedError []
 error_comes =
@@ -62,7 +61,7 @@ error_comes =
 
 each_greeting : (side : Side) → All (λ n. GoesOn side n []) (greeting_names side)
 each_greeting Client = tt
-each_greeting Server = (greeting_comes, error_comes, tt)
+each_greeting Server = (greeting_comes, (error_comes, tt))
 
 begun_as : (side : Side) (p : List ℕ) (k : Kind) (i : ℕ) → IsGreetingError (place side p k i) ⊎ ((server : Agreed) × IsGreeting server (place side p k i)) → is_in (name_of k) (greeting_names side) ≡ true
 begun_as side p k i (inl h) = rw (h.0.0, h.0.1) refl
@@ -72,12 +71,17 @@ pub greeting_goes_on : (side : Side) (n : KindName) (items : List Numbered) → 
 greeting_goes_on side n items e = (
   (λ h. subst (λ xs. GoesOn side n xs) (sym e) (pick (λ n. GoesOn side n []) n (greeting_names side) (each_greeting side) h)),
   (λ h.
-    let y = place side h.0 h.1 h.2 in
-    let b = h.4 in
-    subst (λ n. is_in n (greeting_names side) ≡ true) h.3 (begun_as side h.0 h.1 h.2 (begins_with y b.0 (subst (λ xs. IsSession ((xs ++ y ∷ []) ++ b.0)) e b.1)))),
+      let y = place side h.0 h.1 h.2 in
+      let b = h.4 in
+      subst (λ n. is_in n (greeting_names side) ≡ true) h.3 (begun_as side h.0 h.1 h.2 (begins_with y b.0 (subst (λ xs. IsSession ((xs ++ y ∷ []) ++ b.0)) e b.1)))),
 )
 
 -- ---- after an error in its place
+
+not_both : (x u : Numbered) (server : Agreed) → IsGreetingError x → x ≡ u → IsGreeting server u → ⊥
+not_both x u server g e h =
+    let no : first_is 0xff x.packet.payload ≡ false = ap (λ (x : Numbered). first_is 0xff x.packet.payload) e ∙ h.1 in
+    let yes : first_is 0xff x.packet.payload ≡ true = g.1 in absurd cc
 
 alone : (x y : Numbered) (more : List Numbered) → IsGreetingError x → IsSession (x ∷ y ∷ more) → ⊥
 alone x y more g (inl h) = absurd cc
@@ -93,11 +97,6 @@ alone x y more g (inr h) = elim (begins_with x (y ∷ more) (inr h)) [
     error_or_login true f =
         let e : x ∷ y ∷ more ≡ f.0 ∷ f.1 ∷ h.2 ∷ h.3 = h.4 ∙ ap (λ fs. fs ++ h.2 ∷ h.3) f.2 in
         not_both x f.0 h.5.0 g (head_is x f.0 (y ∷ more) (f.1 ∷ h.2 ∷ h.3) e).0 f.3
-
-    not_both : (x u : Numbered) (server : Agreed) → IsGreetingError x → x ≡ u → IsGreeting server u → ⊥
-    not_both x u server g e h =
-        let no : first_is 0xff x.packet.payload ≡ false = ap (λ (x : Numbered). first_is 0xff x.packet.payload) e ∙ h.1 in
-        let yes : first_is 0xff x.packet.payload ≡ true = g.1 in absurd cc
 
 pub nothing_goes_on : (side : Side) (n : KindName) (items : List Numbered) → TakenIn phase.Refused items → GoesOn side n items → ⊥
 nothing_goes_on side n items t h =
@@ -137,7 +136,7 @@ login_comes server tls items f =
 
 each_login : (server : Agreed) (tls : Bool) (side : Side) (items : List Numbered) → Before server tls items → All (λ n. GoesOn side n items) (login_names tls side)
 each_login server true Client items f = (login_comes server true items f, tt)
-each_login server false Client items f = (request_comes server items f, login_comes server false items f, tt)
+each_login server false Client items f = (request_comes server items f, (login_comes server false items f, tt))
 each_login server tls Server items f = tt
 
 -- what answers the greeting: a request for TLS, or a login
@@ -172,9 +171,9 @@ pub login_goes_on : (server : Agreed) (tls : Bool) (side : Side) (n : KindName) 
 login_goes_on server tls side n items f = (
   (λ h. pick (λ n. GoesOn side n items) n (login_names tls side) (each_login server tls side items f) h),
   (λ h.
-    let y = place side h.0 h.1 h.2 in
-    let b = h.4 in
-    subst (λ n. is_in n (login_names tls side) ≡ true) h.3 (answer_named tls side h.0 h.1 h.2 (answer_at y items b.0 server tls f (subst (λ xs. IsSession xs) (append_assoc items (y ∷ []) b.0) b.1)))),
+      let y = place side h.0 h.1 h.2 in
+      let b = h.4 in
+      subst (λ n. is_in n (login_names tls side) ≡ true) h.3 (answer_named tls side h.0 h.1 h.2 (answer_at y items b.0 server tls f (subst (λ xs. IsSession xs) (append_assoc items (y ∷ []) b.0) b.1)))),
 )
 
 -- ---- the conversation
@@ -184,15 +183,15 @@ pub commands_go_on : (q : Pipeline) (side : Side) (n : KindName) (items : List N
     → TakenIn (phase.Commands q) items → B ↔ GoesOn side n items
 commands_go_on q side n items B f t = (
   (λ b.
-    let c = (f t.2 t.6).0 b in
-    let y = place side c.0 c.1 c.2 in
-    let more = c.4.0 in
-    (c.0, c.1, c.2, c.3, (more, inr (q.agreed, t.0, t.1, (t.2 ++ y ∷ []) ++ more, longer y more, t.4, subst (λ o. IsPipelined q.agreed o ((t.2 ++ y ∷ []) ++ more)) t.5 c.4.1)))),
+      let c = (f t.2 t.6).0 b in
+      let y = place side c.0 c.1 c.2 in
+      let more = c.4.0 in
+      (c.0, c.1, c.2, c.3, (more, inr (q.agreed, t.0, t.1, (t.2 ++ y ∷ []) ++ more, longer y more, t.4, subst (λ o. IsPipelined q.agreed o ((t.2 ++ y ∷ []) ++ more)) t.5 c.4.1)))),
   (λ h.
-    let y = place side h.0 h.1 h.2 in
-    let more = h.4.0 in
-    let s = session_rest q.agreed t.0 t.1 ((t.2 ++ y ∷ []) ++ more) t.4 (subst (λ xs. IsSession xs) (longer y more) h.4.1) in
-    (f t.2 t.6).1 (h.0, h.1, h.2, h.3, (more, subst (λ o. IsPipelined q.agreed o ((t.2 ++ y ∷ []) ++ more)) (sym t.5) s))),
+      let y = place side h.0 h.1 h.2 in
+      let more = h.4.0 in
+      let s = session_rest q.agreed t.0 t.1 ((t.2 ++ y ∷ []) ++ more) t.4 (subst (λ xs. IsSession xs) (longer y more) h.4.1) in
+      (f t.2 t.6).1 (h.0, h.1, h.2, h.3, (more, subst (λ o. IsPipelined q.agreed o ((t.2 ++ y ∷ []) ++ more)) (sym t.5) s))),
 )
   where
     longer : (y : Numbered) (more : List Numbered) → (items ++ y ∷ []) ++ more ≡ t.0 ++ t.1 ∷ ((t.2 ++ y ∷ []) ++ more)

@@ -1,12 +1,10 @@
 -- In a session too a packet is of one kind.
-use Rattle.std.proofs.Common.{◌≡◌, ℕ, List, [], ◌∷◌, ◌++◌, ◌⊎◌, inl, inr, Some, refl, sym, ap, subst, ◌∙◌, Bool, true, false, append_assoc}
-use Rattle.mysql_auth.specs.declared.ssl_request.SslRequest.{SslRequest}
+use Rattle.std.proofs.Common.{◌≡◌, ℕ, List, [], ◌∷◌, ◌++◌, ◌⊎◌, inl, inr, refl, sym, ap, subst, ◌∙◌, Bool, true, false, append_assoc}
 use Rattle.mysql_conversation.specs.Agreements.{Agreed}
 use Rattle.mysql_conversation.specs.Payloads.{first_is}
 use Rattle.mysql_conversation.specs.Piped.{place}
 use Rattle.mysql_conversation.specs.Pipelined.{Numbered, IsPipelined}
-use Rattle.mysql_conversation.specs.Session.{asks_tls, MayLogIn, IsGreeting, IsGreetingError, IsSslRequest, IsLogin, Before, IsLoggedIn, IsSession, IsSessionBeginning}
-use Rattle.mysql_conversation.specs.SessionSteps.{login_at}
+use Rattle.mysql_conversation.specs.Session.{asks_tls, IsGreeting, IsGreetingError, IsSslRequest, IsLogin, Before, IsLoggedIn, IsSession, IsSessionBeginning}
 use Rattle.mysql_conversation.proofs.Classes.{some_is}
 use Rattle.mysql_conversation.proofs.SessionGoesOn.{AnswersGreeting, answer_at}
 use Rattle.mysql_conversation.proofs.Sessions.{begins_with, login_at_of, session_rest}

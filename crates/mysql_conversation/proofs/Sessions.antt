@@ -47,7 +47,7 @@ pub login_at_is : (r : SslRequest) (p : List ℕ) → login_at p ≡ Some r → 
 unfolding login_at
 login_at_is r p h = login_read r p ((ssl_request.form tt).reads p) refl h
 
-login_at_of : (r : SslRequest) (p : List ℕ) → BeginsAs r p → login_at p ≡ Some r
+pub login_at_of : (r : SslRequest) (p : List ℕ) → BeginsAs r p → login_at p ≡ Some r
 unfolding login_at
 login_at_of r p b = ap login_in ((ssl_request.form tt).only r p b.0 b.1)
 

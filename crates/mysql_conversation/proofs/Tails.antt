@@ -1,31 +1,20 @@
 -- What the machine takes, the grammar allows: what may come from each state on, up to the end of the exchange.
-use Rattle.std.proofs.Common.{◌≡◌, ◌≢◌, ℕ, ◌<◌, zero, suc, List, [], ◌∷◌, inl, inr, Option, Some, None, refl, sym, ap, subst, Bool, true, false, arith}
+use Rattle.std.proofs.Common.{◌≡◌, ℕ, zero, suc, List, ◌∷◌, inl, inr, refl, ap, Bool, true, false}
 use Rattle.mysql_wire.specs.Flags.{StatusFlags}
-use Rattle.mysql_prepared.specs.Stmt.{num_columns, num_params}
-use Rattle.mysql_prepared.specs.StmtWithMetadata.{packet_of}
-use Rattle.mysql_prepared.specs.declared.stmt_with_metadata.StmtPacketWithMetadata.{StmtPacketWithMetadata}
 use Rattle.mysql_conversation.specs.Agreements.{Agreed, deprecates_eof}
 use Rattle.mysql_conversation.specs.Parts.{nothing, never, ◌followed_by◌, ◌or◌, times, many}
-use Rattle.mysql_conversation.specs.Payloads.{begins_ok, definitions_follow, has_more, opens_cursor, first_is, IsOk, IsEnd, IsOldEnd, IsInfileRequest, IsCount, IsRow, IsPrepared, asks_cursor}
+use Rattle.mysql_conversation.specs.Payloads.{has_more, opens_cursor, first_is, IsOldEnd}
 use Rattle.mysql_conversation.specs.Conversation as c
 use Rattle.mysql_conversation.specs.Conversation.{Packet, sent, served, answering, answered, ending, format_of, authentication_kind}
-use Rattle.mysql_conversation.specs.Machine.{serve, answers, reply_step, infile_step, infile_reply_step, line_step, last_step, prepared_by, prepared_step, command_step, begun, acknowledgement_step, logged_in, authentication_step, answer_step, ack_step, definitions_end_step, columns_step, enter, defined, counted, less, define, ended, line_of, reply_of, old_end_of, statement_at, ok_status}
+use Rattle.mysql_conversation.specs.Machine.{enter, defined}
 use Rattle.mysql_conversation.specs.Taken.{packet}
-use Rattle.mysql_conversation.proofs.Classes.{reply_means, line_means, old_end_means, statement_at_is, ok_status_is, chosen, some_is, eqb_refl}
 use Rattle.mysql_conversation.specs.declared.state.After.{After}
 use Rattle.mysql_conversation.specs.declared.state.After.TheVariants as after
-use Rattle.mysql_conversation.specs.declared.state.Answer.{Answer}
-use Rattle.mysql_conversation.specs.declared.state.Answer.TheVariants as answer
 use Rattle.mysql_conversation.specs.declared.state.Request.{Request}
 use Rattle.mysql_conversation.specs.declared.state.Request.TheVariants.{Query, Execution, Cursor}
-use Rattle.mysql_conversation.specs.declared.kind.Format.TheVariants.{Text, Binary}
+use Rattle.mysql_conversation.specs.declared.kind.Format.TheVariants.{Binary}
 use Rattle.mysql_conversation.specs.declared.kind.Kind.{Kind}
 use Rattle.mysql_conversation.specs.declared.kind.Kind.TheVariants as kind
-use Rattle.mysql_conversation.specs.declared.state.Line.{Line}
-use Rattle.mysql_conversation.specs.declared.state.Line.TheVariants as line
-use Rattle.mysql_conversation.specs.declared.state.Reply.{Reply}
-use Rattle.mysql_conversation.specs.declared.state.Reply.TheVariants as reply
-use Rattle.mysql_conversation.specs.declared.kind.Side.{Side}
 use Rattle.mysql_conversation.specs.declared.kind.Side.TheVariants.{Client, Server}
 use Rattle.mysql_conversation.specs.declared.state.State.{State}
 use Rattle.mysql_conversation.specs.declared.state.State.TheVariants as state

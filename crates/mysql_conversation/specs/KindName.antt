@@ -1,6 +1,5 @@
 -- The names of kinds.
-use Rattle.std.specs.Prelude.{ℕ, List, codes, Bool, true, false, ◌==◌, ◌||◌, [], ◌∷◌}
-use Rattle.mysql_conversation.specs.declared.kind.Format.{Format}
+use Rattle.std.specs.Prelude.{ℕ, List, codes, Bool, false, ◌==◌, ◌||◌, [], ◌∷◌}
 use Rattle.mysql_conversation.specs.declared.kind.Format.TheVariants.{Text, Binary}
 use Rattle.mysql_conversation.specs.declared.kind.Kind.{Kind}
 use Rattle.mysql_conversation.specs.declared.kind.Kind.TheVariants as kind

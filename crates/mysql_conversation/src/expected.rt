@@ -1,6 +1,6 @@
 //! Which kinds may come next.
 
-ghost use Rattle.std.specs.Prelude.{◌≡◌};
+ghost use Rattle.std.specs.Prelude.{◌≡◌, ◌==◌};
 ghost use Rattle.mysql_conversation.specs.Expected as spec;
 ghost use Rattle.mysql_conversation.specs.KindName.{is_in, index};
 
@@ -98,7 +98,7 @@ fn is_error(rests: bool, name: KindName) -> bool
 }
 
 /// Whether a packet of this kind may come from this side.
-#[tactic(auto, using(crate::proofs::Expected::reported_is))]
+#[tactic(auto, using(crate::proofs::Named::reported_is))]
 pub(crate) fn expects(
     agreed: SessionCapabilities,
     state: &State,

@@ -119,7 +119,11 @@ pub(crate) fn reply_step(
 
 /// What answers a file.
 #[inline(always)]
-pub(crate) fn infile_reply_step(state: &mut State, request: Request, reply: Option<Reply>) -> Option<Kind>
+pub(crate) fn infile_reply_step(
+    state: &mut State,
+    request: Request,
+    reply: Option<Reply>,
+) -> Option<Kind>
     ensures some { IfSome result (λ kind. spec.infile_reply_step request reply ≡ Some (kind, state.new)) }
     ensures none { IfNone result ((spec.infile_reply_step request reply ≡ None) × (state.new ≡ state.old)) }
 {
@@ -192,7 +196,12 @@ pub(crate) fn line_step(
 
 /// A packet of this kind, after which the same may come, or the end.
 #[inline(always)]
-pub(crate) fn last_step(state: &mut State, deprecates: bool, kind: Kind, line: Option<Line>) -> Option<Kind>
+pub(crate) fn last_step(
+    state: &mut State,
+    deprecates: bool,
+    kind: Kind,
+    line: Option<Line>,
+) -> Option<Kind>
     ensures some { IfSome result (λ found. spec.last_step deprecates kind state.old line ≡ Some (found, state.new)) }
     ensures none { IfNone result ((spec.last_step deprecates kind state.old line ≡ None) × (state.new ≡ state.old)) }
 {

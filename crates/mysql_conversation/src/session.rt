@@ -145,8 +145,9 @@ impl Session {
             Phase::Commands(pipeline) => pipeline.expects(from, name),
             Phase::Greeting => is_greeting(from, name),
             Phase::Refused => false,
-            Phase::Login(_) => is_login(false, from, name),
-            Phase::Encrypted(_) | Phase::InTls(_) => is_login(true, from, name),
+            Phase::Login(_server) => is_login(false, from, name),
+            Phase::Encrypted(_server) => is_login(true, from, name),
+            Phase::InTls(_server) => is_login(true, from, name),
         }
     }
 

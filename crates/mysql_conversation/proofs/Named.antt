@@ -1,22 +1,17 @@
 -- Which kinds may come next: each that comes is named, and each that is named comes.
-use Rattle.std.proofs.Common.{◌≡◌, ℕ, zero, suc, List, [], ◌∷◌, ◌++◌, ◌⊎◌, inl, inr, Option, Some, None, Ok, refl, sym, ap, subst, ◌∙◌, Bool, true, false, cond}
+use Rattle.std.proofs.Common.{◌≡◌, ℕ, zero, suc, List, [], ◌∷◌, ◌⊎◌, inl, inr, Option, Some, None, refl, sym, ap, subst, ◌∙◌, Bool, true, false, cond}
 use Rattle.std.proofs.lemmas.Bool.{eqb-true}
-use Rattle.std.specs.Prelude.{◌==◌, ◌||◌, ◌&&◌, not, if◌then◌else◌}
-use Rattle.mysql_wire.specs.Form.{bytes, number}
+use Rattle.std.specs.Prelude.{◌==◌, ◌||◌, ◌&&◌}
+use Rattle.mysql_wire.specs.Form.{bytes}
 use Rattle.mysql_wire.specs.Flags.{StatusFlags}
-use Rattle.mysql_wire.specs.Int.{raw, raw_int}
-use Rattle.mysql_wire.specs.LenEnc.{lenenc}
-use Rattle.mysql_replies.specs.ColumnCount.{column_count, says_optional, says_follow}
 use Rattle.mysql_prepared.specs.declared.stmt_with_metadata.StmtPacketWithMetadata.{StmtPacketWithMetadata}
-use Rattle.mysql_conversation.specs.Agreements.{Agreed, deprecates_eof, asks_factors, reports_progress, has_optional_metadata}
-use Rattle.mysql_conversation.specs.Payloads.{first_is, begins_ok, is_report, begins_with_ff, is_one_byte, asks_cursor, opens_cursor, has_more, definitions_follow}
-use Rattle.mysql_conversation.specs.Conversation.{answering, authentication_kind, ending, format_of}
-use Rattle.mysql_conversation.specs.Machine.{step, take_step, client_step, serve, rests, is_due, error_kind, begun, command_step, infile_step, answer_step, ack_step, logged_in, authentication_step, reply_step, infile_reply_step, columns_step, definitions_end_step, line_step, last_step, prepared_step, acknowledgement_step, ended, counted, reply_of, line_of, old_end_of, statement_at, ok_status, count_at, count_in}
+use Rattle.mysql_conversation.specs.Agreements.{Agreed, deprecates_eof, asks_factors, reports_progress}
+use Rattle.mysql_conversation.specs.Payloads.{first_is, begins_ok, is_report, begins_with_ff, is_one_byte, asks_cursor, opens_cursor}
+use Rattle.mysql_conversation.specs.Conversation.{answering, ending, format_of}
+use Rattle.mysql_conversation.specs.Machine.{step, take_step, client_step, serve, rests, is_due, error_kind, begun, command_step, infile_step, logged_in, authentication_step, reply_step, infile_reply_step, columns_step, definitions_end_step, line_step, last_step, prepared_step, acknowledgement_step, reply_of, line_of, old_end_of, statement_at, ok_status}
 use Rattle.mysql_conversation.specs.KindName.{name_of, index, is_in}
 use Rattle.mysql_conversation.specs.Expected.{sent_names, end_name, row_name, asked_names, served_names, error_name, reported, names, expects}
-use Rattle.mysql_conversation.proofs.Begun.{no_report}
-use Rattle.mysql_conversation.proofs.Classes.{chosen, some_is, ok_status_of, statement_at_of, old_end_of_is, line_end, reply_ok}
-use Rattle.mysql_conversation.proofs.Ends.{short_report}
+use Rattle.mysql_conversation.proofs.Classes.{chosen, some_is}
 use Rattle.mysql_conversation.specs.declared.kind.Format.TheVariants.{Text, Binary}
 use Rattle.mysql_conversation.specs.declared.kind.Kind.{Kind}
 use Rattle.mysql_conversation.specs.declared.kind.Kind.TheVariants as kind
