@@ -3,7 +3,7 @@
 
 use crate::conversation::Tracker;
 use mysql_packets::constants::{ColumnFlags, ColumnType, Flags};
-use mysql_packets::conversation::{Kind, Refusal, Session, Side};
+use mysql_packets::conversation::{Kind, KindName, Refusal, Session, Side};
 use mysql_packets::io::{Fault, ParseBuf};
 use mysql_packets::misc::raw::ConstValue;
 use mysql_packets::observer::{
