@@ -12,7 +12,12 @@ for archive in "$out/$1.a" "$out/lib$1.a"; do
         exit
     fi
 done
+# (a line as each crate's turn comes: from nothing it is most of an hour)
 log=$(mktemp)
 trap 'rm -f -- "$log"' EXIT
-(cd -- "$top/crates/$1" && rt lib) </dev/null >"$log" 2>&1 || { cat -- "$log" >&2; exit 1; }
+printf '%s: proved and built first; where no proof is kept that takes most of an hour on four processors\n' "$1" >&2
+(cd -- "$top/crates/$1" && rt lib) </dev/null 2>&1 | tee -- "$log" | sed -un 's/^rt: chose .* for \([a-z_]*\)$/  \1 is being proved/p' >&2 || {
+    cat -- "$log" >&2
+    exit 1
+}
 printf '%s\n' "$archive"

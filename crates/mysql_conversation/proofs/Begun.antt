@@ -11,7 +11,8 @@ use Rattle.mysql_conversation.proofs.Classes.{chosen, some_is}
 use Rattle.mysql_conversation.proofs.States.{which_rests, due_of, due_runs, entrance_listens, step_listens}
 use Rattle.mysql_conversation.proofs.Ends.{to_come, short_report}
 use Rattle.mysql_conversation.proofs.Leads.{conversation_runs, inside_runs}
-use Rattle.mysql_conversation.proofs.Tails.{tail_of, back_serve, back_command, back_content, back_answer, back_ack, many_more}
+use Rattle.mysql_conversation.proofs.Tails.{tail_of, many_more}
+use Rattle.mysql_conversation.proofs.Backwards.{back_serve, back_command, back_content, back_answer, back_ack}
 use Rattle.mysql_conversation.specs.declared.kind.Kind.{Kind}
 use Rattle.mysql_conversation.specs.declared.kind.Kind.TheVariants as kind
 use Rattle.mysql_conversation.specs.declared.kind.Opening.{Opening}
@@ -236,7 +237,7 @@ takes_join : (a : Agreed) (s : State) (xs : List Packet) (m : State) (ys : List 
 takes_join a s [] m ys t x y = subst (λ s. Takes a s ys t) (sym x) y
 takes_join a s (x ∷ xs) m ys t u y = (u.0, u.1, takes_join a u.0 xs m ys t u.2 y)
 
-takes_part : (a : Agreed) (s : State) (xs ys : List Packet) (t : State) → Takes a s (xs ++ ys) t → (m : State) × Takes a s xs m × Takes a m ys t
+pub takes_part : (a : Agreed) (s : State) (xs ys : List Packet) (t : State) → Takes a s (xs ++ ys) t → (m : State) × Takes a s xs m × Takes a m ys t
 takes_part a s [] ys t r = (s, refl, r)
 takes_part a s (x ∷ xs) ys t r = let h = takes_part a r.0 xs ys t r.2 in (h.0, (r.0, r.1, h.1), h.2)
 

@@ -20,7 +20,8 @@ use Rattle.mysql_conversation.specs.Conversation as c
 use Rattle.mysql_conversation.specs.Conversation.{Packet, served, ending, format_of, inside, authentication_kind}
 use Rattle.mysql_conversation.specs.Machine.{rests}
 use Rattle.mysql_conversation.specs.Taken.{packet}
-use Rattle.mysql_conversation.proofs.Tails.{tail_of, following, following_all, serving, sending, unanswered, round, last_result, many_none}
+use Rattle.mysql_conversation.proofs.Tails.{tail_of, following, following_all, serving, sending, round, last_result, many_none}
+use Rattle.mysql_conversation.proofs.Backwards.{unanswered}
 use Rattle.mysql_conversation.specs.declared.state.After.{After}
 use Rattle.mysql_conversation.specs.declared.state.After.TheVariants as after
 use Rattle.mysql_conversation.specs.declared.state.Request.{Request}
@@ -31,7 +32,7 @@ use Rattle.mysql_conversation.specs.declared.kind.Side.TheVariants.{Client, Serv
 use Rattle.mysql_conversation.specs.declared.state.State.{State}
 use Rattle.mysql_conversation.specs.declared.state.State.TheVariants as state
 
-tracks_nothing : (b : Bool) → (b && false) ≡ false
+pub tracks_nothing : (b : Bool) → (b && false) ≡ false
 tracks_nothing true = refl
 tracks_nothing false = refl
 
@@ -40,19 +41,19 @@ pub short_report : (a : Agreed) → is_report a (0xff ∷ []) ≡ false
 unfolding is_report
 short_report a = tracks_nothing (reports_progress a)
 
-abbrev ok_bytes : List ℕ
+abbrev pub ok_bytes : List ℕ
 ok_bytes = 0 ∷ 0 ∷ 0 ∷ 0 ∷ 0 ∷ 0 ∷ 0 ∷ []
 
-abbrev old_end_bytes : List ℕ
+abbrev pub old_end_bytes : List ℕ
 old_end_bytes = 0xfe ∷ 0 ∷ 0 ∷ 0 ∷ 0 ∷ []
 
 abbrev terminator_bytes : List ℕ
 terminator_bytes = 0xfe ∷ 0 ∷ 0 ∷ 0 ∷ 0 ∷ 0 ∷ 0 ∷ []
 
-abbrev statement_bytes : List ℕ
+abbrev pub statement_bytes : List ℕ
 statement_bytes = 0 ∷ 0 ∷ 0 ∷ 0 ∷ 0 ∷ 0 ∷ 0 ∷ 0 ∷ 0 ∷ 0 ∷ 0 ∷ 0 ∷ 1 ∷ []
 
-abbrev plain : StatusFlags
+abbrev pub plain : StatusFlags
 plain = record { 0 = 0; 1 = record {} }
 
 old_end_reads : (a : Agreed) → (old_end_form a).reads old_end_bytes ≡ Ok (deserialized (body_of 0 0 plain 0 [] []), [])
@@ -81,18 +82,18 @@ unfolding stmt_with_metadata stmt bytes number raw const_byte skip
 statement_reads a true e = rw e refl
 statement_reads a false e = rw e refl
 
-statement_is : (a : Agreed) (b : Bool) → sends_metadata a.mysql ≡ b → IsPrepared a 0 0 true statement_bytes
+pub statement_is : (a : Agreed) (b : Bool) → sends_metadata a.mysql ≡ b → IsPrepared a 0 0 true statement_bytes
 statement_is a true e = (statement true, left true, (stmt_with_metadata.form a.mysql).found (statement true) statement_bytes (left true) (statement_reads a true e), refl, refl, refl)
 statement_is a false e = (statement false, left false, (stmt_with_metadata.form a.mysql).found (statement false) statement_bytes (left false) (statement_reads a false e), refl, refl, refl)
 
 -- an OK packet, an old end, and the end of rows
-ok_spelled : (a : Agreed) → SpelledWith (ok_form a) plain ok_bytes
+pub ok_spelled : (a : Agreed) → SpelledWith (ok_form a) plain ok_bytes
 ok_spelled a = (deserialized (body_of 0 0 plain 0 [] []), [], (ok_form a).found _ ok_bytes [] (ok_reads a), refl)
 
-old_end_spelled : (a : Agreed) → SpelledWith (old_end_form a) plain old_end_bytes
+pub old_end_spelled : (a : Agreed) → SpelledWith (old_end_form a) plain old_end_bytes
 old_end_spelled a = (deserialized (body_of 0 0 plain 0 [] []), [], (old_end_form a).found _ old_end_bytes [] (old_end_reads a), refl)
 
-end_bytes : (a : Agreed) (d : Bool) → (p : List ℕ) × (first_is 0xff p ≡ false) × (looks_like_end d p ≡ true) × EndsWith a d plain p
+pub end_bytes : (a : Agreed) (d : Bool) → (p : List ℕ) × (first_is 0xff p ≡ false) × (looks_like_end d p ≡ true) × EndsWith a d plain p
 end_bytes a true = (terminator_bytes, refl, refl, (deserialized (body_of 0 0 plain 0 [] []), [], (terminator_form a).found _ terminator_bytes [] (terminator_reads a), refl))
 end_bytes a false = (old_end_bytes, refl, refl, old_end_spelled a)
 

@@ -4,10 +4,17 @@ pub mod Classes
 pub mod Ends
 pub mod Leads
 pub mod Tails
+pub mod Backwards
 pub mod Faults
 pub mod Turns
 pub mod Order
+pub mod PipeSteps
 pub mod Pipes
 pub mod Stood
 pub mod Sessions
 pub mod SessionEnds
+pub mod Named
+pub mod Witnesses
+pub mod GoesOn
+pub mod SessionGoesOn
+pub mod SessionKinds

@@ -22,24 +22,24 @@ use Rattle.mysql_conversation.specs.declared.session.Phase.{Phase}
 use Rattle.mysql_conversation.specs.declared.session.Phase.TheVariants as phase
 
 -- the login of a client that can do nothing
-abbrev zeros : List ℕ
+abbrev pub zeros : List ℕ
 zeros = 0 ∷ 0 ∷ 0 ∷ 0 ∷ 0 ∷ 0 ∷ 0 ∷ 0 ∷ 0 ∷ 0 ∷ 0 ∷ 0 ∷ 0 ∷ 0 ∷ 0 ∷ 0 ∷ 0 ∷ 0 ∷ 0 ∷ 0 ∷ 0 ∷ 0 ∷ 0 ∷ 0 ∷ 0 ∷ 0 ∷ 0 ∷ 0 ∷ 0 ∷ 0 ∷ 0 ∷ 0 ∷ []
 
-abbrev nothing_asked : SslRequest
+abbrev pub nothing_asked : SslRequest
 nothing_asked = request_of (record { 0 = 0; 1 = record {} }) 0 0 (record { 0 = 0; 1 = record {} })
 
-zeros_read : (ssl_request.form tt).reads zeros ≡ Ok (nothing_asked, [])
+pub zeros_read : (ssl_request.form tt).reads zeros ≡ Ok (nothing_asked, [])
 unfolding ssl_request bytes number raw coded skip
 zeros_read = refl
 
-may : (tls : Bool) → MayLogIn tls nothing_asked
+pub may : (tls : Bool) → MayLogIn tls nothing_asked
 may true = tt
 may false = refl
 
-none_agreed : (x : ℕ) → ((bit_and (bit_and x 0) 0x20 == 0x20) || (bit_and (bit_and x 0) 0x0400_0000 == 0x0400_0000)) ≡ false
+pub none_agreed : (x : ℕ) → ((bit_and (bit_and x 0) 0x20 == 0x20) || (bit_and (bit_and x 0) 0x0400_0000 == 0x0400_0000)) ≡ false
 none_agreed x = ap (λ n. (bit_and n 0x20 == 0x20) || (bit_and n 0x0400_0000 == 0x0400_0000)) (and_zero_r x)
 
-logged_in : (server : Agreed) (tls : Bool) (items : List Numbered) → Before server tls items → IsLoggedIn (agreed_on server (client_of nothing_asked)) items (place Client zeros kind.Login 0)
+pub logged_in : (server : Agreed) (tls : Bool) (items : List Numbered) → Before server tls items → IsLoggedIn (agreed_on server (client_of nothing_asked)) items (place Client zeros kind.Login 0)
 logged_in server tls items f = (
   server,
   client_of nothing_asked,

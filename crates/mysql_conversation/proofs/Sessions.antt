@@ -31,11 +31,11 @@ greeting_read : (server : Agreed) (p : List ℕ) (r : Reading HandshakePacket) �
 greeting_read server p (Ok x) e h = (x.0, x.1, (handshake.form tt).found x.0 p x.1 e, some_is h)
 greeting_read server p (Err d) e h = absurd cc
 
-greeting_at_is : (server : Agreed) (p : List ℕ) → greeting_at p ≡ Some server → (h : HandshakePacket) × (rest : List ℕ) × (handshake.form tt).Spells h p rest × (server_of h ≡ server)
+pub greeting_at_is : (server : Agreed) (p : List ℕ) → greeting_at p ≡ Some server → (h : HandshakePacket) × (rest : List ℕ) × (handshake.form tt).Spells h p rest × (server_of h ≡ server)
 unfolding greeting_at
 greeting_at_is server p h = greeting_read server p ((handshake.form tt).reads p) refl h
 
-greeting_at_of : (server : Agreed) (x : Numbered) → IsGreeting server x → greeting_at x.packet.payload ≡ Some server
+pub greeting_at_of : (server : Agreed) (x : Numbered) → IsGreeting server x → greeting_at x.packet.payload ≡ Some server
 unfolding greeting_at
 greeting_at_of server x g = ap greeting_in ((handshake.form tt).only g.2 x.packet.payload g.3 g.4) ∙ ap (λ (a : Agreed). Some a) g.5
 
@@ -43,11 +43,11 @@ login_read : (r : SslRequest) (p : List ℕ) (x : Reading SslRequest) → (ssl_r
 login_read r p (Ok x) e h = (x.1, subst (λ r. (ssl_request.form tt).Spells r p x.1) (some_is h) ((ssl_request.form tt).found x.0 p x.1 e))
 login_read r p (Err d) e h = absurd cc
 
-login_at_is : (r : SslRequest) (p : List ℕ) → login_at p ≡ Some r → BeginsAs r p
+pub login_at_is : (r : SslRequest) (p : List ℕ) → login_at p ≡ Some r → BeginsAs r p
 unfolding login_at
 login_at_is r p h = login_read r p ((ssl_request.form tt).reads p) refl h
 
-login_at_of : (r : SslRequest) (p : List ℕ) → BeginsAs r p → login_at p ≡ Some r
+pub login_at_of : (r : SslRequest) (p : List ℕ) → BeginsAs r p → login_at p ≡ Some r
 unfolding login_at
 login_at_of r p b = ap login_in ((ssl_request.form tt).only r p b.0 b.1)
 
@@ -67,17 +67,17 @@ greeting_kind s x g = g.0.1
 
 -- ---- what a session is made of is one thing
 
-head_is : (x y : Numbered) (xs ys : List Numbered) → x ∷ xs ≡ y ∷ ys → (x ≡ y) × (xs ≡ ys)
+pub head_is : (x y : Numbered) (xs ys : List Numbered) → x ∷ xs ≡ y ∷ ys → (x ≡ y) × (xs ≡ ys)
 head_is x y xs ys h = (cc, cc)
 
-after_one : (s t : Agreed) (u v : Numbered) (x y : Numbered) (xs ys front back : List Numbered) → front ++ x ∷ xs ≡ back ++ y ∷ ys → front ≡ u ∷ [] → back ≡ v ∷ []
+pub after_one : (s t : Agreed) (u v : Numbered) (x y : Numbered) (xs ys front back : List Numbered) → front ++ x ∷ xs ≡ back ++ y ∷ ys → front ≡ u ∷ [] → back ≡ v ∷ []
     → (u ≡ v) × ((x ≡ y) × (xs ≡ ys))
 after_one s t u v x y xs ys front back e f g =
     let e' : u ∷ x ∷ xs ≡ v ∷ y ∷ ys = subst (λ fs. fs ++ x ∷ xs ≡ v ∷ y ∷ ys) f (subst (λ bs. front ++ x ∷ xs ≡ bs ++ y ∷ ys) g e) in
     let h = head_is u v (x ∷ xs) (y ∷ ys) e' in
     (h.0, head_is x y xs ys h.1)
 
-after_two : (u v w z : Numbered) (x y : Numbered) (xs ys front back : List Numbered) → front ++ x ∷ xs ≡ back ++ y ∷ ys → front ≡ u ∷ w ∷ [] → back ≡ v ∷ z ∷ []
+pub after_two : (u v w z : Numbered) (x y : Numbered) (xs ys front back : List Numbered) → front ++ x ∷ xs ≡ back ++ y ∷ ys → front ≡ u ∷ w ∷ [] → back ≡ v ∷ z ∷ []
     → (u ≡ v) × ((x ≡ y) × (xs ≡ ys))
 after_two u v w z x y xs ys front back e f g =
     let e' : u ∷ w ∷ x ∷ xs ≡ v ∷ z ∷ y ∷ ys = subst (λ fs. fs ++ x ∷ xs ≡ v ∷ z ∷ y ∷ ys) f (subst (λ bs. front ++ x ∷ xs ≡ bs ++ y ∷ ys) g e) in
@@ -86,12 +86,12 @@ after_two u v w z x y xs ys front back e f g =
     (h.0, head_is x y xs ys i.1)
 
 -- one list has a login where the other has a request for TLS
-one_or_two : (u v z : Numbered) (x y : Numbered) (xs ys front back : List Numbered) → front ++ x ∷ xs ≡ back ++ y ∷ ys → front ≡ u ∷ [] → back ≡ v ∷ z ∷ [] → x ≡ z
+pub one_or_two : (u v z : Numbered) (x y : Numbered) (xs ys front back : List Numbered) → front ++ x ∷ xs ≡ back ++ y ∷ ys → front ≡ u ∷ [] → back ≡ v ∷ z ∷ [] → x ≡ z
 one_or_two u v z x y xs ys front back e f g =
     let e' : u ∷ x ∷ xs ≡ v ∷ z ∷ y ∷ ys = subst (λ fs. fs ++ x ∷ xs ≡ v ∷ z ∷ y ∷ ys) f (subst (λ bs. front ++ x ∷ xs ≡ bs ++ y ∷ ys) g e) in
     (head_is x z xs (y ∷ ys) (head_is u v (x ∷ xs) (z ∷ y ∷ ys) e').1).0
 
-login_or_tls : (b : Bool) (s : Agreed) (x z : Numbered) → x ≡ z → IsLogin b s x → IsSslRequest z → ⊥
+pub login_or_tls : (b : Bool) (s : Agreed) (x z : Numbered) → x ≡ z → IsLogin b s x → IsSslRequest z → ⊥
 login_or_tls b s x z e l t =
     let k : kind.Login ≡ kind.SslRequest = sym l.0.1 ∙ ap (λ (x : Numbered). x.packet.kind) e ∙ t.0.1 in absurd cc
 
@@ -123,7 +123,7 @@ logged_in_once : (a b : Agreed) (front back : List Numbered) (x y : Numbered) (x
 logged_in_once a b front back x y xs ys e g h = once_by a b g.0 h.0 g.1 h.1 g.2 h.2 front back x y xs ys e g.3 g.4 g.5 h.3 h.4 h.5
 
 -- a login stands after another packet
-not_alone : (a : Agreed) (server : Agreed) (tls : Bool) (front : List Numbered) (x z : Numbered) (xs : List Numbered) → Before server tls front → front ++ x ∷ xs ≡ z ∷ [] → ⊥
+pub not_alone : (a : Agreed) (server : Agreed) (tls : Bool) (front : List Numbered) (x z : Numbered) (xs : List Numbered) → Before server tls front → front ++ x ∷ xs ≡ z ∷ [] → ⊥
 not_alone a server false front x z xs f e =
     let e' : f.0 ∷ x ∷ xs ≡ z ∷ [] = subst (λ fs. fs ++ x ∷ xs ≡ z ∷ []) f.1 e in absurd cc
 not_alone a server true front x z xs f e =
@@ -150,7 +150,7 @@ at_rest_commands p items P f h s =
 
 -- ---- one packet more
 
-more_of : (front : List Numbered) (x : Numbered) (rest ys : List Numbered) → (front ++ x ∷ rest) ++ ys ≡ front ++ x ∷ (rest ++ ys)
+pub more_of : (front : List Numbered) (x : Numbered) (rest ys : List Numbered) → (front ++ x ∷ rest) ++ ys ≡ front ++ x ∷ (rest ++ ys)
 more_of front x rest ys = append_assoc front (x ∷ rest) ys
 
 pub commands_more : (p q : Pipeline) (y : Numbered) (items : List Numbered) → q.agreed ≡ p.agreed → q.opening ≡ p.opening → ((rest : List Numbered) → PipeTaken p rest → PipeTaken q (rest ++ y ∷ []))
@@ -228,7 +228,7 @@ greeted_more next p k n items z (inr g) e =
     subst (λ ph. TakenIn ph (items ++ y ∷ [])) (sym g.4) (y, ap (λ xs. xs ++ y ∷ []) e, ((refl, g.3, z), g.1, read.0, read.1, read.2, read.3))
 
 -- what a session begins with
-begins_with : (y : Numbered) (more : List Numbered) → IsSession (y ∷ more) → IsGreetingError y ⊎ ((server : Agreed) × IsGreeting server y)
+pub begins_with : (y : Numbered) (more : List Numbered) → IsSession (y ∷ more) → IsGreetingError y ⊎ ((server : Agreed) × IsGreeting server y)
 begins_with y more (inl h) = inl (subst (λ x. IsGreetingError x) (sym (head_is y h.0 more [] h.1).0) h.2)
 begins_with y more (inr h) = greeted h.5.2 h.5.3
   where
@@ -281,7 +281,7 @@ login_refused_at y items more server true n f s c false front x rest e g l =
 login_refused_at y items more server true n f s c true front x rest e g l =
     let q = after_two f.0 g.0 f.1 g.1 y x more rest items front e f.2 g.2 in no_login true c x y (sym q.1.0) n l
 
-two_or_more : (server : Agreed) (tls : Bool) (items : List Numbered) (y z : Numbered) (more : List Numbered) → Before server tls items → items ++ y ∷ more ≡ z ∷ [] → ⊥
+pub two_or_more : (server : Agreed) (tls : Bool) (items : List Numbered) (y z : Numbered) (more : List Numbered) → Before server tls items → items ++ y ∷ more ≡ z ∷ [] → ⊥
 two_or_more server tls items y z more f e = not_alone server server tls items y z more f e
 
 pub login_refused : (server : Agreed) (tls : Bool) (p : List ℕ) (k : Kind) (n : ℕ) (items : List Numbered) → login_at p ≡ None → Before server tls items → IsSessionBeginning (items ++ place Client p k n ∷ []) → ⊥

@@ -11,7 +11,8 @@ use Rattle.mysql_conversation.proofs.Begun.{conversation_takes, takes_is_convers
 use Rattle.mysql_conversation.proofs.Ends.{short_report}
 use Rattle.mysql_conversation.proofs.Classes.{some_is}
 use Rattle.mysql_conversation.proofs.States.{Turn, turn, which_rests, entrance_listens}
-use Rattle.mysql_conversation.proofs.Pipes.{Outcome, Over, server_next, settle_stays, early_runs, run_early, in_turn_plain, run_in_turn}
+use Rattle.mysql_conversation.proofs.Pipes.{early_runs, run_early, in_turn_plain, run_in_turn}
+use Rattle.mysql_conversation.proofs.PipeSteps.{Outcome, Over, server_next, settle_stays}
 use Rattle.mysql_conversation.specs.declared.kind.Kind.{Kind}
 use Rattle.mysql_conversation.specs.declared.kind.Kind.TheVariants as kind
 use Rattle.mysql_conversation.specs.declared.kind.Side.{Side}
@@ -83,7 +84,7 @@ pipe_join : (d : Agreed) (w : Standing) (xs : List Numbered) (m : Standing) (ys 
 pipe_join d w [] m ys t a b = subst (λ w. PipeRun d w ys t) (sym a) b
 pipe_join d w (x ∷ xs) m ys t a b = (a.0, a.1, pipe_join d a.0 xs m ys t a.2 b)
 
-pipe_part : (d : Agreed) (w : Standing) (xs ys : List Numbered) (t : Standing) → PipeRun d w (xs ++ ys) t → (m : Standing) × PipeRun d w xs m × PipeRun d m ys t
+pub pipe_part : (d : Agreed) (w : Standing) (xs ys : List Numbered) (t : Standing) → PipeRun d w (xs ++ ys) t → (m : Standing) × PipeRun d w xs m × PipeRun d m ys t
 pipe_part d w [] ys t r = (w, refl, r)
 pipe_part d w (x ∷ xs) ys t r = let h = pipe_part d r.0 xs ys t r.2 in (h.0, (r.0, r.1, h.1), h.2)
 

@@ -1,31 +1,20 @@
 -- What the machine takes, the grammar allows: what may come from each state on, up to the end of the exchange.
-use Rattle.std.proofs.Common.{◌≡◌, ◌≢◌, ℕ, ◌<◌, zero, suc, List, [], ◌∷◌, inl, inr, Option, Some, None, refl, sym, ap, subst, Bool, true, false, arith}
+use Rattle.std.proofs.Common.{◌≡◌, ℕ, zero, suc, List, ◌∷◌, inl, inr, refl, ap, Bool, true, false}
 use Rattle.mysql_wire.specs.Flags.{StatusFlags}
-use Rattle.mysql_prepared.specs.Stmt.{num_columns, num_params}
-use Rattle.mysql_prepared.specs.StmtWithMetadata.{packet_of}
-use Rattle.mysql_prepared.specs.declared.stmt_with_metadata.StmtPacketWithMetadata.{StmtPacketWithMetadata}
 use Rattle.mysql_conversation.specs.Agreements.{Agreed, deprecates_eof}
 use Rattle.mysql_conversation.specs.Parts.{nothing, never, ◌followed_by◌, ◌or◌, times, many}
-use Rattle.mysql_conversation.specs.Payloads.{begins_ok, definitions_follow, has_more, opens_cursor, first_is, IsOk, IsEnd, IsOldEnd, IsInfileRequest, IsCount, IsRow, IsPrepared, asks_cursor}
+use Rattle.mysql_conversation.specs.Payloads.{has_more, opens_cursor, first_is, IsOldEnd}
 use Rattle.mysql_conversation.specs.Conversation as c
 use Rattle.mysql_conversation.specs.Conversation.{Packet, sent, served, answering, answered, ending, format_of, authentication_kind}
-use Rattle.mysql_conversation.specs.Machine.{serve, answers, reply_step, infile_step, infile_reply_step, line_step, last_step, prepared_by, prepared_step, command_step, begun, acknowledgement_step, logged_in, authentication_step, answer_step, ack_step, definitions_end_step, columns_step, enter, defined, counted, less, define, ended, line_of, reply_of, old_end_of, statement_at, ok_status}
+use Rattle.mysql_conversation.specs.Machine.{enter, defined}
 use Rattle.mysql_conversation.specs.Taken.{packet}
-use Rattle.mysql_conversation.proofs.Classes.{reply_means, line_means, old_end_means, statement_at_is, ok_status_is, chosen, some_is, eqb_refl}
 use Rattle.mysql_conversation.specs.declared.state.After.{After}
 use Rattle.mysql_conversation.specs.declared.state.After.TheVariants as after
-use Rattle.mysql_conversation.specs.declared.state.Answer.{Answer}
-use Rattle.mysql_conversation.specs.declared.state.Answer.TheVariants as answer
 use Rattle.mysql_conversation.specs.declared.state.Request.{Request}
 use Rattle.mysql_conversation.specs.declared.state.Request.TheVariants.{Query, Execution, Cursor}
-use Rattle.mysql_conversation.specs.declared.kind.Format.TheVariants.{Text, Binary}
+use Rattle.mysql_conversation.specs.declared.kind.Format.TheVariants.{Binary}
 use Rattle.mysql_conversation.specs.declared.kind.Kind.{Kind}
 use Rattle.mysql_conversation.specs.declared.kind.Kind.TheVariants as kind
-use Rattle.mysql_conversation.specs.declared.state.Line.{Line}
-use Rattle.mysql_conversation.specs.declared.state.Line.TheVariants as line
-use Rattle.mysql_conversation.specs.declared.state.Reply.{Reply}
-use Rattle.mysql_conversation.specs.declared.state.Reply.TheVariants as reply
-use Rattle.mysql_conversation.specs.declared.kind.Side.{Side}
 use Rattle.mysql_conversation.specs.declared.kind.Side.TheVariants.{Client, Server}
 use Rattle.mysql_conversation.specs.declared.state.State.{State}
 use Rattle.mysql_conversation.specs.declared.state.State.TheVariants as state
@@ -102,14 +91,14 @@ many_more f items mid rest a b = (suc b.0, (mid, a, b.1))
 pub many_none : {X : Type 0} (f : List X → List X → Type 0) (items : List X) → many f items items
 many_none f items = (zero, refl)
 
-more_results : (a : Agreed) (f : Request) (items mid rest : List Packet) → c.result a f true items mid → c.results a f mid rest → c.results a f items rest
+pub more_results : (a : Agreed) (f : Request) (items mid rest : List Packet) → c.result a f true items mid → c.results a f mid rest → c.results a f items rest
 more_results a f items mid rest x b = (b.0, many_more (c.result a f true) items mid b.0 x b.1, b.2)
 
 pub last_result : (a : Agreed) (f : Request) (items rest : List Packet) → c.result a f false items rest → c.results a f items rest
 last_result a f items rest x = (items, many_none (c.result a f true) items, x)
 
 -- a file, and what answers it
-answered_file : (a : Agreed) (f : Request) (items mid rest : List Packet) → c.loaded items mid → infile_answer a f mid rest → c.results a f items rest
+pub answered_file : (a : Agreed) (f : Request) (items mid rest : List Packet) → c.loaded items mid → infile_answer a f mid rest → c.results a f items rest
 answered_file a f items mid rest x (inl b) = more_results a f items b.0 rest (inr (inl (mid, x, b.1))) b.2
 answered_file a f items mid rest x (inr b) = last_result a f items rest (inr (inl (mid, x, b)))
 
@@ -121,7 +110,7 @@ opening a Cursor true more n items mid rest x h = absurd h
 opening a Cursor false more n items mid rest x h = (n, (mid, x, h))
 
 -- columns, and what follows them
-answered_columns : (a : Agreed) (f : Request) (n : ℕ) (items mid rest : List Packet)
+pub answered_columns : (a : Agreed) (f : Request) (n : ℕ) (items mid rest : List Packet)
     → c.columns a n items mid → following_columns a f (deprecates_eof a) mid rest → c.results a f items rest
 answered_columns a f n items mid rest x (inl h) = ended_rows h.2.2
   where
@@ -135,7 +124,7 @@ answered_columns a f n items mid rest x (inr (inr h)) = last_result a f items re
 rest_end : (a : Agreed) (d : Bool) (items rest : List Packet) → following_all a d after.Rest items rest → c.definitions_end a d items rest
 rest_end a d items rest h = h
 
-entered : (a : Agreed) (b : After) (items rest : List Packet) → tail_of a (enter b) items rest → following a b items rest
+pub entered : (a : Agreed) (b : After) (items rest : List Packet) → tail_of a (enter b) items rest → following a b items rest
 entered a (after.Rows f) items rest h = h
 entered a (after.Columns zero) items rest h = h
 entered a (after.Columns (suc n)) items rest h = h
@@ -147,262 +136,9 @@ columns_end_none a Execution items rest h = inl (items, refl, h)
 columns_end_none a Cursor items rest h = inl (items, refl, h)
 
 -- after the last definition
-following_last : (a : Agreed) (d : Bool) (b : After) (items rest : List Packet) → tail_of a (defined d b) items rest → following_all a d b items rest
+pub following_last : (a : Agreed) (d : Bool) (b : After) (items rest : List Packet) → tail_of a (defined d b) items rest → following_all a d b items rest
 following_last a true (after.Rows f) items rest h = columns_end_none a f items rest h
 following_last a true (after.Columns zero) items rest h = (items, refl, h)
 following_last a true (after.Columns (suc n)) items rest h = (items, refl, h)
 following_last a true after.Rest items rest h = h
 following_last a false b items rest h = h
-
--- ---- a step back
-
-back : (a : Agreed) (s : State) (side : Side) (p : List ℕ) (k k' : Kind) (m m' : State) (items rest : List Packet)
-    → ◌≡◌ {A = Option (Kind × State)} (Some (k, m)) (Some (k', m')) → (tail_of a m items rest → tail_of a s (packet side p k ∷ items) rest) → tail_of a m' items rest → tail_of a s (packet side p k' ∷ items) rest
-back a s side p k k' m m' items rest e f = subst (λ (x : Kind × State). tail_of a x.1 items rest → tail_of a s (packet side p x.0 ∷ items) rest) (some_is e) f
-
-back_ok : (a : Agreed) (f : Request) (more : Bool) (p : List ℕ) (items rest : List Packet) → first_is 0xff p ≡ false → IsOk a more p → tail_of a (ended f more) items rest → c.results a f (packet Server p kind.Ok ∷ items) rest
-back_ok a f true p items rest e h t = more_results a f _ items rest (inl (serving kind.Ok (IsOk a true) p items items refl e h)) t
-back_ok a f false p items rest e h t = last_result a f _ rest (inl (serving kind.Ok (IsOk a false) p items rest t e h))
-
--- a count of columns is not 0
-count_columns : (a : Agreed) (f : Request) (n : ℕ) (follow : Bool) (p : List ℕ) (items rest : List Packet) → first_is 0xff p ≡ false → IsCount a n follow p
-    → tail_of a (counted (deprecates_eof a) n follow (after.Rows f)) items rest → c.results a f (packet Server p (kind.ColumnCount n follow) ∷ items) rest
-count_columns a f zero follow p items rest e h t = let none : 0 < 0 = h.2 in absurd (omega arith)
-count_columns a f (suc n) true p items rest e h t = answered_columns a f (suc n) _ t.0 rest (inl (items, serving (kind.ColumnCount (suc n) true) (IsCount a (suc n) true) p items items refl e h, t.1)) t.2
-count_columns a f (suc n) false p items rest e h t = answered_columns a f (suc n) _ items rest (inr (serving (kind.ColumnCount (suc n) false) (IsCount a (suc n) false) p items items refl e h)) (following_last a (deprecates_eof a) (after.Rows f) items rest t)
-
-back_reply : (a : Agreed) (f : Request) (p : List ℕ) (r : Option Reply) (k : Kind) (m : State) (items rest : List Packet)
-    → first_is 0xff p ≡ false → reply_of a p ≡ r → reply_step (deprecates_eof a) f r ≡ Some (k, m) → tail_of a m items rest → tail_of a (state.Reply f) (packet Server p k ∷ items) rest
-back_reply a f p None k m items rest e w h t = absurd cc
-back_reply a f p (Some (reply.Ok more)) k m items rest e w h t = back a (state.Reply f) Server p _ k _ m items rest h (back_ok a f more p items rest e (reply_means a p _ w)) t
-back_reply a f p (Some reply.Infile) k m items rest e w h t = back a (state.Reply f) Server p _ k _ m items rest h
-    (λ t. answered_file a f _ t.2.0 rest (items, serving kind.LocalInfile IsInfileRequest p items items refl e (reply_means a p _ w), (t.0, t.1, t.2.1)) t.2.2) t
-back_reply a f p (Some (reply.Columns n follow)) k m items rest e w h t = back a (state.Reply f) Server p _ k _ m items rest h (count_columns a f n follow p items rest e (reply_means a p _ w)) t
-
-back_infile : (a : Agreed) (f : Request) (p : List ℕ) (k : Kind) (m : State) (items rest : List Packet)
-    → infile_step f p ≡ Some (k, m) → tail_of a m items rest → tail_of a (state.Infile f) (packet Client p k ∷ items) rest
-back_infile a f [] k m items rest h t = back a (state.Infile f) Client [] _ k _ m items rest h
-    (λ t. (_, many_none c.infile_content _, (items, sending kind.InfileEnd (λ p. p ≡ []) [] items items refl refl, t))) t
-back_infile a f (b ∷ bytes) k m items rest h t = back a (state.Infile f) Client (b ∷ bytes) _ k _ m items rest h
-    (λ t. (t.0, many_more c.infile_content _ items t.0 (sending kind.InfileContent (λ p. p ≢ []) (b ∷ bytes) items items refl (λ e. absurd cc)) t.1, t.2)) t
-
-back_infile_ok : (a : Agreed) (f : Request) (more : Bool) (p : List ℕ) (items rest : List Packet) → first_is 0xff p ≡ false → IsOk a more p → tail_of a (ended f more) items rest → infile_answer a f (packet Server p kind.Ok ∷ items) rest
-back_infile_ok a f true p items rest e h t = inl (items, serving kind.Ok (IsOk a true) p items items refl e h, t)
-back_infile_ok a f false p items rest e h t = inr (serving kind.Ok (IsOk a false) p items rest t e h)
-
-back_infile_reply : (a : Agreed) (f : Request) (p : List ℕ) (r : Option Reply) (k : Kind) (m : State) (items rest : List Packet)
-    → first_is 0xff p ≡ false → reply_of a p ≡ r → infile_reply_step f r ≡ Some (k, m) → tail_of a m items rest → tail_of a (state.InfileReply f) (packet Server p k ∷ items) rest
-back_infile_reply a f p None k m items rest e w h t = absurd cc
-back_infile_reply a f p (Some (reply.Ok more)) k m items rest e w h t = back a (state.InfileReply f) Server p _ k _ m items rest h (back_infile_ok a f more p items rest e (reply_means a p _ w)) t
-back_infile_reply a f p (Some reply.Infile) k m items rest e w h t = absurd cc
-back_infile_reply a f p (Some (reply.Columns n follow)) k m items rest e w h t = absurd cc
-
-back_less : (a : Agreed) (n : ℕ) (b : After) (p : List ℕ) (items rest : List Packet) → first_is 0xff p ≡ false → tail_of a (less (deprecates_eof a) n b) items rest → tail_of a (state.Definitions n b) (packet Server p kind.Column ∷ items) rest
-back_less a zero b p items rest e t = (items, (items, serving kind.Column _ p items items refl e tt, refl), following_last a (deprecates_eof a) b items rest t)
-back_less a (suc n) b p items rest e t = (t.0, (items, serving kind.Column _ p items items refl e tt, t.1), t.2)
-
-back_cursor : (a : Agreed) (more : Bool) (status : StatusFlags) (p : List ℕ) (items rest : List Packet) → first_is 0xff p ≡ false → IsOldEnd a status p → opens_cursor status ≡ true → has_more status ≡ more
-    → tail_of a (ended Cursor more) items rest → following_columns a Cursor false (packet Server p kind.Eof ∷ items) rest
-back_cursor a true status p items rest e o cur m t = inr (inl (items, serving kind.Eof _ p items items refl e (status, o, cur, m), t))
-back_cursor a false status p items rest e o cur m t = inr (inr (serving kind.Eof _ p items rest t e (status, o, cur, m)))
-
-back_columns : (a : Agreed) (r : Request) (status : StatusFlags) (p : List ℕ) (k : Kind) (m : State) (items rest : List Packet)
-    → first_is 0xff p ≡ false → IsOldEnd a status p → columns_step status r ≡ Some (k, m) → tail_of a m items rest → following_columns a r false (packet Server p k ∷ items) rest
-back_columns a Query status p k m items rest e o h t = back a (state.DefinitionsEnd (after.Rows Query)) Server p _ k _ m items rest h
-    (λ t. inl (items, serving kind.Eof _ p items items refl e (status, o), t)) t
-back_columns a Execution status p k m items rest e o h t = back a (state.DefinitionsEnd (after.Rows Execution)) Server p _ k _ m items rest h
-    (λ t. inl (items, serving kind.Eof _ p items items refl e (status, o), t)) t
-back_columns a Cursor status p k m items rest e o h t = elim (chosen (opens_cursor status) _ _ _ h) [
-  | inl g ↦ back a (state.DefinitionsEnd (after.Rows Cursor)) Server p _ k _ m items rest g.1 (back_cursor a (has_more status) status p items rest e o g.0 refl) t
-  | inr g ↦ back a (state.DefinitionsEnd (after.Rows Cursor)) Server p _ k _ m items rest g.1 (λ t. inl (items, serving kind.Eof _ p items items refl e (status, o, g.0), t)) t
-]
-
-back_definitions_end : (a : Agreed) (b : After) (p : List ℕ) (o : Option StatusFlags) (k : Kind) (m : State) (items rest : List Packet)
-    → first_is 0xff p ≡ false → old_end_of a p ≡ o → definitions_end_step b o ≡ Some (k, m) → tail_of a m items rest → tail_of a (state.DefinitionsEnd b) (packet Server p k ∷ items) rest
-back_definitions_end a (after.Rows r) p None k m items rest e w h t = absurd cc
-back_definitions_end a (after.Columns n) p None k m items rest e w h t = absurd cc
-back_definitions_end a after.Rest p None k m items rest e w h t = absurd cc
-back_definitions_end a (after.Rows r) p (Some status) k m items rest e w h t = back_columns a r status p k m items rest e (old_end_means a status p w) h t
-back_definitions_end a (after.Columns n) p (Some status) k m items rest e w h t = back a (state.DefinitionsEnd (after.Columns n)) Server p _ k _ m items rest h
-    (λ t. (items, serving kind.Eof _ p items items refl e (status, old_end_means a status p w), entered a (after.Columns n) items rest t)) t
-back_definitions_end a after.Rest p (Some status) k m items rest e w h t = back a (state.DefinitionsEnd after.Rest) Server p _ k _ m items rest h
-    (λ t. serving kind.Eof _ p items rest t e (status, old_end_means a status p w)) t
-
-back_end : (a : Agreed) (r : Request) (more : Bool) (p : List ℕ) (items rest : List Packet) → first_is 0xff p ≡ false → IsEnd a more p → tail_of a (ended r more) items rest → following a (after.Rows r) (packet Server p (ending (deprecates_eof a)) ∷ items) rest
-back_end a r true p items rest e h t = (_, many_none (c.row a (format_of r)) _, inl (items, serving (ending (deprecates_eof a)) (IsEnd a true) p items items refl e h, t))
-back_end a r false p items rest e h t = (_, many_none (c.row a (format_of r)) _, inr (serving (ending (deprecates_eof a)) (IsEnd a false) p items rest t e h))
-
-back_line : (a : Agreed) (r : Request) (p : List ℕ) (l : Option Line) (k : Kind) (m : State) (items rest : List Packet)
-    → first_is 0xff p ≡ false → line_of a (format_of r) p ≡ l → line_step (deprecates_eof a) r l ≡ Some (k, m) → tail_of a m items rest → tail_of a (state.Rows r) (packet Server p k ∷ items) rest
-back_line a r p None k m items rest e w h t = absurd cc
-back_line a r p (Some line.Row) k m items rest e w h t = back a (state.Rows r) Server p _ k _ m items rest h
-    (λ t. (t.0, many_more (c.row a (format_of r)) _ items t.0 (serving (kind.Row (format_of r)) (IsRow a (format_of r)) p items items refl e (line_means a (format_of r) p _ w)) t.1, t.2)) t
-back_line a r p (Some (line.End more)) k m items rest e w h t = back a (state.Rows r) Server p _ k _ m items rest h (back_end a r more p items rest e (line_means a (format_of r) p _ w)) t
-
-any_end_of : (a : Agreed) (more : Bool) (p : List ℕ) (items rest : List Packet) → items ≡ rest → first_is 0xff p ≡ false → IsEnd a more p → c.any_end a (packet Server p (ending (deprecates_eof a)) ∷ items) rest
-any_end_of a true p items rest t e h = inl (serving (ending (deprecates_eof a)) (IsEnd a true) p items rest t e h)
-any_end_of a false p items rest t e h = inr (serving (ending (deprecates_eof a)) (IsEnd a false) p items rest t e h)
-
-any_ok_of : (a : Agreed) (more : Bool) (p : List ℕ) (items rest : List Packet) → items ≡ rest → first_is 0xff p ≡ false → IsOk a more p → c.any_ok a (packet Server p kind.Ok ∷ items) rest
-any_ok_of a true p items rest t e h = inl (serving kind.Ok (IsOk a true) p items rest t e h)
-any_ok_of a false p items rest t e h = inr (serving kind.Ok (IsOk a false) p items rest t e h)
-
-back_fetch : (a : Agreed) (p : List ℕ) (r : Option Line) (k : Kind) (m : State) (items rest : List Packet)
-    → first_is 0xff p ≡ false → line_of a Binary p ≡ r → last_step (deprecates_eof a) (kind.Row Binary) state.Fetch r ≡ Some (k, m) → tail_of a m items rest → tail_of a state.Fetch (packet Server p k ∷ items) rest
-back_fetch a p None k m items rest e w h t = absurd cc
-back_fetch a p (Some line.Row) k m items rest e w h t = back a state.Fetch Server p _ k _ m items rest h
-    (λ t. (t.0, many_more (c.row a Binary) _ items t.0 (serving (kind.Row Binary) (IsRow a Binary) p items items refl e (line_means a Binary p _ w)) t.1, t.2)) t
-back_fetch a p (Some (line.End more)) k m items rest e w h t = back a state.Fetch Server p _ k _ m items rest h
-    (λ t. (_, many_none (c.row a Binary) _, any_end_of a more p items rest t e (line_means a Binary p _ w))) t
-
-back_acknowledgement : (a : Agreed) (p : List ℕ) (l : Option Line) (r : Option Reply) (k : Kind) (m : State) (items rest : List Packet)
-    → first_is 0xff p ≡ false → line_of a Text p ≡ l → reply_of a p ≡ r → acknowledgement_step (deprecates_eof a) l r ≡ Some (k, m) → tail_of a m items rest → tail_of a state.Acknowledgement (packet Server p k ∷ items) rest
-back_acknowledgement a p (Some (line.End more)) r k m items rest e w v h t = back a state.Acknowledgement Server p _ k _ m items rest h (λ t. inr (any_end_of a more p items rest t e (line_means a Text p _ w))) t
-back_acknowledgement a p (Some line.Row) (Some (reply.Ok more)) k m items rest e w v h t = back a state.Acknowledgement Server p _ k _ m items rest h (λ t. inl (any_ok_of a more p items rest t e (reply_means a p _ v))) t
-back_acknowledgement a p (Some line.Row) (Some reply.Infile) k m items rest e w v h t = absurd cc
-back_acknowledgement a p (Some line.Row) (Some (reply.Columns n follow)) k m items rest e w v h t = absurd cc
-back_acknowledgement a p (Some line.Row) None k m items rest e w v h t = absurd cc
-back_acknowledgement a p None r k m items rest e w v h t = absurd cc
-
-back_fields : (a : Agreed) (p : List ℕ) (r : Option Line) (k : Kind) (m : State) (items rest : List Packet)
-    → first_is 0xff p ≡ false → line_of a Text p ≡ r → last_step (deprecates_eof a) kind.Column state.Fields r ≡ Some (k, m) → tail_of a m items rest → tail_of a state.Fields (packet Server p k ∷ items) rest
-back_fields a p None k m items rest e w h t = absurd cc
-back_fields a p (Some line.Row) k m items rest e w h t = back a state.Fields Server p _ k _ m items rest h
-    (λ t. (t.0, many_more (c.field a) _ items t.0 (serving kind.Column (IsRow a Text) p items items refl e (line_means a Text p _ w)) t.1, t.2)) t
-back_fields a p (Some (line.End more)) k m items rest e w h t = back a state.Fields Server p _ k _ m items rest h
-    (λ t. (_, many_none (c.field a) _, any_end_of a more p items rest t e (line_means a Text p _ w))) t
-
-back_events : (a : Agreed) (p : List ℕ) (r : Option Line) (k : Kind) (m : State) (items rest : List Packet)
-    → first_is 0xff p ≡ false → line_of a Binary p ≡ r → last_step (deprecates_eof a) kind.BinlogEvent state.Events r ≡ Some (k, m) → tail_of a m items rest → tail_of a state.Events (packet Server p k ∷ items) rest
-back_events a p None k m items rest e w h t = absurd cc
-back_events a p (Some line.Row) k m items rest e w h t = back a state.Events Server p _ k _ m items rest h
-    (λ t. (t.0, many_more (c.event or c.ack) _ items t.0 (inl (serving kind.BinlogEvent _ p items items refl e (line_means a Binary p _ w))) t.1, t.2)) t
-back_events a p (Some (line.End more)) k m items rest e w h t = back a state.Events Server p _ k _ m items rest h
-    (λ t. (_, many_none (c.event or c.ack) _, any_end_of a more p items rest t e (line_means a Binary p _ w))) t
-
--- ---- authentication
-
--- a round before what comes
-one_round : (a : Agreed) (p : List ℕ) (items rest : List Packet) → first_is 0xff p ≡ false → first_is 0 p ≡ false → authenticating a true items rest → c.authentication a (packet Server p (authentication_kind a p) ∷ items) rest
-one_round a p items rest e z t =
-    (t.2.0, many_more (round a) _ t.0 t.2.0 (items, (packet Server p (authentication_kind a p), (refl, refl, e, z), refl), t.1) t.2.1, t.2.2)
-
-authenticated : (a : Agreed) (p : List ℕ) (status : StatusFlags) (items rest : List Packet) → items ≡ rest → first_is 0xff p ≡ false → begins_ok a p ≡ true → ok_status a p ≡ Some status → c.authentication a (packet Server p kind.Ok ∷ items) rest
-authenticated a p status items rest t e z w = (_, many_none (round a) _, any_ok_of a (has_more status) p items rest t e (z, status, ok_status_is a status p w, refl))
-
--- where the client was asked, and does not answer
-pub unanswered : (a : Agreed) (b : Bool) (items rest : List Packet) → c.authentication a items rest → authenticating a b items rest
-unanswered a true items rest h = (items, inl refl, h)
-unanswered a false items rest h = h
-
-back_ok_status : (a : Agreed) (b : Bool) (p : List ℕ) (status : Option StatusFlags) (k : Kind) (m : State) (items rest : List Packet)
-    → first_is 0xff p ≡ false → begins_ok a p ≡ true → ok_status a p ≡ status → logged_in status ≡ Some (k, m) → tail_of a m items rest → tail_of a (state.Authentication b) (packet Server p k ∷ items) rest
-back_ok_status a b p None k m items rest e z w h t = absurd cc
-back_ok_status a b p (Some status) k m items rest e z w h t = back a (state.Authentication b) Server p _ k _ m items rest h (λ t. unanswered a b _ rest (authenticated a p status items rest t e z w)) t
-
-back_authentication : (a : Agreed) (b : Bool) (p : List ℕ) (k : Kind) (m : State) (items rest : List Packet)
-    → first_is 0xff p ≡ false → authentication_step a p (ok_status a p) ≡ Some (k, m) → tail_of a m items rest → tail_of a (state.Authentication b) (packet Server p k ∷ items) rest
-back_authentication a b p k m items rest e h t = elim (chosen (begins_ok a p) _ _ _ h) [
-  | inl z ↦ back_ok_status a b p (ok_status a p) k m items rest e z.0 refl z.1 t
-  | inr o ↦ elim (chosen (first_is 0 p) _ _ _ o.1) [
-    | inl z ↦ absurd cc
-    | inr z ↦ back a (state.Authentication b) Server p _ k _ m items rest z.1 (λ t. unanswered a b _ rest (one_round a p items rest e z.0 t)) t
-  ]
-]
-
--- what the client answers, one step back
-pub back_answer : (a : Agreed) (b : Bool) (p : List ℕ) (k : Kind) (m : State) (items rest : List Packet)
-    → answer_step b ≡ Some (k, m) → tail_of a m items rest → tail_of a (state.Authentication b) (packet Client p k ∷ items) rest
-back_answer a true p k m items rest h t = back a (state.Authentication true) Client p _ k _ m items rest h (λ t. (items, inr (sending kind.AuthData _ p items items refl tt), t)) t
-back_answer a false p k m items rest h t = absurd cc
-
--- an acknowledgement of an event, one step back
-pub back_ack : (a : Agreed) (p : List ℕ) (k : Kind) (m : State) (items rest : List Packet)
-    → ack_step p ≡ Some (k, m) → tail_of a m items rest → tail_of a state.Events (packet Client p k ∷ items) rest
-back_ack a p k m items rest h t = elim (chosen (first_is 0xef p) _ _ _ h) [
-  | inl e ↦ back a state.Events Client p _ k _ m items rest e.1
-      (λ t. (t.0, many_more (c.event or c.ack) _ items t.0 (inr (sending kind.SemiSyncAck _ p items items refl e.0)) t.1, t.2)) t
-  | inr e ↦ absurd cc
-]
-
--- the definitions of a prepared statement
-params_columns : (a : Agreed) (params columns : ℕ) (items rest : List Packet) → tail_of a (define params (after.Columns columns)) items rest → (c.definitions a params followed_by c.definitions a columns) items rest
-params_columns a zero columns items rest t = (items, refl, entered a (after.Columns columns) items rest t)
-params_columns a (suc n) columns items rest t = (t.2.0, (t.0, t.1, t.2.1), t.2.2)
-
-by_following : (a : Agreed) (s : StmtPacketWithMetadata) (p : List ℕ) (follow : Bool) (items rest : List Packet) → first_is 0xff p ≡ false → statement_at a p ≡ Some s → definitions_follow s ≡ follow
-    → tail_of a (prepared_by follow (num_columns (packet_of s)) (num_params (packet_of s))) items rest
-    → c.prepared a (packet Server p (kind.PrepareOk (num_columns (packet_of s)) (num_params (packet_of s)) follow) ∷ items) rest
-by_following a s p true items rest e w f t =
-    let spelled = statement_at_is a s p w in
-    let columns = num_columns (packet_of s) in
-    let params = num_params (packet_of s) in
-    (columns, (params, inl (items, serving (kind.PrepareOk columns params true) (IsPrepared a columns params true) p items items refl e (s, spelled.0, spelled.1, refl, refl, f), params_columns a params columns items rest t)))
-by_following a s p false items rest e w f t =
-    let spelled = statement_at_is a s p w in
-    let columns = num_columns (packet_of s) in
-    let params = num_params (packet_of s) in
-    (columns, (params, inr (serving (kind.PrepareOk columns params false) (IsPrepared a columns params false) p items rest t e (s, spelled.0, spelled.1, refl, refl, f))))
-
-back_prepared : (a : Agreed) (p : List ℕ) (r : Option StmtPacketWithMetadata) (k : Kind) (m : State) (items rest : List Packet)
-    → first_is 0xff p ≡ false → statement_at a p ≡ r → prepared_step r ≡ Some (k, m) → tail_of a m items rest → tail_of a state.Prepared (packet Server p k ∷ items) rest
-back_prepared a p None k m items rest e w h t = absurd cc
-back_prepared a p (Some s) k m items rest e w h t = back a state.Prepared Server p _ k _ m items rest h (by_following a s p (definitions_follow s) items rest e w refl) t
-
--- a packet of the server that is no error, one step back
-pub back_serve : (a : Agreed) (s : State) (p : List ℕ) (k : Kind) (m : State) (items rest : List Packet)
-    → first_is 0xff p ≡ false → serve a s p ≡ Some (k, m) → tail_of a m items rest → tail_of a s (packet Server p k ∷ items) rest
-back_serve a state.Rest p k m items rest e h t = absurd cc
-back_serve a (state.Authentication b) p k m items rest e h t = back_authentication a b p k m items rest e h t
-back_serve a (state.Infile r) p k m items rest e h t = absurd cc
-back_serve a (state.Reply r) p k m items rest e h t = back_reply a r p (reply_of a p) k m items rest e refl h t
-back_serve a (state.InfileReply r) p k m items rest e h t = back_infile_reply a r p (reply_of a p) k m items rest e refl h t
-back_serve a (state.Definitions n b) p k m items rest e h t = back a (state.Definitions n b) Server p _ k _ m items rest h (back_less a n b p items rest e) t
-back_serve a (state.DefinitionsEnd b) p k m items rest e h t = back_definitions_end a b p (old_end_of a p) k m items rest e refl h t
-back_serve a (state.Rows r) p k m items rest e h t = back_line a r p (line_of a (format_of r) p) k m items rest e refl h t
-back_serve a state.Prepared p k m items rest e h t = back_prepared a p (statement_at a p) k m items rest e refl h t
-back_serve a state.Fetch p k m items rest e h t = back_fetch a p (line_of a Binary p) k m items rest e refl h t
-back_serve a state.Acknowledgement p k m items rest e h t = back_acknowledgement a p (line_of a Text p) (reply_of a p) k m items rest e refl refl h t
-back_serve a state.Text p k m items rest e h t = back a state.Text Server p _ k _ m items rest h (λ t. serving kind.Statistics _ p items rest t e tt) t
-back_serve a state.Fields p k m items rest e h t = back_fields a p (line_of a Text p) k m items rest e refl h t
-back_serve a state.Events p k m items rest e h t = back_events a p (line_of a Binary p) k m items rest e refl h t
-back_serve a state.Refusal p k m items rest e h t = absurd cc
-
--- where an answer begins, all of it comes
-answer_comes : (a : Agreed) (r : Answer) (items rest : List Packet) → tail_of a (answers r) items rest → answered a (Some r) items rest
-answer_comes a (answer.Results r) items rest t = t
-answer_comes a answer.Prepared items rest t = t
-answer_comes a answer.Rows items rest t = t
-answer_comes a answer.Acknowledgement items rest t = t
-answer_comes a answer.Text items rest t = t
-answer_comes a answer.Fields items rest t = t
-answer_comes a answer.Authentication items rest t = t
-answer_comes a answer.Events items rest t = t
-answer_comes a answer.Nothing items rest t = t
-answer_comes a answer.Refusal items rest t = t
-
--- a command, and all that answers it
-answered_by : (a : Agreed) (code : ℕ) (r : Option Answer) (k : Kind) (m : State) (items rest : List Packet)
-    → begun code r ≡ Some (k, m) → tail_of a m items rest → (kind.Command code ≡ k) × answered a r items rest
-answered_by a code None k m items rest h t = absurd cc
-answered_by a code (Some r) k m items rest h t =
-    let e = some_is h in
-    (ap (λ (x : Kind × State). x.0) e, answer_comes a r items rest (subst (λ s. tail_of a s items rest) (sym (ap (λ (x : Kind × State). x.1) e)) t))
-
-one_exchange : (a : Agreed) (code : ℕ) (cursor : Bool) (items rest : List Packet) → c.exchange_of a code cursor items rest → c.exchange a items rest
-one_exchange a code true items rest h = (code, inl h)
-one_exchange a code false items rest h = (code, inr h)
-
--- a command, one step back
-pub back_command : (a : Agreed) (p : List ℕ) (k : Kind) (m : State) (items rest : List Packet)
-    → command_step p ≡ Some (k, m) → tail_of a m items rest → c.exchange a (packet Client p k ∷ items) rest
-back_command a [] k m items rest h t = absurd cc
-back_command a (code ∷ bytes) k m items rest h t =
-    let cursor = asks_cursor (code ∷ bytes) in
-    let r = answered_by a code (answering code cursor) k m items rest h t in
-    one_exchange a code cursor _ rest (items, (packet Client (code ∷ bytes) k, (refl, sym r.0, (eqb_refl code, refl)), refl), r.1)
-
--- the same of the content of a file
-pub back_content : (a : Agreed) (r : Request) (p : List ℕ) (k : Kind) (m : State) (items rest : List Packet)
-    → infile_step r p ≡ Some (k, m) → tail_of a m items rest → tail_of a (state.Infile r) (packet Client p k ∷ items) rest
-back_content a r p k m items rest h t = back_infile a r p k m items rest h t

@@ -1,9 +1,14 @@
 -- The packets that a conversation has taken.
-use Rattle.std.specs.Prelude.{List}
+use Rattle.std.specs.Prelude.{◌≡◌, ℕ, List, [], ◌∷◌, ◌++◌}
 use Rattle.mysql_conversation.specs.Agreements.{Agreed}
-use Rattle.mysql_conversation.specs.Conversation.{Packet}
+use Rattle.mysql_conversation.specs.Conversation.{Packet, IsBeginning}
+use Rattle.mysql_conversation.specs.KindName.{name_of}
 use Rattle.mysql_conversation.specs.Machine.{Takes, entrance}
+use Rattle.mysql_conversation.specs.Taken.{packet}
+use Rattle.mysql_conversation.specs.declared.kind.Kind.{Kind}
 use Rattle.mysql_conversation.specs.declared.kind.Opening.{Opening}
+use Rattle.mysql_conversation.specs.declared.kind.Side.{Side}
+use Rattle.mysql_conversation.specs.declared.kind_name.KindName.{KindName}
 use Rattle.mysql_conversation.specs.declared.conversation.Conversation.{Conversation}
 
 -- what both sides agreed on, and where it began
@@ -16,3 +21,7 @@ opening c = c.opening
 -- these packets, of these kinds, are what it has taken
 abbrev pub Taken : Conversation → List Packet → Type 0
 Taken c items = Takes c.agreed (entrance c.opening) items c.state
+
+-- some packet of this side, of a kind with this name, goes on with these packets
+abbrev pub GoesOn : Conversation → Side → KindName → List Packet → Type 0
+GoesOn c side name items = (payload : List ℕ) × (kind : Kind) × (name_of kind ≡ name) × IsBeginning c.agreed c.opening (items ++ packet side payload kind ∷ [])

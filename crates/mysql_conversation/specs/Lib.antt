@@ -11,3 +11,5 @@ pub mod Standing
 pub mod Piped
 pub mod Session
 pub mod SessionSteps
+pub mod KindName
+pub mod Expected

@@ -2,6 +2,7 @@
 use Rattle.std.specs.Prelude.{◌≡◌, ◌≤◌, ◌-◌, ◌^◌, ◌++◌, ◌∷◌, [], ℕ, List, length, true}
 use Rattle.std.specs.VecDeque.{deque_capacity, deque_len}
 use Rattle.mysql_conversation.specs.Agreements.{Agreed}
+use Rattle.mysql_conversation.specs.KindName.{name_of}
 use Rattle.mysql_conversation.specs.Machine.{is_due}
 use Rattle.mysql_conversation.specs.Taken.{packet}
 use Rattle.mysql_conversation.specs.Pipelined.{Numbered, IsPipelinedBeginning}
@@ -9,6 +10,7 @@ use Rattle.mysql_conversation.specs.Standing.{Standing, standing, start, PipeRun
 use Rattle.mysql_conversation.specs.declared.kind.Kind.{Kind}
 use Rattle.mysql_conversation.specs.declared.kind.Opening.{Opening}
 use Rattle.mysql_conversation.specs.declared.kind.Side.{Side}
+use Rattle.mysql_conversation.specs.declared.kind_name.KindName.{KindName}
 use Rattle.mysql_conversation.specs.declared.pipeline.Pipeline.{Pipeline}
 
 abbrev pub place : Side → List ℕ → Kind → ℕ → Numbered
@@ -49,3 +51,7 @@ HasNoCapacity c = deque_capacity c.waiting ≤ deque_len c.waiting
 -- after what was taken the packet comes, of some kind and number
 abbrev pub Comes : Pipeline → Side → List ℕ → Type 0
 Comes c side p = (items : List Numbered) → PipeTaken c items → (k : Kind) × (n : ℕ) × IsPipelinedBeginning c.agreed c.opening (items ++ place side p k n ∷ [])
+
+-- some packet of this side, of a kind with this name, goes on with these packets
+abbrev pub GoesOn : Pipeline → Side → KindName → List Numbered → Type 0
+GoesOn c side name items = (payload : List ℕ) × (kind : Kind) × (number : ℕ) × (name_of kind ≡ name) × IsPipelinedBeginning c.agreed c.opening (items ++ place side payload kind number ∷ [])

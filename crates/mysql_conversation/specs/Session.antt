@@ -9,6 +9,7 @@ use Rattle.mysql_auth.specs.SslRequest as head
 use Rattle.mysql_auth.specs.declared.handshake.HandshakePacket.{HandshakePacket}
 use Rattle.mysql_auth.specs.declared.ssl_request.SslRequest.{SslRequest}
 use Rattle.mysql_conversation.specs.Agreements.{Agreed, agreed_on, compresses}
+use Rattle.mysql_conversation.specs.KindName.{name_of}
 use Rattle.mysql_conversation.specs.Payloads.{first_is}
 use Rattle.mysql_conversation.specs.Piped.{PipeTaken, place}
 use Rattle.mysql_conversation.specs.Pipelined.{Numbered, IsPipelined}
@@ -17,6 +18,7 @@ use Rattle.mysql_conversation.specs.declared.kind.Kind.TheVariants as kind
 use Rattle.mysql_conversation.specs.declared.kind.Opening.TheVariants.{Login}
 use Rattle.mysql_conversation.specs.declared.kind.Side.{Side}
 use Rattle.mysql_conversation.specs.declared.kind.Side.TheVariants.{Client, Server}
+use Rattle.mysql_conversation.specs.declared.kind_name.KindName.{KindName}
 use Rattle.mysql_conversation.specs.declared.pipeline.Pipeline.{Pipeline}
 use Rattle.mysql_conversation.specs.declared.session.Phase.{Phase}
 use Rattle.mysql_conversation.specs.declared.session.Phase.TheVariants as phase
@@ -107,6 +109,10 @@ Continues s p = s.phase ≡ phase.Commands p
 -- after what was taken the packet comes, of some kind and number
 abbrev pub Comes : Session → Side → List ℕ → Type 0
 Comes s side p = (items : List Numbered) → SessionTaken s items → (k : Kind) × (n : ℕ) × IsSessionBeginning (items ++ place side p k n ∷ [])
+
+-- some packet of this side, of a kind with this name, goes on with these packets
+abbrev pub GoesOn : Side → KindName → List Numbered → Type 0
+GoesOn side name items = (payload : List ℕ) × (kind : Kind) × (number : ℕ) × (name_of kind ≡ name) × IsSessionBeginning (items ++ place side payload kind number ∷ [])
 
 -- a login is among the packets, and by it both sides agree on this
 abbrev pub IsLoggedInAmong : Agreed → List Numbered → Type 0

@@ -2,7 +2,9 @@
 
 ghost use Rattle.std.specs.Prelude.{◌≡◌, ◌↔◌, IfOk, OnErr, IsTrue, List, [], ◌∷◌, ◌++◌};
 
+use crate::expected::expects;
 use crate::kind::{Kind, Opening, Side, Unexpected};
+use crate::kind_name::KindName;
 use crate::state::State;
 use crate::step::{entrance, rests, take_step};
 use mysql_replies::SessionCapabilities;
@@ -23,7 +25,7 @@ pub struct Conversation {
 impl Conversation {
     ghost use Rattle.mysql_conversation.specs.Conversation.{Packet, IsConversation, IsBeginning};
     ghost use Rattle.mysql_conversation.specs.History as history;
-    ghost use Rattle.mysql_conversation.specs.History.{Taken};
+    ghost use Rattle.mysql_conversation.specs.History.{Taken, GoesOn};
     ghost use Rattle.mysql_conversation.specs.Taken.{packet};
     ghost use Rattle.mysql_conversation.specs.declared.kind.Kind as declared;
 
@@ -46,6 +48,13 @@ impl Conversation {
         ensures { (items : List Packet) → Taken self.now items → IsTrue result ↔ IsConversation (history.agreed self.now) (history.opening self.now) items }
     {
         rests(&self.state)
+    }
+
+    /// Whether a packet of this kind may come next from this side.
+    pub fn expects(&self, from: Side, name: KindName) -> bool
+        ensures { (items : List Packet) → Taken self.now items → IsTrue result ↔ GoesOn self.now from name items }
+    {
+        expects(self.agreed, &self.state, from, name)
     }
 
     /// Which packet it is. A refusal changes nothing.

@@ -60,3 +60,10 @@ pub fn a_pipelined_conversation_is_interleaved()
 pub fn what_a_session_took_is_a_beginning()
     ensures { (c : session.Session) (items : List Numbered) → SessionTaken c items → IsSessionBeginning items }
 {}
+
+/// In a session too a packet is of one kind, and of one exchange, after what came before it.
+#[tactic(auto, using(crate::proofs::SessionKinds::session_one_kind))]
+pub fn a_session_packet_is_of_one_kind()
+    ensures { (items : List Numbered) (from : side.Side) (payload : List ℕ) (j k : kind.Kind) (m n : ℕ)
+        → IsSessionBeginning (items ++ place from payload j m ∷ []) → IsSessionBeginning (items ++ place from payload k n ∷ []) → (j ≡ k) × (m ≡ n) }
+{}

@@ -7,10 +7,13 @@
 
 mod agreed;
 mod conversation;
+mod expected;
 mod kind;
+mod kind_name;
 pub mod laws;
 mod payload;
 mod pipeline;
+mod results;
 mod session;
 mod state;
 mod step;
@@ -18,5 +21,6 @@ mod step;
 pub use agreed::agreed_on;
 pub use conversation::Conversation;
 pub use kind::{Format, Kind, Opening, Side, Unexpected};
+pub use kind_name::KindName;
 pub use pipeline::{Pipeline, Refusal};
 pub use session::Session;

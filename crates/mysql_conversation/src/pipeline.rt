@@ -4,9 +4,12 @@ ghost use Rattle.std.specs.VecDeque.{deque_capacity, deque_len};
 ghost use Rattle.std.specs.Prelude.{true, ◌≡◌, ◌≢◌, ◌↔◌, ◌≤◌, ◌<◌, false, IfOk, IfErr, OnErr, IsTrue, List, [], ◌∷◌, ◌++◌, ℕ, ◌-◌, ◌^◌, ◌⊎◌, length, Some, None};
 ghost use Rattle.mysql_conversation.specs.Machine as machine;
 ghost use Rattle.mysql_conversation.specs.Standing as spec;
+ghost use Rattle.mysql_conversation.specs.Expected.{pipe_expects};
 ghost use Rattle.mysql_conversation.specs.Piped.{stands};
 
+use crate::expected::{asks, expects};
 use crate::kind::{Kind, Opening, Side};
+use crate::kind_name::KindName;
 use crate::payload::command_of;
 use crate::state::{Command, State};
 use crate::step::{answers, entrance, is_due, listens, rests, take_sent, take_step};
@@ -66,7 +69,7 @@ pub struct Pipeline {
 impl Pipeline {
     ghost use Rattle.mysql_conversation.specs.Pipelined.{Numbered, IsPipelined, IsPipelinedBeginning};
     ghost use Rattle.mysql_conversation.specs.Piped as piped;
-    ghost use Rattle.mysql_conversation.specs.Piped.{PipeTaken, place};
+    ghost use Rattle.mysql_conversation.specs.Piped.{PipeTaken, place, GoesOn};
     ghost use Rattle.mysql_conversation.specs.declared.kind.Kind as declared;
     ghost use Rattle.mysql_conversation.specs.declared.kind.Side.TheVariants as side;
     ghost use Rattle.mysql_conversation.specs.declared.pipeline.Refusal.TheVariants as refusal;
@@ -102,6 +105,30 @@ impl Pipeline {
         ensures { result ≡ piped.waiting self.now }
     {
         self.waiting.len()
+    }
+
+    /// Whether a packet of this kind may come next from this side. Of a command it says nothing of the limit.
+    pub fn expects(&self, from: Side, name: KindName) -> bool
+        ensures { (items : List Numbered) → PipeTaken self.now items → IsTrue result ↔ GoesOn self.now from name items }
+    {
+        self.is_expected(from, name)
+    }
+
+    /// The same, by the machine.
+    fn is_expected(&self, from: Side, name: KindName) -> bool
+        ensures { result ≡ pipe_expects self.now.agreed (stands self.now) from name }
+    {
+        let comes = expects(self.agreed, &self.state, from, name);
+        match from {
+            Side::Server => comes && !(waits(&self.waiting) && asks(name)),
+            Side::Client => {
+                if is_due(&self.state) {
+                    (comes && !waits(&self.waiting)) || matches!(name, KindName::Command)
+                } else {
+                    comes
+                }
+            }
+        }
     }
 
     /// Where an exchange is over, the next begins that waits.

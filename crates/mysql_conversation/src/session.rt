@@ -8,7 +8,9 @@ ghost use Rattle.mysql_conversation.specs.Session as sessions;
 ghost use Rattle.mysql_conversation.specs.SessionSteps.{greeting_at, login_at};
 
 use crate::agreed::{agreed_on, compresses};
+use crate::expected::{is_greeting, is_login};
 use crate::kind::{Kind, Opening, Side};
+use crate::kind_name::KindName;
 use crate::payload::first_is;
 use crate::pipeline::{Pipeline, Refusal};
 use bitflags::Flags;
@@ -94,7 +96,7 @@ impl Session {
     ghost use Rattle.mysql_conversation.specs.Pipelined.{Numbered};
     ghost use Rattle.mysql_conversation.specs.Piped as piped;
     ghost use Rattle.mysql_conversation.specs.Piped.{place};
-    ghost use Rattle.mysql_conversation.specs.Session.{IsSession, IsSessionBeginning, SessionTaken, IsEncrypted, Continues, Comes, IsLoggedInAmong, MayLogIn, client_of};
+    ghost use Rattle.mysql_conversation.specs.Session.{IsSession, IsSessionBeginning, SessionTaken, IsEncrypted, Continues, Comes, GoesOn, IsLoggedInAmong, MayLogIn, client_of};
     ghost use Rattle.mysql_conversation.specs.SessionSteps.{GreetedAs, AnsweredAs};
     ghost use Rattle.mysql_conversation.specs.Agreements as agreement;
     ghost use Rattle.mysql_conversation.specs.declared.kind.Kind as declared;
@@ -132,6 +134,20 @@ impl Session {
             Phase::Commands(pipeline) => pipeline.is_at_rest(),
             Phase::Refused => true,
             _ => false,
+        }
+    }
+
+    /// Whether a packet of this kind may come next from this side. After a request to go on in TLS it is the login, deciphered.
+    pub fn expects(&self, from: Side, name: KindName) -> bool
+        ensures { (items : List Numbered) → SessionTaken self.now items → IsTrue result ↔ GoesOn from name items }
+    {
+        match &self.phase {
+            Phase::Commands(pipeline) => pipeline.expects(from, name),
+            Phase::Greeting => is_greeting(from, name),
+            Phase::Refused => false,
+            Phase::Login(_server) => is_login(false, from, name),
+            Phase::Encrypted(_server) => is_login(true, from, name),
+            Phase::InTls(_server) => is_login(true, from, name),
         }
     }
 

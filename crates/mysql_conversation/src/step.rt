@@ -1,22 +1,22 @@
 //! The machine: the kind of a packet, and the state after it.
 
 ghost use Rattle.std.specs.Prelude.{◌≡◌, IfSome, IfNone, IfOk, OnErr, Some, None};
-ghost use Rattle.mysql_conversation.specs.Conversation as grammar;
 ghost use Rattle.mysql_conversation.specs.Machine as spec;
-ghost use Rattle.mysql_conversation.specs.Payloads as payloads;
 ghost use Rattle.mysql_conversation.specs.declared.state.State.TheVariants as spec_state;
 ghost use Rattle.mysql_conversation.specs.declared.kind.Side.TheVariants.{Client, Server};
 
 use crate::agreed::deprecates_eof;
 use crate::kind::{Format, Kind, Opening, Side, Unexpected};
 use crate::payload::{
-    authentication_kind, begins_ok, command_of, first_is, has_more, is_report, is_row_by_first,
-    line_of, ok_status, old_end_of, opens_cursor, reply_of, statement_at,
+    authentication_kind, begins_ok, command_of, first_is, is_report, is_row_by_first, line_of,
+    ok_status, old_end_of, reply_of,
 };
-use crate::state::{After, Answer, Line, Reply, Request, State, format_of};
-use mysql_prepared::StmtPacketWithMetadata;
+use crate::results::{
+    acknowledgement_step, definitions_end_step, infile_reply_step, last_step, less, line_step,
+    prepared_step, reply_step,
+};
+use crate::state::{Answer, Request, State, format_of};
 use mysql_replies::SessionCapabilities;
-use mysql_wire::StatusFlags;
 use std::alloc::Global;
 
 /// Where a conversation begins.
@@ -27,56 +27,6 @@ pub(crate) fn entrance(opening: Opening) -> State
     match opening {
         Opening::Login => State::Authentication(false),
         Opening::Commands => State::Rest,
-    }
-}
-
-/// After definitions.
-#[inline(always)]
-fn enter(after: After) -> State
-    ensures { result ≡ spec.enter after }
-{
-    match after {
-        After::Rows(request) => State::Rows(request),
-        After::Columns(columns) => match columns.checked_sub(1) {
-            Some(left) => State::Definitions(left, After::Rest),
-            None => State::Rest,
-        },
-        After::Rest => State::Rest,
-    }
-}
-
-/// Where so many definitions come.
-#[inline(always)]
-fn define(count: u64, after: After) -> State
-    ensures { result ≡ spec.define count after }
-{
-    match count.checked_sub(1) {
-        Some(left) => State::Definitions(left, after),
-        None => enter(after),
-    }
-}
-
-/// After a definition after which so many come.
-#[inline(always)]
-fn less(deprecates: bool, left: u64, after: After) -> State
-    ensures { result ≡ spec.less deprecates left after }
-{
-    match left.checked_sub(1) {
-        Some(left) => State::Definitions(left, after),
-        None if deprecates => enter(after),
-        None => State::DefinitionsEnd(after),
-    }
-}
-
-/// Where a result ends.
-#[inline(always)]
-fn ended(request: Request, more: bool) -> State
-    ensures { result ≡ spec.ended request more }
-{
-    if more {
-        State::Reply(request)
-    } else {
-        State::Rest
     }
 }
 
@@ -96,18 +46,6 @@ pub(crate) fn answers(answer: Answer) -> State
         Answer::Events => State::Events,
         Answer::Nothing => State::Rest,
         Answer::Refusal => State::Refusal,
-    }
-}
-
-/// How an end is spelled.
-#[inline(always)]
-fn ending(deprecates: bool) -> Kind
-    ensures { result ≡ grammar.ending deprecates }
-{
-    if deprecates {
-        Kind::OkTerminator
-    } else {
-        Kind::Eof
     }
 }
 
@@ -181,20 +119,6 @@ fn client_step(state: &mut State, payload: &[u8]) -> Option<Kind>
     }
 }
 
-/// After a count.
-#[inline(always)]
-fn counted(deprecates: bool, count: u64, follow: bool, after: After) -> State
-    ensures { result ≡ spec.counted deprecates count follow after }
-{
-    if follow {
-        define(count, after)
-    } else if deprecates {
-        enter(after)
-    } else {
-        State::DefinitionsEnd(after)
-    }
-}
-
 /// What the server says while a client logs in, if it is no error.
 #[inline(always)]
 fn authentication_step(
@@ -220,177 +144,6 @@ fn authentication_step(
     }
     *state = State::Authentication(true);
     Some(authentication_kind(agreed, payload))
-}
-
-/// The first packet of a result.
-#[inline(always)]
-fn reply_step(
-    state: &mut State,
-    deprecates: bool,
-    request: Request,
-    reply: Option<Reply>,
-) -> Option<Kind>
-    ensures some { IfSome result (λ kind. spec.reply_step deprecates request reply ≡ Some (kind, state.new)) }
-    ensures none { IfNone result ((spec.reply_step deprecates request reply ≡ None) × (state.new ≡ state.old)) }
-{
-    match reply? {
-        Reply::Ok(more) => {
-            *state = ended(request, more);
-            Some(Kind::Ok)
-        }
-        Reply::Infile => {
-            *state = State::Infile(request);
-            Some(Kind::LocalInfile)
-        }
-        Reply::Columns(count, follow) => {
-            *state = counted(deprecates, count, follow, After::Rows(request));
-            Some(Kind::ColumnCount(count, follow))
-        }
-    }
-}
-
-/// What answers a file.
-#[inline(always)]
-fn infile_reply_step(state: &mut State, request: Request, reply: Option<Reply>) -> Option<Kind>
-    ensures some { IfSome result (λ kind. spec.infile_reply_step request reply ≡ Some (kind, state.new)) }
-    ensures none { IfNone result ((spec.infile_reply_step request reply ≡ None) × (state.new ≡ state.old)) }
-{
-    match reply? {
-        Reply::Ok(more) => {
-            *state = ended(request, more);
-            Some(Kind::Ok)
-        }
-        _ => None,
-    }
-}
-
-/// After the EOF packet of a result's definitions.
-#[inline(always)]
-fn columns_step(state: &mut State, status: StatusFlags, request: Request) -> Kind
-    ensures { spec.columns_step status request ≡ Some (result, state.new) }
-{
-    *state = if matches!(request, Request::Cursor) && opens_cursor(status) {
-        ended(Request::Cursor, has_more(status))
-    } else {
-        State::Rows(request)
-    };
-    Kind::Eof
-}
-
-/// The EOF packet after definitions.
-#[inline(always)]
-fn definitions_end_step(
-    state: &mut State,
-    after: After,
-    status: Option<StatusFlags>,
-) -> Option<Kind>
-    ensures some { IfSome result (λ kind. spec.definitions_end_step after status ≡ Some (kind, state.new)) }
-    ensures none { IfNone result ((spec.definitions_end_step after status ≡ None) × (state.new ≡ state.old)) }
-{
-    let status = status?;
-    match after {
-        After::Rows(request) => Some(columns_step(state, status, request)),
-        After::Columns(_) => {
-            *state = enter(after);
-            Some(Kind::Eof)
-        }
-        After::Rest => {
-            *state = State::Rest;
-            Some(Kind::Eof)
-        }
-    }
-}
-
-/// A row, or the end.
-#[inline(always)]
-fn line_step(
-    state: &mut State,
-    deprecates: bool,
-    request: Request,
-    line: Option<Line>,
-) -> Option<Kind>
-    requires { state.old ≡ spec_state.Rows request }
-    ensures some { IfSome result (λ kind. spec.line_step deprecates request line ≡ Some (kind, state.new)) }
-    ensures none { IfNone result ((spec.line_step deprecates request line ≡ None) × (state.new ≡ state.old)) }
-{
-    match line? {
-        Line::Row => Some(Kind::Row(format_of(request))),
-        Line::End(more) => {
-            *state = ended(request, more);
-            Some(ending(deprecates))
-        }
-    }
-}
-
-/// A packet of this kind, after which the same may come, or the end.
-#[inline(always)]
-fn last_step(state: &mut State, deprecates: bool, kind: Kind, line: Option<Line>) -> Option<Kind>
-    ensures some { IfSome result (λ found. spec.last_step deprecates kind state.old line ≡ Some (found, state.new)) }
-    ensures none { IfNone result ((spec.last_step deprecates kind state.old line ≡ None) × (state.new ≡ state.old)) }
-{
-    match line? {
-        Line::Row => Some(kind),
-        Line::End(_) => {
-            *state = State::Rest;
-            Some(ending(deprecates))
-        }
-    }
-}
-
-/// Whether the definitions of a prepared statement follow: they do where no byte says so.
-#[inline(always)]
-fn definitions_follow(statement: &StmtPacketWithMetadata) -> bool
-    ensures { result ≡ payloads.definitions_follow statement.now }
-{
-    match statement.metadata() {
-        Some(byte) => byte != 0,
-        None => true,
-    }
-}
-
-/// What answers a statement to be prepared.
-#[inline(always)]
-fn prepared_step(
-    alloc: Global,
-    agreed: SessionCapabilities,
-    state: &mut State,
-    payload: &[u8],
-) -> Option<Kind>
-    ensures some { IfSome result (λ kind. spec.prepared_step (spec.statement_at agreed payload.now) ≡ Some (kind, state.new)) }
-    ensures none { IfNone result ((spec.prepared_step (spec.statement_at agreed payload.now) ≡ None) × (state.new ≡ state.old)) }
-{
-    let statement = statement_at(alloc, agreed, payload)?;
-    let columns = statement.packet().num_columns();
-    let params = statement.packet().num_params();
-    let follow = definitions_follow(&statement);
-    *state = if follow {
-        define(u64::from(params), After::Columns(u64::from(columns)))
-    } else {
-        State::Rest
-    };
-    Some(Kind::PrepareOk(columns, params, follow))
-}
-
-/// An OK packet, or an end.
-#[inline(always)]
-fn acknowledgement_step(
-    state: &mut State,
-    deprecates: bool,
-    line: Option<Line>,
-    reply: Option<Reply>,
-) -> Option<Kind>
-    ensures some { IfSome result (λ kind. spec.acknowledgement_step deprecates line reply ≡ Some (kind, state.new)) }
-    ensures none { IfNone result ((spec.acknowledgement_step deprecates line reply ≡ None) × (state.new ≡ state.old)) }
-{
-    let kind = match line? {
-        Line::End(_) => ending(deprecates),
-        Line::Row => match reply? {
-            Reply::Ok(_) => Kind::Ok,
-            _ => return None,
-        },
-    };
-    *state = State::Rest;
-    Some(kind)
 }
 
 /// A packet of the server that is no error.

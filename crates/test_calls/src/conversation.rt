@@ -4,12 +4,12 @@
 //! these capabilities; `conversation commands ..`: a connection that is taken up between two commands. A word is `>` or `<` with the bytes
 //! of a piece of the client's or the server's stream after it, frames with their headers; `tls`: what comes is deciphered.
 //! `packets LIMIT WORD ..`: as `session`, and what its packets hold (`packets.rt`).
-//! `payloads ..`: as `conversation`, but a word has a payload, without headers, and no command may come early.
+//! `expects` as the last word: the kinds that may come next. `payloads ..`: as `conversation`, but a word has a payload, without headers, and no command may come early.
 
 use crate::packets::Watched;
 use mysql_packets::constants::{CapabilityFlags, Flags, MariadbCapabilities};
 use mysql_packets::conversation::{
-    Conversation, Format, Kind, Opening, Pipeline, Refusal, Session, Side, Unexpected, agreed_on,
+    Conversation, Kind, KindName, Opening, Pipeline, Refusal, Session, Side, Unexpected, agreed_on,
 };
 use mysql_packets::frames::{FrameError, FrameReader};
 use mysql_packets::packets::SessionCapabilities;
@@ -24,6 +24,8 @@ const LONGEST: usize = 1 << 26;
 pub trait Tracker {
     fn next(&mut self, from: Side, payload: &[u8]) -> Result<(Kind, u64), Refusal>;
 
+    fn expects(&self, from: Side, name: KindName) -> bool;
+
     fn decipher(&mut self) {}
 
     /// Adds what a packet of this kind holds.
@@ -35,6 +37,10 @@ impl Tracker for Session {
         Session::next(self, from, payload)
     }
 
+    fn expects(&self, from: Side, name: KindName) -> bool {
+        Session::expects(self, from, name)
+    }
+
     fn decipher(&mut self) {
         Session::decipher(self)
     }
@@ -44,38 +50,22 @@ impl Tracker for Pipeline {
     fn next(&mut self, from: Side, payload: &[u8]) -> Result<(Kind, u64), Refusal> {
         Pipeline::next(self, from, payload)
     }
+
+    fn expects(&self, from: Side, name: KindName) -> bool {
+        Pipeline::expects(self, from, name)
+    }
 }
 
-/// The name of a kind, as `mypackets` has it.
-fn name_of(kind: Kind) -> &'static str {
-    match kind {
-        Kind::Handshake => "handshake",
-        Kind::SslRequest => "ssl_request",
-        Kind::Login => "login",
-        Kind::AuthSwitch => "auth_switch",
-        Kind::OldAuthSwitch => "old_auth_switch",
-        Kind::AuthMoreData => "auth_more_data",
-        Kind::AuthNextFactor => "auth_next_factor",
-        Kind::AuthPluginData => "auth_plugin_data",
-        Kind::AuthData => "auth_data",
-        Kind::Command(_) => "command",
-        Kind::Ok => "ok",
-        Kind::Error => "error",
-        Kind::UnaskedError => "unasked_error",
-        Kind::ProgressReport => "progress_report",
-        Kind::LocalInfile => "local_infile",
-        Kind::InfileContent => "infile_content",
-        Kind::InfileEnd => "infile_end",
-        Kind::ColumnCount(_, _) => "column_count",
-        Kind::Column => "column",
-        Kind::Eof => "eof",
-        Kind::OkTerminator => "ok_terminator",
-        Kind::Row(Format::Text) => "text_row",
-        Kind::Row(Format::Binary) => "binary_row",
-        Kind::PrepareOk(_, _, _) => "prepare_ok",
-        Kind::Statistics => "statistics",
-        Kind::BinlogEvent => "binlog_event",
-        Kind::SemiSyncAck => "semi_sync_ack",
+impl Tracker for Conversation {
+    fn next(&mut self, from: Side, payload: &[u8]) -> Result<(Kind, u64), Refusal> {
+        match Conversation::next(self, from, payload) {
+            Ok(kind) => Ok((kind, 0)),
+            Err(Unexpected) => Err(Refusal::Unexpected),
+        }
+    }
+
+    fn expects(&self, from: Side, name: KindName) -> bool {
+        Conversation::expects(self, from, name)
     }
 }
 
@@ -90,7 +80,7 @@ fn sign_of(side: Side) -> &'static str {
 /// Adds a packet's kind, and what the kind tells.
 fn show_kind(out: &mut Out, side: Side, kind: Kind) {
     out.word(sign_of(side));
-    out.push(name_of(kind));
+    out.push(kind.name().as_str());
     match kind {
         Kind::Command(code) => show_number(out, u64::from(code)),
         Kind::ColumnCount(count, follow) => {
@@ -189,14 +179,32 @@ pub(crate) fn piece_of(alloc: Global, word: &str) -> Option<(Side, Vec<u8>)> {
     Some((side, bytes))
 }
 
-/// Adds the packets of pieces, from a word on, until one doesn't come.
+/// Adds the kinds that may come next, of both sides.
+fn show_expected<T: Tracker>(out: &mut Out, tracker: &T) {
+    out.word("expects");
+    for side in [Side::Client, Side::Server] {
+        for name in KindName::ALL {
+            if tracker.expects(side, name) {
+                out.push(":");
+                out.push(sign_of(side));
+                out.push(name.as_str());
+            }
+        }
+    }
+}
+
+/// Adds the packets of pieces, from a word on, until one doesn't come. `expects` at the end adds the kinds that may come then.
 fn take_all<T: Tracker>(out: &mut Out, request: &Request<'_>, tracker: &mut T, from: usize) {
     let mut client = FrameReader::new(request.alloc, LONGEST);
     let mut server = FrameReader::new(request.alloc, LONGEST);
     for word in request.line.split(' ').skip(from) {
-        if word == "tls" {
-            tracker.decipher();
-            continue;
+        match word {
+            "tls" => {
+                tracker.decipher();
+                continue;
+            }
+            "expects" => break,
+            _ => {}
         }
         let Some((side, piece)) = piece_of(request.alloc, word) else {
             return out.word("bad");
@@ -208,6 +216,9 @@ fn take_all<T: Tracker>(out: &mut Out, request: &Request<'_>, tracker: &mut T, f
         if !take_piece(out, tracker, reader, side, piece.as_slice()) {
             break;
         }
+    }
+    if request.line.ends_with(" expects") {
+        show_expected(out, tracker);
     }
 }
 
@@ -270,6 +281,9 @@ pub fn payloads(out: &mut Out, request: &Request<'_>) {
         opening_by(request),
     );
     for word in request.line.split(' ').skip(4) {
+        if word == "expects" {
+            break;
+        }
         let Some((side, payload)) = piece_of(request.alloc, word) else {
             return out.word("bad");
         };
@@ -280,6 +294,9 @@ pub fn payloads(out: &mut Out, request: &Request<'_>) {
                 out.push("refused:Unexpected");
             }
         }
+    }
+    if request.line.ends_with(" expects") {
+        show_expected(out, &conversation);
     }
     out.show("at_rest", conversation.is_at_rest());
 }

@@ -3,7 +3,7 @@
 
 use crate::conversation::Tracker;
 use mysql_packets::constants::{ColumnFlags, ColumnType, Flags};
-use mysql_packets::conversation::{Kind, Refusal, Session, Side};
+use mysql_packets::conversation::{Kind, KindName, Refusal, Session, Side};
 use mysql_packets::io::{Fault, ParseBuf};
 use mysql_packets::misc::raw::ConstValue;
 use mysql_packets::observer::{
@@ -276,6 +276,10 @@ impl Watched {
 impl Tracker for Watched {
     fn next(&mut self, from: Side, payload: &[u8]) -> Result<(Kind, u64), Refusal> {
         self.session.next(from, payload)
+    }
+
+    fn expects(&self, from: Side, name: KindName) -> bool {
+        self.session.expects(from, name)
     }
 
     fn decipher(&mut self) {

@@ -1,0 +1,290 @@
+-- Which kinds may come next: each that comes is named, and each that is named comes.
+use Rattle.std.proofs.Common.{◌≡◌, ℕ, zero, suc, List, [], ◌∷◌, ◌⊎◌, inl, inr, Option, Some, None, refl, sym, ap, subst, ◌∙◌, Bool, true, false, cond}
+use Rattle.std.proofs.lemmas.Bool.{eqb-true}
+use Rattle.std.specs.Prelude.{◌==◌, ◌||◌, ◌&&◌}
+use Rattle.mysql_wire.specs.Form.{bytes}
+use Rattle.mysql_wire.specs.Flags.{StatusFlags}
+use Rattle.mysql_prepared.specs.declared.stmt_with_metadata.StmtPacketWithMetadata.{StmtPacketWithMetadata}
+use Rattle.mysql_conversation.specs.Agreements.{Agreed, deprecates_eof, asks_factors, reports_progress}
+use Rattle.mysql_conversation.specs.Payloads.{first_is, begins_ok, is_report, begins_with_ff, is_one_byte, asks_cursor, opens_cursor}
+use Rattle.mysql_conversation.specs.Conversation.{answering, ending, format_of}
+use Rattle.mysql_conversation.specs.Machine.{step, take_step, client_step, serve, rests, is_due, error_kind, begun, command_step, infile_step, logged_in, authentication_step, reply_step, infile_reply_step, columns_step, definitions_end_step, line_step, last_step, prepared_step, acknowledgement_step, reply_of, line_of, old_end_of, statement_at, ok_status}
+use Rattle.mysql_conversation.specs.KindName.{name_of, index, is_in}
+use Rattle.mysql_conversation.specs.Expected.{sent_names, end_name, row_name, asked_names, served_names, error_name, reported, names, expects}
+use Rattle.mysql_conversation.proofs.Classes.{chosen, some_is}
+use Rattle.mysql_conversation.specs.declared.kind.Format.TheVariants.{Text, Binary}
+use Rattle.mysql_conversation.specs.declared.kind.Kind.{Kind}
+use Rattle.mysql_conversation.specs.declared.kind.Kind.TheVariants as kind
+use Rattle.mysql_conversation.specs.declared.kind.Side.{Side}
+use Rattle.mysql_conversation.specs.declared.kind.Side.TheVariants.{Client, Server}
+use Rattle.mysql_conversation.specs.declared.kind_name.KindName.{KindName}
+use Rattle.mysql_conversation.specs.declared.kind_name.KindName.TheVariants as name
+use Rattle.mysql_conversation.specs.declared.state.After.{After}
+use Rattle.mysql_conversation.specs.declared.state.After.TheVariants as after
+use Rattle.mysql_conversation.specs.declared.state.Answer.{Answer}
+use Rattle.mysql_conversation.specs.declared.state.Line.{Line}
+use Rattle.mysql_conversation.specs.declared.state.Line.TheVariants as line
+use Rattle.mysql_conversation.specs.declared.state.Reply.{Reply}
+use Rattle.mysql_conversation.specs.declared.state.Reply.TheVariants as reply
+use Rattle.mysql_conversation.specs.declared.state.Request.{Request}
+use Rattle.mysql_conversation.specs.declared.state.Request.TheVariants.{Query, Execution, Cursor}
+use Rattle.mysql_conversation.specs.declared.state.State.{State}
+use Rattle.mysql_conversation.specs.declared.state.State.TheVariants as state
+
+-- ---- lists of names
+
+pub reported_is : (n : KindName) (b : Bool) (xs : List KindName) → is_in n (reported b xs) ≡ ((b && index n == 13) || is_in n xs)
+reported_is n true xs = refl
+reported_is n false xs = refl
+
+pub or_right : (a b : Bool) → b ≡ true → (a || b) ≡ true
+or_right true b h = refl
+or_right false b h = h
+
+pub or_split : (a b : Bool) → (a || b) ≡ true → (a ≡ true) ⊎ (b ≡ true)
+or_split true b h = inl refl
+or_split false b h = inr h
+
+pub and_both : (a b : Bool) → (a && b) ≡ true → (a ≡ true) × (b ≡ true)
+and_both true b h = (refl, h)
+and_both false b h = absurd cc
+
+-- ---- a name is known by its number
+
+all_names : List KindName
+all_names = name.Handshake ∷ name.SslRequest ∷ name.Login ∷ name.AuthSwitch ∷ name.OldAuthSwitch ∷ name.AuthMoreData ∷ name.AuthNextFactor ∷ name.AuthPluginData ∷ name.AuthData ∷ name.Command ∷ name.Ok ∷ name.Error ∷ name.UnaskedError ∷ name.ProgressReport ∷ name.LocalInfile ∷ name.InfileContent ∷ name.InfileEnd ∷ name.ColumnCount ∷ name.Column ∷ name.Eof ∷ name.OkTerminator ∷ name.TextRow ∷ name.BinaryRow ∷ name.PrepareOk ∷ name.Statistics ∷ name.BinlogEvent ∷ name.SemiSyncAck ∷ []
+
+at : List KindName → ℕ → Option KindName
+at [] n = None
+at (x ∷ xs) zero = Some x
+at (x ∷ xs) (suc n) = at xs n
+
+known : (n : KindName) → at all_names (index n) ≡ Some n
+unfolding all_names at
+known name.Handshake = refl
+known name.SslRequest = refl
+known name.Login = refl
+known name.AuthSwitch = refl
+known name.OldAuthSwitch = refl
+known name.AuthMoreData = refl
+known name.AuthNextFactor = refl
+known name.AuthPluginData = refl
+known name.AuthData = refl
+known name.Command = refl
+known name.Ok = refl
+known name.Error = refl
+known name.UnaskedError = refl
+known name.ProgressReport = refl
+known name.LocalInfile = refl
+known name.InfileContent = refl
+known name.InfileEnd = refl
+known name.ColumnCount = refl
+known name.Column = refl
+known name.Eof = refl
+known name.OkTerminator = refl
+known name.TextRow = refl
+known name.BinaryRow = refl
+known name.PrepareOk = refl
+known name.Statistics = refl
+known name.BinlogEvent = refl
+known name.SemiSyncAck = refl
+
+pub same : (n x : KindName) → index n ≡ index x → n ≡ x
+same n x e = some_is (sym (known n) ∙ ap (at all_names) e ∙ known x)
+
+-- what holds for each name of a list
+module _ (P : KindName → Type 0) where
+  abbrev pub All : List KindName → Type 0
+  All [] = Unit {0}
+  All (x ∷ xs) = P x × All xs
+
+  pub pick : (n : KindName) (xs : List KindName) → All xs → is_in n xs ≡ true → P n
+  pick n [] h e = absurd cc
+  pick n (x ∷ xs) h e = elim (or_split (index n == index x) (is_in n xs) e) [
+    | inl i ↦ subst P (sym (same n x (eqb-true (index n) (index x) i))) h.0
+    | inr i ↦ pick n xs h.1 i
+  ]
+
+-- ---- each packet that comes is named
+
+abbrev Named : List KindName → Option (Kind × State) → Type 0
+Named xs None = Unit {0}
+Named xs (Some x) = is_in (name_of x.0) xs ≡ true
+
+named_cond : (xs : List KindName) (b : Bool) (x y : Option (Kind × State)) → Named xs x → Named xs y → Named xs (cond b x y)
+named_cond xs true x y f g = f
+named_cond xs false x y f g = g
+
+named_more : (n : KindName) (xs : List KindName) (o : Option (Kind × State)) → Named xs o → Named (n ∷ xs) o
+named_more n xs None h = tt
+named_more n xs (Some x) h = or_right (index (name_of x.0) == index n) (is_in (name_of x.0) xs) h
+
+named_reported : (b : Bool) (xs : List KindName) (o : Option (Kind × State)) → Named xs o → Named (reported b xs) o
+named_reported true xs o h = named_more name.ProgressReport xs o h
+named_reported false xs o h = h
+
+end_named : (x : KindName) (d : Bool) → is_in (name_of (ending d)) (x ∷ end_name d ∷ []) ≡ true
+end_named x true = or_right (index name.OkTerminator == index x) true refl
+end_named x false = or_right (index name.Eof == index x) true refl
+
+row_named : (r : Request) (xs : List KindName) → is_in (name_of (kind.Row (format_of r))) (row_name r ∷ xs) ≡ true
+row_named Query xs = refl
+row_named Execution xs = refl
+row_named Cursor xs = refl
+
+module _ (P : Kind → Type 0) where
+  by_cond : (b : Bool) (x y : Kind) → P x → P y → P (cond b x y)
+  by_cond true x y f g = f
+  by_cond false x y f g = g
+
+  by_no_cond : (b : Bool) (x y : Kind) → P y → P (cond (b && false) x y)
+  by_no_cond true x y f = f
+  by_no_cond false x y f = f
+
+-- what a server says before it is done, where next factors are agreed on or not
+kind_by : Bool → List ℕ → Kind
+kind_by factors p =
+    cond (first_is 0xfe p) (cond (is_one_byte p) kind.OldAuthSwitch kind.AuthSwitch)
+    (cond (first_is 1 p) kind.AuthMoreData (cond (first_is 2 p && factors) kind.AuthNextFactor kind.AuthPluginData))
+
+asked_named : (factors : Bool) (p : List ℕ) → is_in (name_of (kind_by factors p)) (name.Ok ∷ asked_names factors) ≡ true
+unfolding kind_by
+asked_named true p = by_cond (λ k. is_in (name_of k) (name.Ok ∷ asked_names true) ≡ true) (first_is 0xfe p) _ _ (by_cond (λ k. is_in (name_of k) (name.Ok ∷ asked_names true) ≡ true) (is_one_byte p) _ _ refl refl)
+    (by_cond (λ k. is_in (name_of k) (name.Ok ∷ asked_names true) ≡ true) (first_is 1 p) _ _ refl (by_cond (λ k. is_in (name_of k) (name.Ok ∷ asked_names true) ≡ true) (first_is 2 p && true) _ _ refl refl))
+asked_named false p = by_cond (λ k. is_in (name_of k) (name.Ok ∷ asked_names false) ≡ true) (first_is 0xfe p) _ _ (by_cond (λ k. is_in (name_of k) (name.Ok ∷ asked_names false) ≡ true) (is_one_byte p) _ _ refl refl)
+    (by_cond (λ k. is_in (name_of k) (name.Ok ∷ asked_names false) ≡ true) (first_is 1 p) _ _ refl (by_no_cond (λ k. is_in (name_of k) (name.Ok ∷ asked_names false) ≡ true) (first_is 2 p) _ _ refl))
+
+named_status : (xs : List KindName) (status : Option StatusFlags) → Named (name.Ok ∷ xs) (logged_in status)
+named_status xs None = tt
+named_status xs (Some status) = refl
+
+named_authentication : (a : Agreed) (p : List ℕ) (status : Option StatusFlags) → Named (name.Ok ∷ asked_names (asks_factors a)) (authentication_step a p status)
+unfolding kind_by
+named_authentication a p status = named_cond (name.Ok ∷ asked_names (asks_factors a)) (begins_ok a p) _ _ (named_status (asked_names (asks_factors a)) status)
+    (named_cond (name.Ok ∷ asked_names (asks_factors a)) (first_is 0 p) _ _ tt (asked_named (asks_factors a) p))
+
+named_reply : (d : Bool) (r : Request) (x : Option Reply) → Named (name.Ok ∷ name.LocalInfile ∷ name.ColumnCount ∷ []) (reply_step d r x)
+named_reply d r None = tt
+named_reply d r (Some (reply.Ok more)) = refl
+named_reply d r (Some reply.Infile) = refl
+named_reply d r (Some (reply.Columns n follow)) = refl
+
+named_infile_reply : (r : Request) (x : Option Reply) → Named (name.Ok ∷ []) (infile_reply_step r x)
+named_infile_reply r None = tt
+named_infile_reply r (Some (reply.Ok more)) = refl
+named_infile_reply r (Some reply.Infile) = tt
+named_infile_reply r (Some (reply.Columns n follow)) = tt
+
+named_columns : (status : StatusFlags) (r : Request) → Named (name.Eof ∷ []) (columns_step status r)
+named_columns status Query = refl
+named_columns status Execution = refl
+named_columns status Cursor = named_cond (name.Eof ∷ []) (opens_cursor status) _ _ refl refl
+
+named_definitions_end : (b : After) (o : Option StatusFlags) → Named (name.Eof ∷ []) (definitions_end_step b o)
+named_definitions_end (after.Rows r) None = tt
+named_definitions_end (after.Columns n) None = tt
+named_definitions_end after.Rest None = tt
+named_definitions_end (after.Rows r) (Some status) = named_columns status r
+named_definitions_end (after.Columns n) (Some status) = refl
+named_definitions_end after.Rest (Some status) = refl
+
+named_line : (d : Bool) (r : Request) (l : Option Line) → Named (row_name r ∷ end_name d ∷ []) (line_step d r l)
+named_line d r None = tt
+named_line d r (Some line.Row) = row_named r (end_name d ∷ [])
+named_line d r (Some (line.End more)) = end_named (row_name r) d
+
+named_last : (d : Bool) (n : KindName) (k : Kind) (s : State) (l : Option Line) → is_in (name_of k) (n ∷ end_name d ∷ []) ≡ true → Named (n ∷ end_name d ∷ []) (last_step d k s l)
+named_last d n k s None h = tt
+named_last d n k s (Some line.Row) h = h
+named_last d n k s (Some (line.End more)) h = end_named n d
+
+named_prepared : (s : Option StmtPacketWithMetadata) → Named (name.PrepareOk ∷ []) (prepared_step s)
+named_prepared None = tt
+named_prepared (Some s) = refl
+
+named_acknowledgement : (d : Bool) (l : Option Line) (r : Option Reply) → Named (name.Ok ∷ end_name d ∷ []) (acknowledgement_step d l r)
+named_acknowledgement d (Some (line.End more)) r = end_named name.Ok d
+named_acknowledgement d (Some line.Row) (Some (reply.Ok more)) = refl
+named_acknowledgement d (Some line.Row) (Some reply.Infile) = tt
+named_acknowledgement d (Some line.Row) (Some (reply.Columns n follow)) = tt
+named_acknowledgement d (Some line.Row) None = tt
+named_acknowledgement d None r = tt
+
+named_serve : (a : Agreed) (s : State) (p : List ℕ) → Named (served_names a s) (serve a s p)
+named_serve a state.Rest p = tt
+named_serve a (state.Authentication b) p = named_authentication a p (ok_status a p)
+named_serve a (state.Infile r) p = tt
+named_serve a (state.Reply r) p = named_reply (deprecates_eof a) r (reply_of a p)
+named_serve a (state.InfileReply r) p = named_infile_reply r (reply_of a p)
+named_serve a (state.Definitions n b) p = refl
+named_serve a (state.DefinitionsEnd b) p = named_definitions_end b (old_end_of a p)
+named_serve a (state.Rows r) p = named_line (deprecates_eof a) r (line_of a (format_of r) p)
+named_serve a state.Prepared p = named_prepared (statement_at a p)
+named_serve a state.Fetch p = named_last (deprecates_eof a) name.BinaryRow (kind.Row Binary) state.Fetch (line_of a Binary p) refl
+named_serve a state.Acknowledgement p = named_acknowledgement (deprecates_eof a) (line_of a Text p) (reply_of a p)
+named_serve a state.Text p = refl
+named_serve a state.Fields p = named_last (deprecates_eof a) name.Column kind.Column state.Fields (line_of a Text p) refl
+named_serve a state.Events p = named_last (deprecates_eof a) name.BinlogEvent kind.BinlogEvent state.Events (line_of a Binary p) refl
+named_serve a state.Refusal p = tt
+
+named_begun : (code : ℕ) (r : Option Answer) → Named (name.Command ∷ []) (begun code r)
+named_begun code None = tt
+named_begun code (Some r) = refl
+
+named_command : (p : List ℕ) → Named (name.Command ∷ []) (command_step p)
+named_command [] = tt
+named_command (code ∷ bytes) = named_begun code (answering code (asks_cursor (code ∷ bytes)))
+
+named_infile : (r : Request) (p : List ℕ) → Named (name.InfileContent ∷ name.InfileEnd ∷ []) (infile_step r p)
+named_infile r [] = refl
+named_infile r (b ∷ p) = refl
+
+named_client : (s : State) (p : List ℕ) → Named (sent_names s) (client_step s p)
+named_client state.Rest p = named_command p
+named_client (state.Authentication true) p = refl
+named_client (state.Authentication false) p = tt
+named_client (state.Reply r) p = tt
+named_client (state.Infile r) p = named_infile r p
+named_client (state.InfileReply r) p = tt
+named_client (state.Definitions n b) p = tt
+named_client (state.DefinitionsEnd b) p = tt
+named_client (state.Rows r) p = tt
+named_client state.Prepared p = tt
+named_client state.Fetch p = tt
+named_client state.Acknowledgement p = tt
+named_client state.Text p = tt
+named_client state.Fields p = tt
+named_client state.Events p = named_cond (name.SemiSyncAck ∷ []) (first_is 0xef p) _ _ refl tt
+named_client state.Refusal p = tt
+
+error_named : (b : Bool) (xs : List KindName) → is_in (name_of (error_kind b)) (error_name b ∷ xs) ≡ true
+error_named true xs = refl
+error_named false xs = refl
+
+-- a report comes where reports are agreed on, and where the server is to speak
+report_named : (a : Agreed) (s : State) (p : List ℕ) → (is_report a p && is_due s) ≡ true → (reports_progress a && is_due s) ≡ true
+unfolding is_report
+report_named a s p h =
+    let b = and_both (is_report a p) (is_due s) h in
+    rw ((and_both (reports_progress a) (begins_with_ff 3 p) b.0).0, b.1) refl
+
+named_report : (b : Bool) (x : KindName) (xs : List KindName) → b ≡ true → is_in name.ProgressReport (x ∷ reported b xs) ≡ true
+named_report true x xs h = or_right (index name.ProgressReport == index x) true refl
+named_report false x xs h = absurd cc
+
+named_served : (a : Agreed) (s : State) (p : List ℕ) → Named (names a s Server) (step a s Server p)
+named_served a s p =
+    let xs = names a s Server in
+    let b = reports_progress a && is_due s in
+    named_cond xs (first_is 0xff p) _ _ (named_cond xs (is_report a p) _ _ tt (error_named (rests s) (reported b (served_names a s))))
+    (named_more (error_name (rests s)) (reported b (served_names a s)) (serve a s p) (named_reported b (served_names a s) (serve a s p) (named_serve a s p)))
+
+named_take : (a : Agreed) (s : State) (side : Side) (p : List ℕ) (k : Kind) (m : State) → take_step a s side p ≡ Some (k, m) → Named (names a s side) (Some (k, m))
+named_take a s Client p k m e = subst (λ o. Named (sent_names s) o) e (named_client s p)
+named_take a s Server p k m e = elim (chosen (is_report a p && is_due s) _ _ _ e) [
+  | inl h ↦ subst (λ o. Named (names a s Server) o) h.1 (named_report (reports_progress a && is_due s) (error_name (rests s)) (served_names a s) (report_named a s p h.0))
+  | inr h ↦ subst (λ o. Named (names a s Server) o) h.1 (named_served a s p)
+]
+
+pub what_comes_is_named : (a : Agreed) (s : State) (side : Side) (p : List ℕ) (k : Kind) (m : State) → take_step a s side p ≡ Some (k, m) → expects a s side (name_of k) ≡ true
+what_comes_is_named a s side p k m e = named_take a s side p k m e

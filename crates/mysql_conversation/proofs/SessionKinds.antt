@@ -1,0 +1,129 @@
+-- In a session too a packet is of one kind.
+use Rattle.std.proofs.Common.{◌≡◌, ℕ, List, [], ◌∷◌, ◌++◌, ◌⊎◌, inl, inr, refl, sym, ap, subst, ◌∙◌, Bool, true, false, append_assoc}
+use Rattle.mysql_conversation.specs.Agreements.{Agreed}
+use Rattle.mysql_conversation.specs.Payloads.{first_is}
+use Rattle.mysql_conversation.specs.Piped.{place}
+use Rattle.mysql_conversation.specs.Pipelined.{Numbered, IsPipelined}
+use Rattle.mysql_conversation.specs.Session.{asks_tls, IsGreeting, IsGreetingError, IsSslRequest, IsLogin, Before, IsLoggedIn, IsSession, IsSessionBeginning}
+use Rattle.mysql_conversation.proofs.Classes.{some_is}
+use Rattle.mysql_conversation.proofs.SessionGoesOn.{AnswersGreeting, answer_at}
+use Rattle.mysql_conversation.proofs.Sessions.{begins_with, login_at_of, session_rest}
+use Rattle.mysql_conversation.proofs.Stood.{pipe_one_kind}
+use Rattle.mysql_conversation.specs.declared.kind.Kind.{Kind}
+use Rattle.mysql_conversation.specs.declared.kind.Opening.TheVariants.{Login}
+use Rattle.mysql_conversation.specs.declared.kind.Side.{Side}
+
+-- ---- how far a session has come
+
+abbrev Stage : List Numbered → Type 0
+Stage items =
+    (items ≡ []) ⊎ (((server : Agreed) × (tls : Bool) × Before server tls items)
+    ⊎ ((a : Agreed) × (front : List Numbered) × (x : Numbered) × (its : List Numbered) × (items ≡ front ++ x ∷ its) × IsLoggedIn a front x))
+
+-- a packet of a list stands before one in it, or is that, or stands after it
+abbrev Where : List Numbered → Numbered → List Numbered → List Numbered → Numbered → Type 0
+Where items y more front x =
+    ((its : List Numbered) × (front ≡ items ++ y ∷ its)) ⊎ ((items ≡ front) ⊎ ((its : List Numbered) × (items ≡ front ++ x ∷ its)))
+
+where_is : (items more front rest : List Numbered) (y x : Numbered) → items ++ y ∷ more ≡ front ++ x ∷ rest → Where items y more front x
+where_is [] more [] rest y x e = inr (inl refl)
+where_is [] more (u ∷ front) rest y x e = inl (front, ap (λ y. y ∷ front) (sym (the_head e)))
+  where
+    the_head : y ∷ more ≡ u ∷ (front ++ x ∷ rest) → y ≡ u
+    the_head e = cc
+where_is (z ∷ items) more [] rest y x e = inr (inr (items, ap (λ z. z ∷ items) (the_head e)))
+  where
+    the_head : z ∷ (items ++ y ∷ more) ≡ x ∷ rest → z ≡ x
+    the_head e = cc
+where_is (z ∷ items) more (u ∷ front) rest y x e = elim (where_is items more front rest y x (the_tail e)) [
+  | inl h ↦ inl (h.0, ap (λ u. u ∷ front) (sym (the_head e)) ∙ ap (λ fs. z ∷ fs) h.1)
+  | inr h ↦ elim h [
+    | inl g ↦ inr (inl (ap (λ is. z ∷ is) g ∙ ap (λ z. z ∷ front) (the_head e)))
+    | inr g ↦ inr (inr (g.0, ap (λ is. z ∷ is) g.1 ∙ ap (λ z. z ∷ (front ++ x ∷ g.0)) (the_head e)))
+  ]
+]
+  where
+    the_head : z ∷ (items ++ y ∷ more) ≡ u ∷ (front ++ x ∷ rest) → z ≡ u
+    the_head e = cc
+
+    the_tail : z ∷ (items ++ y ∷ more) ≡ u ∷ (front ++ x ∷ rest) → items ++ y ∷ more ≡ front ++ x ∷ rest
+    the_tail e = cc
+
+none_before_one : (items its : List Numbered) (y u : Numbered) → u ∷ [] ≡ items ++ y ∷ its → items ≡ []
+none_before_one [] its y u e = refl
+none_before_one (z ∷ []) its y u e = absurd cc
+none_before_one (z ∷ w ∷ items) its y u e = absurd cc
+
+one_before_two : (items its : List Numbered) (y u w : Numbered) → u ∷ w ∷ [] ≡ items ++ y ∷ its → (items ≡ []) ⊎ (items ≡ u ∷ [])
+one_before_two [] its y u w e = inl refl
+one_before_two (z ∷ []) its y u w e = inr (ap (λ z. z ∷ []) (the_head e))
+  where
+    the_head : u ∷ w ∷ [] ≡ z ∷ y ∷ its → z ≡ u
+    the_head e = cc
+one_before_two (z ∷ v ∷ []) its y u w e = absurd cc
+one_before_two (z ∷ v ∷ t ∷ items) its y u w e = absurd cc
+
+before_login : (items its front : List Numbered) (y : Numbered) (server : Agreed) (tls : Bool) → Before server tls front → front ≡ items ++ y ∷ its → Stage items
+before_login items its front y server false f e = inl (none_before_one items its y f.0 (sym f.1 ∙ e))
+before_login items its front y server true f e = elim (one_before_two items its y f.0 f.1 (sym f.2 ∙ e)) [
+  | inl h ↦ inl h
+  | inr h ↦ inr (inl (server, false, (f.0, h, f.3)))
+]
+
+stage : (items more : List Numbered) (y : Numbered) → IsSession (items ++ y ∷ more) → Stage items
+stage items more y (inl h) = inl (none_before_one items more y h.0 (sym h.1))
+stage items more y (inr h) = elim (where_is items more h.1 h.3 y h.2 h.4) [
+  | inl g ↦ before_login items g.0 h.1 y h.5.0 h.5.2 h.5.3 g.1
+  | inr g ↦ elim g [
+    | inl e ↦ inr (inl (h.5.0, h.5.2, subst (λ xs. Before h.5.0 h.5.2 xs) (sym e) h.5.3))
+    | inr e ↦ inr (inr (h.0, h.1, h.2, e.0, e.1, h.5))
+  ]
+]
+
+-- ---- of one kind
+
+abbrev Same : Kind → Kind → ℕ → ℕ → Type 0
+Same j k m n = (j ≡ k) × (m ≡ n)
+
+abbrev Begins : Numbered → Type 0
+Begins y = IsGreetingError y ⊎ ((server : Agreed) × IsGreeting server y)
+
+same_greeting : (side : Side) (p : List ℕ) (j k : Kind) (m n : ℕ) → Begins (place side p j m) → Begins (place side p k n) → Same j k m n
+same_greeting side p j k m n (inl g) (inl h) = (g.0.1 ∙ sym h.0.1, g.0.2 ∙ sym h.0.2)
+same_greeting side p j k m n (inr g) (inr h) = (g.1.0.1 ∙ sym h.1.0.1, g.1.0.2 ∙ sym h.1.0.2)
+same_greeting side p j k m n (inl g) (inr h) = let yes : first_is 0xff p ≡ true = g.1 in let no : first_is 0xff p ≡ false = h.1.1 in absurd cc
+same_greeting side p j k m n (inr g) (inl h) = let no : first_is 0xff p ≡ false = g.1.1 in let yes : first_is 0xff p ≡ true = h.1 in absurd cc
+
+plain_or_tls : (tls : Bool) (c : Agreed) (side : Side) (p : List ℕ) (j k : Kind) (m n : ℕ) → tls ≡ false → IsSslRequest (place side p j m) → IsLogin tls c (place side p k n) → ⊥
+plain_or_tls true c side p j k m n e t l = absurd cc
+plain_or_tls false c side p j k m n e t l =
+    let same : t.1 ≡ l.1 = some_is (sym (login_at_of t.1 p t.2) ∙ login_at_of l.1 p l.2) in
+    let yes : asks_tls l.1 ≡ true = ap asks_tls (sym same) ∙ t.3 in
+    let no : asks_tls l.1 ≡ false = l.3 in absurd cc
+
+same_answer : (tls : Bool) (side : Side) (p : List ℕ) (j k : Kind) (m n : ℕ) → AnswersGreeting tls (place side p j m) → AnswersGreeting tls (place side p k n) → Same j k m n
+same_answer tls side p j k m n (inl g) (inl h) = (g.1.0.1 ∙ sym h.1.0.1, g.1.0.2 ∙ sym h.1.0.2)
+same_answer tls side p j k m n (inr g) (inr h) = (g.1.0.1 ∙ sym h.1.0.1, g.1.0.2 ∙ sym h.1.0.2)
+same_answer tls side p j k m n (inl g) (inr h) = absurd (plain_or_tls tls h.0 side p j k m n g.0 g.1 h.1)
+same_answer tls side p j k m n (inr g) (inl h) = absurd (plain_or_tls tls g.0 side p k j n m h.0 h.1 g.1)
+
+same_by : (items : List Numbered) (side : Side) (p : List ℕ) (j k : Kind) (m n : ℕ) (xs ys : List Numbered) → Stage items → IsSession (items ++ place side p j m ∷ xs) → IsSession (items ++ place side p k n ∷ ys) → Same j k m n
+same_by items side p j k m n xs ys (inl e) g h =
+    same_greeting side p j k m n (begins_with (place side p j m) xs (subst (λ is. IsSession (is ++ place side p j m ∷ xs)) e g)) (begins_with (place side p k n) ys (subst (λ is. IsSession (is ++ place side p k n ∷ ys)) e h))
+same_by items side p j k m n xs ys (inr (inl f)) g h =
+    same_answer f.1 side p j k m n (answer_at (place side p j m) items xs f.0 f.1 f.2 g) (answer_at (place side p k n) items ys f.0 f.1 f.2 h)
+same_by items side p j k m n xs ys (inr (inr t)) g h =
+    pipe_one_kind t.0 Login t.3 side p j k m n (rest_of j m xs g) (rest_of k n ys h)
+  where
+    rest_of : (l : Kind) (i : ℕ) (zs : List Numbered) → IsSession (items ++ place side p l i ∷ zs) → (more : List Numbered) × IsPipelined t.0 Login ((t.3 ++ place side p l i ∷ []) ++ more)
+    rest_of l i zs s =
+        let y = place side p l i in
+        let at : IsSession (t.1 ++ t.2 ∷ (t.3 ++ y ∷ zs)) = subst (λ xs. IsSession xs) (ap (λ is. is ++ y ∷ zs) t.4 ∙ append_assoc t.1 (t.2 ∷ t.3) (y ∷ zs)) s in
+        (zs, subst (λ xs. IsPipelined t.0 Login xs) (sym (append_assoc t.3 (y ∷ []) zs)) (session_rest t.0 t.1 t.2 (t.3 ++ y ∷ zs) t.5 at))
+
+pub session_one_kind : (items : List Numbered) (side : Side) (p : List ℕ) (j k : Kind) (m n : ℕ)
+    → IsSessionBeginning (items ++ place side p j m ∷ []) → IsSessionBeginning (items ++ place side p k n ∷ []) → (j ≡ k) × (m ≡ n)
+session_one_kind items side p j k m n g h =
+    let a = subst (λ xs. IsSession xs) (append_assoc items (place side p j m ∷ []) g.0) g.1 in
+    let b = subst (λ xs. IsSession xs) (append_assoc items (place side p k n ∷ []) h.0) h.1 in
+    same_by items side p j k m n g.0 h.0 (stage items g.0 (place side p j m) a) a b

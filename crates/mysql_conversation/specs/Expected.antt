@@ -1,0 +1,104 @@
+-- Which kinds may come next.
+use Rattle.std.specs.Prelude.{List, [], ◌∷◌, Bool, true, false, ◌&&◌, ◌||◌, ◌==◌, not, if◌then◌else◌}
+use Rattle.mysql_conversation.specs.Agreements.{Agreed, deprecates_eof, asks_factors, reports_progress}
+use Rattle.mysql_conversation.specs.Machine.{rests, is_due}
+use Rattle.mysql_conversation.specs.KindName.{index, is_in}
+use Rattle.mysql_conversation.specs.Standing.{Standing, waits}
+use Rattle.mysql_conversation.specs.declared.kind.Side.{Side}
+use Rattle.mysql_conversation.specs.declared.kind.Side.TheVariants.{Client, Server}
+use Rattle.mysql_conversation.specs.declared.kind_name.KindName.{KindName}
+use Rattle.mysql_conversation.specs.declared.kind_name.KindName.TheVariants as name
+use Rattle.mysql_conversation.specs.declared.state.Request.{Request}
+use Rattle.mysql_conversation.specs.declared.state.Request.TheVariants.{Query, Execution, Cursor}
+use Rattle.mysql_conversation.specs.declared.state.State.{State}
+use Rattle.mysql_conversation.specs.declared.state.State.TheVariants as state
+
+-- of the client
+abbrev pub sent_names : State → List KindName
+sent_names state.Rest = name.Command ∷ []
+sent_names (state.Authentication true) = name.AuthData ∷ []
+sent_names (state.Authentication false) = []
+sent_names (state.Reply r) = []
+sent_names (state.Infile r) = name.InfileContent ∷ name.InfileEnd ∷ []
+sent_names (state.InfileReply r) = []
+sent_names (state.Definitions n b) = []
+sent_names (state.DefinitionsEnd b) = []
+sent_names (state.Rows r) = []
+sent_names state.Prepared = []
+sent_names state.Fetch = []
+sent_names state.Acknowledgement = []
+sent_names state.Text = []
+sent_names state.Fields = []
+sent_names state.Events = name.SemiSyncAck ∷ []
+sent_names state.Refusal = []
+
+-- how an end is named
+abbrev pub end_name : Bool → KindName
+end_name true = name.OkTerminator
+end_name false = name.Eof
+
+abbrev pub row_name : Request → KindName
+row_name Query = name.TextRow
+row_name Execution = name.BinaryRow
+row_name Cursor = name.BinaryRow
+
+-- what a server says before it is done
+abbrev pub asked_names : Bool → List KindName
+asked_names true = name.AuthSwitch ∷ name.OldAuthSwitch ∷ name.AuthMoreData ∷ name.AuthNextFactor ∷ name.AuthPluginData ∷ []
+asked_names false = name.AuthSwitch ∷ name.OldAuthSwitch ∷ name.AuthMoreData ∷ name.AuthPluginData ∷ []
+
+-- of the server, where it is neither an error nor a report of progress
+abbrev pub served_names : Agreed → State → List KindName
+served_names a state.Rest = []
+served_names a (state.Authentication is_asked) = name.Ok ∷ asked_names (asks_factors a)
+served_names a (state.Reply r) = name.Ok ∷ name.LocalInfile ∷ name.ColumnCount ∷ []
+served_names a (state.Infile r) = []
+served_names a (state.InfileReply r) = name.Ok ∷ []
+served_names a (state.Definitions n b) = name.Column ∷ []
+served_names a (state.DefinitionsEnd b) = name.Eof ∷ []
+served_names a (state.Rows r) = row_name r ∷ end_name (deprecates_eof a) ∷ []
+served_names a state.Prepared = name.PrepareOk ∷ []
+served_names a state.Fetch = name.BinaryRow ∷ end_name (deprecates_eof a) ∷ []
+served_names a state.Acknowledgement = name.Ok ∷ end_name (deprecates_eof a) ∷ []
+served_names a state.Text = name.Statistics ∷ []
+served_names a state.Fields = name.Column ∷ end_name (deprecates_eof a) ∷ []
+served_names a state.Events = name.BinlogEvent ∷ end_name (deprecates_eof a) ∷ []
+served_names a state.Refusal = []
+
+abbrev pub error_name : Bool → KindName
+error_name true = name.UnaskedError
+error_name false = name.Error
+
+abbrev pub reported : Bool → List KindName → List KindName
+reported true names = name.ProgressReport ∷ names
+reported false names = names
+
+-- an error may come at any time, and a report of progress where the server is to speak
+abbrev pub names : Agreed → State → Side → List KindName
+names a s Client = sent_names s
+names a s Server = error_name (rests s) ∷ reported (reports_progress a && is_due s) (served_names a s)
+
+abbrev pub expects : Agreed → State → Side → KindName → Bool
+expects a s side n = is_in n (names a s side)
+
+-- after which the client may answer by a packet that is no command
+abbrev pub asking_names : List KindName
+asking_names = name.AuthSwitch ∷ name.OldAuthSwitch ∷ name.AuthMoreData ∷ name.AuthNextFactor ∷ name.AuthPluginData ∷ name.LocalInfile ∷ name.InfileContent ∷ []
+
+-- Where commands may come early: a command where the server is to speak, and another packet of the client where no command waits. The
+-- server asks the client for nothing where commands wait.
+abbrev pub pipe_expects : Agreed → Standing → Side → KindName → Bool
+pipe_expects a w Client n =
+    if is_due w.state then (expects a w.state Client n && not (waits w.waiting)) || index n == index name.Command
+    else expects a w.state Client n
+pipe_expects a w Server n = expects a w.state Server n && not (waits w.waiting && is_in n asking_names)
+
+-- what a session begins with, and what answers the greeting, in TLS or not
+abbrev pub greeting_names : Side → List KindName
+greeting_names Client = []
+greeting_names Server = name.Handshake ∷ name.UnaskedError ∷ []
+
+abbrev pub login_names : Bool → Side → List KindName
+login_names tls Server = []
+login_names true Client = name.Login ∷ []
+login_names false Client = name.SslRequest ∷ name.Login ∷ []

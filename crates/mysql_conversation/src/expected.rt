@@ -1,0 +1,157 @@
+//! Which kinds may come next.
+
+ghost use Rattle.std.specs.Prelude.{◌≡◌, ◌==◌};
+ghost use Rattle.mysql_conversation.specs.Expected as spec;
+ghost use Rattle.mysql_conversation.specs.KindName.{is_in, index};
+
+use crate::agreed::{asks_factors, deprecates_eof, reports_progress};
+use crate::kind::Side;
+use crate::kind_name::KindName;
+use crate::state::{Request, State};
+use crate::step::{is_due, rests};
+use mysql_replies::SessionCapabilities;
+
+/// Of the client.
+fn is_sent(state: &State, name: KindName) -> bool
+    ensures { result ≡ is_in name (spec.sent_names state.now) }
+{
+    match *state {
+        State::Rest => matches!(name, KindName::Command),
+        State::Authentication(true) => matches!(name, KindName::AuthData),
+        State::Infile(_) => matches!(name, KindName::InfileContent | KindName::InfileEnd),
+        State::Events => matches!(name, KindName::SemiSyncAck),
+        _ => false,
+    }
+}
+
+/// Whether an end is so named.
+fn is_end(deprecates: bool, name: KindName) -> bool
+    ensures { result ≡ index name == index (spec.end_name deprecates) }
+{
+    if deprecates {
+        matches!(name, KindName::OkTerminator)
+    } else {
+        matches!(name, KindName::Eof)
+    }
+}
+
+/// Whether a row is so named.
+fn is_row(request: Request, name: KindName) -> bool
+    ensures { result ≡ index name == index (spec.row_name request) }
+{
+    match request {
+        Request::Query => matches!(name, KindName::TextRow),
+        Request::Execution | Request::Cursor => matches!(name, KindName::BinaryRow),
+    }
+}
+
+/// What a server says before a client is logged in.
+fn is_asked(factors: bool, name: KindName) -> bool
+    ensures { result ≡ is_in name (spec.asked_names factors) }
+{
+    match name {
+        KindName::AuthSwitch
+        | KindName::OldAuthSwitch
+        | KindName::AuthMoreData
+        | KindName::AuthPluginData => true,
+        KindName::AuthNextFactor => factors,
+        _ => false,
+    }
+}
+
+/// Of the server, where it is neither an error nor a report of progress.
+fn is_served(agreed: SessionCapabilities, state: &State, name: KindName) -> bool
+    ensures { result ≡ is_in name (spec.served_names agreed state.now) }
+{
+    let ends = is_end(deprecates_eof(agreed), name);
+    match *state {
+        State::Rest | State::Infile(_) | State::Refusal => false,
+        State::Authentication(_) => {
+            matches!(name, KindName::Ok) || is_asked(asks_factors(agreed), name)
+        }
+        State::Reply(_) => matches!(
+            name,
+            KindName::Ok | KindName::LocalInfile | KindName::ColumnCount
+        ),
+        State::InfileReply(_) => matches!(name, KindName::Ok),
+        State::Definitions(_, _) => matches!(name, KindName::Column),
+        State::DefinitionsEnd(_) => matches!(name, KindName::Eof),
+        State::Rows(request) => is_row(request, name) || ends,
+        State::Prepared => matches!(name, KindName::PrepareOk),
+        State::Fetch => matches!(name, KindName::BinaryRow) || ends,
+        State::Acknowledgement => matches!(name, KindName::Ok) || ends,
+        State::Text => matches!(name, KindName::Statistics),
+        State::Fields => matches!(name, KindName::Column) || ends,
+        State::Events => matches!(name, KindName::BinlogEvent) || ends,
+    }
+}
+
+/// Whether an error is so named, between two exchanges or in one.
+fn is_error(rests: bool, name: KindName) -> bool
+    ensures { result ≡ index name == index (spec.error_name rests) }
+{
+    if rests {
+        matches!(name, KindName::UnaskedError)
+    } else {
+        matches!(name, KindName::Error)
+    }
+}
+
+/// Whether a packet of this kind may come from this side.
+#[tactic(auto, using(crate::proofs::Named::reported_is))]
+pub(crate) fn expects(
+    agreed: SessionCapabilities,
+    state: &State,
+    from: Side,
+    name: KindName,
+) -> bool
+    ensures { result ≡ spec.expects agreed state.now from name }
+{
+    match from {
+        Side::Client => is_sent(state, name),
+        Side::Server => {
+            let reports = reports_progress(agreed) && is_due(state);
+            is_error(rests(state), name)
+                || (reports && matches!(name, KindName::ProgressReport))
+                || is_served(agreed, state, name)
+        }
+    }
+}
+
+/// Whether the client may answer a packet of this kind by one that is no command.
+pub(crate) fn asks(name: KindName) -> bool
+    ensures { result ≡ is_in name spec.asking_names }
+{
+    matches!(
+        name,
+        KindName::AuthSwitch
+            | KindName::OldAuthSwitch
+            | KindName::AuthMoreData
+            | KindName::AuthNextFactor
+            | KindName::AuthPluginData
+            | KindName::LocalInfile
+            | KindName::InfileContent
+    )
+}
+
+/// What a session begins with.
+pub(crate) fn is_greeting(from: Side, name: KindName) -> bool
+    ensures { result ≡ is_in name (spec.greeting_names from) }
+{
+    match from {
+        Side::Client => false,
+        Side::Server => matches!(name, KindName::Handshake | KindName::UnaskedError),
+    }
+}
+
+/// What answers the greeting, in TLS or not.
+pub(crate) fn is_login(in_tls: bool, from: Side, name: KindName) -> bool
+    ensures { result ≡ is_in name (spec.login_names in_tls from) }
+{
+    match from {
+        Side::Client => {
+            matches!(name, KindName::Login) || (!in_tls && matches!(name, KindName::SslRequest))
+        }
+        Side::Server => false,
+    }
+}

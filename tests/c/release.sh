@@ -1,0 +1,70 @@
+#!/usr/bin/env bash
+# What `mypackets-c --release` makes: twice the same bytes; the tar, unpacked in another folder, whose name has a space, builds the driver by
+# pkg-config and by CMake; so do the Debian packages. The last line is 'N passed, N failed'. CMake and Debian's tools are asked for where they are.
+set -uo pipefail
+top=$(cd -- "$(dirname -- "${BASH_SOURCE[0]}")/../.." && pwd) || exit 1
+work=$(mktemp -d) || exit 1
+trap 'rm -rf -- "$work"' EXIT
+passed=0 failed=0
+
+# expect WHAT COMMAND ..: the command succeeds
+expect() {
+    if "${@:2}" >"$work/log" 2>&1; then
+        passed=$((passed + 1))
+    else
+        failed=$((failed + 1))
+        printf '  FAILED: %s\n' "$1"
+        tail -n 5 -- "$work/log"
+    fi
+}
+
+# runs PROGRAM [FOLDER]: every call of it is found, and it says what it takes
+runs() { LD_BIND_NOW=1 LD_LIBRARY_PATH=${2:-} "$1" </dev/null 2>&1 | grep -q 'it takes HOST'; }
+
+# by_pkg_config FOLDER LIBDIR EXAMPLES: the driver over the shared library and over the archive
+by_pkg_config() {
+    local flags
+    flags=$(PKG_CONFIG_PATH=$1/$2/pkgconfig pkg-config --cflags --libs mysql_packets) || return 1
+    eval "cc -o \"$work/driver\" \"$3/c/driver.c\" $flags" && runs "$work/driver" "$1/$2"
+}
+
+# by_cmake FOLDER EXAMPLES TARGET
+by_cmake() {
+    local project=$work/project-$3
+    mkdir -p -- "$project"
+    printf 'cmake_minimum_required(VERSION 3.13)\nproject(app C)\nfind_package(mysql_packets 0.1 REQUIRED)\nadd_executable(app "%s/c/driver.c")\n%s\n' \
+        "$2" "target_link_libraries(app mysql_packets::$3)" >"$project/CMakeLists.txt"
+    cmake -S "$project" -B "$project/build" -DCMAKE_PREFIX_PATH="$1" && cmake --build "$project/build" && runs "$project/build/app"
+}
+
+if ! command -v dpkg-deb >"$work/log"; then
+    echo 'release.sh: not run: there is no dpkg-deb'
+    echo '0 passed, 0 failed'
+    exit 0
+fi
+expect 'a release is made' "$top/mypackets-c" --release "$work/one"
+expect 'and again' "$top/mypackets-c" --release "$work/two"
+expect 'both have the same bytes' diff -r -- "$work/one" "$work/two"
+expect 'the sums are those of the files' sh -c 'cd -- "$1" && sha256sum -c SHA256SUMS' sh "$work/one"
+
+mkdir -p -- "$work/other place"
+expect 'the tar is unpacked' tar -xzf "$work"/one/mysql-packets-*.tar.gz -C "$work/other place"
+tree=$(echo "$work/other place"/mysql-packets-*)
+expect "the tar's sums" sh -c 'cd -- "$1" && sha256sum -c SHA256SUMS' sh "$tree"
+expect 'pkg-config over the tar' by_pkg_config "$tree" lib "$tree/doc/examples"
+if command -v cmake >"$work/log"; then
+    expect 'CMake over the tar, shared' by_cmake "$tree" "$tree/doc/examples" mysql_packets
+    expect 'CMake over the tar, the archive' by_cmake "$tree" "$tree/doc/examples" static
+else
+    echo 'release.sh: not run: CMake is not installed'
+fi
+
+root=$work/root
+for package in "$work"/one/*.deb; do
+    expect "$(basename -- "$package") is unpacked" dpkg-deb -x "$package" "$root"
+    expect "$(basename -- "$package") has its control file" dpkg-deb -f "$package" Package Version Depends
+done
+libdir=$(cd -- "$root/usr" && echo lib/*-linux-gnu)
+expect 'pkg-config over the Debian packages' by_pkg_config "$root/usr" "$libdir" "$root/usr/share/doc/libmysql-packets-dev/examples"
+printf '%d passed, %d failed\n' "$passed" "$failed"
+((failed == 0))
