@@ -1,7 +1,7 @@
 #!/usr/bin/env python3
 """Lists each public call that can answer that memory was refused, and the clause that says when it can't. It fails where one has none.
 
-A call can answer so where its result names AllocError, a fault, or an error with a variant for memory. Its clause has a name that says so
+A call can answer so where its result names AllocError, a fault, an error with a variant for memory, or a run that has one. Its clause has a name that says so
 (NAMES), or words that do (WORDS). The readers of a trait have the trait's clause, over what each says by takes_memory. A copy that clone
 makes follows the contract of the standard library, which says nothing of memory. What asks for memory whatever it is passed is in ALWAYS, with
 its reason. The last line is 'N passed, N failed'."""
@@ -25,6 +25,7 @@ WORDS = {
     r"\bGivesText\b|BorrowsUtf8\b": "what is UTF-8 is borrowed",
     r"\bAdds(Row|Copy|Params)?\b": "memory is an answer only where the row would be taken",
     r"\bBuilds\b": "a request is built without memory",
+    r"\b(Cells)?RunGives\b": "memory is an answer only where a request is due, or the next row would be taken",
     r"\bMakesRequest\b": "memory is an answer only for rows of one length",
     r"\bRefuses self\b": "memory is an answer only where a name is asked for twice, or a list of values is made",
     r"\bRefusesValue\b": "memory is an answer only for a string that has a byte",
@@ -62,9 +63,12 @@ def refusals():
     # (FaultKind is what a fault is of, and no answer of a call)
     sources = [it.read_text() for library in libraries() for it in (library / "src").rglob("*.rt")]
     enums = [it for source in sources for it in re.findall(r"^pub enum (\w+)(?:<[^>]*>)? \{(.*?)^\}", source, re.M | re.S)]
+    # (what a whole run gives has its refusal in a field)
+    runs = [it for source in sources for it in re.findall(r"^pub struct (\w+)(?:<[^>]*>)? \{(.*?)^\}", source, re.M | re.S) if "    pub refusal: " in it[1]]
     # (an error may be made of another)
     while more := {name for name, body in enums if re.search(rf"^ {{4}}Memory\b|\b(?:{'|'.join(found)})\b", body, re.M)} - found:
         found |= more
+    found |= {name for name, body in runs if found & set(re.findall(r"\w+", body))}
     return found - {"FaultKind"}
 
 

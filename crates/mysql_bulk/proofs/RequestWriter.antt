@@ -97,7 +97,7 @@ fits_after w row n (Some m) long each size = (
 pub holds_more : (w : WriterState) (rows : List (List Content)) (row : List ValueRef) (size capacity : ℕ) (before : List ℕ) → Holds w rows → TakesRow (as_builder w rows) (map ref_content row)
     → RowFits (as_builder w rows) (map ref_content row) → size ≡ w.size + row_size (map ref_content row)
     → bytes_so_far (as_builder w (rows ++ map ref_content row ∷ [])) (rows ++ map ref_content row ∷ []) ≡ before ++ cells_bytes row
-    → Holds (with_row w before size capacity row) (rows ++ map ref_content row ∷ [])
+    → Holds (with_row w before size capacity (cells_bytes row)) (rows ++ map ref_content row ∷ [])
 holds_more w rows row size capacity before h t f total bytes =
     let values = map ref_content row in
     let P : ℕ → Type 0 = λ n. PartFits (rows_packing w.rule w.limit n) w.types_due (rows ++ values ∷ []) in
@@ -182,7 +182,7 @@ no_memory w row long spells fits = λ rows h. (rows, h, (takes w row long spells
 
 wrote : (w : WriterState) (row : List ValueRef) (size capacity : ℕ) (before : List ℕ) → length row ≡ length w.types → Spells w row → EachFits w row → size ≡ w.size + row_size (map ref_content row)
     → ((rows : List (List Content)) → Holds w rows → bytes_so_far (as_builder w (rows ++ map ref_content row ∷ [])) (rows ++ map ref_content row ∷ []) ≡ before ++ cells_bytes row)
-    → AddsAsBuilder w (map ref_content row) (Ok true) (with_row w before size capacity row)
+    → AddsAsBuilder w (map ref_content row) (Ok true) (with_row w before size capacity (cells_bytes row))
 wrote w row size capacity before long spells fits total bytes = λ rows h.
     let t = takes w row long spells rows in (
       rows ++ map ref_content row ∷ [],
@@ -196,11 +196,11 @@ first_after w [] row e b = first_bytes w row ∙ ap (λ (l : List ℕ). (l ++ he
 first_after w (r ∷ rows) row e b = cc
 
 pub wrote_first : (w : WriterState) (row : List ValueRef) (size capacity : ℕ) → length row ≡ length w.types → Spells w row → EachFits w row → size ≡ w.size + row_size (map ref_content row) → w.count ≡ 0
-    → AddsAsBuilder w (map ref_content row) (Ok true) (with_row w (w.bytes ++ head_bytes w) size capacity row)
+    → AddsAsBuilder w (map ref_content row) (Ok true) (with_row w (w.bytes ++ head_bytes w) size capacity (cells_bytes row))
 wrote_first w row size capacity long spells fits total empty = wrote w row size capacity (w.bytes ++ head_bytes w) long spells fits total (λ rows h. first_after w rows row (none_counted w rows h empty) h.bytes)
 
 pub wrote_further : (w : WriterState) (row : List ValueRef) (size capacity : ℕ) → length row ≡ length w.types → Spells w row → EachFits w row → size ≡ w.size + row_size (map ref_content row) → w.count ≢ 0
-    → AddsAsBuilder w (map ref_content row) (Ok true) (with_row w w.bytes size capacity row)
+    → AddsAsBuilder w (map ref_content row) (Ok true) (with_row w w.bytes size capacity (cells_bytes row))
 wrote_further w row size capacity long spells fits total some =
     wrote w row size capacity w.bytes long spells fits total (λ rows h. further_bytes w rows row (some_counted w rows h some) ∙ ap (λ (l : List ℕ). l ++ cells_bytes row) (sym h.bytes))
 

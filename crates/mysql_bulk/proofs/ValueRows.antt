@@ -7,8 +7,8 @@ use Rattle.std.proofs.lemmas.List.Sums.{sum_by-append}
 use Rattle.mysql_bulk.specs.declared.bulk_value.BulkValue.{BulkValue}
 use Rattle.mysql_bulk.specs.declared.error.BulkRowRefusal.TheVariants as refused
 use Rattle.mysql_bulk.specs.BulkValue.{Cell, cell_of, cells_bytes, cells_size}
-use Rattle.mysql_bulk.specs.RequestWriter.{WriterState, head_bytes}
-use Rattle.mysql_bulk.specs.ValueRows.{AddsCells, CellsFit, HoldsCells, Spells, rows_bytes, so_far, with_cells}
+use Rattle.mysql_bulk.specs.RequestWriter.{WriterState, head_bytes, with_row}
+use Rattle.mysql_bulk.specs.ValueRows.{AddsCells, CellsFit, HoldsCells, IsRequestOf, Spells, rows_bytes, request_of_cells, so_far}
 
 -- ---- the bytes of one row more
 
@@ -56,14 +56,14 @@ pub no_memory : (w : WriterState) (row : List Cell) → Spells w.types row → E
 no_memory w row spells fits = λ rows h. (spells, fits rows h, refl)
 
 -- its settings stay, and so do the bytes of its requests
-same : (w : WriterState) (row : List Cell) (size capacity : ℕ) (before : List ℕ) (rows : List (List Cell)) → so_far (with_cells w before size capacity row) (rows ++ row ∷ []) ≡ so_far w (rows ++ row ∷ [])
+same : (w : WriterState) (row : List Cell) (size capacity : ℕ) (before : List ℕ) (rows : List (List Cell)) → so_far (with_row w before size capacity (cells_bytes w.types row)) (rows ++ row ∷ []) ≡ so_far w (rows ++ row ∷ [])
 same w row size capacity before [] = refl
 same w row size capacity before (r ∷ rows) = refl
 
 -- it was written after these bytes
 wrote : (w : WriterState) (row : List Cell) (size capacity : ℕ) (before : List ℕ) → Spells w.types row → EachFits w row → size ≡ w.size + cells_size w.types row
     → ((rows : List (List Cell)) → HoldsCells w rows → so_far w (rows ++ row ∷ []) ≡ before ++ cells_bytes w.types row)
-    → AddsCells w row (Ok true) (with_cells w before size capacity row)
+    → AddsCells w row (Ok true) (with_row w before size capacity (cells_bytes w.types row))
 wrote w row size capacity before spells fits total bytes = λ rows h. (
   spells,
   fits rows h,
@@ -80,14 +80,22 @@ wrote w row size capacity before spells fits total bytes = λ rows h. (
 )
 
 pub wrote_first : (w : WriterState) (row : List Cell) (size capacity : ℕ) → Spells w.types row → EachFits w row → size ≡ w.size + cells_size w.types row → w.count ≡ 0
-    → AddsCells w row (Ok true) (with_cells w (w.bytes ++ head_bytes w) size capacity row)
+    → AddsCells w row (Ok true) (with_row w (w.bytes ++ head_bytes w) size capacity (cells_bytes w.types row))
 wrote_first w row size capacity spells fits total empty = wrote w row size capacity (w.bytes ++ head_bytes w) spells fits total (λ rows h. first_so_far w rows row (none_counted w rows h empty) h.bytes)
 
 pub wrote_further : (w : WriterState) (row : List Cell) (size capacity : ℕ) → Spells w.types row → EachFits w row → size ≡ w.size + cells_size w.types row → w.count ≢ 0
-    → AddsCells w row (Ok true) (with_cells w w.bytes size capacity row)
+    → AddsCells w row (Ok true) (with_row w w.bytes size capacity (cells_bytes w.types row))
 wrote_further w row size capacity spells fits total some =
     wrote w row size capacity w.bytes spells fits total (λ rows h. further_so_far w rows row (some_counted w rows h some) ∙ ap (λ (l : List ℕ). l ++ cells_bytes w.types row) (sym h.bytes))
 
 -- a writer in which no row waits
 pub holds_none : (w : WriterState) → w.count ≡ 0 → w.size ≡ 0 → w.bytes ≡ [] → HoldsCells w []
 holds_none w count size bytes = record { count = count; size = size; bytes = bytes; taken = All-nil (Spells w.types); fits = λ some. absurd (some refl) }
+
+-- the bytes are those of the request of the rows
+pub holds_request : (w : WriterState) (rows : List (List Cell)) → HoldsCells w rows → rows ≢ [] → IsRequestOf w rows w.bytes
+holds_request w rows h some = (some, h.bytes ∙ are_bytes w rows some, h.fits some)
+  where
+    are_bytes : (w : WriterState) (rows : List (List Cell)) → rows ≢ [] → so_far w rows ≡ request_of_cells w w.types_due rows
+    are_bytes w [] some = absurd (some refl)
+    are_bytes w (row ∷ rows) some = refl

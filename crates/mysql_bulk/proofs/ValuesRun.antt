@@ -1,14 +1,14 @@
 -- A whole run of a writer over rows of values, DEFAULT and IGNORE.
-use Rattle.std.proofs.Common.{◌≡◌, ◌≢◌, ◌⊎◌, ℕ, add-one, ◌+◌, ◌<◌, suc, zero, Bool, true, false, if◌then◌else◌, List, [], ◌∷◌, ◌++◌, length, map, take, drop, get_or, None, Some, Result, Ok, Err, refl, sym, ◌∙◌, ap, subst, inl, inr, arith}
+use Rattle.std.proofs.Common.{◌≡◌, ◌≢◌, ◌⊎◌, ℕ, add-one, ◌+◌, ◌<◌, suc, zero, Bool, true, false, if◌then◌else◌, List, [], ◌∷◌, ◌++◌, length, map, take, drop, get_or, Some, None, Result, Ok, Err, refl, sym, ◌∙◌, ap, subst, inl, inr, arith}
 use Rattle.std.specs.Prelude.{IfErr, OnOk}
 use Rattle.std.proofs.lemmas.List.{append-nil}
 use Rattle.mysql_bulk.specs.declared.error.BulkRowRefusal.{BulkRowRefusal}
 use Rattle.mysql_bulk.specs.declared.error.BulkRowRefusal.TheVariants as refused
 use Rattle.mysql_bulk.specs.BulkValue.{Cell}
 use Rattle.mysql_bulk.specs.RequestWriter.{WriterState}
-use Rattle.mysql_bulk.specs.ValueRows.{AddsCells, AreFewestOfCells, LetsGo, StreamsCells}
-use Rattle.mysql_bulk.specs.ValuesRun.{CellsRunGives, IsNewWriter, Offered, OfferRefused, RefusesCells}
-use Rattle.mysql_bulk.proofs.StreamedCells.{cells_fewest, cells_refused, never_kept, sent_refused}
+use Rattle.mysql_bulk.specs.ValueRows.{AddsCells, HoldsCells, LetsGo, StreamsCells}
+use Rattle.mysql_bulk.specs.ValuesRun.{CellsRunGives, Offered, OfferRefused}
+use Rattle.mysql_bulk.proofs.StreamedCells.{cells_due, cells_kept, cells_refused, cells_sent, never_kept, sent_refused}
 
 -- ---- one row
 
@@ -28,14 +28,18 @@ again_taken u m v x row b c q more a f e g sent adds is =
     inr (v, not_taken u m row b a f e, let_go_from u m v e g, subst A is adds, sent ∙ ap (λ (s : WriterState). q ++ s.bytes ∷ []) e)
 
 pub again_refused : (u m v x : WriterState) (row : List Cell) (b : Bool) (q more : List (List ℕ)) (e : BulkRowRefusal) → AddsCells u row (Ok b) m → b ≡ false → m ≡ u → LetsGo m v → more ≡ q ++ m.bytes ∷ []
-    → AddsCells v row (Err e) x → OfferRefused u row q e more
+    → AddsCells v row (Err e) x → OfferRefused u row q e x more
 again_refused u m v x row b q more e a f same g sent adds =
-    inr (inr (inl (v, x, not_taken u m row b a f same, let_go_from u m v same g, adds, sent ∙ ap (λ (s : WriterState). q ++ s.bytes ∷ []) same)))
+    inr (inr (inl (v, not_taken u m row b a f same, let_go_from u m v same g, adds, sent ∙ ap (λ (s : WriterState). q ++ s.bytes ∷ []) same)))
 
 pub again_kept : (u m v x : WriterState) (row : List Cell) (b c : Bool) (q more : List (List ℕ)) (e : BulkRowRefusal) → AddsCells u row (Ok b) m → b ≡ false → m ≡ u → LetsGo m v → AddsCells v row (Ok c) x → c ≡ false → x ≡ v
-    → OfferRefused u row q e more
+    → OfferRefused u row q e x more
 again_kept u m v x row b c q more e a f same g adds is stays =
     inr (inr (inr (v, not_taken u m row b a f same, let_go_from u m v same g, not_taken v x row c adds is stays)))
+
+-- the request that is due was not let go
+pub not_sent : (u m v : WriterState) (row : List Cell) (b : Bool) (q more : List (List ℕ)) → AddsCells u row (Ok b) m → b ≡ false → m ≡ u → v ≡ m → more ≡ q → OfferRefused u row q refused.Memory v more
+not_sent u m v row b q more a f same kept is = inr (inl (refl, not_taken u m row b a f same, kept ∙ same, is))
 
 -- ---- rows one after another
 
@@ -71,39 +75,35 @@ streams_more rows w u m row q more s o =
 
 -- ---- the ends of a run
 
-gives_refused : (w : WriterState) (rows : List (List Cell)) (q : List (List ℕ)) (e : BulkRowRefusal) → RefusesCells w rows q e → CellsRunGives w rows q (Some e)
-gives_refused w rows q refused.MixedArity r = r
-gives_refused w rows q refused.MixedTypes r = r
-gives_refused w rows q refused.TooLarge r = r
-gives_refused w rows q refused.Memory r = tt
-
-pub run_refused : (w u : WriterState) (all rows later : List (List Cell)) (row : List Cell) (q more : List (List ℕ)) (e : BulkRowRefusal) → IsNewWriter w → all ≡ rows ++ row ∷ later → StreamsCells w rows q u → OfferRefused u row q e more
-    → CellsRunGives w all more (Some e)
-run_refused w u all rows later row q more e new whole s o =
+pub run_refused : (w u m : WriterState) (before all rows later : List (List Cell)) (row : List Cell) (q more : List (List ℕ)) (e : BulkRowRefusal) → HoldsCells w before → all ≡ rows ++ row ∷ later → StreamsCells w rows q u
+    → OfferRefused u row q e m more → CellsRunGives w before all more (Some e) m
+run_refused w u m before all rows later row q more e h whole s o =
+    let R : List (List Cell) → List (List ℕ) → BulkRowRefusal → WriterState → Type 0 = λ l p x y. CellsRunGives w before l p (Some x) y in
+    subst (λ l. R l more e m) (sym whole)
+    (
     elim o [
-      | inl is ↦ let P : BulkRowRefusal → Type 0 = λ x. CellsRunGives w all more (Some x) in subst P (sym is) tt
+      | inl at ↦ subst (λ p. R (rows ++ row ∷ later) p e m) (sym at.1) (cells_refused w u m before rows later q row e h s at.0)
       | inr o1 ↦ elim o1 [
         | inl at ↦
-            let P : List (List ℕ) → Type 0 = λ l. RefusesCells w all l e in
-            gives_refused w all more e (subst P (sym at.2) (record { taken = rows; row = row; later = later; whole = whole; last = u; ends = cells_refused w u at.0 rows later q row e new.none new.due s at.1 }))
+            subst (λ p. R (rows ++ row ∷ later) p e m) (sym at.3)
+            (subst (λ x. R (rows ++ row ∷ later) q x m) (sym at.0) (subst (λ y. R (rows ++ row ∷ later) q refused.Memory y) (sym at.2) (cells_due w u before rows later q row h s at.1)))
         | inr o2 ↦ elim o2 [
-          | inl at ↦
-              let P : List (List ℕ) → Type 0 = λ l. RefusesCells w all l e in
-              gives_refused w all more e (subst P (sym at.5) (record { taken = rows; row = row; later = later; whole = whole; last = at.0; ends = sent_refused w u at.0 at.1 rows later q row e new.none new.due s at.2 at.3 at.4 }))
-          | inr at ↦ absurd (never_kept w u at.0 rows q row new.none new.due s at.1 at.2 at.3)
+          | inl at ↦ subst (λ p. R (rows ++ row ∷ later) p e m) (sym at.4) (sent_refused w u at.0 m before rows later q row e h s at.1 at.2 at.3)
+          | inr at ↦ absurd (never_kept w u at.0 before rows q row h s at.1 at.2 at.3)
         ]
       ]
     ]
+    )
 
-pub run_sent : (w u : WriterState) (rows : List (List Cell)) (q more : List (List ℕ)) → IsNewWriter w → rows ≢ [] → StreamsCells w rows q u → more ≡ q ++ u.bytes ∷ [] → CellsRunGives w rows more None
-run_sent w u [] q more new some s is = absurd (some refl)
-run_sent w u (row ∷ rows) q more new some s is =
-    let P : List (List ℕ) → Type 0 = λ l. AreFewestOfCells w (row ∷ rows) l in
-    subst P (sym is) (cells_fewest w u (row ∷ rows) q new.none new.due s some)
+pub run_sent : (w u v : WriterState) (before rows : List (List Cell)) (q more : List (List ℕ)) → HoldsCells w before → StreamsCells w rows q u → u.count ≢ 0 → LetsGo u v → more ≡ q ++ u.bytes ∷ [] → CellsRunGives w before rows more None v
+run_sent w u v before rows q more h s some go is =
+    let P : List (List ℕ) → Type 0 = λ l. CellsRunGives w before rows l None v in
+    subst P (sym is) (cells_sent w u v before rows q h s some go)
 
-pub run_empty : (w : WriterState) (rows : List (List Cell)) (q : List (List ℕ)) → rows ≡ [] → q ≡ [] → CellsRunGives w rows q None
-run_empty w [] q none is = is
-run_empty w (row ∷ rows) q none is = cc
+pub run_kept : (w u v : WriterState) (before rows : List (List Cell)) (q more : List (List ℕ)) → HoldsCells w before → StreamsCells w rows q u → u.count ≢ 0 → v ≡ u → more ≡ q → CellsRunGives w before rows more (Some refused.Memory) v
+run_kept w u v before rows q more h s some stays is =
+    let P : List (List ℕ) → WriterState → Type 0 = λ l x. CellsRunGives w before rows l (Some refused.Memory) x in
+    subst (λ l. P l v) (sym is) (subst (λ x. P q x) (sym stays) (cells_kept w u before rows q h s some))
 
 -- ---- lists
 

@@ -118,9 +118,9 @@ cells_bytes row = flat_map (λ v. cell (ref_content v)) row
 abbrev pub head_bytes : WriterState → List ℕ
 head_bytes w = head.bytes (record { stmt_id = w.stmt_id; bulk_flags = request_flags w.types_due w.results; types = if w.types_due then w.types else [] })
 
--- one more row was written after these bytes, where the rows have so many bytes now, and the buffer has this capacity
-abbrev pub with_row : WriterState → List ℕ → (size capacity : ℕ) → List ValueRef → WriterState
-with_row w before size capacity row = record w { count = w.count + 1; size = size; bytes = before ++ cells_bytes row; capacity = capacity }
+-- one more row, which is these bytes, was written after those before it, where the rows have so many bytes now, and the buffer has this capacity
+abbrev pub with_row : WriterState → (before : List ℕ) → (size capacity : ℕ) → (row : List ℕ) → WriterState
+with_row w before size capacity row = record w { count = w.count + 1; size = size; bytes = before ++ row; capacity = capacity }
 
 -- how many bytes the head of the next request takes
 abbrev pub head_size : WriterState → ℕ

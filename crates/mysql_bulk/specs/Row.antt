@@ -1,9 +1,9 @@
 -- Rows of a bulk request: what their values hold, their lengths and their sizes.
-use Rattle.std.specs.Prelude.{◌≡◌, ℕ, ◌+◌, ◌<◌, ◌⊎◌, IsTrue, List, [], ◌∷◌, length, map, sum_by}
+use Rattle.std.specs.Prelude.{◌≡◌, ℕ, ◌+◌, ◌*◌, ◌<◌, ◌≤◌, ◌⊎◌, Bool, if◌then◌else◌, IsTrue, List, [], ◌∷◌, length, map, sum_by}
 use Rattle.std.specs.Global.{Vec}
 use Rattle.std.specs.List.{list_any}
 use Rattle.mysql_cuts.specs.declared.rule.BulkRule.{BulkRule}
-use Rattle.mysql_cuts.specs.Cut.{Packing}
+use Rattle.mysql_cuts.specs.Cut.{Packing, WithinRows}
 use Rattle.mysql_values.specs.declared.value.Value.{Value}
 use Rattle.mysql_values.specs.Value.{Content, contents_of, bin_size}
 use Rattle.mysql_values.specs.ValueDeserializer.{has_bytes}
@@ -65,3 +65,7 @@ rows_packing rule limit arity = record {
   types_always = rule.types_always;
   max_rows = rule.max_rows;
 }
+
+-- so many rows of so many values, of so many bytes, may be one request, which sends types or not
+abbrev pub MayBeRequest : BulkRule → (limit arity : ℕ) → (types : Bool) → (count size : ℕ) → Type 0
+MayBeRequest rule limit arity types count size = (7 + (if types then 2 * arity else 0) + size ≤ limit) × WithinRows rule.max_rows count

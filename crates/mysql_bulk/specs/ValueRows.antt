@@ -2,10 +2,11 @@
 use Rattle.std.specs.Prelude.{◌≡◌, ◌≢◌, ◌⊎◌, ℕ, ◌+◌, ◌^◌, ◌<◌, ◌≤◌, ◌==◌, Bool, true, false, if◌then◌else◌, IsTrue, List, [], ◌∷◌, ◌++◌, length, None, Result, Ok, Err, All, sum_by}
 use Rattle.std.specs.List.{flat_map}
 use Rattle.mysql_cuts.specs.declared.rule.BulkRule.{BulkRule}
-use Rattle.mysql_cuts.specs.Cut.{Packing, PartFits, NoneEmpty, HasFittingCut, IsFewest, IsFullFromFront, rows_in}
+use Rattle.mysql_cuts.specs.Cut.{Packing, PartFits}
 use Rattle.mysql_values.specs.declared.param_type.ParamType.{ParamType}
 use Rattle.mysql_bulk.specs.declared.error.BulkRowRefusal.{BulkRowRefusal}
 use Rattle.mysql_bulk.specs.declared.error.BulkRowRefusal.TheVariants as refused
+use Rattle.mysql_bulk.specs.Builder.{BuilderState}
 use Rattle.mysql_bulk.specs.BulkValue.{Cell, cells_bytes, cells_size, spells_cells}
 use Rattle.mysql_bulk.specs.RequestWriter.{WriterState, head_bytes, head_size}
 
@@ -52,13 +53,13 @@ pub record HoldsCells (w : WriterState) (rows : List (List Cell)) : Type 0 where
 
 -- ---- its steps
 
--- a writer that was only made
-abbrev pub new_writer : (stmt_id limit : ℕ) → List ParamType → (capacity : ℕ) → WriterState
-new_writer stmt_id limit types capacity = record {
+-- a writer that was only made, with these settings
+abbrev pub writer_with : (stmt_id limit : ℕ) → (results : Bool) → BulkRule → List ParamType → (capacity : ℕ) → WriterState
+writer_with stmt_id limit results rule types capacity = record {
   stmt_id = stmt_id;
   limit = limit;
-  results = false;
-  rule = record { types_always = false; max_rows = None };
+  results = results;
+  rule = rule;
   types = types;
   types_due = true;
   count = 0;
@@ -66,6 +67,16 @@ new_writer stmt_id limit types capacity = record {
   bytes = [];
   capacity = capacity;
 }
+
+abbrev pub plain_rule : BulkRule
+plain_rule = record { types_always = false; max_rows = None }
+
+abbrev pub new_writer : (stmt_id limit : ℕ) → List ParamType → (capacity : ℕ) → WriterState
+new_writer stmt_id limit types capacity = writer_with stmt_id limit false plain_rule types capacity
+
+-- with the settings of a builder
+abbrev pub writer_of : BuilderState → List ParamType → (capacity : ℕ) → WriterState
+writer_of s types capacity = writer_with s.stmt_id s.limit s.results s.rule types capacity
 
 -- the row fits with those that were written
 abbrev pub CellsFit : WriterState → List (List Cell) → List Cell → Type 0
@@ -89,11 +100,11 @@ AddsCells w row result u = (rows : List (List Cell)) → HoldsCells w rows → A
 
 -- the request is let go: where a row was written, no row waits, and the rule says whether the next request sends types
 abbrev pub LetsGo : WriterState → WriterState → Type 0
-LetsGo w u = u ≡ (if w.count == 0 then w else record w { types_due = w.rule.types_always; count = 0; size = 0; bytes = [] })
+LetsGo w u = u ≡ (if w.count == 0 then record w { capacity = u.capacity } else record w { types_due = w.rule.types_always; count = 0; size = 0; bytes = []; capacity = u.capacity })
 
--- one more row was written after these bytes
-abbrev pub with_cells : WriterState → List ℕ → (size capacity : ℕ) → List Cell → WriterState
-with_cells w before size capacity row = record w { count = w.count + 1; size = size; bytes = before ++ cells_bytes w.types row; capacity = capacity }
+-- the request of these rows was asked for: there are some, these are its bytes, and it may be one
+abbrev pub IsRequestOf : WriterState → List (List Cell) → List ℕ → Type 0
+IsRequestOf w rows bytes = (rows ≢ []) × (bytes ≡ request_of_cells w w.types_due rows) × PartFits (packing w) w.types_due rows
 
 -- how many bytes are written for a row: before the first one, the head too
 abbrev pub cells_more : WriterState → List Cell → ℕ
@@ -120,27 +131,3 @@ AreCellRequests w types [] [] = Unit {0}
 AreCellRequests w types (part ∷ parts) (bytes ∷ requests) = (bytes ≡ request_of_cells w types part) × AreCellRequests w w.rule.types_always parts requests
 AreCellRequests w types [] (bytes ∷ requests) = ⊥
 AreCellRequests w types (part ∷ parts) [] = ⊥
-
--- the requests are those of a fewest cut of the rows
-pub record AreFewestOfCells (w : WriterState) (rows : List (List Cell)) (requests : List (List ℕ)) : Type 0 where
-  pub cut : List (List (List Cell))
-  pub fewest : IsFewest (packing w) rows cut
-  pub bytes : AreCellRequests w true cut requests
-
--- after a refusal of the row that was offered after these rows
-pub record CellsEndRefused (w : WriterState) (rows : List (List Cell)) (requests : List (List ℕ)) (row : List Cell) (later : List (List Cell)) (e : BulkRowRefusal) (u : WriterState) : Type 0 where
-  -- the rows that were sent, in a part for each request, and those that wait: no row is lost
-  pub cut : List (List (List Cell))
-  pub none_empty : NoneEmpty cut
-  pub waiting : List (List Cell)
-  pub all_rows : rows_in cut ++ waiting ≡ rows
-  pub bytes : AreCellRequests w true cut requests
-  pub holds : HoldsCells u waiting
-  -- the requests are full from the front, whatever comes after the row
-  pub full_from_front : IsFullFromFront (packing w) (rows ++ row ∷ later) cut
-  -- the rows have a fitting cut; with a row that is too large they have none
-  pub rows_fit : HasFittingCut (packing w) rows
-  pub too_large : e ≡ refused.TooLarge → HasFittingCut (packing w) (rows ++ row ∷ []) → ⊥
-  -- another row is refused for itself
-  pub arity : e ≡ refused.MixedArity → length row ≢ length w.types
-  pub types : e ≡ refused.MixedTypes → Spells w.types row → ⊥

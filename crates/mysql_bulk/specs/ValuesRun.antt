@@ -1,12 +1,13 @@
 -- A whole run of a writer over rows of values, DEFAULT and IGNORE.
-use Rattle.std.specs.Prelude.{◌≡◌, ◌⊎◌, ℕ, true, false, List, [], ◌∷◌, ◌++◌, map, Option, Some, None, Result, Ok, Err}
+use Rattle.std.specs.Prelude.{◌≡◌, ◌≢◌, ◌⊎◌, ℕ, Bool, true, false, List, [], ◌∷◌, ◌++◌, map, Option, Some, None, Result, Ok, Err}
 use Rattle.std.specs.Global.{Vec}
+use Rattle.mysql_cuts.specs.Cut.{FullFrom, HasFittingCut, IsFewest, IsFullFromFront, NoneEmpty, rows_in, types_after}
 use Rattle.mysql_bulk.specs.declared.bulk_value.BulkValue.{BulkValue}
 use Rattle.mysql_bulk.specs.declared.error.BulkRowRefusal.{BulkRowRefusal}
 use Rattle.mysql_bulk.specs.declared.error.BulkRowRefusal.TheVariants as refused
 use Rattle.mysql_bulk.specs.BulkValue.{Cell, cell_of}
 use Rattle.mysql_bulk.specs.RequestWriter.{WriterState}
-use Rattle.mysql_bulk.specs.ValueRows.{AddsCells, AreFewestOfCells, CellsEndRefused, HoldsCells, LetsGo}
+use Rattle.mysql_bulk.specs.ValueRows.{AddsAfter, AddsCells, AreCellRequests, CellsFit, HoldsCells, LetsGo, Spells, packing}
 
 abbrev pub cells_of_row : Vec BulkValue → List Cell
 cells_of_row row = map cell_of row.items
@@ -25,43 +26,74 @@ Offered u row requests m more =
     (AddsCells u row (Ok true) m × (more ≡ requests))
     ⊎ ((v : WriterState) × AddsCells u row (Ok false) u × LetsGo u v × AddsCells v row (Ok true) m × (more ≡ requests ++ u.bytes ∷ []))
 
--- it was refused: at once, or after a request was let go; memory was refused; or it did not fit where no row waits, which is no answer
-abbrev pub OfferRefused : WriterState → List Cell → List (List ℕ) → BulkRowRefusal → List (List ℕ) → Type 0
-OfferRefused u row requests e more =
-    (e ≡ refused.Memory)
-    ⊎ (((v : WriterState) × AddsCells u row (Err e) v × (more ≡ requests))
-    ⊎ (((v : WriterState) × (m : WriterState) × AddsCells u row (Ok false) u × LetsGo u v × AddsCells v row (Err e) m × (more ≡ requests ++ u.bytes ∷ []))
+-- it was refused: at once; or for memory, since the request that is due was not let go; or after that; or it did not fit where no
+-- row waits, which is no answer
+abbrev pub OfferRefused : WriterState → List Cell → List (List ℕ) → BulkRowRefusal → WriterState → List (List ℕ) → Type 0
+OfferRefused u row requests e m more =
+    (AddsCells u row (Err e) m × (more ≡ requests))
+    ⊎ (((e ≡ refused.Memory) × AddsCells u row (Ok false) u × (m ≡ u) × (more ≡ requests))
+    ⊎ (((v : WriterState) × AddsCells u row (Ok false) u × LetsGo u v × AddsCells v row (Err e) m × (more ≡ requests ++ u.bytes ∷ []))
     ⊎ ((v : WriterState) × AddsCells u row (Ok false) u × LetsGo u v × AddsCells v row (Ok false) v)))
 
 -- ---- the run
 
--- these requests of the rows that were taken, and then a row that is refused
-pub record RefusesCells (w : WriterState) (rows : List (List Cell)) (requests : List (List ℕ)) (e : BulkRowRefusal) : Type 0 where
-  pub taken : List (List Cell)
-  pub row : List Cell
-  pub later : List (List Cell)
-  pub whole : rows ≡ taken ++ row ∷ later
-  pub last : WriterState
-  pub ends : CellsEndRefused w taken requests row later e last
+-- the writer that is left where these parts were sent: its settings stay
+abbrev pub with_settings : WriterState → (types_due : Bool) → WriterState → WriterState
+with_settings w due u = record w { types_due = due; count = u.count; size = u.size; bytes = u.bytes; capacity = u.capacity }
 
--- all rows are sent, in the fewest requests
-abbrev pub SentAll : WriterState → List (List Cell) → List (List ℕ) → Type 0
-SentAll w [] requests = requests ≡ []
-SentAll w (row ∷ rows) requests = AreFewestOfCells w (row ∷ rows) requests
+abbrev pub left_by : WriterState → List (List (List Cell)) → WriterState → WriterState
+left_by w cut u = with_settings w (types_after (packing w) w.types_due cut) u
 
--- the right row is refused, or memory was
-abbrev pub RunRefused : WriterState → List (List Cell) → List (List ℕ) → BulkRowRefusal → Type 0
-RunRefused w rows requests refused.Memory = Unit {0}
-RunRefused w rows requests e = RefusesCells w rows requests e
+-- the request of the rows that wait is due: no row is left, or the next one is taken and does not fit with them
+abbrev pub RequestIsDue : WriterState → (waiting dropped : List (List Cell)) → Type 0
+RequestIsDue u waiting [] = waiting ≢ []
+RequestIsDue u waiting (row ∷ later) = (waiting ≢ []) × Spells u.types row × (CellsFit u waiting row → ⊥)
 
-abbrev pub CellsRunGives : WriterState → List (List Cell) → List (List ℕ) → Option BulkRowRefusal → Type 0
-CellsRunGives w rows requests None = SentAll w rows requests
-CellsRunGives w rows requests (Some e) = RunRefused w rows requests e
+-- the next row is refused, and for this reason
+abbrev pub RefusesNext : WriterState → (waiting dropped : List (List Cell)) → BulkRowRefusal → Type 0
+RefusesNext u waiting [] e = ⊥
+RefusesNext u waiting (row ∷ later) e = AddsAfter u waiting row (Err e) u
 
--- a writer that was only made and set up
-pub record IsNewWriter (w : WriterState) : Type 0 where
-  pub none : HoldsCells w []
-  pub due : w.types_due ≡ true
+-- why a run ended that left this writer, and before these rows
+abbrev pub EndsBy : Option BulkRowRefusal → WriterState → (waiting dropped : List (List Cell)) → Type 0
+-- all rows were sent
+EndsBy None u waiting dropped = (waiting ≡ []) × (dropped ≡ [])
+-- no memory was had for the request that is due, or for the next row, which fits
+EndsBy (Some refused.Memory) u waiting dropped = RequestIsDue u waiting dropped ⊎ RefusesNext u waiting dropped refused.Memory
+EndsBy (Some e) u waiting dropped = RefusesNext u waiting dropped e
+
+-- the next row, if there is one
+abbrev pub next_of : List (List Cell) → List (List Cell)
+next_of [] = []
+next_of (row ∷ later) = row ∷ []
+
+-- A run of a writer over rows, after those that waited before it, gave these requests, ended by this refusal if by one, and left the writer so.
+pub record CellsRunGives (w : WriterState) (before rows : List (List Cell)) (requests : List (List ℕ)) (refusal : Option BulkRowRefusal) (u : WriterState) : Type 0 where
+  -- the rows that were sent, in a part for each request, none of them empty
+  pub cut : List (List (List Cell))
+  pub none_empty : NoneEmpty cut
+  -- the rows that wait
+  pub waiting : List (List Cell)
+  pub holds : HoldsCells u waiting
+  -- the rows that were not taken: the refused one, and those after it
+  pub dropped : List (List Cell)
+  -- no row is lost: each was sent, waits, or was dropped, in this order
+  pub all_rows : (rows_in cut ++ waiting) ++ dropped ≡ before ++ rows
+  -- each request is that of its part
+  pub bytes : AreCellRequests w w.types_due cut requests
+  -- each part fits, and would not with the row after it
+  pub full_parts : FullFrom (packing w) w.types_due cut (waiting ++ dropped)
+  -- the settings stay, and types are due as they are after these requests
+  pub left : u ≡ left_by w cut u
+  -- why it ended
+  pub ended : EndsBy refusal u waiting dropped
+  -- where types were due, no fitting cut of a beginning of the rows is ahead of these requests, however the run ends
+  pub full_from_front : w.types_due ≡ true → IsFullFromFront (packing w) (before ++ rows) cut
+  -- the rows that were taken have a fitting cut; with a row that is too large they have none
+  pub rows_fit : w.types_due ≡ true → HasFittingCut (packing w) (rows_in cut ++ waiting)
+  pub too_large : w.types_due ≡ true → refusal ≡ Some refused.TooLarge → HasFittingCut (packing w) ((rows_in cut ++ waiting) ++ next_of dropped) → ⊥
+  -- and where none is refused, no fitting cut of the rows has fewer parts
+  pub fewest : w.types_due ≡ true → refusal ≡ None → IsFewest (packing w) (before ++ rows) cut
 
 abbrev pub refusal_of : Result (Unit {0}) BulkRowRefusal → Option BulkRowRefusal
 refusal_of (Ok done) = None

@@ -17,7 +17,7 @@ use crate::error::BulkExecuteRequestError;
 use crate::request::ComStmtBulkExecuteRequest;
 use crate::row::row_len;
 use crate::row_value::RowValue;
-use crate::size::request_len;
+use crate::size::size_within;
 use mysql_cuts::BulkRule;
 use mysql_values::{ParamType, Value};
 use mysql_wire::{Flags, StmtBulkExecuteFlags};
@@ -155,15 +155,8 @@ pub(crate) fn size_with<V: RowValue>(
         MatchOption result (PartFits (rows_packing rule limit (length row.now)) types (rows ++ map V.content row.now ∷ []) → ⊥)
         (λ n. PartFits (rows_packing rule limit (length row.now)) types (rows ++ map V.content row.now ∷ []) × (n ≡ sum_by row_size (rows ++ map V.content row.now ∷ []))) }
 {
-    if rule.max_rows.is_some_and(|most| most <= count) {
-        return None;
-    }
-    let rows = size.checked_add(row_len(row)?)?;
-    if request_len(row.len(), types, rows)? <= limit {
-        Some(rows)
-    } else {
-        None
-    }
+    let bytes = row_len(row)?;
+    size_within(rule, limit, row.len(), types, count, size, bytes)
 }
 
 /// The flags of a request.

@@ -34,8 +34,8 @@ ghost use Rattle.mysql_bulk.specs.Run.{RunState, NextRequest};
 ghost use Rattle.mysql_values.specs.TypedValue.{is_unsigned_type};
 ghost use Rattle.mysql_bulk.specs.BulkValue.{Cell, cell_spelled, cells_bytes, spells_cells};
 ghost use Rattle.mysql_bulk.specs.ReadValues.{CellFits, cell_read, row_read};
-ghost use Rattle.mysql_bulk.specs.ValueRows.{AddsCells, AreFewestOfCells, CellsEndRefused, HoldsCells, StreamsCells};
-ghost use Rattle.mysql_bulk.specs.ValuesRun.{IsNewWriter};
+ghost use Rattle.mysql_bulk.specs.ValueRows.{AddsCells, HoldsCells, LetsGo, StreamsCells};
+ghost use Rattle.mysql_bulk.specs.ValuesRun.{CellsRunGives};
 ghost use Rattle.mysql_bulk.specs.WholeRun.{IsNew, RunGives};
 
 use mysql_values::{Params, Value};
@@ -125,16 +125,15 @@ pub fn value_rows_round_trip()
         → (values_of_columns (map column_of_type types)).reads (cells_bytes types row ++ rest) ≡ Ok (row_read types row, rest) }
 {}
 
-/// Rows of values, DEFAULT and IGNORE that are streamed through a new writer under declared types of any width are sent in the
-/// fewest requests, by their sizes under these types: the last one is that of the rows that wait at the end. Where a row is
-/// refused, the requests before it are full from the front, whatever comes after it, and one that is too large has no fitting cut
-/// with the rows before it.
+/// Rows of values, DEFAULT and IGNORE that are streamed through a writer under declared types of any width give what
+/// `build_all_values` gives of these rows: with the request that is let go after the last, no row is lost, and where types were due
+/// they are the fewest, by their sizes under these types. So it does where a row is refused, whatever comes after it.
 pub fn streamed_values_are_sent_in_the_fewest_requests()
-    ensures all { (w u : WriterState) (rows : List (List Cell)) (requests : List (List ℕ)) → HoldsCells w [] → w.types_due ≡ true → StreamsCells w rows requests u → rows ≢ []
-        → AreFewestOfCells w rows (requests ++ u.bytes ∷ []) }
-    ensures refused { (w u v : WriterState) (rows later : List (List Cell)) (requests : List (List ℕ)) (row : List Cell) (e : BulkRowRefusal) → HoldsCells w [] → w.types_due ≡ true
-        → StreamsCells w rows requests u → AddsCells u row (Err e) v → CellsEndRefused w rows requests row later e u }
-    ensures new { (w : WriterState) → w.count ≡ 0 → w.size ≡ 0 → w.bytes ≡ [] → w.types_due ≡ true → IsNewWriter w }
+    ensures all { (w u v : WriterState) (before rows : List (List Cell)) (requests : List (List ℕ)) → HoldsCells w before → StreamsCells w rows requests u → u.count ≢ 0 → LetsGo u v
+        → CellsRunGives w before rows (requests ++ u.bytes ∷ []) None v }
+    ensures refused { (w u v : WriterState) (before rows later : List (List Cell)) (requests : List (List ℕ)) (row : List Cell) (e : BulkRowRefusal) → HoldsCells w before → StreamsCells w rows requests u
+        → AddsCells u row (Err e) v → CellsRunGives w before (rows ++ row ∷ later) requests (Some e) v }
+    ensures new { (w : WriterState) → w.count ≡ 0 → w.size ≡ 0 → w.bytes ≡ [] → HoldsCells w [] }
 {}
 
 /// Rows that are streamed through a new writer, where each request is let go once a row does not fit with those that wait, are

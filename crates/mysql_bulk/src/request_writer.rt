@@ -1,6 +1,6 @@
 //! A writer of bulk requests, which keeps the bytes of the rows that it is offered and not their values.
 
-ghost use Rattle.std.specs.Prelude.{◌≡◌, ◌≢◌, ◌+◌, ◌++◌, ◌<◌, ◌≤◌, ◌-◌, ◌^◌, ◌↔◌, IsTrue, IfOk, OnErr, MatchOption, [], length, map, None, Some, true, false, if◌then◌else◌, vec_len, vec_capacity, List};
+ghost use Rattle.std.specs.Prelude.{◌≡◌, ◌≢◌, ◌+◌, ◌++◌, ◌<◌, ◌≤◌, ◌-◌, ◌^◌, ◌↔◌, IsTrue, IfOk, IfNone, OnErr, MatchOption, [], length, map, None, Some, true, false, if◌then◌else◌, vec_len, vec_capacity, List};
 ghost use Rattle.std.specs.Bool.{OnTrue, OnFalse};
 ghost use Rattle.mysql_values.specs.Value.{Content};
 ghost use Rattle.mysql_values.specs.ValueRef.{ref_content};
@@ -8,10 +8,10 @@ ghost use Rattle.mysql_bulk.specs.Builder.{RowFits};
 ghost use Rattle.mysql_bulk.specs.Head.{head};
 ghost use Rattle.mysql_bulk.specs.RequestWriter.{as_builder, Holds, StartsAsBuilder, AddsAsBuilder, IsBuilt, FinishesAsBuilder, HasRoom, head_bytes, head_size, with_row};
 ghost use Rattle.mysql_bulk.specs.Row.{row_size};
-ghost use Rattle.mysql_bulk.specs.ValueRows.{LetsGo};
+ghost use Rattle.mysql_bulk.specs.BulkValue.{Cell};
+ghost use Rattle.mysql_bulk.specs.ValueRows.{HoldsCells, IsRequestOf, LetsGo};
 
 use crate::builder::{flags_of, size_with};
-use crate::cells::append_cells;
 use crate::column_types::{first_refused, spell_row};
 use crate::error::{BulkColumnTypeError, BulkRowRefusal};
 use crate::head::ComStmtBulkExecuteHeader;
@@ -22,10 +22,13 @@ use mysql_wire::{
     Const, LeU16, LeU32, MySerialize, RawInt, Seq, StmtBulkExecuteFlags, Unknown, parts,
 };
 use std::marker::Model;
+use std::mem;
 
+mod offered;
 mod run;
 mod values;
 
+use offered::{OfferedRow, PlainRow};
 pub use run::BulkValuesRun;
 
 /// Writes the rows of a bulk execution straight into the bytes of its requests, none of which is past the limit.
@@ -112,19 +115,7 @@ impl<'a> BulkRequestWriter<'a> {
         if let Some(place) = first_refused(types) {
             return Err(BulkColumnTypeError { place });
         }
-        let mut bytes = buffer;
-        bytes.clear();
-        Ok(BulkRequestWriter {
-            stmt_id,
-            limit: (max_allowed_packet - 4) as u64,
-            results: false,
-            rule: BulkRule::PLAIN,
-            types,
-            types_due: true,
-            count: 0,
-            size: 0,
-            bytes,
-        })
+        Ok(BulkRequestWriter::with_types(buffer, stmt_id, max_allowed_packet, types))
     }
 
     /// Asks the server for the results of each row.
@@ -218,13 +209,13 @@ impl<'a> BulkRequestWriter<'a> {
             };
         };
         if self.count == 0 {
-            return if self.write_first(row, size) {
+            return if self.write_first(&PlainRow { values: row }, size) {
                 Ok(true)
             } else {
                 Err(BulkRowRefusal::Memory)
             };
         }
-        if self.write_further(row, size) {
+        if self.write_further(&PlainRow { values: row }, size) {
             Ok(true)
         } else {
             Err(BulkRowRefusal::Memory)
@@ -248,9 +239,9 @@ impl<'a> BulkRequestWriter<'a> {
     }
 
     /// Writes the first row of a request, after what stands before it. Where memory is refused, nothing is written.
-    fn write_first(&mut self, row: &[ValueRef<'_>], size: u64) -> bool
-        requires { size ≡ self.old.size + row_size (map ref_content row.now) }
-        ensures written { OnTrue result (self.new ≡ with_row self.old (self.old.bytes ++ head_bytes self.old) size self.new.capacity row.now) }
+    fn write_first<R: OfferedRow>(&mut self, row: &R, size: u64) -> bool
+        requires { size ≡ self.old.size + length (R.bytes row.now) }
+        ensures written { OnTrue result (self.new ≡ with_row self.old (self.old.bytes ++ head_bytes self.old) size self.new.capacity (R.bytes row.now)) }
         ensures stays { OnFalse result (self.new ≡ self.old) }
         ensures capacity { self.old.capacity ≤ self.new.capacity }
         ensures no_memory { self.old.count + 1 < 2 ^ 64 → length self.old.bytes + (head_size self.old + size) ≤ self.old.capacity → IsTrue result }
@@ -267,7 +258,7 @@ impl<'a> BulkRequestWriter<'a> {
         let bulk_flags = flags_of(self.types_due, self.results);
         let types = sent_types(self.types_due, self.types);
         append_head(&mut self.bytes, self.stmt_id, bulk_flags, types);
-        append_cells(&mut self.bytes, row);
+        row.append_to(&mut self.bytes);
         self.size = size;
         self.count = count;
         true
@@ -275,12 +266,12 @@ impl<'a> BulkRequestWriter<'a> {
 
     /// Writes a further row. Where memory is refused, nothing is written.
     #[inline(always)]
-    fn write_further(&mut self, row: &[ValueRef<'_>], size: u64) -> bool
-        requires { size ≡ self.old.size + row_size (map ref_content row.now) }
-        ensures written { OnTrue result (self.new ≡ with_row self.old self.old.bytes size self.new.capacity row.now) }
+    fn write_further<R: OfferedRow>(&mut self, row: &R, size: u64) -> bool
+        requires { size ≡ self.old.size + length (R.bytes row.now) }
+        ensures written { OnTrue result (self.new ≡ with_row self.old self.old.bytes size self.new.capacity (R.bytes row.now)) }
         ensures stays { OnFalse result (self.new ≡ self.old) }
         ensures capacity { self.old.capacity ≤ self.new.capacity }
-        ensures no_memory { self.old.count + 1 < 2 ^ 64 → length self.old.bytes + row_size (map ref_content row.now) ≤ self.old.capacity → IsTrue result }
+        ensures no_memory { self.old.count + 1 < 2 ^ 64 → length self.old.bytes + (size - self.old.size) ≤ self.old.capacity → IsTrue result }
     {
         let Some(count) = self.count.checked_add(1) else {
             return false;
@@ -288,7 +279,7 @@ impl<'a> BulkRequestWriter<'a> {
         let Ok(()) = self.bytes.reserve((size - self.size) as usize) else {
             return false;
         };
-        append_cells(&mut self.bytes, row);
+        row.append_to(&mut self.bytes);
         self.size = size;
         self.count = count;
         true
@@ -299,12 +290,30 @@ impl<'a> BulkRequestWriter<'a> {
     pub fn request(&self) -> Option<&[u8]>
         ensures built { (rows : List (List Content)) → Holds self.now rows → MatchOption result (rows ≡ []) (λ bytes. IsBuilt (as_builder self.now rows) bytes.now) }
         ensures bytes { MatchOption result (self.now.count ≡ 0) (λ bytes. bytes.now ≡ self.now.bytes) }
+        ensures of_cells { (rows : List (List Cell)) → HoldsCells self.now rows → MatchOption result (rows ≡ []) (λ bytes. IsRequestOf self.now rows bytes.now) }
     {
         if self.count == 0 {
             None
         } else {
             Some(self.bytes.as_slice())
         }
+    }
+
+    /// The request of the rows that were written, with the memory of the buffer: its rows wait no longer, and the buffer is a new
+    /// one. `None` where no row was written, and nothing changes. It takes no memory.
+    pub fn build(&mut self) -> Option<Vec<u8>>
+        ensures bytes { MatchOption result (self.old.count ≡ 0) (λ bytes. (self.old.count ≢ 0) × (bytes.items ≡ self.old.bytes)) }
+        ensures of_cells { (rows : List (List Cell)) → HoldsCells self.old rows → MatchOption result (rows ≡ []) (λ bytes. IsRequestOf self.old rows bytes.items) }
+        ensures lets_go { LetsGo self.old self.new }
+        ensures stays { IfNone result (self.new ≡ self.old) }
+    {
+        if self.count == 0 {
+            return None;
+        }
+        let buffer = Vec::new(*self.bytes.allocator());
+        let request = mem::replace(&mut self.bytes, buffer);
+        self.finish();
+        Some(request)
     }
 
     /// Lets the request go: its rows wait no longer, and the next row that is written begins another one. Where no row was

@@ -3,10 +3,12 @@
 ghost use Rattle.std.specs.Prelude.{◌≡◌, [], map};
 ghost use Rattle.mysql_bulk.specs.Builder.{Declares};
 ghost use Rattle.mysql_bulk.specs.ColumnTypes.{takes_types};
+ghost use Rattle.mysql_bulk.specs.ValueRows.{writer_of};
 
 use super::ComStmtBulkExecuteRequestBuilder;
 use crate::column_types::{first_refused, spell_row};
 use crate::error::BulkColumnTypeError;
+use crate::request_writer::BulkRequestWriter;
 use crate::row_value::RowValue;
 use mysql_values::ParamType;
 
@@ -40,6 +42,20 @@ impl<'a> ComStmtBulkExecuteRequestBuilder<'a> {
         builder.arity = Some(types.len());
         builder.types_due = true;
         Ok(builder)
+    }
+
+    /// A writer with the settings of this builder, for columns of any types: numbers of any width, floats, dates, times and strings.
+    /// Its rows are values, DEFAULT and IGNORE, which [`add_row_values`](BulkRequestWriter::add_row_values) takes one by one and
+    /// [`build_all_values`](BulkRequestWriter::build_all_values) all; [`build`](BulkRequestWriter::build) gives the request of those that wait.
+    ///
+    /// The next request sends the types. They are not copied, names are of no use any more, and it takes no memory.
+    pub fn with_types(self, types: &'a [ParamType]) -> BulkRequestWriter<'a>
+        requires { self.waiting ≡ [] }
+        ensures settings { result ≡ writer_of self.entry types.now result.capacity }
+    {
+        let buffer = Vec::new(self.alloc);
+        let (stmt_id, limit, results, rule) = (self.stmt_id, self.limit, self.results, self.rule);
+        BulkRequestWriter::with_settings(buffer, stmt_id, limit, results, rule, types)
     }
 
     /// Whether the declared types, if there are any, spell the row.

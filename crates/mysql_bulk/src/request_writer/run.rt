@@ -1,9 +1,9 @@
 //! A whole run of a writer over rows of values, DEFAULT and IGNORE.
 
-ghost use Rattle.std.specs.Prelude.{◌≡◌, ◌++◌, ◌∷◌, [], map, IfErr, OnOk, Ok, Err, if◌then◌else◌};
+ghost use Rattle.std.specs.Prelude.{◌≡◌, ◌++◌, ◌∷◌, [], map, IfErr, OnOk, OnErr, Ok, Err, List, if◌then◌else◌};
 ghost use Rattle.mysql_bulk.specs.declared.error.BulkRowRefusal.TheVariants.{TooLarge};
-ghost use Rattle.mysql_bulk.specs.BulkValue.{cell_of};
-ghost use Rattle.mysql_bulk.specs.ValueRows.{LetsGo};
+ghost use Rattle.mysql_bulk.specs.BulkValue.{Cell, cell_of};
+ghost use Rattle.mysql_bulk.specs.ValueRows.{HoldsCells, LetsGo};
 ghost use Rattle.mysql_bulk.specs.ValuesRun as spec;
 
 use super::BulkRequestWriter;
@@ -25,6 +25,7 @@ impl<'a> BulkRequestWriter<'a> {
     fn send_request(&mut self, alloc: Global, requests: &mut Vec<Vec<u8>>) -> Result<(), AllocError>
         ensures sent { OnOk result (spec.bytes_of requests.new.items ≡ spec.bytes_of requests.old.items ++ self.old.bytes ∷ []) }
         ensures lets_go { OnOk result (LetsGo self.old self.new) }
+        ensures stays { OnErr result ((self.new ≡ self.old) × (spec.bytes_of requests.new.items ≡ spec.bytes_of requests.old.items)) }
     {
         let request = Vec::from_slice(alloc, self.bytes.as_slice())?;
         requests.push(request)?;
@@ -40,7 +41,7 @@ impl<'a> BulkRequestWriter<'a> {
         requests: &mut Vec<Vec<u8>>,
     ) -> Result<(), BulkRowRefusal>
         ensures ok { OnOk result (spec.Offered self.old (map cell_of row.now) (spec.bytes_of requests.old.items) self.new (spec.bytes_of requests.new.items)) }
-        ensures refused { IfErr result (λ e. spec.OfferRefused self.old (map cell_of row.now) (spec.bytes_of requests.old.items) e (spec.bytes_of requests.new.items)) }
+        ensures refused { IfErr result (λ e. spec.OfferRefused self.old (map cell_of row.now) (spec.bytes_of requests.old.items) e self.new (spec.bytes_of requests.new.items)) }
     {
         let is_taken = match self.add_row_values(row) {
             Ok(is_taken) => is_taken,
@@ -66,7 +67,7 @@ impl<'a> BulkRequestWriter<'a> {
         requests: &mut Vec<Vec<u8>>,
     ) -> Result<(), BulkRowRefusal>
         requires { requests.old.items ≡ [] }
-        ensures { spec.IsNewWriter self.old → spec.CellsRunGives self.old (spec.cells_of_rows rows.now) (spec.bytes_of requests.new.items) (spec.refusal_of result) }
+        ensures gives { (before : List (List Cell)) → HoldsCells self.old before → spec.CellsRunGives self.old before (spec.cells_of_rows rows.now) (spec.bytes_of requests.new.items) (spec.refusal_of result) self.new }
     {
         for row in rows {
             match self.offer_values(alloc, row.as_slice(), requests) {
@@ -74,7 +75,7 @@ impl<'a> BulkRequestWriter<'a> {
                 Err(refusal) => return Err(refusal),
             }
         }
-        if rows.is_empty() {
+        if !self.has_rows() {
             return Ok(());
         }
         let Ok(()) = self.send_request(alloc, requests) else {
@@ -83,12 +84,14 @@ impl<'a> BulkRequestWriter<'a> {
         Ok(())
     }
 
-    /// Writes rows, and gives the bytes of all their requests, or those before the row that is refused.
+    /// Writes rows after those that wait, and gives the bytes of all their requests, or those before the row that is refused.
     ///
-    /// From a new writer they are the fewest requests that fit, by the sizes of the rows under the declared types. A row is refused as by
-    /// [`add_row_values`](Self::add_row_values); `Memory` is also the answer where there is no memory for a request.
+    /// Each request is full: the row after it would not fit. Where the next request was to send types, as a new writer's is, they are
+    /// the fewest that fit, by the sizes of the rows under the declared types. A row is refused as by
+    /// [`add_row_values`](Self::add_row_values), and those before it wait then, but for the ones that were sent; `Memory` is also the
+    /// answer where there is no memory for a request that is due, whose rows wait.
     pub fn build_all_values(&mut self, alloc: Global, rows: &[Vec<BulkValue<'_>>]) -> BulkValuesRun
-        ensures gives { spec.IsNewWriter self.old → spec.CellsRunGives self.old (spec.cells_of_rows rows.now) (spec.bytes_of result.requests.items) result.refusal }
+        ensures gives { (before : List (List Cell)) → HoldsCells self.old before → spec.CellsRunGives self.old before (spec.cells_of_rows rows.now) (spec.bytes_of result.requests.items) result.refusal self.new }
     {
         let mut requests = Vec::new(alloc);
         let refusal = match self.send_all_values(alloc, rows, &mut requests) {

@@ -1,18 +1,16 @@
 //! Rows of values, DEFAULT and IGNORE that a writer of bulk requests is offered, under declared types of any width.
 
-ghost use Rattle.std.specs.Prelude.{◌≡◌, ◌≢◌, ◌+◌, ◌-◌, ◌++◌, ◌∷◌, ◌<◌, ◌≤◌, ◌^◌, IsTrue, IfOk, IfSome, OnErr, MatchOption, [], length, map, false, List, sum_by, vec_capacity, Err};
-ghost use Rattle.std.specs.Bool.{OnTrue, OnFalse};
+ghost use Rattle.std.specs.Prelude.{◌≡◌, ◌≢◌, ◌+◌, ◌-◌, ◌++◌, ◌∷◌, ◌≤◌, IfOk, IfSome, OnErr, MatchOption, [], length, map, false, List, sum_by, vec_capacity, Err};
 ghost use Rattle.mysql_cuts.specs.Cut.{PartFits};
 ghost use Rattle.mysql_bulk.specs.BulkValue.{Cell, cell_of, cells_size};
-ghost use Rattle.mysql_bulk.specs.RequestWriter.{head_bytes, head_size};
 ghost use Rattle.mysql_bulk.specs.ValueRows as spec;
 ghost use Rattle.mysql_bulk.specs.declared.error.BulkRowRefusal.TheVariants as refused;
 
-use super::{BulkRequestWriter, append_head, sent_types};
-use crate::builder::flags_of;
-use crate::bulk_value::{BulkValue, append_values, spells_values, values_len};
+use super::BulkRequestWriter;
+use super::offered::TypedRow;
+use crate::bulk_value::{BulkValue, spells_values, values_len};
 use crate::error::BulkRowRefusal;
-use crate::size::request_len;
+use crate::size::size_within;
 use mysql_cuts::BulkRule;
 use mysql_values::ParamType;
 
@@ -32,15 +30,8 @@ fn size_with_values(
         MatchOption result (PartFits (spec.cells_packing rule limit types.now) types_due (rows ++ map cell_of row.now ∷ []) → ⊥)
         (λ n. PartFits (spec.cells_packing rule limit types.now) types_due (rows ++ map cell_of row.now ∷ [])) }
 {
-    if rule.max_rows.is_some_and(|most| most <= count) {
-        return None;
-    }
-    let rows = size.checked_add(values_len(types, row)?)?;
-    if request_len(types.len(), types_due, rows)? <= limit {
-        Some(rows)
-    } else {
-        None
-    }
+    let bytes = values_len(types, row)?;
+    size_within(rule, limit, types.len(), types_due, count, size, bytes)
 }
 
 impl<'a> BulkRequestWriter<'a> {
@@ -58,13 +49,28 @@ impl<'a> BulkRequestWriter<'a> {
         requires { 4 ≤ max_allowed_packet }
         ensures starts { result ≡ spec.new_writer stmt_id (max_allowed_packet - 4) types.now (vec_capacity buffer) }
     {
+        let limit = (max_allowed_packet - 4) as u64;
+        BulkRequestWriter::with_settings(buffer, stmt_id, limit, false, BulkRule::PLAIN, types)
+    }
+
+    /// A writer with these settings.
+    pub(crate) fn with_settings(
+        buffer: Vec<u8>,
+        stmt_id: u32,
+        limit: u64,
+        results: bool,
+        rule: BulkRule,
+        types: &'a [ParamType],
+    ) -> Self
+        ensures starts { result ≡ spec.writer_with stmt_id limit results rule types.now (vec_capacity buffer) }
+    {
         let mut bytes = buffer;
         bytes.clear();
         BulkRequestWriter {
             stmt_id,
-            limit: (max_allowed_packet - 4) as u64,
-            results: false,
-            rule: BulkRule::PLAIN,
+            limit,
+            results,
+            rule,
             types,
             types_due: true,
             count: 0,
@@ -100,14 +106,15 @@ impl<'a> BulkRequestWriter<'a> {
                 Ok(false)
             };
         };
+        let types = self.types;
         if self.count == 0 {
-            return if self.write_first_values(row, size) {
+            return if self.write_first(&TypedRow::new(types, row), size) {
                 Ok(true)
             } else {
                 Err(BulkRowRefusal::Memory)
             };
         }
-        if self.write_further_values(row, size) {
+        if self.write_further(&TypedRow::new(types, row), size) {
             Ok(true)
         } else {
             Err(BulkRowRefusal::Memory)
@@ -129,53 +136,5 @@ impl<'a> BulkRequestWriter<'a> {
             self.types,
             row,
         )
-    }
-
-    /// Writes the first row of a request, after what stands before it. Where memory is refused, nothing is written.
-    fn write_first_values(&mut self, row: &[BulkValue<'_>], size: u64) -> bool
-        requires lengths { length self.old.types ≡ length row.now }
-        requires size { size ≡ self.old.size + cells_size self.old.types (map cell_of row.now) }
-        ensures written { OnTrue result (self.new ≡ spec.with_cells self.old (self.old.bytes ++ head_bytes self.old) size self.new.capacity (map cell_of row.now)) }
-        ensures stays { OnFalse result (self.new ≡ self.old) }
-        ensures capacity { self.old.capacity ≤ self.new.capacity }
-        ensures no_memory { self.old.count + 1 < 2 ^ 64 → length self.old.bytes + (head_size self.old + size) ≤ self.old.capacity → IsTrue result }
-    {
-        let Some(count) = self.count.checked_add(1) else {
-            return false;
-        };
-        let Some(bytes) = request_len(self.types.len(), self.types_due, size) else {
-            return false;
-        };
-        let Ok(()) = self.bytes.reserve(bytes as usize) else {
-            return false;
-        };
-        let bulk_flags = flags_of(self.types_due, self.results);
-        let types = sent_types(self.types_due, self.types);
-        append_head(&mut self.bytes, self.stmt_id, bulk_flags, types);
-        append_values(&mut self.bytes, self.types, row);
-        self.size = size;
-        self.count = count;
-        true
-    }
-
-    /// Writes a further row. Where memory is refused, nothing is written.
-    fn write_further_values(&mut self, row: &[BulkValue<'_>], size: u64) -> bool
-        requires lengths { length self.old.types ≡ length row.now }
-        requires size { size ≡ self.old.size + cells_size self.old.types (map cell_of row.now) }
-        ensures written { OnTrue result (self.new ≡ spec.with_cells self.old self.old.bytes size self.new.capacity (map cell_of row.now)) }
-        ensures stays { OnFalse result (self.new ≡ self.old) }
-        ensures capacity { self.old.capacity ≤ self.new.capacity }
-        ensures no_memory { self.old.count + 1 < 2 ^ 64 → length self.old.bytes + cells_size self.old.types (map cell_of row.now) ≤ self.old.capacity → IsTrue result }
-    {
-        let Some(count) = self.count.checked_add(1) else {
-            return false;
-        };
-        let Ok(()) = self.bytes.reserve((size - self.size) as usize) else {
-            return false;
-        };
-        append_values(&mut self.bytes, self.types, row);
-        self.size = size;
-        self.count = count;
-        true
     }
 }

@@ -100,7 +100,8 @@ pub fn writer_of<'a>(
     Ok(with_settings!(alloc, settings, writer))
 }
 
-/// The writer with these settings for columns of any types: of the statement that `id=` names, or 1.
+/// The writer with these settings for columns of any types: of the statement that `id=` names, or 1. With `built` it is made of a
+/// builder, whose names are of no use then.
 pub fn typed_writer_of<'a>(
     alloc: Global,
     settings: &str,
@@ -108,6 +109,11 @@ pub fn typed_writer_of<'a>(
 ) -> BulkRequestWriter<'a> {
     let (buffer, limit) = (Vec::new(alloc), number(settings, "").max(4));
     let id = u32::try_from(number(settings, "id=").max(1)).unwrap_or(1);
+    if setting(settings, "built").is_some() {
+        let builder = counted!(alloc; value Builder::new(alloc, id, limit));
+        let builder = with_settings!(alloc, settings, builder);
+        return counted!(alloc; value builder.with_types(types));
+    }
     let writer = counted!(alloc; value BulkRequestWriter::with_types(buffer, id, limit, types));
     with_settings!(alloc, settings, writer)
 }

@@ -4,7 +4,8 @@
 //! the builder's are: `build` is `request` and `finish`. After all of them stands what is left in the buffer.
 //!
 //! With the setting `any` the types are of any width, and `values:ROW` offers a row of values and of the words `default` and `ignore`;
-//! `all:ROW/ROW` is a whole run, and `id=N` the statement's number then.
+//! `all:ROW/ROW` is a whole run, `take` is the writer's own `build`, and `id=N` the statement's number then; with `built` too a builder
+//! gives the writer.
 
 use crate::builder::answers::{show_copied, show_error, show_undeclared};
 use crate::builder::settings::{list_in, setting, typed_writer_of, writer_of};
@@ -99,6 +100,10 @@ fn answer(out: &mut Out, writer: &mut BulkRequestWriter<'_>, call: &str) {
             }
             counted!(alloc; value writer.finish());
         }
+        "take" => match counted!(alloc; value writer.build()) {
+            Some(bytes) => out.show("request", bytes.as_slice()),
+            None => out.word("none"),
+        },
         "has" => out.item(counted!(alloc; value writer.has_rows())),
         _ => out.word("?"),
     }

@@ -1,4 +1,4 @@
-use Rattle.std.proofs.Common.{map, refl, inl, inr}
+use Rattle.std.proofs.Common.{map, refl, inl}
 use Rattle.mysql_bulk.specs.declared.error.BulkRowRefusal.TheVariants.{TooLarge}
 use Rattle.mysql_bulk.specs.BulkValue.{cell_of}
 use Rattle.mysql_bulk.specs.ValuesRun.{Offered, OfferRefused, bytes_of}
@@ -6,7 +6,7 @@ use Rattle.mysql_bulk.proofs.ValuesRun.{again_kept, again_refused, again_taken, 
 use Rattle.mysql_bulk.proofs.request_writer.BulkRequestWriter.offer_values.Goals as goal
 
 pub returns-in-Err-clause-refused : goal.returns-in-Err-clause-refused
-returns-in-Err-clause-refused c = inr (inl (c.add_row_values.new.self, c.in-Err.ensures.adds, refl))
+returns-in-Err-clause-refused c = inl (c.in-Err.ensures.adds, refl)
 
 pub returns-in-Ok-add_row_values-clause-ok : goal.returns-in-Ok-add_row_values-clause-ok
 returns-in-Ok-add_row_values-clause-ok c =
@@ -24,7 +24,7 @@ returns-in-Ok-add_row_values-clause-refused c =
     let row = map cell_of c.args.row.now in
     let q = bytes_of c.args.requests.now.items in
     let more = bytes_of c.send_request.new.requests.items in
-    answered_err c.answer_of.result c.in-Ok-add_row_values.fits_alone (λ e. OfferRefused u row q e more) c.answer_of.ensures
+    answered_err c.answer_of.result c.in-Ok-add_row_values.fits_alone (λ e. OfferRefused u row q e c.add_row_values-2.new.self more) c.answer_of.ensures
     (λ is. again_kept u c.add_row_values.new.self c.send_request.new.self c.add_row_values-2.new.self row c.in-Ok.is_taken c.in-Ok-add_row_values.fits_alone q more TooLarge c.in-Ok.ensures.adds c.if-is_taken.false
     (c.in-Ok.ensures.waits c.if-is_taken.false) c.in-Ok-send_request.ensures.lets_go c.in-Ok-add_row_values.ensures.adds is (c.in-Ok-add_row_values.ensures.waits is))
 

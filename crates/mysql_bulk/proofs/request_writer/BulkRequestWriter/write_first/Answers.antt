@@ -2,19 +2,19 @@ use Rattle.std.proofs.Common.{◌≡◌, ◌≤◌, ◌+◌, ◌*◌, vec_len, v
 use Rattle.mysql_values.specs.declared.param_type.ParamType.{ParamType}
 use Rattle.mysql_bulk.specs.Head.{BulkHead, head}
 use Rattle.mysql_bulk.proofs.RequestBytes.{length-head}
-use Rattle.mysql_bulk.proofs.RequestWriter.{length-cells, length-sent}
+use Rattle.mysql_bulk.proofs.RequestWriter.{length-sent}
 use Rattle.mysql_bulk.proofs.request_writer.BulkRequestWriter.write_first.Goals as goal
 
 pub append_head-requires : goal.append_head-requires
-append_head-requires c =
+append_head-requires g c =
     let capacity : vec_len c.reserve.new.self + c.in-Some-request_len.bytes ≤ vec_capacity c.reserve.new.self = search rules in
     let sent : 2 * length c.sent_types-types.result.now ≡ (if c.self.inside.types_due then 2 * length c.self.inside.types.now else 0) =
     ap (λ (l : List ParamType). 2 * length l) c.sent_types-types.ensures ∙ length-sent c.self.inside.types_due c.self.inside.types.now in
     let front : BulkHead = record { stmt_id = c.self.inside.stmt_id; bulk_flags = c.flags_of-bulk_flags.result; types = c.sent_types-types.result.now } in
     omega (arith, capacity, length-head front, sent, c.in-Some-request_len.ensures)
 
-pub append_cells-requires : goal.append_cells-requires
-append_cells-requires c =
+pub append_to-requires : goal.append_to-requires
+append_to-requires g c =
     let capacity : vec_len c.reserve.new.self + c.in-Some-request_len.bytes ≤ vec_capacity c.reserve.new.self = search rules in
     let sent : 2 * length c.sent_types-types.result.now ≡ (if c.self.inside.types_due then 2 * length c.self.inside.types.now else 0) =
     ap (λ (l : List ParamType). 2 * length l) c.sent_types-types.ensures ∙ length-sent c.self.inside.types_due c.self.inside.types.now in
@@ -30,6 +30,5 @@ append_cells-requires c =
       c.append_head.new.out.ok,
       c.reserve.new.self.ok,
       c.append_head.ensures.capacity,
-      length-cells c.args.row.now,
       c.requires,
     )
