@@ -7,8 +7,10 @@ use mysql_values::ValueRef;
 pub enum Shown<'a> {
     /// A number.
     Number(u64),
-    /// Bytes.
+    /// Bytes: in JSON a text where they are UTF-8.
     Bytes(&'a [u8]),
+    /// Bytes that are shown in digits everywhere.
+    Digits(&'a [u8]),
     /// A command, by its first byte.
     Command(u8),
     /// A word.
@@ -42,6 +44,13 @@ impl<'a> Field<'a> {
         Field {
             name,
             shown: Shown::Bytes(bytes),
+        }
+    }
+
+    pub(crate) fn digits(name: &'static str, bytes: &'a [u8]) -> Self {
+        Field {
+            name,
+            shown: Shown::Digits(bytes),
         }
     }
 

@@ -9,8 +9,22 @@ use serde_json::{Map, Value, put};
 use std::alloc::{AllocError, Global};
 use std::str;
 
+/// Appends an object with these fields, in a line.
+pub(crate) fn append_object(
+    alloc: Global,
+    head: &[Field<'_>],
+    fields: &[Field<'_>],
+    out: &mut String,
+) -> Result<(), AllocError> {
+    let mut object = Map::new(alloc);
+    put_fields(alloc, &mut object, head)?;
+    put_fields(alloc, &mut object, fields)?;
+    let text = Value::Object(object).to_string(alloc)?;
+    write!(out, "{text}\n")
+}
+
 /// Adds the fields. Those with the name of a list are items of one array; of others each is a member.
-pub(crate) fn put_fields(
+fn put_fields(
     alloc: Global,
     object: &mut Map<String, Value>,
     fields: &[Field<'_>],
@@ -45,6 +59,7 @@ fn value_of(alloc: Global, shown: &Shown<'_>) -> Result<Value, AllocError> {
     match shown {
         Shown::Number(number) => Ok(Value::from(*number)),
         Shown::Bytes(bytes) => bytes_value(alloc, bytes),
+        Shown::Digits(bytes) => Ok(Value::String(hex::encode(alloc, bytes)?)),
         Shown::Command(code) => command_value(alloc, *code),
         Shown::Word(word) => Ok(Value::String(String::from_str(alloc, word)?)),
         Shown::Flag(flag) => Ok(Value::Bool(*flag)),

@@ -10,13 +10,17 @@ mod followed;
 mod json;
 mod kind_name;
 mod line;
+mod loss;
+mod mark;
 mod packet;
 mod prepared;
 mod program;
 mod recording;
 mod server_fields;
+mod stream;
 mod sums;
 mod text;
+mod unheard;
 mod values;
 
 pub use field::{Field, Shown};

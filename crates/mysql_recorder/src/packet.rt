@@ -1,10 +1,9 @@
-//! A packet of a recording, as it is shown.
+//! A packet of a recording, and what is said between packets, as they are shown.
 
 use crate::field::Field;
-use crate::json::put_fields;
+use crate::json::append_object;
 use crate::text::append_lines;
 use mysql_conversation::Side;
-use serde_json::{Map, Value, put};
 use std::alloc::{AllocError, Global};
 
 /// How packets are shown.
@@ -26,6 +25,30 @@ pub(crate) struct Packet<'a> {
     pub(crate) payload: &'a [u8],
 }
 
+/// What is said of a side's stream between its packets: whose it is, the number of the exchange, and what is said.
+#[derive(Clone, Copy)]
+pub(crate) struct Remark {
+    pub(crate) side: Side,
+    pub(crate) exchange: u64,
+    pub(crate) kind: &'static str,
+}
+
+/// The sign of a side.
+pub(crate) fn sign_of(side: Side) -> &'static str {
+    match side {
+        Side::Client => ">",
+        Side::Server => "<",
+    }
+}
+
+/// The name of a side.
+pub(crate) fn name_of_side(side: Side) -> &'static str {
+    match side {
+        Side::Client => "client",
+        Side::Server => "server",
+    }
+}
+
 impl<'a> Packet<'a> {
     /// Appends the packet with its fields.
     pub(crate) fn append(
@@ -37,47 +60,48 @@ impl<'a> Packet<'a> {
     ) -> Result<(), AllocError> {
         match layout {
             Layout::Lines => {
-                let (sign, sequence, kind) = (self.sign(), self.sequence, self.kind);
+                let (sign, sequence, kind) = (sign_of(self.side), self.sequence, self.kind);
                 write!(out, "{sign} {sequence} {kind}\n")?;
                 append_lines(alloc, out, fields)
             }
             Layout::Json => {
-                let object = self.object(alloc, fields)?;
-                let text = object.to_string(alloc)?;
-                write!(out, "{text}\n")
+                let head = [
+                    Field::word("side", name_of_side(self.side)),
+                    Field::number("sequence", u64::from(self.sequence)),
+                    Field::number("exchange", self.exchange),
+                    Field::word("kind", self.kind),
+                    Field::number("size", self.payload.len() as u64),
+                    Field::digits("payload", self.payload),
+                ];
+                append_object(alloc, &head, fields, out)
             }
         }
     }
+}
 
-    /// The sign of the packet's side.
-    fn sign(&self) -> &'static str {
-        match self.side {
-            Side::Client => ">",
-            Side::Server => "<",
+impl Remark {
+    /// Appends the remark with its fields.
+    pub(crate) fn append(
+        &self,
+        alloc: Global,
+        layout: Layout,
+        fields: &[Field<'_>],
+        out: &mut String,
+    ) -> Result<(), AllocError> {
+        match layout {
+            Layout::Lines => {
+                let (sign, kind) = (sign_of(self.side), self.kind);
+                write!(out, "{sign} {kind}\n")?;
+                append_lines(alloc, out, fields)
+            }
+            Layout::Json => {
+                let head = [
+                    Field::word("side", name_of_side(self.side)),
+                    Field::number("exchange", self.exchange),
+                    Field::word("kind", self.kind),
+                ];
+                append_object(alloc, &head, fields, out)
+            }
         }
-    }
-
-    /// The name of the packet's side.
-    pub(crate) fn side_name(&self) -> &'static str {
-        match self.side {
-            Side::Client => "client",
-            Side::Server => "server",
-        }
-    }
-
-    /// The packet's object: what it stands under, its size, its payload in digits, and its fields.
-    fn object(&self, alloc: Global, fields: &[Field<'_>]) -> Result<Value, AllocError> {
-        let mut object = Map::new(alloc);
-        let side = Value::String(String::from_str(alloc, self.side_name())?);
-        put(&mut object, alloc, "side", side)?;
-        put(&mut object, alloc, "sequence", Value::from(self.sequence))?;
-        put(&mut object, alloc, "exchange", Value::from(self.exchange))?;
-        let kind = Value::String(String::from_str(alloc, self.kind)?);
-        put(&mut object, alloc, "kind", kind)?;
-        put(&mut object, alloc, "size", Value::from(self.payload.len()))?;
-        let payload = Value::String(hex::encode(alloc, self.payload)?);
-        put(&mut object, alloc, "payload", payload)?;
-        put_fields(alloc, &mut object, fields)?;
-        Ok(Value::Object(object))
     }
 }

@@ -52,6 +52,23 @@ impl Prepared {
         exchange: u64,
         payload: &[u8],
     ) -> Result<(), AllocError> {
+        self.serve(agreed, exchange)?;
+        self.statements.take(agreed, kind, payload)
+    }
+
+    /// Holds a command that comes early. One that is too long, or one too many, is lost: what it says of statements isn't known.
+    pub(crate) fn hold(&mut self, exchange: u64, payload: &[u8]) -> Result<(), AllocError> {
+        let _is_held = self.early.hold(exchange, payload)?;
+        Ok(())
+    }
+
+    /// The server has come to all commands that wait: which answers they have was not seen.
+    pub(crate) fn serve_all(&mut self, agreed: SessionCapabilities) -> Result<(), AllocError> {
+        self.serve(agreed, u64::MAX)
+    }
+
+    /// Takes the commands that wait, up to an exchange.
+    fn serve(&mut self, agreed: SessionCapabilities, exchange: u64) -> Result<(), AllocError> {
         for _ in 0..self.early.len() {
             let Some(command) = self.early.serve(exchange) else {
                 break;
@@ -61,12 +78,6 @@ impl Prepared {
                 self.statements.take(agreed, kind, command.payload())?;
             }
         }
-        self.statements.take(agreed, kind, payload)
-    }
-
-    /// Holds a command that comes early. One that is too long, or one too many, is lost: what it says of statements isn't known.
-    pub(crate) fn hold(&mut self, exchange: u64, payload: &[u8]) -> Result<(), AllocError> {
-        let _is_held = self.early.hold(exchange, payload)?;
         Ok(())
     }
 

@@ -1,6 +1,6 @@
 //! What a recording comes to.
 
-use crate::packet::{Layout, Packet};
+use crate::packet::{Layout, Packet, name_of_side, sign_of};
 use mysql_conversation::{Kind, Side};
 use mysql_wire::{ConstValue, ServerCommand};
 use serde_json::{Map, Value, push, put};
@@ -116,7 +116,7 @@ impl Sums {
         let large = Large {
             size,
             number: self.packets,
-            side: packet.side_name(),
+            side: name_of_side(packet.side),
             kind: packet.kind,
         };
         self.largest.insert(place, large)?;
@@ -236,10 +236,7 @@ impl Sums {
     fn tally_value(&self, tally: &Tally) -> Result<Value, AllocError> {
         let alloc = self.alloc;
         let mut object = Map::new(alloc);
-        let side = match tally.side {
-            Side::Client => "client",
-            Side::Server => "server",
-        };
+        let side = name_of_side(tally.side);
         put(
             &mut object,
             alloc,
@@ -307,14 +304,6 @@ fn count<K: Ord + Drop>(counts: &mut BTreeMap<K, u64>, key: K) -> Result<(), All
     }
     counts.insert(key, 1)?;
     Ok(())
-}
-
-/// The sign of a side.
-fn sign_of(side: Side) -> &'static str {
-    match side {
-        Side::Client => ">",
-        Side::Server => "<",
-    }
 }
 
 /// The name of a command; its number where it has none.

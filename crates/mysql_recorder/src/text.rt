@@ -23,7 +23,7 @@ fn append_line(alloc: Global, out: &mut String, field: &Field<'_>) -> Result<(),
     write!(out, "{name}: ")?;
     match field.shown {
         Shown::Number(number) => write!(out, "{number}\n"),
-        Shown::Bytes(bytes) => append_bytes(alloc, out, bytes),
+        Shown::Bytes(bytes) | Shown::Digits(bytes) => append_bytes(alloc, out, bytes),
         Shown::Command(code) => append_command(out, code),
         Shown::Word(word) => write!(out, "{word}\n"),
         Shown::Flag(true) => write!(out, "yes\n"),
