@@ -1,4 +1,5 @@
 pub mod Agreements
+pub mod KindName
 pub mod Parts
 pub mod Payloads
 pub mod Conversation

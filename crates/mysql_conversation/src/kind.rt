@@ -1,5 +1,8 @@
 //! Which packet it is.
 
+ghost use Rattle.std.specs.Prelude.{◌≡◌};
+ghost use Rattle.mysql_conversation.specs.KindName.{name_of};
+
 /// Who sends a packet.
 #[derive(Clone, Copy, Debug, PartialEq, Eq)]
 pub enum Side {
@@ -73,6 +76,43 @@ pub enum Kind {
     BinlogEvent,
     /// A replica's acknowledgement of an event.
     SemiSyncAck,
+}
+
+impl Kind {
+    /// Its name, in one word: `text_row` and `binary_row` are rows of the two formats.
+    pub fn name(&self) -> &'static str
+        ensures { result.now ≡ name_of self.now }
+    {
+        match self {
+            Kind::Handshake => "handshake",
+            Kind::SslRequest => "ssl_request",
+            Kind::Login => "login",
+            Kind::AuthSwitch => "auth_switch",
+            Kind::OldAuthSwitch => "old_auth_switch",
+            Kind::AuthMoreData => "auth_more_data",
+            Kind::AuthNextFactor => "auth_next_factor",
+            Kind::AuthPluginData => "auth_plugin_data",
+            Kind::AuthData => "auth_data",
+            Kind::Command(_) => "command",
+            Kind::Ok => "ok",
+            Kind::Error => "error",
+            Kind::UnaskedError => "unasked_error",
+            Kind::ProgressReport => "progress_report",
+            Kind::LocalInfile => "local_infile",
+            Kind::InfileContent => "infile_content",
+            Kind::InfileEnd => "infile_end",
+            Kind::ColumnCount(_, _) => "column_count",
+            Kind::Column => "column",
+            Kind::Eof => "eof",
+            Kind::OkTerminator => "ok_terminator",
+            Kind::Row(Format::Text) => "text_row",
+            Kind::Row(Format::Binary) => "binary_row",
+            Kind::PrepareOk(_, _, _) => "prepare_ok",
+            Kind::Statistics => "statistics",
+            Kind::BinlogEvent => "binlog_event",
+            Kind::SemiSyncAck => "semi_sync_ack",
+        }
+    }
 }
 
 /// A packet that doesn't come here.

@@ -224,6 +224,7 @@ pub use Rattle.mysql_frames.specs.Frames
 pub use Rattle.mysql_conversation.specs.Agreements
 pub use Rattle.mysql_conversation.specs.Conversation
 pub use Rattle.mysql_conversation.specs.History
+pub use Rattle.mysql_conversation.specs.KindName
 pub use Rattle.mysql_conversation.specs.Order
 pub use Rattle.mysql_conversation.specs.Parts as ConversationParts
 pub use Rattle.mysql_conversation.specs.Payloads

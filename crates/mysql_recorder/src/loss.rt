@@ -1,6 +1,6 @@
 //! What is lost of a recording, and where it is taken up again.
 
-use crate::field::Field;
+use mysql_fields::Field;
 use mysql_frames::FrameError;
 use mysql_wire::{ConstValue, ServerCommand};
 

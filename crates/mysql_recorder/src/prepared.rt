@@ -1,9 +1,9 @@
 //! The prepared statements of a recording.
 
-use crate::field::Field;
 use crate::values::fault_name;
 use bitflags::Flags;
 use mysql_conversation::Kind;
+use mysql_fields::Field;
 use mysql_prepared::{ComStmtExecuteHead, ExecuteParam, ExecuteParamsView};
 use mysql_replies::SessionCapabilities;
 use mysql_statements::{
@@ -118,7 +118,7 @@ pub(crate) fn append_params<'p>(
     match view_of(alloc, statement, payload) {
         Ok(Some(view)) => append_view(view, fields),
         Ok(None) => Ok(()),
-        Err(fault) => fields.extend_from_slice(&[Field::word("refused", fault_name(&fault))]),
+        Err(fault) => Ok(fields.push(Field::word("refused", fault_name(&fault)))?),
     }
 }
 
@@ -145,10 +145,10 @@ fn append_view<'p>(
     let mut view = view;
     for _ in 0..view.left() {
         match view.next_param() {
-            Ok(Some((_, param))) => fields.extend_from_slice(&[field_of(param)])?,
+            Ok(Some((_, param))) => fields.push(field_of(param))?,
             Ok(None) => return Ok(()),
             Err(fault) => {
-                return fields.extend_from_slice(&[Field::word("refused", fault_name(&fault))]);
+                return Ok(fields.push(Field::word("refused", fault_name(&fault)))?);
             }
         }
     }

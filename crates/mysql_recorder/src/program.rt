@@ -1,8 +1,8 @@
 //! `mypackets conversation [MAX] [caps=CAPS] [mariadb=CAPS] [--json] [--sum]`.
 
-use crate::packet::Layout;
 use crate::recording::{Recording, RecordingError};
 use bitflags::Flags;
+use mysql_fields::Layout;
 use mysql_replies::SessionCapabilities;
 use mysql_wire::{CapabilityFlags, MariadbCapabilities};
 use std::alloc::Global;

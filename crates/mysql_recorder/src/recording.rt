@@ -1,13 +1,10 @@
 //! A recording: what both sides of a connection sent.
 
 use crate::client_fields::client_fields;
-use crate::field::Field;
 use crate::followed::Followed;
-use crate::kind_name::name_of;
 use crate::line::{LineError, Place, Said};
 use crate::loss::{HEAD, Loss, begins_command, begins_with};
 use crate::mark::{may_be_mark, missing_of};
-use crate::packet::{Layout, Packet, Remark};
 use crate::prepared::{Prepared, append_params};
 use crate::server_fields::server_fields;
 use crate::stream::{Sent, Stream};
@@ -15,10 +12,12 @@ use crate::sums::Sums;
 use crate::unheard::{Front, Unheard};
 use crate::values::fault_name;
 use mysql_conversation::{Kind, Refusal, Side};
+use mysql_fields::{Field, Layout, Packet, Remark, command_name};
 use mysql_frames::FrameError;
 use mysql_observer::{ReadContext, client_packet, server_packet};
 use mysql_replies::SessionCapabilities;
 use mysql_statements::RowColumn;
+use mysql_wire::{ConstValue, ServerCommand};
 use std::alloc::{AllocError, Global};
 use std::mem;
 use thiserror::Error;
@@ -106,6 +105,14 @@ fn refusal_name(why: Refusal) -> &'static str {
         Refusal::Memory => "Memory",
         Refusal::Encrypted => "Encrypted",
         Refusal::Compressed => "Compressed",
+    }
+}
+
+/// A command's name; its number where it has none.
+fn command_field<'p>(code: u8) -> Field<'p> {
+    match ServerCommand::from_code(code) {
+        Some(command) => Field::word("command", command_name(command)),
+        None => Field::number("command", u64::from(code)),
     }
 }
 
@@ -441,7 +448,7 @@ impl Recording {
         match self.followed.next(side, payload) {
             Ok((kind, exchange)) => {
                 packet.exchange = exchange;
-                packet.kind = name_of(kind);
+                packet.kind = kind.name();
                 if let Some(sums) = &mut self.sums {
                     sums.add(&packet, kind)?;
                 }
@@ -521,11 +528,11 @@ impl Recording {
         let read = client_packet(self.alloc, self.followed.agreed(), kind, packet.payload);
         let mut fields = Vec::new(self.alloc);
         if let Kind::Command(code) = kind {
-            fields.extend_from_slice(&[Field::command("command", code)])?;
+            fields.push(command_field(code))?;
         }
         match &read {
             Ok(read) => client_fields(read, &mut fields)?,
-            Err(fault) => fields.extend_from_slice(&[Field::word("refused", fault_name(fault))])?,
+            Err(fault) => fields.push(Field::word("refused", fault_name(fault)))?,
         }
         if !is_early {
             self.append_params(packet, kind, &mut fields)?;
@@ -567,7 +574,7 @@ impl Recording {
         let mut fields = Vec::new(self.alloc);
         match server_packet(self.alloc, &context, kind, packet.payload) {
             Ok(mut read) => server_fields(&mut read, &mut fields)?,
-            Err(fault) => fields.extend_from_slice(&[Field::word("refused", fault_name(&fault))])?,
+            Err(fault) => fields.push(Field::word("refused", fault_name(&fault)))?,
         }
         packet.append(self.alloc, self.layout, fields.as_slice(), out)
     }

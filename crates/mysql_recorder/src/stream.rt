@@ -1,5 +1,10 @@
 //! One side's stream.
 
+ghost use Rattle.std.specs.Prelude.{◌≡◌, IfOk, IfSome, IfNone, OnErr, None};
+ghost use Rattle.std.specs.Cow.{cow_slice_items};
+ghost use Rattle.mysql_frames.specs.FrameReader.{HandsOut, HoldsAll, Keeps};
+ghost use Rattle.mysql_recorder.specs.Streams.{as_sent};
+
 use mysql_frames::{FrameError, FrameReader};
 use std::alloc::Global;
 use std::borrow::CowSlice;
@@ -8,6 +13,14 @@ use std::borrow::CowSlice;
 pub(crate) struct Sent<'a> {
     pub(crate) sequence: u8,
     pub(crate) payload: CowSlice<'a, u8>,
+}
+
+/// Says that the next frame has the number that it was sent with.
+#[tactic(auto, using(crate::proofs::Streams::sent))]
+fn expect_sent(reader: &mut FrameReader, input: &[u8])
+    ensures { reader.new ≡ as_sent reader.old input.now }
+{
+    reader.expect_as_sent(input);
 }
 
 /// One side's stream: in step, or out of step since something of it was lost.
@@ -46,12 +59,15 @@ impl Stream {
     }
 
     /// Takes the input up to the end of the next payload, or all of it.
-    pub(crate) fn next<'a>(
-        &mut self,
-        input: &mut &'a [u8],
-    ) -> Result<Option<Sent<'a>>, FrameError> {
+    pub(crate) fn next<'a>(&mut self, input: &mut &'a [u8]) -> Result<Option<Sent<'a>>, FrameError>
+        ensures payload { IfOk result (λ found. IfSome found (λ sent. HandsOut (as_sent self.old.reader input.old.now) input.old.now (cow_slice_items sent.payload) self.new.reader input.new.now)) }
+        ensures sequence { IfOk result (λ found. IfSome found (λ sent. sent.sequence ≡ (as_sent self.old.reader input.old.now).number)) }
+        ensures more { IfOk result (λ found. IfNone found (HoldsAll (as_sent self.old.reader input.old.now) input.old.now self.new.reader input.new.now)) }
+        ensures err { OnErr result (Keeps (as_sent self.old.reader input.old.now) input.old.now self.new.reader input.new.now) }
+        ensures passed { self.new.passed ≡ self.old.passed }
+    {
         let before = input.len();
-        self.reader.expect_as_sent(input);
+        expect_sent(&mut self.reader, input);
         let sequence = self.reader.number();
         let read = self.reader.read(input);
         let came = before.saturating_sub(input.len()) as u64;

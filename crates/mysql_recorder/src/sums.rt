@@ -1,7 +1,7 @@
 //! What a recording comes to.
 
-use crate::packet::{Layout, Packet, name_of_side, sign_of};
 use mysql_conversation::{Kind, Side};
+use mysql_fields::{Layout, Packet, command_name, name_of_side, sign_of};
 use mysql_wire::{ConstValue, ServerCommand};
 use serde_json::{Map, Value, push, put};
 use std::alloc::{AllocError, Global};
@@ -309,14 +309,17 @@ fn count<K: Ord + Drop>(counts: &mut BTreeMap<K, u64>, key: K) -> Result<(), All
 /// The name of a command; its number where it has none.
 fn name_of(alloc: Global, code: u8) -> Result<String, AllocError> {
     match ServerCommand::from_code(code) {
-        Some(command) => format!(in alloc; "{command:?}"),
+        Some(command) => String::from_str(alloc, command_name(command)),
         None => format!(in alloc; "{code}"),
     }
 }
 
 fn append_exchanges(out: &mut String, code: u8, count: u64) -> Result<(), AllocError> {
     match ServerCommand::from_code(code) {
-        Some(command) => write!(out, "exchanges: {command:?} {count}\n"),
+        Some(command) => {
+            let name = command_name(command);
+            write!(out, "exchanges: {name} {count}\n")
+        }
         None => write!(out, "exchanges: {code} {count}\n"),
     }
 }

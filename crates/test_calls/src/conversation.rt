@@ -9,7 +9,7 @@
 use crate::packets::Watched;
 use mysql_packets::constants::{CapabilityFlags, Flags, MariadbCapabilities};
 use mysql_packets::conversation::{
-    Conversation, Format, Kind, Opening, Pipeline, Refusal, Session, Side, Unexpected, agreed_on,
+    Conversation, Kind, Opening, Pipeline, Refusal, Session, Side, Unexpected, agreed_on,
 };
 use mysql_packets::frames::{FrameError, FrameReader};
 use mysql_packets::packets::SessionCapabilities;
@@ -46,39 +46,6 @@ impl Tracker for Pipeline {
     }
 }
 
-/// The name of a kind, as `mypackets` has it.
-fn name_of(kind: Kind) -> &'static str {
-    match kind {
-        Kind::Handshake => "handshake",
-        Kind::SslRequest => "ssl_request",
-        Kind::Login => "login",
-        Kind::AuthSwitch => "auth_switch",
-        Kind::OldAuthSwitch => "old_auth_switch",
-        Kind::AuthMoreData => "auth_more_data",
-        Kind::AuthNextFactor => "auth_next_factor",
-        Kind::AuthPluginData => "auth_plugin_data",
-        Kind::AuthData => "auth_data",
-        Kind::Command(_) => "command",
-        Kind::Ok => "ok",
-        Kind::Error => "error",
-        Kind::UnaskedError => "unasked_error",
-        Kind::ProgressReport => "progress_report",
-        Kind::LocalInfile => "local_infile",
-        Kind::InfileContent => "infile_content",
-        Kind::InfileEnd => "infile_end",
-        Kind::ColumnCount(_, _) => "column_count",
-        Kind::Column => "column",
-        Kind::Eof => "eof",
-        Kind::OkTerminator => "ok_terminator",
-        Kind::Row(Format::Text) => "text_row",
-        Kind::Row(Format::Binary) => "binary_row",
-        Kind::PrepareOk(_, _, _) => "prepare_ok",
-        Kind::Statistics => "statistics",
-        Kind::BinlogEvent => "binlog_event",
-        Kind::SemiSyncAck => "semi_sync_ack",
-    }
-}
-
 /// The sign of a side.
 fn sign_of(side: Side) -> &'static str {
     match side {
@@ -90,7 +57,7 @@ fn sign_of(side: Side) -> &'static str {
 /// Adds a packet's kind, and what the kind tells.
 fn show_kind(out: &mut Out, side: Side, kind: Kind) {
     out.word(sign_of(side));
-    out.push(name_of(kind));
+    out.push(kind.name());
     match kind {
         Kind::Command(code) => show_number(out, u64::from(code)),
         Kind::ColumnCount(count, follow) => {

@@ -1,4 +1,8 @@
-//! A packet of a recording, and what is said between packets, as they are shown.
+//! Packets of a recording, and what is said between packets, as they are shown.
+
+ghost use Rattle.std.specs.Prelude.{◌≡◌, ◌++◌, OnOk, string_bytes, false};
+ghost use Rattle.mysql_fields.specs.Entries as spec;
+ghost use Rattle.mysql_fields.specs.Fields.{have_float};
 
 use crate::field::Field;
 use crate::json::append_object;
@@ -17,24 +21,34 @@ pub enum Layout {
 
 /// A packet: whose it is, its sequence number, the number of its exchange, the name of its kind, and the payload.
 #[derive(Clone, Copy)]
-pub(crate) struct Packet<'a> {
-    pub(crate) side: Side,
-    pub(crate) sequence: u8,
-    pub(crate) exchange: u64,
-    pub(crate) kind: &'static str,
-    pub(crate) payload: &'a [u8],
+pub struct Packet<'a> {
+    /// Who sent it.
+    pub side: Side,
+    /// The number of its first frame.
+    pub sequence: u8,
+    /// The number of the command whose exchange it belongs to.
+    pub exchange: u64,
+    /// The name of its kind.
+    pub kind: &'static str,
+    /// Its payload.
+    pub payload: &'a [u8],
 }
 
 /// What is said of a side's stream between its packets: whose it is, the number of the exchange, and what is said.
 #[derive(Clone, Copy)]
-pub(crate) struct Remark {
-    pub(crate) side: Side,
-    pub(crate) exchange: u64,
-    pub(crate) kind: &'static str,
+pub struct Remark {
+    /// Whose stream it is.
+    pub side: Side,
+    /// The number of the exchange there.
+    pub exchange: u64,
+    /// What is said.
+    pub kind: &'static str,
 }
 
-/// The sign of a side.
-pub(crate) fn sign_of(side: Side) -> &'static str {
+/// The sign of a side: `>` of the client, `<` of the server.
+pub fn sign_of(side: Side) -> &'static str
+    ensures { result.now ≡ spec.sign_of side }
+{
     match side {
         Side::Client => ">",
         Side::Server => "<",
@@ -42,7 +56,9 @@ pub(crate) fn sign_of(side: Side) -> &'static str {
 }
 
 /// The name of a side.
-pub(crate) fn name_of_side(side: Side) -> &'static str {
+pub fn name_of_side(side: Side) -> &'static str
+    ensures { result.now ≡ spec.name_of_side side }
+{
     match side {
         Side::Client => "client",
         Side::Server => "server",
@@ -51,13 +67,17 @@ pub(crate) fn name_of_side(side: Side) -> &'static str {
 
 impl<'a> Packet<'a> {
     /// Appends the packet with its fields.
-    pub(crate) fn append(
+    ///
+    /// Where memory is refused, what stands before is left, and a part of the packet may stand after it.
+    pub fn append(
         &self,
         alloc: Global,
         layout: Layout,
         fields: &[Field<'_>],
         out: &mut String,
-    ) -> Result<(), AllocError> {
+    ) -> Result<(), AllocError>
+        ensures ok { OnOk result (have_float fields.now ≡ false → string_bytes out.new ≡ string_bytes out.old ++ spec.packet_text layout self.now fields.now) }
+    {
         match layout {
             Layout::Lines => {
                 let (sign, sequence, kind) = (sign_of(self.side), self.sequence, self.kind);
@@ -73,7 +93,7 @@ impl<'a> Packet<'a> {
                     Field::number("size", self.payload.len() as u64),
                     Field::digits("payload", self.payload),
                 ];
-                append_object(alloc, &head, fields, out)
+                append_object(alloc, out, &head, fields)
             }
         }
     }
@@ -81,13 +101,17 @@ impl<'a> Packet<'a> {
 
 impl Remark {
     /// Appends the remark with its fields.
-    pub(crate) fn append(
+    ///
+    /// Where memory is refused, what stands before is left, and a part of the remark may stand after it.
+    pub fn append(
         &self,
         alloc: Global,
         layout: Layout,
         fields: &[Field<'_>],
         out: &mut String,
-    ) -> Result<(), AllocError> {
+    ) -> Result<(), AllocError>
+        ensures ok { OnOk result (have_float fields.now ≡ false → string_bytes out.new ≡ string_bytes out.old ++ spec.remark_text layout self.now fields.now) }
+    {
         match layout {
             Layout::Lines => {
                 let (sign, kind) = (sign_of(self.side), self.kind);
@@ -100,7 +124,7 @@ impl Remark {
                     Field::number("exchange", self.exchange),
                     Field::word("kind", self.kind),
                 ];
-                append_object(alloc, &head, fields, out)
+                append_object(alloc, out, &head, fields)
             }
         }
     }

@@ -1,0 +1,5 @@
+pub mod CommandName
+pub mod Entries
+pub mod FieldObject
+pub mod FieldText
+pub mod Fields
