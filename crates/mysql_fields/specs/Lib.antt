@@ -3,3 +3,4 @@ pub mod Entries
 pub mod FieldObject
 pub mod FieldText
 pub mod Fields
+pub mod ReplyFields

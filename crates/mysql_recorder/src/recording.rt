@@ -573,7 +573,7 @@ impl Recording {
         };
         let mut fields = Vec::new(self.alloc);
         match server_packet(self.alloc, &context, kind, packet.payload) {
-            Ok(mut read) => server_fields(&mut read, &mut fields)?,
+            Ok(mut read) => server_fields(self.alloc, &mut read, &mut fields)?,
             Err(fault) => fields.push(Field::word("refused", fault_name(&fault)))?,
         }
         packet.append(self.alloc, self.layout, fields.as_slice(), out)
