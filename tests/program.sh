@@ -220,6 +220,12 @@ recorded $'# a ping\n\n> 0100 0000 0e\r\n< 07000001 00\n< 000002000000\n' 'a con
 recorded "$many" 'a payload past the limit' 1 $'refused: TooLong\n' 22
 recorded "$many"$'\n> 010000000e\n' 'a packet that does not come' 1 \
     $'< 0 unasked_error\nerror: 1040\nsql_state: none\nmessage: x546f6f206d616e7920636f6e6e656374696f6e73\n> 0 refused\nbegins: x0e\nrefused: Unexpected\n'
+recorded $'> 010000000e\n< 5b33206279746573206d697373696e6720696e20636170747572652066696c655d00\n> 07\n> 010000000e\n< 0700000100000002000000\n' 'bytes that are missing' 1 \
+    $'> 0 command\ncommand: COM_PING\n< lost\nmissing: 3\n> taken_up\npassed_over: 1\n> 0 command\ncommand: COM_PING\n< taken_up\npassed_over: 0\n< 1 ok\naffected_rows: 0\nlast_insert_id: none\nstatus_flags: 2\nwarnings: 0\ninfo: none\n' caps=0200
+recorded $'> 010000000e\n< 010000ff00\n< 0700000100000002000000\n' 'a line of the server that is no answer' 0 \
+    $'> 0 command\ncommand: COM_PING\n< taken_up\npassed_over: 5\n< 1 ok\naffected_rows: 0\nlast_insert_id: none\nstatus_flags: 2\nwarnings: 0\ninfo: none\n' caps=0200
+recorded $'> 010000000e\n< 0100000100\n< 0700000100000002000000\n' 'nothing to be taken up at' 1 \
+    $'> 0 command\ncommand: COM_PING\n< 1 refused\nbegins: x00\nrefused: Unexpected\nexpected: command\nexpected: ok\nexpected: error\nexpected: eof\n> not_taken_up\npassed_over: 0\n< not_taken_up\npassed_over: 11\n' caps=0200
 recorded '< 0100000' 'half a byte at the end' 0 ''
 recorded '< 01x0' 'a line that is none' 1 $'refused: InvalidInput\n'
 recorded '! 00' 'another sign' 1 $'refused: InvalidInput\n'

@@ -1,6 +1,6 @@
 #!/usr/bin/env python3
 """From a capture to packets in one line: a real client and a real server are captured, and the capture is read by the line that
-docs/PROGRAM.md has.
+docs/PROGRAM.md has; and again with a segment of either side taken out of it.
 
 capture.py               by the program that rt ci leaves
 capture.py --unproved    by the program without proof
@@ -62,8 +62,42 @@ def captured(port, path):
     tshark.wait()
 
 
+def segments(path):
+    """The segments of a capture that have bytes: number of the frame, whether it is the client's, and how many bytes."""
+    fields = "-e frame.number -e tcp.dstport -e tcp.len -e tcp.payload".split()
+    run = subprocess.run(["tshark", "-r", path, "-Y", "tcp.len > 0", "-T", "fields", *fields], capture_output=True, text=True)
+    return [line.split("\t") for line in run.stdout.splitlines()]
+
+
+def shown(path, program):
+    """The packets of a capture, and the status."""
+    run = subprocess.run(f"tshark -r {path} -q -z follow,tcp,raw,0 | {program} conversation --json", shell=True, capture_output=True, text=True)
+    return [json.loads(line) for line in run.stdout.splitlines()], run.returncode
+
+
+def without(path, program, port, is_client):
+    """What is wrong where a segment of the exchange of the second query is not in the capture, or no text."""
+    found = segments(path)
+    asked = next(at for at, it in enumerate(found) if "select 'ä'".encode().hex() in it[3])
+    number, _, size, _ = found[asked] if is_client else next(it for it in found[asked:] if it[1] != str(port))
+    subprocess.run(["editcap", path, f"{path}.less", number], capture_output=True)
+    packets, status = shown(f"{path}.less", program)
+    lost = [at for at, it in enumerate(packets) if it["kind"] == "lost"]
+    if status != 1 or not lost:
+        return f"the status is {status}, and {len(lost)} segments are lost"
+    side = "client" if is_client else "server"
+    if (packets[lost[0]]["side"], packets[lost[0]]["missing"]) != (side, int(size)):
+        return f"it is {packets[lost[0]]}, of {size} bytes of the {side}"
+    kinds = [it["kind"] for it in packets[lost[0] :] if it["kind"] not in ("lost", "not_taken_up")]
+    if kinds != "taken_up command taken_up error command".split():
+        return f"what follows are {kinds}"
+    before = [it for it in packets[: lost[0]] if it["kind"] == "text_row"]
+    error = next(it for it in packets[lost[0] :] if it["kind"] == "error")
+    return "" if before[-1]["value"] == ["1", "zwei", None] and error["error"] == 1046 else f"{before[-1]}, {error}"
+
+
 def main(*words):
-    lacking = server.missing() + [it for it in ("tshark",) if not shutil.which(it)]
+    lacking = server.missing() + [it for it in ("tshark", "editcap") if not shutil.which(it)]
     if lacking:
         print(f"capture: not tested, there is no {lacking[0]}")
         print("0 passed, 0 failed")
@@ -73,12 +107,14 @@ def main(*words):
         Path(folder).chmod(0o777)
         path = f"{folder}/capture.pcap"
         captured(port, path)
-        run = subprocess.run(f"tshark -r {path} -q -z follow,tcp,raw,0 | {program} conversation --json", shell=True, capture_output=True, text=True)
-    wrong = f"the program ended with {run.returncode}" if run.returncode else known([json.loads(line) for line in run.stdout.splitlines()])
-    if wrong:
+        packets, status = shown(path, program)
+        wrongs = [f"the program ended with {status}" if status else known(packets)]
+        wrongs += [it and f"without a segment: {it}" for it in (without(path, program, port, side) for side in (True, False))]
+    for wrong in filter(None, wrongs):
         print(f"capture: {wrong}")
-    print(f"{int(not wrong)} passed, {int(bool(wrong))} failed")
-    return 1 if wrong else 0
+    failed = sum(bool(it) for it in wrongs)
+    print(f"{len(wrongs) - failed} passed, {failed} failed")
+    return 1 if failed else 0
 
 
 if __name__ == "__main__":

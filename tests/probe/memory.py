@@ -54,7 +54,7 @@ OWNER = re.compile(r"(?:pub )?(?:unsafe )?(impl|trait)(?:<[^{]*?>)? (?:.* for )?
 
 
 def libraries():
-    return sorted(it.parent.parent for it in (TOP / "crates").glob("mysql_*/src/lib.rt") if it.parent.parent.name not in ("mysql_packets", "mysql_packets_c", "mysql_recorder"))
+    return sorted(it.parent.parent for it in (TOP / "crates").glob("mysql_*/src/lib.rt") if it.parent.parent.name not in ("mysql_packets", "mysql_packets_c", "mysql_fields", "mysql_recorder"))
 
 
 def refusals():

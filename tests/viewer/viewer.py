@@ -16,10 +16,12 @@ from pathlib import Path
 
 TOP = Path(__file__).resolve().parents[2]
 sys.path[:0] = [str(TOP / "tests/probe"), str(TOP / "tests")]
-from conversations import FOLDER, packets_of, pieces_of  # noqa: E402
-from recording import Watcher  # noqa: E402
+from conversations import FOLDER, pieces_of  # noqa: E402
+from lossy import front  # noqa: E402
+from recorder import mark, recorded  # noqa: E402
 
 PAGE = TOP / "examples/viewer/index.html"
+BAD = ("error", "unasked_error", "refused", "lost", "not_taken_up")
 # what runs in the page after its own script: it acts as a user does, and leaves what it saw in the document
 ACTS = """
 const wait = () => new Promise((done) => setTimeout(done, 150));
@@ -66,16 +68,7 @@ def seen(acts, data=""):
 
 
 def objects(path):
-    watcher, found = Watcher(), []
-    for packet in packets_of(pieces_of(path)):
-        it, comes = watcher.wanted(packet)
-        if not comes:
-            side = "client" if packet.side == ">" else "server"
-            it = {"side": side, "sequence": packet.number, "exchange": 0, "size": len(packet.payload), "payload": packet.payload.hex(), **it}
-        found.append(it)
-        if not comes:
-            break
-    return found
+    return recorded(pieces_of(path))[0]
 
 
 def lines(packets):
@@ -123,7 +116,7 @@ def conversation(path):
     if packets[0]["kind"] == "handshake":
         hold(f"{name}: its version", packets[0]["server_version"] in answer.get("shown", ""), True)
     hold(f"{name}: the next is chosen", answer.get("selected"), "row-1" if len(packets) > 1 else "row-0")
-    bad = [it for it in packets if it["kind"] in ("error", "unasked_error", "refused")]
+    bad = [it for it in packets if it["kind"] in BAD]
     hold(f"{name}: errors", answer.get("bad", "").split(" of ")[0], str(len(bad)))
     hold(f"{name}: a search", int(answer.get("found", "0").split(" of ")[0]) >= len(queries), True)
     hold(f"{name}: no fault", answer.get("error"), None)
@@ -156,6 +149,39 @@ def hostile():
     hold("hostile: no markup", answer.get("images"), 0)
     hold("hostile: the text is shown", evil in answer.get("labels", ""), True)
     hold("hostile: no fault", answer.get("error"), None)
+
+
+def lost():
+    """A recording of which a segment is missing: what is said of it stands among the packets, and what follows is shown."""
+    lines_of = front(FOLDER / "mtr_all_110.txt.xz")
+    at = [at for at, (side, _) in enumerate(lines_of) if side == ">"][3]
+    side, line = lines_of[at]
+    packets = recorded(lines_of[:at] + [(side, mark(len(line)))] + lines_of[at + 1 :])[0]
+    answer = seen(
+        """
+        load(JSON.parse(by("data").textContent));
+        await set("fold", false);
+        seen.count = count();
+        seen.labels = labels().join("\\n");
+        await set("bad", true);
+        seen.bad = count();
+        press("Home"); press("Enter");
+        seen.shown = by("detail").textContent;
+        """,
+        json.dumps(lines(packets)),
+    )
+    kinds = [it["kind"] for it in packets]
+    exchanges = len({it["exchange"] for it in packets})
+    hold("lost: the kinds", kinds.count("lost") == 1 and kinds.count("taken_up") == 2, True)
+    hold("lost: the count", answer.get("count"), f"{len(packets)} of {len(packets)} packets, {exchanges} exchanges")
+    hold("lost: it is named", f"lost: {len(line)} bytes are missing in the capture" in answer.get("labels", ""), True)
+    passed = [f"taken up again, {it['passed_over']} bytes passed over" in answer.get("labels", "") for it in packets if it["kind"] == "taken_up"]
+    hold("lost: where it is taken up", passed, [True, True])
+    bad = [it for it in packets if it["kind"] in BAD]
+    hold("lost: it stands out", answer.get("bad", "").split(" of ")[0], str(len(bad)))
+    hold("lost: its fields", f"missing{len(line)}" in answer.get("shown", ""), True)
+    hold("lost: no number", "undefined" in answer.get("labels", "undefined") + answer.get("shown", "undefined"), False)
+    hold("lost: no fault", answer.get("error"), None)
 
 
 def many():
@@ -202,6 +228,7 @@ def main(*words):
     for path in sorted(FOLDER.glob("*.xz")):
         conversation(path)
     hostile()
+    lost()
     many()
     print(f"{sum(RESULTS)} passed, {len(RESULTS) - sum(RESULTS)} failed")
     return 0 if all(RESULTS) else 1

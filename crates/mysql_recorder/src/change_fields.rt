@@ -1,7 +1,7 @@
 //! What an OK packet says of the session.
 
-use crate::field::Field;
 use crate::values::fault_name;
+use mysql_fields::Field;
 use mysql_replies::OkPacketRef;
 use mysql_session::{ChangeRef, SystemVariablesRef};
 use mysql_wire::FaultOf;
@@ -17,7 +17,7 @@ pub(crate) fn append_changes<'p>(
             Ok(change) => append_change(change.into_change(), fields)?,
             Err(fault) => {
                 let fault = FaultOf::from(fault);
-                fields.extend_from_slice(&[Field::word("refused", fault_name(&fault))])?;
+                fields.push(Field::word("refused", fault_name(&fault)))?;
             }
         }
     }
@@ -35,7 +35,7 @@ fn append_change<'p>(change: ChangeRef<'p>, fields: &mut Vec<Field<'p>>) -> Resu
         }
         ChangeRef::TransactionState(state) => Field::bytes("transaction_state", state),
     };
-    fields.extend_from_slice(&[field])
+    Ok(fields.push(field)?)
 }
 
 fn append_variables<'p>(
@@ -43,10 +43,8 @@ fn append_variables<'p>(
     fields: &mut Vec<Field<'p>>,
 ) -> Result<(), AllocError> {
     for variable in variables {
-        fields.extend_from_slice(&[
-            Field::bytes("variable", variable.name()),
-            Field::bytes("variable_value", variable.value()),
-        ])?;
+        fields.push(Field::bytes("variable", variable.name()))?;
+        fields.push(Field::bytes("variable_value", variable.value()))?;
     }
     Ok(())
 }

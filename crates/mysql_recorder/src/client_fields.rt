@@ -1,8 +1,8 @@
 //! What a packet of the client says.
 
 use crate::command_fields::append_command;
-use crate::field::Field;
 use mysql_auth::{HandshakeResponseRef, SslRequest};
+use mysql_fields::Field;
 use mysql_observer::ClientPacket;
 use mysql_wire::Flags;
 use std::alloc::AllocError;
@@ -21,45 +21,41 @@ pub(crate) fn client_fields<'p>(
         ClientPacket::InfileContent(content) => append_length(content.as_bytes(), fields),
         ClientPacket::InfileEnd => Ok(()),
         ClientPacket::SemiSyncAck(ack) => {
-            fields.extend_from_slice(&[Field::number("position", ack.position())])
+            Ok(fields.push(Field::number("position", ack.position()))?)
         }
     }
 }
 
 /// How many bytes there are.
 fn append_length<'p>(bytes: &[u8], fields: &mut Vec<Field<'p>>) -> Result<(), AllocError> {
-    fields.extend_from_slice(&[Field::number("length", bytes.len() as u64)])
+    Ok(fields.push(Field::number("length", bytes.len() as u64))?)
 }
 
 fn append_ssl_request<'p>(
     request: &SslRequest,
     fields: &mut Vec<Field<'p>>,
 ) -> Result<(), AllocError> {
-    fields.extend_from_slice(&[
-        Field::number("capabilities", u64::from(request.capabilities().bits())),
-        Field::number("max_packet_size", u64::from(request.max_packet_size())),
-        Field::number("collation", u64::from(request.character_set())),
-        Field::number(
-            "mariadb_ext_capabilities",
-            u64::from(request.mariadb_capabilities().bits()),
-        ),
-    ])
+    fields.push(Field::number("capabilities", u64::from(request.capabilities().bits())))?;
+    fields.push(Field::number("max_packet_size", u64::from(request.max_packet_size())))?;
+    fields.push(Field::number("collation", u64::from(request.character_set())))?;
+    Ok(fields.push(Field::number(
+        "mariadb_ext_capabilities",
+        u64::from(request.mariadb_capabilities().bits()),
+    ))?)
 }
 
 fn append_login<'p>(
     login: &HandshakeResponseRef<'p>,
     fields: &mut Vec<Field<'p>>,
 ) -> Result<(), AllocError> {
-    fields.extend_from_slice(&[
-        Field::number("capabilities", u64::from(login.capabilities().bits())),
-        Field::number("max_packet_size", u64::from(login.max_packet_size())),
-        Field::number("collation", u64::from(login.collation())),
-        Field::number(
-            "mariadb_ext_capabilities",
-            u64::from(login.mariadb_ext_capabilities().bits()),
-        ),
-        Field::bytes("user", login.user()),
-        Field::optional_bytes("db_name", login.db_name()),
-        Field::optional_bytes("auth_plugin_name", login.auth_plugin_name()),
-    ])
+    fields.push(Field::number("capabilities", u64::from(login.capabilities().bits())))?;
+    fields.push(Field::number("max_packet_size", u64::from(login.max_packet_size())))?;
+    fields.push(Field::number("collation", u64::from(login.collation())))?;
+    fields.push(Field::number(
+        "mariadb_ext_capabilities",
+        u64::from(login.mariadb_ext_capabilities().bits()),
+    ))?;
+    fields.push(Field::bytes("user", login.user()))?;
+    fields.push(Field::optional_bytes("db_name", login.db_name()))?;
+    Ok(fields.push(Field::optional_bytes("auth_plugin_name", login.auth_plugin_name()))?)
 }

@@ -1,12 +1,12 @@
 //! What a command says.
 
-use crate::field::Field;
 use crate::values::fault_name;
 use mysql_auth::ComChangeUserRef;
 use mysql_commands::{
     ComQueryRef, ComStmtBulkExecuteRef, ComStmtExecuteRef, Command, QueryAttributesView,
     ServerOption,
 };
+use mysql_fields::Field;
 use mysql_repl::{ComBinlogDumpGtidRef, ComBinlogDumpRef, ComRegisterSlaveRef};
 use mysql_wire::Flags;
 use std::alloc::AllocError;
@@ -22,10 +22,10 @@ pub(crate) fn append_command<'p>(
         }
         Command::Query(query) => append_query(query, fields),
         Command::StmtPrepare(text) => append(Field::bytes("query", text.as_bytes()), fields),
-        Command::FieldList(list) => fields.extend_from_slice(&[
-            Field::bytes("table", list.table()),
-            Field::bytes("wildcard", list.wildcard()),
-        ]),
+        Command::FieldList(list) => {
+            fields.push(Field::bytes("table", list.table()))?;
+            Ok(fields.push(Field::bytes("wildcard", list.wildcard()))?)
+        },
         Command::ChangeUser(change) => append_change_user(change.value(), fields),
         Command::Unknown(unknown) => append(Field::bytes("content", unknown.content()), fields),
         _ => append_number(command, fields),
@@ -33,7 +33,7 @@ pub(crate) fn append_command<'p>(
 }
 
 fn append<'p>(field: Field<'p>, fields: &mut Vec<Field<'p>>) -> Result<(), AllocError> {
-    fields.extend_from_slice(&[field])
+    Ok(fields.push(field)?)
 }
 
 /// Those that say a number first.
@@ -71,11 +71,11 @@ fn append_statement<'p>(
 ) -> Result<(), AllocError> {
     match command {
         Command::StmtExecute(execution) => append_execution(execution, fields),
-        Command::StmtSendLongData(data) => fields.extend_from_slice(&[
-            Field::number("statement_id", u64::from(data.stmt_id())),
-            Field::number("param_index", u64::from(data.param_index())),
-            Field::number("length", data.data().len() as u64),
-        ]),
+        Command::StmtSendLongData(data) => {
+            fields.push(Field::number("statement_id", u64::from(data.stmt_id())))?;
+            fields.push(Field::number("param_index", u64::from(data.param_index())))?;
+            Ok(fields.push(Field::number("length", data.data().len() as u64))?)
+        },
         Command::StmtClose(close) => {
             append(
                 Field::number("statement_id", u64::from(close.stmt_id)),
@@ -88,10 +88,10 @@ fn append_statement<'p>(
                 fields,
             )
         }
-        Command::StmtFetch(fetch) => fields.extend_from_slice(&[
-            Field::number("statement_id", u64::from(fetch.stmt_id)),
-            Field::number("num_rows", u64::from(fetch.num_rows)),
-        ]),
+        Command::StmtFetch(fetch) => {
+            fields.push(Field::number("statement_id", u64::from(fetch.stmt_id)))?;
+            Ok(fields.push(Field::number("num_rows", u64::from(fetch.num_rows)))?)
+        },
         Command::StmtBulkExecute(bulk) => append_bulk(bulk, fields),
         _ => append_replication(command, fields),
     }
@@ -102,22 +102,18 @@ fn append_execution<'p>(
     fields: &mut Vec<Field<'p>>,
 ) -> Result<(), AllocError> {
     let head = execution.head();
-    fields.extend_from_slice(&[
-        Field::number("statement_id", u64::from(head.stmt_id())),
-        Field::number("cursor_flags", u64::from(head.flags().bits())),
-        Field::number("length", execution.params().len() as u64),
-    ])
+    fields.push(Field::number("statement_id", u64::from(head.stmt_id())))?;
+    fields.push(Field::number("cursor_flags", u64::from(head.flags().bits())))?;
+    Ok(fields.push(Field::number("length", execution.params().len() as u64))?)
 }
 
 fn append_bulk<'p>(
     bulk: &ComStmtBulkExecuteRef<'p>,
     fields: &mut Vec<Field<'p>>,
 ) -> Result<(), AllocError> {
-    fields.extend_from_slice(&[
-        Field::number("statement_id", u64::from(bulk.stmt_id())),
-        Field::number("bulk_flags", u64::from(bulk.bulk_flags().bits())),
-        Field::number("length", bulk.rows().len() as u64),
-    ])
+    fields.push(Field::number("statement_id", u64::from(bulk.stmt_id())))?;
+    fields.push(Field::number("bulk_flags", u64::from(bulk.bulk_flags().bits())))?;
+    Ok(fields.push(Field::number("length", bulk.rows().len() as u64))?)
 }
 
 /// Those of a replica.
@@ -137,24 +133,20 @@ fn append_dump<'p>(
     dump: &ComBinlogDumpRef<'p>,
     fields: &mut Vec<Field<'p>>,
 ) -> Result<(), AllocError> {
-    fields.extend_from_slice(&[
-        Field::number("position", u64::from(dump.pos())),
-        Field::number("dump_flags", u64::from(dump.flags().bits())),
-        Field::number("server_id", u64::from(dump.server_id())),
-        Field::bytes("file_name", dump.filename()),
-    ])
+    fields.push(Field::number("position", u64::from(dump.pos())))?;
+    fields.push(Field::number("dump_flags", u64::from(dump.flags().bits())))?;
+    fields.push(Field::number("server_id", u64::from(dump.server_id())))?;
+    Ok(fields.push(Field::bytes("file_name", dump.filename()))?)
 }
 
 fn append_gtid_dump<'p>(
     dump: &ComBinlogDumpGtidRef<'p>,
     fields: &mut Vec<Field<'p>>,
 ) -> Result<(), AllocError> {
-    fields.extend_from_slice(&[
-        Field::number("position", dump.pos()),
-        Field::number("dump_flags", u64::from(dump.flags().bits())),
-        Field::number("server_id", u64::from(dump.server_id())),
-        Field::bytes("file_name", dump.filename()),
-    ])
+    fields.push(Field::number("position", dump.pos()))?;
+    fields.push(Field::number("dump_flags", u64::from(dump.flags().bits())))?;
+    fields.push(Field::number("server_id", u64::from(dump.server_id())))?;
+    Ok(fields.push(Field::bytes("file_name", dump.filename()))?)
 }
 
 /// A replica's password is not shown.
@@ -162,12 +154,10 @@ fn append_replica<'p>(
     replica: &ComRegisterSlaveRef<'p>,
     fields: &mut Vec<Field<'p>>,
 ) -> Result<(), AllocError> {
-    fields.extend_from_slice(&[
-        Field::number("server_id", u64::from(replica.server_id())),
-        Field::bytes("hostname", replica.hostname()),
-        Field::bytes("user", replica.user()),
-        Field::number("port", u64::from(replica.port())),
-    ])
+    fields.push(Field::number("server_id", u64::from(replica.server_id())))?;
+    fields.push(Field::bytes("hostname", replica.hostname()))?;
+    fields.push(Field::bytes("user", replica.user()))?;
+    Ok(fields.push(Field::number("port", u64::from(replica.port())))?)
 }
 
 /// What the user proves itself by is not shown.
@@ -175,10 +165,8 @@ fn append_change_user<'p>(
     change: &ComChangeUserRef<'p>,
     fields: &mut Vec<Field<'p>>,
 ) -> Result<(), AllocError> {
-    fields.extend_from_slice(&[
-        Field::bytes("user", change.user()),
-        Field::bytes("database", change.database()),
-    ])
+    fields.push(Field::bytes("user", change.user()))?;
+    Ok(fields.push(Field::bytes("database", change.database()))?)
 }
 
 /// The text of a query, and its attributes.
@@ -200,10 +188,10 @@ fn append_attributes<'p>(
     let mut attributes = attributes;
     for _ in 0..attributes.left() {
         match attributes.next_attribute() {
-            Ok(Some(attribute)) => fields.extend_from_slice(&[
-                Field::bytes("attribute", attribute.name()),
-                Field::value("attribute_value", attribute.value()),
-            ])?,
+            Ok(Some(attribute)) => {
+                fields.push(Field::bytes("attribute", attribute.name()))?;
+                fields.push(Field::value("attribute_value", attribute.value()))?;
+            },
             Ok(None) => return Ok(()),
             Err(fault) => return append(Field::word("refused", fault_name(&fault)), fields),
         }

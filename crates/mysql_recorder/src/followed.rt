@@ -1,10 +1,10 @@
 //! What is followed: a connection from its greeting on, or one that is taken up amid it.
 
-use mysql_conversation::{Kind, Opening, Pipeline, Refusal, Session, Side};
+use mysql_conversation::{Kind, KindName, Opening, Pipeline, Refusal, Session, Side};
 use mysql_replies::SessionCapabilities;
 use std::alloc::Global;
 
-/// A connection: from its greeting on, or from the first command that is seen, under what both sides agreed on before.
+/// A connection: from its greeting on, or from a command on, under what both sides agreed on before.
 #[derive(Drop)]
 enum Connection {
     Whole(Session),
@@ -14,41 +14,69 @@ enum Connection {
 /// A connection that is followed.
 #[derive(Drop)]
 pub(crate) struct Followed {
+    alloc: Global,
+    waiting: usize,
     connection: Connection,
-    /// Whether its first packet has come.
-    has_begun: bool,
+    /// The number of the last exchange before the connection was taken up.
+    before: u64,
+    /// The highest number of an exchange that came.
+    last: u64,
 }
 
 impl Followed {
     /// A connection from its greeting on, in which as many commands may wait.
     pub(crate) fn whole(alloc: Global, waiting: usize) -> Self {
         Followed {
+            alloc,
+            waiting,
             connection: Connection::Whole(Session::new(alloc, waiting)),
-            has_begun: true,
+            before: 0,
+            last: 0,
         }
     }
 
-    /// One that is taken up at its next command, under what both sides agreed on.
-    pub(crate) fn taken_up(alloc: Global, agreed: SessionCapabilities, waiting: usize) -> Self {
-        let pipeline = Pipeline::new(alloc, agreed, Opening::Commands, waiting);
-        Followed {
-            connection: Connection::TakenUp(pipeline, agreed),
-            has_begun: false,
-        }
+    /// Goes on at the next command, under what both sides agreed on. Exchanges are counted on.
+    pub(crate) fn take_up(&mut self, agreed: SessionCapabilities) {
+        let pipeline = Pipeline::new(self.alloc, agreed, Opening::Commands, self.waiting);
+        self.connection = Connection::TakenUp(pipeline, agreed);
+        self.before = self.last;
     }
 
-    /// Whether a packet is passed over: it stands before the first command, which a client sends with the number 0.
-    pub(crate) fn passes_over(&self, side: Side, sequence: u8) -> bool {
-        !self.has_begun && (side == Side::Server || sequence != 0)
+    /// Goes on after a command, the last that came. It is of the same exchange.
+    pub(crate) fn take_up_after(&mut self, agreed: SessionCapabilities, command: &[u8]) {
+        let mut pipeline = Pipeline::new(self.alloc, agreed, Opening::Commands, self.waiting);
+        // (a command comes between two exchanges)
+        let _taken = pipeline.next(Side::Client, command);
+        self.connection = Connection::TakenUp(pipeline, agreed);
+        self.before = self.last.saturating_sub(1);
     }
 
     /// Which packet it is, and the number of its exchange.
     pub(crate) fn next(&mut self, side: Side, payload: &[u8]) -> Result<(Kind, u64), Refusal> {
-        self.has_begun = true;
-        match &mut self.connection {
-            Connection::Whole(session) => session.next(side, payload),
-            Connection::TakenUp(pipeline, _) => pipeline.next(side, payload),
+        let (kind, number) = match &mut self.connection {
+            Connection::Whole(session) => session.next(side, payload)?,
+            Connection::TakenUp(pipeline, _) => pipeline.next(side, payload)?,
+        };
+        let exchange = self.before.saturating_add(number);
+        self.last = self.last.max(exchange);
+        Ok((kind, exchange))
+    }
+
+    /// Whether a packet of this kind may come next, of one side or the other.
+    pub(crate) fn expects(&self, name: KindName) -> bool {
+        match &self.connection {
+            Connection::Whole(session) => {
+                session.expects(Side::Client, name) || session.expects(Side::Server, name)
+            }
+            Connection::TakenUp(pipeline, _) => {
+                pipeline.expects(Side::Client, name) || pipeline.expects(Side::Server, name)
+            }
         }
+    }
+
+    /// The highest number of an exchange that came.
+    pub(crate) fn last(&self) -> u64 {
+        self.last
     }
 
     /// What both sides agreed on, once the client has logged in.

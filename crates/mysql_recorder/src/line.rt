@@ -25,6 +25,15 @@ pub(crate) enum Place {
     Silent,
 }
 
+/// What a byte of the input ends.
+#[derive(Clone, Copy, Debug, PartialEq, Eq)]
+pub(crate) enum Said {
+    /// A byte of a side's stream.
+    Byte(Side, u8),
+    /// The line of a side.
+    End,
+}
+
 /// The value of a digit in lower case.
 fn lower_digit(byte: u8) -> Option<u8> {
     match byte {
@@ -43,12 +52,16 @@ fn digit(byte: u8) -> Option<u8> {
 }
 
 impl Place {
-    /// Goes past a byte of the input, and answers the byte of a stream that it ends, with its side.
-    pub(crate) fn pass(&mut self, byte: u8) -> Result<Option<(Side, u8)>, LineError> {
+    /// Goes past a byte of the input, and answers what it ends.
+    pub(crate) fn pass(&mut self, byte: u8) -> Result<Option<Said>, LineError> {
         match *self {
             Place::Start => {
                 *self = begun_by(byte)?;
                 Ok(None)
+            }
+            Place::Between(_) if byte == b'\n' => {
+                *self = Place::Start;
+                Ok(Some(Said::End))
             }
             Place::Between(side) => {
                 *self = after_byte(side, byte)?;
@@ -59,7 +72,7 @@ impl Place {
                     return Err(LineError);
                 };
                 *self = Place::Between(side);
-                Ok(Some((side, (high << 4) | low)))
+                Ok(Some(Said::Byte(side, (high << 4) | low)))
             }
             Place::Silent => {
                 if byte == b'\n' {
@@ -88,7 +101,6 @@ fn begun_by(byte: u8) -> Result<Place, LineError> {
 /// Where a side's line stands after one more byte. Spaces may stand between two bytes of a piece.
 fn after_byte(side: Side, byte: u8) -> Result<Place, LineError> {
     match byte {
-        b'\n' => Ok(Place::Start),
         b' ' | b'\r' => Ok(Place::Between(side)),
         _ => match digit(byte) {
             Some(high) => Ok(Place::Half(side, high)),

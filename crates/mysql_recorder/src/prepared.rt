@@ -1,9 +1,9 @@
 //! The prepared statements of a recording.
 
-use crate::field::Field;
 use crate::values::fault_name;
 use bitflags::Flags;
 use mysql_conversation::Kind;
+use mysql_fields::Field;
 use mysql_prepared::{ComStmtExecuteHead, ExecuteParam, ExecuteParamsView};
 use mysql_replies::SessionCapabilities;
 use mysql_statements::{
@@ -52,6 +52,23 @@ impl Prepared {
         exchange: u64,
         payload: &[u8],
     ) -> Result<(), AllocError> {
+        self.serve(agreed, exchange)?;
+        self.statements.take(agreed, kind, payload)
+    }
+
+    /// Holds a command that comes early. One that is too long, or one too many, is lost: what it says of statements isn't known.
+    pub(crate) fn hold(&mut self, exchange: u64, payload: &[u8]) -> Result<(), AllocError> {
+        let _is_held = self.early.hold(exchange, payload)?;
+        Ok(())
+    }
+
+    /// The server has come to all commands that wait: which answers they have was not seen.
+    pub(crate) fn serve_all(&mut self, agreed: SessionCapabilities) -> Result<(), AllocError> {
+        self.serve(agreed, u64::MAX)
+    }
+
+    /// Takes the commands that wait, up to an exchange.
+    fn serve(&mut self, agreed: SessionCapabilities, exchange: u64) -> Result<(), AllocError> {
         for _ in 0..self.early.len() {
             let Some(command) = self.early.serve(exchange) else {
                 break;
@@ -61,12 +78,6 @@ impl Prepared {
                 self.statements.take(agreed, kind, command.payload())?;
             }
         }
-        self.statements.take(agreed, kind, payload)
-    }
-
-    /// Holds a command that comes early. One that is too long, or one too many, is lost: what it says of statements isn't known.
-    pub(crate) fn hold(&mut self, exchange: u64, payload: &[u8]) -> Result<(), AllocError> {
-        let _is_held = self.early.hold(exchange, payload)?;
         Ok(())
     }
 
@@ -107,7 +118,7 @@ pub(crate) fn append_params<'p>(
     match view_of(alloc, statement, payload) {
         Ok(Some(view)) => append_view(view, fields),
         Ok(None) => Ok(()),
-        Err(fault) => fields.extend_from_slice(&[Field::word("refused", fault_name(&fault))]),
+        Err(fault) => Ok(fields.push(Field::word("refused", fault_name(&fault)))?),
     }
 }
 
@@ -134,10 +145,10 @@ fn append_view<'p>(
     let mut view = view;
     for _ in 0..view.left() {
         match view.next_param() {
-            Ok(Some((_, param))) => fields.extend_from_slice(&[field_of(param)])?,
+            Ok(Some((_, param))) => fields.push(field_of(param))?,
             Ok(None) => return Ok(()),
             Err(fault) => {
-                return fields.extend_from_slice(&[Field::word("refused", fault_name(&fault))]);
+                return Ok(fields.push(Field::word("refused", fault_name(&fault)))?);
             }
         }
     }

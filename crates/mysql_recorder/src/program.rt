@@ -1,8 +1,8 @@
 //! `mypackets conversation [MAX] [caps=CAPS] [mariadb=CAPS] [--json] [--sum]`.
 
-use crate::packet::Layout;
 use crate::recording::{Recording, RecordingError};
 use bitflags::Flags;
+use mysql_fields::Layout;
 use mysql_replies::SessionCapabilities;
 use mysql_wire::{CapabilityFlags, MariadbCapabilities};
 use std::alloc::Global;
@@ -75,7 +75,7 @@ fn agreed_of(caps: Option<u32>, mariadb: u32) -> Option<SessionCapabilities> {
 /// | Status | Meaning |
 /// |---|---|
 /// | 0 | the input is read to its end |
-/// | 1 | refused; the last line says why |
+/// | 1 | refused, and the last line says why; or something was lost, and it is said where |
 /// | 2 | a bad call; the one line is its usage |
 /// | 3 | a read or a write failed |
 ///
@@ -91,7 +91,7 @@ pub fn run<R: Read, W: Write>(
     };
     let mut recording = Recording::new(alloc, call.layout, call.longest, WAITING);
     if let Some(agreed) = call.agreed {
-        recording = recording.taken_up(agreed, WAITING);
+        recording = recording.taken_up(agreed);
     }
     if call.sums {
         recording = recording.with_sums();
@@ -101,16 +101,20 @@ pub fn run<R: Read, W: Write>(
         let Ok(count) = reader.read(&mut chunk) else {
             return 3;
         };
-        if count == 0 {
-            return end_with_sums(alloc, &recording, writer, 0);
-        }
         let mut out = String::new(alloc);
-        let taken = recording.take(&chunk[..count], &mut out);
+        let taken = match count {
+            0 => recording.finish(&mut out),
+            count => recording.take(&chunk[..count], &mut out),
+        };
         if writer.write_all(out.as_bytes()).is_err() {
             return 3;
         }
         if let Err(error) = taken {
             let status = refuse(alloc, call.layout, &error, writer);
+            return end_with_sums(alloc, &recording, writer, status);
+        }
+        if count == 0 {
+            let status = u8::from(recording.has_lost());
             return end_with_sums(alloc, &recording, writer, status);
         }
     }

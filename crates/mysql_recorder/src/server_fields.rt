@@ -1,43 +1,47 @@
 //! What a packet of the server says.
 
 use crate::change_fields::append_changes;
-use crate::field::Field;
 use crate::values::{append_row, append_text_row};
 use mysql_auth::{AuthNextFactorRef, AuthSwitchRequestRef, HandshakePacketRef};
-use mysql_observer::ServerPacket;
-use mysql_prepared::{StmtPacketWithMetadata, TypedColumn};
-use mysql_repl::BinlogStreamEvent;
-use mysql_replies::{
-    ColumnCount, ErrPacketRef, ExtendedColumnRef, OkPacketRef, ProgressReportRef, ServerErrorRef,
+use mysql_fields::{
+    Field, count_fields, end_fields, error_fields, ok_fields, report_fields, statement_fields,
 };
+use mysql_observer::ServerPacket;
+use mysql_prepared::TypedColumn;
+use mysql_repl::BinlogStreamEvent;
+use mysql_replies::{ErrPacketRef, ExtendedColumnRef, OkPacketRef};
 use mysql_wire::Flags;
-use std::alloc::AllocError;
+use std::alloc::{AllocError, Global};
 
 /// Appends the fields of a packet of the server. The values of a row are read for it.
 pub(crate) fn server_fields<'p, C: TypedColumn>(
+    alloc: Global,
     packet: &mut ServerPacket<'p, '_, C>,
     fields: &mut Vec<Field<'p>>,
 ) -> Result<(), AllocError> {
     match packet {
         ServerPacket::Handshake(greeting) => append_handshake(greeting, fields),
-        ServerPacket::GreetingError(error) => append_error(error.server_error(), fields),
+        ServerPacket::GreetingError(error) => add(
+            error_fields(alloc, error.server_error())?,
+            fields,
+        ),
         ServerPacket::AuthSwitch(switch) => append_switch(switch, fields),
         ServerPacket::OldAuthSwitch(_) => Ok(()),
         ServerPacket::AuthMoreData(data) => append_bytes("data", data.data(), fields),
         ServerPacket::AuthNextFactor(factor) => append_factor(factor, fields),
         ServerPacket::AuthPluginData(data) => append_bytes("data", data.as_bytes(), fields),
-        ServerPacket::Ok(ok) => append_ok(ok, fields),
-        ServerPacket::Error(error) => append_err(error, fields),
-        ServerPacket::UnaskedError(error) => append_err(error, fields),
-        ServerPacket::ProgressReport(report) => append_report(report, fields),
+        ServerPacket::Ok(ok) => append_ok(alloc, ok, fields),
+        ServerPacket::Error(error) => append_err(alloc, error, fields),
+        ServerPacket::UnaskedError(error) => append_err(alloc, error, fields),
+        ServerPacket::ProgressReport(report) => add(report_fields(alloc, report)?, fields),
         ServerPacket::LocalInfile(file) => append_bytes("file_name", file.file_name(), fields),
-        ServerPacket::ColumnCount(count) => append_count(count, fields),
+        ServerPacket::ColumnCount(count) => add(count_fields(alloc, count)?, fields),
         ServerPacket::Column(column) => append_column(column, fields),
-        ServerPacket::Eof(ok) => append_end(ok, fields),
-        ServerPacket::OkTerminator(ok) => append_ok(ok, fields),
+        ServerPacket::Eof(ok) => add(end_fields(alloc, ok)?, fields),
+        ServerPacket::OkTerminator(ok) => append_ok(alloc, ok, fields),
         ServerPacket::TextRow(row) => append_text_row(row, fields),
         ServerPacket::BinaryRow(row) => append_row(row, fields),
-        ServerPacket::PrepareOk(statement) => append_statement(statement, fields),
+        ServerPacket::PrepareOk(statement) => add(statement_fields(alloc, statement)?, fields),
         ServerPacket::Statistics(text) => append_bytes("text", text.as_bytes(), fields),
         ServerPacket::BinlogEvent(event) => append_event(event, fields),
     }
@@ -48,108 +52,70 @@ fn append_bytes<'p>(
     bytes: &'p [u8],
     fields: &mut Vec<Field<'p>>,
 ) -> Result<(), AllocError> {
-    fields.extend_from_slice(&[Field::bytes(name, bytes)])
+    Ok(fields.push(Field::bytes(name, bytes))?)
 }
 
 fn append_handshake<'p>(
     greeting: &HandshakePacketRef<'p>,
     fields: &mut Vec<Field<'p>>,
 ) -> Result<(), AllocError> {
-    fields.extend_from_slice(&[
-        Field::number("protocol_version", u64::from(greeting.protocol_version())),
-        Field::bytes("server_version", greeting.server_version()),
-        Field::number("connection_id", u64::from(greeting.connection_id())),
-        Field::bytes("scramble_1", greeting.scramble_1()),
-        Field::optional_bytes("scramble_2", greeting.scramble_2()),
-        Field::number("capabilities", u64::from(greeting.capabilities().bits())),
-        Field::number("default_collation", u64::from(greeting.default_collation())),
-        Field::number("status_flags", u64::from(greeting.status_flags().bits())),
-        Field::number(
-            "mariadb_ext_capabilities",
-            u64::from(greeting.mariadb_ext_capabilities().bits()),
-        ),
-        Field::optional_bytes("auth_plugin_name", greeting.auth_plugin_name()),
-    ])
+    fields.push(Field::number("protocol_version", u64::from(greeting.protocol_version())))?;
+    fields.push(Field::bytes("server_version", greeting.server_version()))?;
+    fields.push(Field::number("connection_id", u64::from(greeting.connection_id())))?;
+    fields.push(Field::bytes("scramble_1", greeting.scramble_1()))?;
+    fields.push(Field::optional_bytes("scramble_2", greeting.scramble_2()))?;
+    fields.push(Field::number("capabilities", u64::from(greeting.capabilities().bits())))?;
+    fields.push(Field::number("default_collation", u64::from(greeting.default_collation())))?;
+    fields.push(Field::number("status_flags", u64::from(greeting.status_flags().bits())))?;
+    fields.push(Field::number(
+        "mariadb_ext_capabilities",
+        u64::from(greeting.mariadb_ext_capabilities().bits()),
+    ))?;
+    Ok(fields.push(Field::optional_bytes("auth_plugin_name", greeting.auth_plugin_name()))?)
 }
 
-fn append_error<'p>(
-    error: &ServerErrorRef<'p>,
+/// Adds fields.
+fn add<'p>(more: Vec<Field<'p>>, fields: &mut Vec<Field<'p>>) -> Result<(), AllocError> {
+    let mut more = more;
+    fields.append(&mut more)
+}
+
+/// What an OK packet says, and the changes of the session.
+fn append_ok<'p>(
+    alloc: Global,
+    ok: &OkPacketRef<'p>,
     fields: &mut Vec<Field<'p>>,
 ) -> Result<(), AllocError> {
-    fields.extend_from_slice(&[
-        Field::number("error", u64::from(error.error_code())),
-        Field::optional_bytes("sql_state", error.sql_state()),
-        Field::bytes("message", error.message()),
-    ])
+    add(ok_fields(alloc, ok)?, fields)?;
+    append_changes(ok, fields)
 }
 
 fn append_err<'p>(
+    alloc: Global,
     packet: &ErrPacketRef<'p>,
     fields: &mut Vec<Field<'p>>,
 ) -> Result<(), AllocError> {
     if packet.is_error() {
-        append_error(packet.server_error(), fields)
+        add(error_fields(alloc, packet.server_error())?, fields)
     } else {
-        append_report(packet.progress_report(), fields)
+        add(report_fields(alloc, packet.progress_report())?, fields)
     }
-}
-
-fn append_report<'p>(
-    report: &ProgressReportRef<'p>,
-    fields: &mut Vec<Field<'p>>,
-) -> Result<(), AllocError> {
-    fields.extend_from_slice(&[
-        Field::number("progress", u64::from(report.progress())),
-        Field::number("stage", u64::from(report.stage())),
-        Field::number("max_stage", u64::from(report.max_stage())),
-        Field::bytes("stage_info", report.stage_info()),
-    ])
 }
 
 fn append_switch<'p>(
     switch: &AuthSwitchRequestRef<'p>,
     fields: &mut Vec<Field<'p>>,
 ) -> Result<(), AllocError> {
-    fields.extend_from_slice(&[
-        Field::bytes("auth_plugin_name", switch.auth_plugin_name()),
-        Field::bytes("plugin_data", switch.plugin_data()),
-    ])
+    fields.push(Field::bytes("auth_plugin_name", switch.auth_plugin_name()))?;
+    Ok(fields.push(Field::bytes("plugin_data", switch.plugin_data()))?)
 }
 
 fn append_factor<'p>(
     factor: &AuthNextFactorRef<'p>,
     fields: &mut Vec<Field<'p>>,
 ) -> Result<(), AllocError> {
-    fields.extend_from_slice(&[
-        Field::bytes("auth_plugin_name", factor.auth_plugin_name()),
-        Field::bytes("plugin_data", factor.plugin_data()),
-    ])
-}
-
-fn append_ok<'p>(ok: &OkPacketRef<'p>, fields: &mut Vec<Field<'p>>) -> Result<(), AllocError> {
-    fields.extend_from_slice(&[
-        Field::number("affected_rows", ok.affected_rows()),
-        Field::optional_number("last_insert_id", ok.last_insert_id()),
-        Field::number("status_flags", u64::from(ok.status_flags().bits())),
-        Field::number("warnings", u64::from(ok.warnings())),
-        Field::optional_bytes("info", ok.info()),
-    ])?;
-    append_changes(ok, fields)
-}
-
-/// An EOF packet says no more than these two.
-fn append_end<'p>(end: &OkPacketRef<'p>, fields: &mut Vec<Field<'p>>) -> Result<(), AllocError> {
-    fields.extend_from_slice(&[
-        Field::number("status_flags", u64::from(end.status_flags().bits())),
-        Field::number("warnings", u64::from(end.warnings())),
-    ])
-}
-
-fn append_count<'p>(count: &ColumnCount, fields: &mut Vec<Field<'p>>) -> Result<(), AllocError> {
-    fields.extend_from_slice(&[
-        Field::number("count", count.count()),
-        Field::flag("metadata_follows", count.metadata_follows()),
-    ])
+    fields.push(Field::bytes("auth_plugin_name", factor.auth_plugin_name()))?;
+    Ok(fields.push(Field::bytes("plugin_data", factor.plugin_data()))?)
 }
 
 fn append_column<'p>(
@@ -157,35 +123,20 @@ fn append_column<'p>(
     fields: &mut Vec<Field<'p>>,
 ) -> Result<(), AllocError> {
     let column = extended.column();
-    fields.extend_from_slice(&[
-        Field::bytes("schema", column.schema()),
-        Field::bytes("table", column.table()),
-        Field::bytes("org_table", column.org_table()),
-        Field::bytes("name", column.name()),
-        Field::bytes("org_name", column.org_name()),
-        Field::number("character_set", u64::from(column.character_set())),
-        Field::number("column_length", u64::from(column.column_length())),
-        Field::number("column_type", column.column_type() as u64),
-        Field::number("flags", u64::from(column.flags().bits())),
-        Field::number("decimals", u64::from(column.decimals())),
-    ])?;
+    fields.push(Field::bytes("schema", column.schema()))?;
+    fields.push(Field::bytes("table", column.table()))?;
+    fields.push(Field::bytes("org_table", column.org_table()))?;
+    fields.push(Field::bytes("name", column.name()))?;
+    fields.push(Field::bytes("org_name", column.org_name()))?;
+    fields.push(Field::number("character_set", u64::from(column.character_set())))?;
+    fields.push(Field::number("column_length", u64::from(column.column_length())))?;
+    fields.push(Field::number("column_type", column.column_type() as u64))?;
+    fields.push(Field::number("flags", u64::from(column.flags().bits())))?;
+    fields.push(Field::number("decimals", u64::from(column.decimals())))?;
     match extended.metadata() {
         Some(metadata) => append_bytes("extended_metadata", metadata, fields),
         None => Ok(()),
     }
-}
-
-fn append_statement<'p>(
-    statement: &StmtPacketWithMetadata,
-    fields: &mut Vec<Field<'p>>,
-) -> Result<(), AllocError> {
-    let packet = statement.packet();
-    fields.extend_from_slice(&[
-        Field::number("statement_id", u64::from(packet.statement_id())),
-        Field::number("num_columns", u64::from(packet.num_columns())),
-        Field::number("num_params", u64::from(packet.num_params())),
-        Field::number("warning_count", u64::from(packet.warning_count())),
-    ])
 }
 
 /// An event is shown by its first 19 bytes, the header that all have.
@@ -193,5 +144,5 @@ fn append_event<'p>(
     event: &BinlogStreamEvent<'p>,
     fields: &mut Vec<Field<'p>>,
 ) -> Result<(), AllocError> {
-    fields.extend_from_slice(&[Field::number("event_size", event.event().len() as u64)])
+    Ok(fields.push(Field::number("event_size", event.event().len() as u64))?)
 }

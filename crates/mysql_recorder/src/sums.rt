@@ -1,7 +1,7 @@
 //! What a recording comes to.
 
-use crate::packet::{Layout, Packet};
 use mysql_conversation::{Kind, Side};
+use mysql_fields::{Layout, Packet, command_name, name_of_side, sign_of};
 use mysql_wire::{ConstValue, ServerCommand};
 use serde_json::{Map, Value, push, put};
 use std::alloc::{AllocError, Global};
@@ -116,7 +116,7 @@ impl Sums {
         let large = Large {
             size,
             number: self.packets,
-            side: packet.side_name(),
+            side: name_of_side(packet.side),
             kind: packet.kind,
         };
         self.largest.insert(place, large)?;
@@ -236,10 +236,7 @@ impl Sums {
     fn tally_value(&self, tally: &Tally) -> Result<Value, AllocError> {
         let alloc = self.alloc;
         let mut object = Map::new(alloc);
-        let side = match tally.side {
-            Side::Client => "client",
-            Side::Server => "server",
-        };
+        let side = name_of_side(tally.side);
         put(
             &mut object,
             alloc,
@@ -309,25 +306,20 @@ fn count<K: Ord + Drop>(counts: &mut BTreeMap<K, u64>, key: K) -> Result<(), All
     Ok(())
 }
 
-/// The sign of a side.
-fn sign_of(side: Side) -> &'static str {
-    match side {
-        Side::Client => ">",
-        Side::Server => "<",
-    }
-}
-
 /// The name of a command; its number where it has none.
 fn name_of(alloc: Global, code: u8) -> Result<String, AllocError> {
     match ServerCommand::from_code(code) {
-        Some(command) => format!(in alloc; "{command:?}"),
+        Some(command) => String::from_str(alloc, command_name(command)),
         None => format!(in alloc; "{code}"),
     }
 }
 
 fn append_exchanges(out: &mut String, code: u8, count: u64) -> Result<(), AllocError> {
     match ServerCommand::from_code(code) {
-        Some(command) => write!(out, "exchanges: {command:?} {count}\n"),
+        Some(command) => {
+            let name = command_name(command);
+            write!(out, "exchanges: {name} {count}\n")
+        }
         None => write!(out, "exchanges: {code} {count}\n"),
     }
 }

@@ -1,6 +1,6 @@
 //! The values of rows.
 
-use crate::field::Field;
+use mysql_fields::Field;
 use mysql_prepared::{BinaryRowView, TextRowView, TypedColumn};
 use mysql_values::ServerSide;
 use mysql_wire::FaultOf;
@@ -23,10 +23,10 @@ pub(crate) fn append_text_row<'p>(
 ) -> Result<(), AllocError> {
     for _ in 0..row.left() {
         match row.next_value() {
-            Ok(Some(value)) => fields.extend_from_slice(&[Field::value("value", value)])?,
+            Ok(Some(value)) => fields.push(Field::value("value", value))?,
             Ok(None) => return Ok(()),
             Err(fault) => {
-                return fields.extend_from_slice(&[Field::word("refused", fault_name(&fault))]);
+                return Ok(fields.push(Field::word("refused", fault_name(&fault)))?);
             }
         }
     }
@@ -40,10 +40,10 @@ pub(crate) fn append_row<'p, C: TypedColumn>(
 ) -> Result<(), AllocError> {
     for _ in 0..row.left() {
         match row.next_value() {
-            Ok(Some(value)) => fields.extend_from_slice(&[Field::value("value", value)])?,
+            Ok(Some(value)) => fields.push(Field::value("value", value))?,
             Ok(None) => return Ok(()),
             Err(fault) => {
-                return fields.extend_from_slice(&[Field::word("refused", fault_name(&fault))]);
+                return Ok(fields.push(Field::word("refused", fault_name(&fault)))?);
             }
         }
     }

@@ -1,0 +1,40 @@
+-- What an object begins with.
+use Rattle.std.proofs.Common.{◌≡◌, ℕ, List, [], ◌∷◌, ◌++◌, false, length, codes, refl, sym, ap, ◌∙◌, OnOk, Result, Ok, Err}
+use Rattle.mysql_fields.specs.Fields.{Said, said, Number, Word, Digits, have_float}
+use Rattle.mysql_fields.specs.FieldObject.{object_line}
+use Rattle.mysql_fields.specs.Entries.{packet_head, packet_text, remark_head, remark_text, name_of_side}
+use Rattle.mysql_fields.specs.declared.entry.Layout.{Layout}
+use Rattle.mysql_fields.specs.declared.entry.Layout.TheVariants as layout
+use Rattle.mysql_fields.specs.declared.entry.Packet.{Packet}
+use Rattle.mysql_fields.specs.declared.entry.Remark.{Remark}
+
+-- a clause of the value, where there is one, gives another
+pub on-ok : {T E : Type 0} {P Q : Type 0} (r : Result T E) → OnOk r P → (P → Q) → OnOk r Q
+on-ok (Ok x) p f = f p
+on-ok (Err e) p f = tt
+
+abbrev pub Wrote : List Said → List Said → (old new : List ℕ) → Type 0
+Wrote head fields old new = have_float head ≡ false → have_float fields ≡ false → new ≡ old ++ object_line head fields
+
+pub packet-wrote : (p : Packet) (how : Layout) (head fields : List Said) (old new : List ℕ) → how ≡ layout.Json → head ≡ packet_head p → Wrote head fields old new
+    → have_float fields ≡ false → new ≡ old ++ packet_text how p fields
+packet-wrote p how head fields old new is same wrote h =
+    let line : new ≡ old ++ object_line head fields = wrote (rw same refl) h in
+    line ∙ ap (λ hs. old ++ object_line hs fields) same ∙ ap (λ l. old ++ packet_text l p fields) (sym is)
+
+pub remark-wrote : (r : Remark) (how : Layout) (head fields : List Said) (old new : List ℕ) → how ≡ layout.Json → head ≡ remark_head r → Wrote head fields old new
+    → have_float fields ≡ false → new ≡ old ++ remark_text how r fields
+remark-wrote r how head fields old new is same wrote h =
+    let line : new ≡ old ++ object_line head fields = wrote (rw same refl) h in
+    line ∙ ap (λ hs. old ++ object_line hs fields) same ∙ ap (λ l. old ++ remark_text l r fields) (sym is)
+
+pub packet-members : (p : Packet) (side sequence exchange kind size payload : Said)
+    → side ≡ said (codes "side") (Word (name_of_side p.side)) → sequence ≡ said (codes "sequence") (Number p.sequence) → exchange ≡ said (codes "exchange") (Number p.exchange)
+    → kind ≡ said (codes "kind") (Word p.kind.now) → size ≡ said (codes "size") (Number (length p.payload.now)) → payload ≡ said (codes "payload") (Digits p.payload.now)
+    → (side ∷ sequence ∷ exchange ∷ kind ∷ size ∷ payload ∷ []) ≡ packet_head p
+packet-members p side sequence exchange kind size payload a b c d e f = rw (a, b, c, d, e, f) refl
+
+pub remark-members : (r : Remark) (side exchange kind : Said)
+    → side ≡ said (codes "side") (Word (name_of_side r.side)) → exchange ≡ said (codes "exchange") (Number r.exchange) → kind ≡ said (codes "kind") (Word r.kind.now)
+    → (side ∷ exchange ∷ kind ∷ []) ≡ remark_head r
+remark-members r side exchange kind a b c = rw (a, b, c) refl

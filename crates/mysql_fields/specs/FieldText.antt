@@ -1,0 +1,67 @@
+-- Fields as lines.
+use Rattle.std.specs.Prelude.{ℕ, ◌^◌, ◌-◌, Bool, true, false, List, [], ◌++◌, codes, decimal, map}
+use Rattle.std.specs.Fmt.{padded_integral, format_spec, signed_decimal}
+use Rattle.std.specs.List.{concat}
+use Rattle.hex.specs.Hex.{encode_lower}
+use Rattle.mysql_values.specs.Value.{Content}
+use Rattle.mysql_values.specs.Value as value
+use Rattle.mysql_values.specs.declared.temporal.DateTime.{DateTime}
+use Rattle.mysql_values.specs.declared.temporal.TimeSpan.{TimeSpan}
+use Rattle.mysql_fields.specs.Fields.{Held, Number, Bytes, Digits, Word, Flag, Value, Absent, Said}
+
+-- bytes: digits after an x
+abbrev pub prefixed : List ℕ → List ℕ
+prefixed bytes = codes "x" ++ encode_lower bytes
+
+-- a number with zeros before it, of so many digits at the least
+abbrev pub wide : ℕ → ℕ → List ℕ
+wide width n = padded_integral (format_spec 32 0 4 width (2 ^ 64 - 1)) false [] (decimal n)
+
+-- hours, minutes, seconds and microseconds
+unfoldable pub clock_text : ℕ → ℕ → ℕ → ℕ → List ℕ
+clock_text hour minute second micros =
+    wide 2 hour ++ (codes ":" ++ (wide 2 minute ++ (codes ":" ++ (wide 2 second ++ (codes "." ++ wide 6 micros)))))
+
+abbrev pub date_text : DateTime → List ℕ
+date_text date =
+    wide 4 date.day.year ++ (codes "-" ++ (wide 2 date.day.month ++ (codes "-" ++ (wide 2 date.day.day ++ (codes " " ++ clock_text date.clock.hour date.clock.minute date.clock.second date.micros)))))
+
+abbrev pub sign_text : Bool → List ℕ
+sign_text true = codes "-"
+sign_text false = []
+
+-- a time: its days before the hours
+abbrev pub time_text : TimeSpan → List ℕ
+time_text time = sign_text time.is_negative ++ (decimal time.days ++ (codes " " ++ clock_text time.clock.hour time.clock.minute time.clock.second time.micros))
+
+-- what stands for a value that is no float
+abbrev pub value_text : Content → List ℕ
+value_text value.NULL = codes "NULL"
+value_text (value.Bytes bytes) = prefixed bytes
+value_text (value.Int n) = signed_decimal n
+value_text (value.UInt n) = decimal n
+value_text (value.Float bits) = []
+value_text (value.Double bits) = []
+value_text (value.Date date) = date_text date
+value_text (value.Time time) = time_text time
+
+abbrev pub flag_text : Bool → List ℕ
+flag_text true = codes "yes"
+flag_text false = codes "no"
+
+abbrev pub held_text : Held → List ℕ
+held_text (Number n) = decimal n
+held_text (Bytes bytes) = prefixed bytes
+held_text (Digits bytes) = prefixed bytes
+held_text (Word word) = word
+held_text (Flag flag) = flag_text flag
+held_text (Value value) = value_text value
+held_text Absent = codes "none"
+
+-- a name and what the field holds
+abbrev pub line_of : Said → List ℕ
+line_of field = field.name ++ (codes ": " ++ (held_text field.held ++ codes "\n"))
+
+-- a line for each field
+abbrev pub lines_of : List Said → List ℕ
+lines_of fields = concat (map line_of fields)

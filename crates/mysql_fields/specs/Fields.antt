@@ -1,0 +1,73 @@
+-- What fields hold.
+use Rattle.std.specs.Prelude.{ℕ, ◌||◌, List, [], ◌∷◌, Bool, true, false, Option, option_map, unwrap_or}
+use Rattle.mysql_values.specs.Value.{Content}
+use Rattle.mysql_values.specs.Value as value
+use Rattle.mysql_values.specs.ValueRef.{ref_content}
+use Rattle.mysql_fields.specs.declared.field.Shown.{Shown}
+use Rattle.mysql_fields.specs.declared.field.Shown.TheVariants as shows
+
+-- what a field holds, whoever keeps its bytes
+pub data Held : Type 0 where
+  Number : ℕ → Held
+  Bytes : List ℕ → Held
+  Digits : List ℕ → Held
+  Word : List ℕ → Held
+  Flag : Bool → Held
+  Value : Content → Held
+  Absent : Held
+
+-- a field: its name, and what it holds
+pub record Said : Type 0 where
+  pub name : List ℕ
+  pub held : Held
+
+abbrev pub said : List ℕ → Held → Said
+said name held = record { name = name; held = held }
+
+abbrev pub held_of : Shown → Held
+held_of (shows.Number n) = Number n
+held_of (shows.Bytes bytes) = Bytes bytes.now
+held_of (shows.Digits bytes) = Digits bytes.now
+held_of (shows.Word word) = Word word.now
+held_of (shows.Flag flag) = Flag flag
+held_of (shows.Value value) = Value (ref_content value)
+held_of shows.Absent = Absent
+
+-- what may be absent
+abbrev pub optional : {A : Type 0} → (A → Held) → Option A → Held
+optional hold value = unwrap_or (option_map hold value) Absent
+
+-- a float, whose digits no clause knows
+abbrev pub value_is_float : Content → Bool
+value_is_float value.NULL = false
+value_is_float (value.Bytes bytes) = false
+value_is_float (value.Int n) = false
+value_is_float (value.UInt n) = false
+value_is_float (value.Float bits) = true
+value_is_float (value.Double bits) = true
+value_is_float (value.Date date) = false
+value_is_float (value.Time time) = false
+
+-- a date or a time
+abbrev pub is_temporal : Content → Bool
+is_temporal value.NULL = false
+is_temporal (value.Bytes bytes) = false
+is_temporal (value.Int n) = false
+is_temporal (value.UInt n) = false
+is_temporal (value.Float bits) = false
+is_temporal (value.Double bits) = false
+is_temporal (value.Date date) = true
+is_temporal (value.Time time) = true
+
+abbrev pub is_float : Held → Bool
+is_float (Number n) = false
+is_float (Bytes bytes) = false
+is_float (Digits bytes) = false
+is_float (Word word) = false
+is_float (Flag flag) = false
+is_float (Value value) = value_is_float value
+is_float Absent = false
+
+abbrev pub have_float : List Said → Bool
+have_float [] = false
+have_float (field ∷ fields) = is_float field.held || have_float fields

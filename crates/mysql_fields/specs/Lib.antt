@@ -1,0 +1,6 @@
+pub mod CommandName
+pub mod Entries
+pub mod FieldObject
+pub mod FieldText
+pub mod Fields
+pub mod ReplyFields

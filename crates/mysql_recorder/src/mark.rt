@@ -1,0 +1,54 @@
+//! The marks of bytes that a capture lacks.
+//!
+//! Where a segment of a stream is not in the capture, `tshark` has a line of its own in the place of these bytes: as digits, the text
+//! `[1460 bytes missing in capture file]` and a byte 0.
+
+/// What a mark begins with.
+const BEFORE: u8 = b'[';
+
+/// What stands after its number.
+const AFTER: &[u8] = b" bytes missing in capture file]\0";
+
+/// How many digits its number has at most: such as have no more fit in 64 bits.
+const DIGITS: usize = 19;
+
+/// The number after so many digits of a text's front, with what stands after them.
+fn number_of(text: &[u8]) -> (u64, &[u8]) {
+    let mut number: u64 = 0;
+    let mut rest = text;
+    for _ in 0..DIGITS {
+        let [digit @ b'0'..=b'9', after @ ..] = rest else {
+            break;
+        };
+        number = number
+            .wrapping_mul(10)
+            .wrapping_add(u64::from(*digit - b'0'));
+        rest = after;
+    }
+    (number, rest)
+}
+
+/// How many bytes a line says that the capture lacks, where it is a mark.
+pub(crate) fn missing_of(line: &[u8]) -> Option<u64> {
+    let [BEFORE, text @ ..] = line else {
+        return None;
+    };
+    let (number, rest) = number_of(text);
+    if rest.len() < text.len() && rest == AFTER {
+        Some(number)
+    } else {
+        None
+    }
+}
+
+/// Whether a line that begins so may be a mark. No payload ends in such a front: its length would be more than 8,000.
+pub(crate) fn may_be_mark(front: &[u8]) -> bool {
+    match front {
+        [] => true,
+        [BEFORE, text @ ..] => {
+            let (_, rest) = number_of(text);
+            AFTER.starts_with(rest)
+        }
+        _ => false,
+    }
+}

@@ -1,0 +1,110 @@
+//! One side's stream.
+
+ghost use Rattle.std.specs.Prelude.{◌≡◌, IfOk, IfSome, IfNone, OnErr, None};
+ghost use Rattle.std.specs.Cow.{cow_slice_items};
+ghost use Rattle.mysql_frames.specs.FrameReader.{HandsOut, HoldsAll, Keeps};
+ghost use Rattle.mysql_recorder.specs.Streams.{as_sent};
+
+use mysql_frames::{FrameError, FrameReader};
+use std::alloc::Global;
+use std::borrow::CowSlice;
+
+/// A payload, and the sequence number of its first frame.
+pub(crate) struct Sent<'a> {
+    pub(crate) sequence: u8,
+    pub(crate) payload: CowSlice<'a, u8>,
+}
+
+/// Says that the next frame has the number that it was sent with.
+#[tactic(auto, using(crate::proofs::Streams::sent))]
+fn expect_sent(reader: &mut FrameReader, input: &[u8])
+    ensures { reader.new ≡ as_sent reader.old input.now }
+{
+    reader.expect_as_sent(input);
+}
+
+/// One side's stream: in step, or out of step since something of it was lost.
+#[derive(Drop)]
+pub(crate) struct Stream {
+    reader: FrameReader,
+    /// How many bytes came of a payload that is not whole.
+    unfinished: u64,
+    /// How many bytes are passed over, where it is out of step.
+    passed: Option<u64>,
+}
+
+impl Stream {
+    /// One of which nothing came, for payloads of at most `longest` bytes: in step, or out of step.
+    pub(crate) fn new(alloc: Global, longest: usize, is_in_step: bool) -> Self {
+        Stream {
+            reader: FrameReader::new(alloc, longest),
+            unfinished: 0,
+            passed: if is_in_step { None } else { Some(0) },
+        }
+    }
+
+    /// How many bytes are passed over, where it is out of step.
+    pub(crate) fn passed(&self) -> Option<u64> {
+        self.passed
+    }
+
+    /// Whether it is in step, and no payload is cut.
+    pub(crate) fn is_between(&self) -> bool {
+        self.passed.is_none() && self.reader.is_between()
+    }
+
+    /// The number that the frame after the last one has.
+    pub(crate) fn number(&self) -> u8 {
+        self.reader.number()
+    }
+
+    /// Takes the input up to the end of the next payload, or all of it.
+    pub(crate) fn next<'a>(&mut self, input: &mut &'a [u8]) -> Result<Option<Sent<'a>>, FrameError>
+        ensures payload { IfOk result (λ found. IfSome found (λ sent. HandsOut (as_sent self.old.reader input.old.now) input.old.now (cow_slice_items sent.payload) self.new.reader input.new.now)) }
+        ensures sequence { IfOk result (λ found. IfSome found (λ sent. sent.sequence ≡ (as_sent self.old.reader input.old.now).number)) }
+        ensures more { IfOk result (λ found. IfNone found (HoldsAll (as_sent self.old.reader input.old.now) input.old.now self.new.reader input.new.now)) }
+        ensures err { OnErr result (Keeps (as_sent self.old.reader input.old.now) input.old.now self.new.reader input.new.now) }
+        ensures passed { self.new.passed ≡ self.old.passed }
+    {
+        let before = input.len();
+        expect_sent(&mut self.reader, input);
+        let sequence = self.reader.number();
+        let read = self.reader.read(input);
+        let came = before.saturating_sub(input.len()) as u64;
+        self.unfinished = self.unfinished.saturating_add(came);
+        match read? {
+            Some(payload) => {
+                self.unfinished = 0;
+                Ok(Some(Sent { sequence, payload }))
+            }
+            None => Ok(None),
+        }
+    }
+
+    /// Takes back the memory of a payload.
+    pub(crate) fn give_back(&mut self, payload: CowSlice<'_, u8>) {
+        self.reader.give_back(payload);
+    }
+
+    /// It is out of step from here on: what is held of a payload is passed over.
+    pub(crate) fn lose(&mut self) {
+        let passed = self.passed.unwrap_or(0);
+        self.passed = Some(passed.saturating_add(self.unfinished));
+        self.unfinished = 0;
+        self.reader.expect(0);
+    }
+
+    /// Passes over so many bytes, where it is out of step.
+    pub(crate) fn pass_over(&mut self, count: usize) {
+        if let Some(passed) = self.passed {
+            self.passed = Some(passed.saturating_add(count as u64));
+        }
+    }
+
+    /// It is in step again.
+    pub(crate) fn take_up(&mut self) {
+        self.passed = None;
+        self.unfinished = 0;
+        self.reader.expect(0);
+    }
+}

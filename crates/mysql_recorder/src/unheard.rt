@@ -1,0 +1,66 @@
+//! Commands that came before the answers to earlier ones, and of which nothing is heard yet.
+
+use mysql_conversation::{Kind, Side};
+
+/// How many bytes of a command say what answers it: its first, and the flags of an execution.
+const FRONT: usize = 6;
+
+/// What a command begins with.
+#[derive(Clone, Copy)]
+pub(crate) struct Front {
+    bytes: [u8; FRONT],
+    len: usize,
+}
+
+impl Front {
+    /// Of a payload.
+    fn of(payload: &[u8]) -> Self {
+        let mut bytes = [0; FRONT];
+        for (place, byte) in bytes.iter_mut().zip(payload) {
+            *place = *byte;
+        }
+        Front {
+            bytes,
+            len: payload.len().min(FRONT),
+        }
+    }
+
+    /// Its bytes.
+    pub(crate) fn as_slice(&self) -> &[u8] {
+        &self.bytes[..self.len.min(FRONT)]
+    }
+}
+
+/// How many such commands came since the last packet of the server, and the last of them.
+#[derive(Clone, Copy)]
+pub(crate) struct Unheard {
+    count: u64,
+    last: Option<Front>,
+}
+
+impl Unheard {
+    /// None came.
+    pub(crate) fn none() -> Self {
+        Unheard {
+            count: 0,
+            last: None,
+        }
+    }
+
+    /// Goes past a packet that came.
+    pub(crate) fn hear(&mut self, side: Side, kind: Kind, is_early: bool, payload: &[u8]) {
+        match (side, kind) {
+            (Side::Client, Kind::Command(_)) if is_early => {
+                self.count = self.count.saturating_add(1);
+                self.last = Some(Front::of(payload));
+            }
+            (Side::Client, _) => {}
+            (Side::Server, _) => *self = Unheard::none(),
+        }
+    }
+
+    /// The one that came, where it is one.
+    pub(crate) fn only(&self) -> Option<Front> {
+        if self.count == 1 { self.last } else { None }
+    }
+}

@@ -1,0 +1,176 @@
+"""What the program shows of each packet, by the second tracker and the second decoder, which are written from the protocol's pages."""
+import sys
+
+from conversations import expected
+from lines import TOP
+
+sys.path.insert(0, str(TOP / "tests"))
+from reference_decoder import authentication, replies, statements, values  # noqa: E402
+from reference_decoder.buf import Buf, Eof, Invalid  # noqa: E402
+from reference_decoder.conversation import CLIENT, Refused, Session  # noqa: E402
+
+WAITING = 4096
+# the kinds, in the order in which they are shown
+KINDS = [
+    "handshake", "ssl_request", "login", "auth_switch", "old_auth_switch", "auth_more_data", "auth_next_factor", "auth_plugin_data", "auth_data",
+    "command", "ok", "error", "unasked_error", "progress_report", "local_infile", "infile_content", "infile_end", "column_count", "column", "eof",
+    "ok_terminator", "text_row", "binary_row", "prepare_ok", "statistics", "binlog_event", "semi_sync_ack",
+]
+COMMANDS = {
+    0x01: "COM_QUIT", 0x02: "COM_INIT_DB", 0x03: "COM_QUERY", 0x04: "COM_FIELD_LIST", 0x05: "COM_CREATE_DB", 0x06: "COM_DROP_DB",
+    0x07: "COM_REFRESH", 0x08: "COM_SHUTDOWN", 0x09: "COM_STATISTICS", 0x0A: "COM_PROCESS_INFO", 0x0C: "COM_PROCESS_KILL",
+    0x0D: "COM_DEBUG", 0x0E: "COM_PING", 0x11: "COM_CHANGE_USER", 0x12: "COM_BINLOG_DUMP", 0x13: "COM_TABLE_DUMP",
+    0x15: "COM_REGISTER_SLAVE", 0x16: "COM_STMT_PREPARE", 0x17: "COM_STMT_EXECUTE", 0x18: "COM_STMT_SEND_LONG_DATA",
+    0x19: "COM_STMT_CLOSE", 0x1A: "COM_STMT_RESET", 0x1B: "COM_SET_OPTION", 0x1C: "COM_STMT_FETCH", 0x1E: "COM_BINLOG_DUMP_GTID",
+    0x1F: "COM_RESET_CONNECTION", 0xFA: "COM_STMT_BULK_EXECUTE",
+    # those that no client sends
+    0x00: "COM_SLEEP", 0x0B: "COM_CONNECT", 0x0F: "COM_TIME", 0x10: "COM_DELAYED_INSERT", 0x14: "COM_CONNECT_OUT", 0x1D: "COM_DAEMON",
+    0x20: "COM_CLONE", 0x21: "COM_SUBSCRIBE_GROUP_REPLICATION_STREAM", 0xFB: "COM_SLAVE_WORKER", 0xFC: "COM_SLAVE_IO", 0xFD: "COM_SLAVE_SQL",
+    0xFE: "COM_MULTI",
+}
+
+
+def shown(data):
+    """Bytes as JSON shows them: a text, or digits where they are none."""
+    if data is None:
+        return None
+    try:
+        return data.decode()
+    except UnicodeDecodeError:
+        return {"hex": data.hex()}
+
+
+def named(names, fields):
+    return {name: shown(it) if isinstance(it, bytes) else it for name, it in zip(names.split(), fields)}
+
+
+def spelled(value):
+    """A value in binary, as JSON has it; a float, whose digits the second decoder doesn't give, is `float`."""
+    if isinstance(value, bytes):
+        return shown(value)
+    if value is None or value[0] == "bits":
+        return value and "float"
+    if value[0] == "number":
+        return value[1]
+    if value[0] == "date":
+        return "{:04}-{:02}-{:02} {:02}:{:02}:{:02}.{:06}".format(*value[1])
+    return "{}{} {:02}:{:02}:{:02}.{:06}".format("-" if value[1] else "", *value[2])
+
+
+class Watcher:
+    """What the fields of each packet are, by the second decoder."""
+
+    def __init__(self):
+        self.session, self.columns, self.count = Session(WAITING), [], 0
+        # of each statement its columns, and of that which runs or is prepared its number and what is expected of it
+        self.statements, self.last, self.runs, self.due = {}, None, None, []
+
+    def ok(self, payload, header):
+        capabilities = self.session.flags
+        numbers, status, warnings, (info, state) = replies.ok_packet(Buf(payload), capabilities, header, True)
+        fields = named("affected_rows last_insert_id status_flags warnings info", (*numbers, status, warnings, info))
+        for kind, change in replies.changes_as_sent(state or b""):
+            if kind == 0:
+                fields["variable"] = fields.get("variable", []) + [shown(name) for name, _ in change]
+                fields["variable_value"] = fields.get("variable_value", []) + [shown(value) for _, value in change]
+            else:
+                name = {1: "schema", 2: "state_changed", 3: "gtids", 4: "transaction_characteristics", 5: "transaction_state"}[kind]
+                fields[name] = change if kind == 2 else shown(change)
+        return fields
+
+    def text_row(self, payload):
+        buf, row = Buf(payload), []
+        for _ in range(self.count):
+            row.append(shown(values.text_value(buf)))
+        return {"value": row} if row else {}
+
+    def define(self, column_type, flags):
+        """A definition: of a parameter, which is passed over, or of a column."""
+        if self.due and self.due.pop(0) == "parameter":
+            return
+        self.columns.append((column_type, flags))
+        if self.runs is not None:
+            self.statements[self.runs] = self.columns
+
+    def binary_row(self, payload):
+        columns = self.columns or self.statements.get(self.runs, [])
+        buf = Buf(payload)
+        buf.take(1)
+        nulls = int.from_bytes(buf.take((len(columns) + 7 + 2) // 8), "little") >> 2
+        row = [None if nulls >> at & 1 else spelled(values.bin_value(buf, *it)) for at, it in enumerate(columns)]
+        return {"value": row} if row and "float" not in row else {}
+
+    def column(self, payload):
+        (names, numbers), metadata = replies.extended_column(Buf(payload), self.session.own)
+        self.define(numbers[2], numbers[3])
+        fields = named("schema table org_table name org_name character_set column_length column_type flags decimals", (*names, *numbers))
+        return fields if metadata is None else {**fields, "extended_metadata": shown(metadata)}
+
+    def command(self, payload):
+        """Which statement runs."""
+        if payload[0] in (0x17, 0xFA, 0x1C, 0x1A, 0x19):
+            number = int.from_bytes(payload[1:5], "little")
+            self.runs = self.last if number == 0xFFFFFFFF else number
+            # (several cursors may be open)
+            self.columns = self.statements.get(self.runs, []) if payload[0] == 0x1C else []
+        else:
+            self.runs, self.columns = None, []
+
+    def fields(self, side, kind, payload):
+        """What is wanted of a packet of this kind, as far as the second decoder says it."""
+        if kind == "handshake":
+            names = "protocol_version server_version connection_id scramble_1 scramble_2 capabilities default_collation status_flags mariadb_ext_capabilities auth_plugin_name"
+            return named(names, authentication.handshake(Buf(payload)))
+        if kind == "login":
+            read = authentication.handshake_response(Buf(payload))
+            return named("capabilities max_packet_size collation mariadb_ext_capabilities user db_name auth_plugin_name", (*read[:5], *read[6:8]))
+        if kind == "command":
+            fields = {"command": COMMANDS.get(payload[0], payload[0])}
+            self.command(payload)
+            if payload[0] == 0x16 or payload[0] == 0x03 and not self.session.flags & 1 << 27:
+                fields["query"] = shown(payload[1:])
+            return fields
+        if kind == "ok":
+            return self.ok(payload, b"\0")
+        if kind == "ok_terminator":
+            return self.ok(payload, b"\xfe")
+        if kind == "eof":
+            return named("warnings status_flags", replies.old_eof(Buf(payload), 0))
+        if kind in ("error", "unasked_error"):
+            read = replies.err_packet if self.session.flags else lambda buf, _: replies.greeting_error(buf)
+            return named("error sql_state message", read(Buf(payload), self.session.flags))
+        if kind == "column_count":
+            self.columns, self.due = [], []
+            optional, count, follows = replies.column_count(Buf(payload), self.session.flags, self.session.own)
+            self.count = count
+            return {"count": count, "metadata_follows": 0 not in (optional, follows)}
+        if kind == "column":
+            return self.column(payload)
+        if kind == "text_row":
+            return self.text_row(payload)
+        if kind == "binary_row":
+            return self.binary_row(payload)
+        if kind == "prepare_ok":
+            (number, columns, params), warnings = statements.stmt_packet(Buf(payload))
+            self.columns, self.last, self.runs, self.due = [], number, number, ["parameter"] * params
+            self.statements[number] = self.columns
+            return named("statement_id num_columns num_params warning_count", (number, columns, params, warnings))
+        if kind == "local_infile":
+            return {"file_name": shown(payload[1:])}
+        return {}
+
+    def wanted(self, packet):
+        """The object of a packet, as far as the second tracker and the second decoder say it, and whether it comes."""
+        side = "client" if packet.side == CLIENT else "server"
+        head = {"side": side, "sequence": packet.number, "size": len(packet.payload), "payload": packet.payload.hex()}
+        try:
+            word, number = self.session.next(packet.side, packet.payload)
+        except Refused as refusal:
+            kinds = sorted((it[1:] for it in expected(self.session)), key=KINDS.index)
+            return {**head, "exchange": self.session.last, "kind": "refused", "refused": refusal.args[0] if refusal.args else "Unexpected", "expected": kinds}, False
+        kind = word.split(":")[0]
+        head.update(exchange=number, kind=kind)
+        try:
+            return {**head, **self.fields(packet.side, kind, packet.payload)}, True
+        except (Eof, Invalid, IndexError):
+            return head, True
