@@ -512,10 +512,7 @@ impl Recording {
     ) -> Result<(), AllocError> {
         let payload = packet.payload;
         let mut fields = Vec::new(self.alloc);
-        fields.push(Field::bytes(
-            "begins",
-            &payload[..payload.len().min(BEGINNING)],
-        ))?;
+        fields.push(Field::bytes("begins", &payload[..payload.len().min(BEGINNING)]))?;
         fields.push(Field::word("refused", refusal_name(why)))?;
         for name in KindName::ALL {
             if self.followed.expects(name) {
