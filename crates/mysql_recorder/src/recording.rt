@@ -1,120 +1,23 @@
 //! A recording: what both sides of a connection sent.
 
-use crate::client_fields::client_fields;
+mod error;
+mod packets;
+
 use crate::followed::Followed;
-use crate::line::{LineError, Place, Said};
+use crate::line::{Place, Said};
 use crate::loss::{HEAD, Loss, begins_command, begins_with};
 use crate::mark::{may_be_mark, missing_of};
-use crate::prepared::{Prepared, append_params};
-use crate::server_fields::server_fields;
+use crate::prepared::Prepared;
 use crate::stream::{Sent, Stream};
 use crate::sums::Sums;
 use crate::unheard::{Front, Unheard};
-use crate::values::fault_name;
-use mysql_conversation::{Kind, KindName, Refusal, Side};
-use mysql_fields::{Field, Layout, Packet, Remark, command_name};
+pub use error::RecordingError;
+use mysql_conversation::Side;
+use mysql_fields::{Field, Layout, Remark};
 use mysql_frames::FrameError;
-use mysql_observer::{ReadContext, client_packet, server_packet};
 use mysql_replies::SessionCapabilities;
-use mysql_statements::RowColumn;
-use mysql_wire::{ConstValue, ServerCommand};
 use std::alloc::{AllocError, Global};
 use std::mem;
-use thiserror::Error;
-
-/// How many bytes of a packet that doesn't come are shown.
-const BEGINNING: usize = 64;
-
-/// Why a recording goes no further.
-#[derive(Clone, Copy, Debug, PartialEq, Eq, Error)]
-pub enum RecordingError {
-    /// Memory was refused.
-    #[error("Memory")]
-    Memory,
-    /// The input has a line that is none of a recording's.
-    #[error("InvalidInput")]
-    Line,
-    /// A frame of a payload has another sequence number than the one that comes.
-    #[error("OutOfOrder")]
-    OutOfOrder,
-    /// A payload is longer than the limit.
-    #[error("TooLong")]
-    TooLong,
-    /// Bytes are missing before it is known what both sides agreed on.
-    #[error("Missing")]
-    Missing,
-    /// A packet doesn't come where it stands, before it is known what both sides agreed on: it is shown as the last one.
-    #[error("refused")]
-    Refused(Refusal),
-}
-
-impl From<AllocError> for RecordingError {
-    ghost use Rattle.std.specs.Prelude.{◌≡◌};
-    ghost use Rattle.mysql_recorder.specs.declared.recording.RecordingError.TheVariants.{Memory};
-
-    ghost from_gives = { λ _ e. e ≡ Memory };
-
-    fn from(_error: AllocError) -> Self {
-        RecordingError::Memory
-    }
-}
-
-impl From<FrameError> for RecordingError {
-    ghost use Rattle.std.specs.Prelude.{⊤};
-
-    ghost from_gives = { λ _ _. ⊤ };
-
-    fn from(error: FrameError) -> Self {
-        match error {
-            FrameError::Memory => RecordingError::Memory,
-            FrameError::OutOfOrder => RecordingError::OutOfOrder,
-            FrameError::TooLong => RecordingError::TooLong,
-        }
-    }
-}
-
-impl From<Loss> for RecordingError {
-    ghost use Rattle.std.specs.Prelude.{⊤};
-
-    ghost from_gives = { λ _ _. ⊤ };
-
-    fn from(loss: Loss) -> Self {
-        match loss {
-            Loss::Missing(_) => RecordingError::Missing,
-            Loss::Frame(error) => RecordingError::from(error),
-        }
-    }
-}
-
-impl From<LineError> for RecordingError {
-    ghost use Rattle.std.specs.Prelude.{◌≡◌};
-    ghost use Rattle.mysql_recorder.specs.declared.recording.RecordingError.TheVariants.{Line};
-
-    ghost from_gives = { λ _ e. e ≡ Line };
-
-    fn from(_error: LineError) -> Self {
-        RecordingError::Line
-    }
-}
-
-/// The name of a refusal.
-fn refusal_name(why: Refusal) -> &'static str {
-    match why {
-        Refusal::Unexpected => "Unexpected",
-        Refusal::Full => "Full",
-        Refusal::Memory => "Memory",
-        Refusal::Encrypted => "Encrypted",
-        Refusal::Compressed => "Compressed",
-    }
-}
-
-/// A command's name; its number where it has none.
-fn command_field<'p>(code: u8) -> Field<'p> {
-    match ServerCommand::from_code(code) {
-        Some(command) => Field::word("command", command_name(command)),
-        None => Field::number("command", u64::from(code)),
-    }
-}
 
 /// Reads a recording, which is given in pieces of any size, and shows each packet once its last byte is there.
 ///
@@ -427,159 +330,5 @@ impl Recording {
             Side::Client => &self.client,
             Side::Server => &self.server,
         }
-    }
-
-    /// Takes a packet, and appends what it says.
-    fn take_packet(
-        &mut self,
-        side: Side,
-        sequence: u8,
-        payload: &[u8],
-        out: &mut String,
-    ) -> Result<(), RecordingError> {
-        let mut packet = Packet {
-            side,
-            sequence,
-            exchange: self.followed.last(),
-            kind: "refused",
-            payload,
-        };
-        let is_between = self.followed.is_at_rest();
-        match self.followed.next(side, payload) {
-            Ok((kind, exchange)) => {
-                packet.exchange = exchange;
-                packet.kind = kind.name().as_str();
-                if let Some(sums) = &mut self.sums {
-                    sums.add(&packet, kind)?;
-                }
-                let is_early = !is_between && matches!(kind, Kind::Command(_));
-                self.unheard.hear(side, kind, is_early, payload);
-                self.show(&packet, kind, is_early, out)?;
-                Ok(())
-            }
-            Err(why) => {
-                self.show_refused(&packet, why, out)?;
-                let Some(agreed) = self.followed.agreed() else {
-                    return Err(RecordingError::Refused(why));
-                };
-                self.be_lost(agreed)
-            }
-        }
-    }
-
-    /// Appends a packet that comes, and keeps what it says of those after it.
-    fn show(
-        &mut self,
-        packet: &Packet<'_>,
-        kind: Kind,
-        is_early: bool,
-        out: &mut String,
-    ) -> Result<(), AllocError> {
-        if let Kind::ColumnCount(count, _) = kind {
-            self.columns = usize::try_from(count).unwrap_or(usize::MAX);
-        }
-        match packet.side {
-            Side::Client => {
-                self.show_client(packet, kind, is_early, out)?;
-                self.keep(packet, kind, is_early)
-            }
-            Side::Server => {
-                self.keep(packet, kind, false)?;
-                self.show_server(packet, kind, out)
-            }
-        }
-    }
-
-    /// Keeps what a packet says of statements.
-    fn keep(&mut self, packet: &Packet<'_>, kind: Kind, is_early: bool) -> Result<(), AllocError> {
-        let Some(agreed) = self.followed.agreed() else {
-            return Ok(());
-        };
-        if is_early {
-            self.prepared.hold(packet.exchange, packet.payload)
-        } else {
-            self.prepared
-                .take(agreed, kind, packet.exchange, packet.payload)
-        }
-    }
-
-    /// Appends a packet that doesn't come, with the bytes that it begins with, and the kinds that would come.
-    fn show_refused(
-        &self,
-        packet: &Packet<'_>,
-        why: Refusal,
-        out: &mut String,
-    ) -> Result<(), AllocError> {
-        let payload = packet.payload;
-        let mut fields = Vec::new(self.alloc);
-        fields.push(Field::bytes("begins", &payload[..payload.len().min(BEGINNING)]))?;
-        fields.push(Field::word("refused", refusal_name(why)))?;
-        for name in KindName::ALL {
-            if self.followed.expects(name) {
-                fields.push(Field::word("expected", name.as_str()))?;
-            }
-        }
-        packet.append(self.alloc, self.layout, fields.as_slice(), out)
-    }
-
-    fn show_client(
-        &self,
-        packet: &Packet<'_>,
-        kind: Kind,
-        is_early: bool,
-        out: &mut String,
-    ) -> Result<(), AllocError> {
-        let read = client_packet(self.alloc, self.followed.agreed(), kind, packet.payload);
-        let mut fields = Vec::new(self.alloc);
-        if let Kind::Command(code) = kind {
-            fields.push(command_field(code))?;
-        }
-        match &read {
-            Ok(read) => client_fields(read, &mut fields)?,
-            Err(fault) => fields.push(Field::word("refused", fault_name(fault)))?,
-        }
-        if !is_early {
-            self.append_params(packet, kind, &mut fields)?;
-        }
-        packet.append(self.alloc, self.layout, fields.as_slice(), out)
-    }
-
-    /// Appends the parameters of an execution whose statement is known.
-    fn append_params<'p>(
-        &self,
-        packet: &Packet<'p>,
-        kind: Kind,
-        fields: &mut Vec<Field<'p>>,
-    ) -> Result<(), AllocError> {
-        match (
-            self.followed.agreed(),
-            self.prepared.executed(kind, packet.payload),
-        ) {
-            (Some(agreed), Some(statement)) => {
-                append_params(self.alloc, agreed, statement, packet.payload, fields)
-            }
-            _ => Ok(()),
-        }
-    }
-
-    fn show_server(
-        &self,
-        packet: &Packet<'_>,
-        kind: Kind,
-        out: &mut String,
-    ) -> Result<(), AllocError> {
-        let columns: &[RowColumn] = self.prepared.columns().unwrap_or(&[]);
-        let context = ReadContext {
-            agreed: self.followed.agreed(),
-            column_count: self.columns,
-            columns,
-            semi_sync: false,
-        };
-        let mut fields = Vec::new(self.alloc);
-        match server_packet(self.alloc, &context, kind, packet.payload) {
-            Ok(mut read) => server_fields(self.alloc, &mut read, &mut fields)?,
-            Err(fault) => fields.push(Field::word("refused", fault_name(&fault)))?,
-        }
-        packet.append(self.alloc, self.layout, fields.as_slice(), out)
     }
 }

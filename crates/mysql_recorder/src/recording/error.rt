@@ -1,0 +1,80 @@
+//! Why a recording goes no further.
+
+use crate::line::LineError;
+use crate::loss::Loss;
+use mysql_conversation::Refusal;
+use mysql_frames::FrameError;
+use std::alloc::AllocError;
+use thiserror::Error;
+
+/// Why a recording goes no further.
+#[derive(Clone, Copy, Debug, PartialEq, Eq, Error)]
+pub enum RecordingError {
+    /// Memory was refused.
+    #[error("Memory")]
+    Memory,
+    /// The input has a line that is none of a recording's.
+    #[error("InvalidInput")]
+    Line,
+    /// A frame of a payload has another sequence number than the one that comes.
+    #[error("OutOfOrder")]
+    OutOfOrder,
+    /// A payload is longer than the limit.
+    #[error("TooLong")]
+    TooLong,
+    /// Bytes are missing before it is known what both sides agreed on.
+    #[error("Missing")]
+    Missing,
+    /// A packet doesn't come where it stands, before it is known what both sides agreed on: it is shown as the last one.
+    #[error("refused")]
+    Refused(Refusal),
+}
+
+impl From<AllocError> for RecordingError {
+    ghost use Rattle.std.specs.Prelude.{◌≡◌};
+    ghost use Rattle.mysql_recorder.specs.declared.recording.error.RecordingError.TheVariants.{Memory};
+
+    ghost from_gives = { λ _ e. e ≡ Memory };
+
+    fn from(_error: AllocError) -> Self {
+        RecordingError::Memory
+    }
+}
+
+impl From<FrameError> for RecordingError {
+    ghost use Rattle.std.specs.Prelude.{⊤};
+
+    ghost from_gives = { λ _ _. ⊤ };
+
+    fn from(error: FrameError) -> Self {
+        match error {
+            FrameError::Memory => RecordingError::Memory,
+            FrameError::OutOfOrder => RecordingError::OutOfOrder,
+            FrameError::TooLong => RecordingError::TooLong,
+        }
+    }
+}
+
+impl From<Loss> for RecordingError {
+    ghost use Rattle.std.specs.Prelude.{⊤};
+
+    ghost from_gives = { λ _ _. ⊤ };
+
+    fn from(loss: Loss) -> Self {
+        match loss {
+            Loss::Missing(_) => RecordingError::Missing,
+            Loss::Frame(error) => RecordingError::from(error),
+        }
+    }
+}
+
+impl From<LineError> for RecordingError {
+    ghost use Rattle.std.specs.Prelude.{◌≡◌};
+    ghost use Rattle.mysql_recorder.specs.declared.recording.error.RecordingError.TheVariants.{Line};
+
+    ghost from_gives = { λ _ e. e ≡ Line };
+
+    fn from(_error: LineError) -> Self {
+        RecordingError::Line
+    }
+}
