@@ -7,6 +7,7 @@
 # hostile.c    the rows of tests/vectors/, cut and changed, right before a page that may not be touched
 # rows.py      the same rows and malformed input, compared with the reference decoder
 # live.py      the examples against a MariaDB server, where one is installed
+# package.py   the Python package, installed by pip in an environment of its own
 # release.sh   what is handed out: made twice it is the same, and the driver is built with it in another folder
 #
 # The address and undefined behaviour sanitizers watch the programs in C, where the compiler has them. The last line is 'N passed, N
@@ -63,6 +64,7 @@ expect 'hostile.c is built' built hostile "${sanitize[@]}"
 expect 'hostile.c' "$work/hostile" "$count" 1 <"$work/seeds"
 counted "$top/tests/c/rows.py" "$prefix/lib/libmysql_packets.so" "$count"
 counted "$top/tests/c/live.py" "$prefix"
+counted "$top/tests/c/package.py" "$prefix"
 counted "$top/tests/c/release.sh"
 
 # C++ takes the header too

@@ -9,9 +9,13 @@ value, a function of each call. So this file names no field and no number of its
 """
 import ctypes
 import datetime
+import os
 import re
 import struct
+import sys
 from pathlib import Path
+
+from .errors import NAMES, PacketError
 
 NUMBERS = {
     "uint8_t": ctypes.c_uint8, "uint16_t": ctypes.c_uint16, "uint32_t": ctypes.c_uint32, "uint64_t": ctypes.c_uint64,
@@ -26,20 +30,29 @@ CALL = re.compile(r"^uint32_t (myp_\w+)\(([^)]*)\);", re.M)
 DECLARED = re.compile(r"(?:const )?(\w+) (\**)(\w+)(?:\[(\d+)\])?$")
 
 
-class PacketError(Exception):
-    """A call answered another code than MYP_OK."""
-
-    def __init__(self, call, code, written=0):
-        super().__init__(f"{call} answers {code}")
-        self.code, self.written = code, written
+def found(prefix=None):
+    """The shared library and its header: under the prefix that is given or named by MYSQL_PACKETS_PREFIX, beside this file, or where
+    Python, or a system, has its libraries."""
+    beside = Path(__file__).parent
+    named = prefix or os.environ.get("MYSQL_PACKETS_PREFIX")
+    if not named and (beside / "mysql_packets.h").exists():
+        return next(beside.glob("libmysql_packets.so*")), beside / "mysql_packets.h"
+    for it in map(Path, [named] if named else [sys.prefix, "/usr/local", "/usr"]):
+        for library in [it / "lib/libmysql_packets.so", *it.glob("lib/*/libmysql_packets.so")]:
+            if library.exists():
+                return library, it / "include/mysql_packets.h"
+    raise ImportError("libmysql_packets.so is not found: pass the prefix of mypackets-c, or name it in MYSQL_PACKETS_PREFIX")
 
 
 class Library:
-    """The library that is installed under a prefix."""
+    """The library that is installed under a prefix, or found."""
 
-    def __init__(self, prefix="/usr/local", library=None, header=None):
-        header = Path(header or Path(prefix) / "include/mysql_packets.h").read_text()
-        self.dll = ctypes.CDLL(str(library or Path(prefix) / "lib/libmysql_packets.so"))
+    def __init__(self, prefix=None, library=None, header=None):
+        if not (library and header):
+            where = found(prefix)
+            library, header = library or where[0], header or where[1]
+        header = Path(header).read_text()
+        self.dll = ctypes.CDLL(str(library))
         self.types, self.calls, self.numbers = dict(NUMBERS), {}, {}
         text = COMMENT.sub("", header)
         for name, value in MACRO.findall(text):
@@ -125,13 +138,18 @@ class Library:
         """The bytes that a `myp_bytes` stands for."""
         return ctypes.string_at(span.data, span.len) if span.len else b""
 
+    def refusal(self, call, code, written=0):
+        """The exception of a code."""
+        kind = next((it for name, it in NAMES.items() if self.numbers[name] == code), PacketError)
+        return kind(call, code, written)
+
     def read(self, call, packet, *context, into):
         """What a reader gives of a packet: a struct, or the number or byte string that it hands out."""
         payload = self.bytes(packet)
         out = self.new(into) if into not in NUMBERS and into != "myp_bytes" else self.bytes(b"") if into == "myp_bytes" else NUMBERS[into]()
         code = getattr(self.dll, call)(payload.data, payload.len, *context, ctypes.byref(out))
         if code:
-            raise PacketError(call, code)
+            raise self.refusal(call, code)
         out.packet = payload
         return out
 
@@ -139,7 +157,7 @@ class Library:
         """Whether another one stood at the front of `rest`, which then begins after it."""
         code = getattr(self.dll, call)(ctypes.byref(rest), *given, *(ctypes.byref(it) for it in out))
         if code not in (self.MYP_OK, self.MYP_END):
-            raise PacketError(call, code)
+            raise self.refusal(call, code)
         return code == self.MYP_OK
 
     def value(self, value):
@@ -153,12 +171,40 @@ class Library:
         if isinstance(value, datetime.datetime):
             return self.new("myp_value", kind=self.MYP_DATE, days=value.year, month=value.month, day=value.day, hour=value.hour,
                             minute=value.minute, second=value.second, micros=value.microsecond)
+        if isinstance(value, datetime.timedelta):
+            whole = abs(value)
+            minutes, second = divmod(whole.seconds, 60)
+            return self.new("myp_value", kind=self.MYP_TIME, is_negative=int(value < datetime.timedelta()), days=whole.days, hour=minutes // 60,
+                            minute=minutes % 60, second=second, micros=whole.microseconds)
         return self.new("myp_value", kind=self.MYP_BYTES, bytes=value.encode() if isinstance(value, str) else bytes(value))
+
+    def content(self, value):
+        """What a `myp_value` is in Python. A date that is none is a text."""
+        kind, number = value.kind, value.number
+        if kind == self.MYP_NULL:
+            return None
+        if kind == self.MYP_BYTES:
+            return self.text(value.bytes)
+        if kind == self.MYP_INT:
+            return number - (number >> 63 << 64)
+        if kind == self.MYP_UINT:
+            return number
+        if kind in (self.MYP_FLOAT, self.MYP_DOUBLE):
+            single = kind == self.MYP_FLOAT
+            return struct.unpack("<f" if single else "<d", number.to_bytes(4 if single else 8, "little"))[0]
+        time = value.hour, value.minute, value.second, value.micros
+        if kind == self.MYP_TIME:
+            of = datetime.timedelta(value.days, hours=time[0], minutes=time[1], seconds=time[2], microseconds=time[3])
+            return -of if value.is_negative else of
+        try:
+            return datetime.datetime(value.days, value.month, value.day, *time)
+        except ValueError:
+            return "%04d-%02d-%02d %02d:%02d:%02d.%06d" % (value.days, value.month, value.day, *time)
 
     def type_of(self, values):
         """The type under which these values of a column are sent: that of the first which is not None."""
         first = next((it for it in values if it is not None), None)
-        name = {int: "LONGLONG", float: "DOUBLE", datetime.datetime: "DATETIME"}.get(type(first), "VAR_STRING")
+        name = {int: "LONGLONG", float: "DOUBLE", datetime.datetime: "DATETIME", datetime.timedelta: "TIME"}.get(type(first), "VAR_STRING")
         unsigned = isinstance(first, int) and any(it is not None and it >= 2**63 for it in values)
         return self.new("myp_column_type", column_type=getattr(self, f"MYP_TYPE_{name}"), is_unsigned=int(unsigned))
 
@@ -181,5 +227,5 @@ class Library:
                 break
             size = written.value
         if code:
-            raise PacketError(call, code, written.value)
+            raise self.refusal(call, code, written.value)
         return bytes(out[:written.value])

@@ -1,0 +1,17 @@
+"""The packets of MySQL and MariaDB, read and written by a proved library.
+
+    session = Session()                                  # the library beside the package, else where it is installed
+    greeting = session.read_handshake(payload)
+    session.agree(greeting, session.wanted())
+    payload = session.write_login(greeting, "user", "password", database="test")
+
+A `Session` keeps what both sides agreed on, and gives records; `Library` has each call of mysql_packets.h as it is. Neither opens a socket."""
+from .errors import (BufferTooSmall, InvalidData, InvalidInput, NoMemory, PacketError, RowTooLarge, UnexpectedEof)
+from .library import Library
+from .records import Change, Column, Handshake, OkPacket, Row, ServerError, Statement, Value
+from .session import Session
+
+__all__ = [
+    "BufferTooSmall", "Change", "Column", "Handshake", "InvalidData", "InvalidInput", "Library", "NoMemory", "OkPacket", "PacketError", "Row",
+    "RowTooLarge", "ServerError", "Session", "Statement", "UnexpectedEof", "Value",
+]

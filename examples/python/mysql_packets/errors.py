@@ -1,0 +1,48 @@
+"""An exception for each code of enum myp_code that is a refusal."""
+from typing import Dict, Type
+
+
+class PacketError(Exception):
+    """A call answered another code than MYP_OK. Nothing is changed by it."""
+
+    text = "a code of no name"
+
+    def __init__(self, call: str, code: int, written: int = 0):
+        super().__init__(f"{call}: {self.text}")
+        self.call, self.code, self.written = call, code, written
+
+
+class UnexpectedEof(PacketError):
+    text = "bytes are missing"
+
+
+class InvalidData(PacketError):
+    text = "the bytes spell no such packet"
+
+
+class InvalidInput(PacketError):
+    text = "what was passed fits no packet"
+
+
+class NoMemory(PacketError):
+    text = "memory was refused"
+
+
+class BufferTooSmall(PacketError):
+    """`written` is how many bytes it takes."""
+
+    text = "the buffer is too small"
+
+
+class RowTooLarge(PacketError):
+    text = "a row is too large for a request"
+
+
+NAMES: Dict[str, Type[PacketError]] = {
+    "MYP_UNEXPECTED_EOF": UnexpectedEof,
+    "MYP_INVALID_DATA": InvalidData,
+    "MYP_INVALID_INPUT": InvalidInput,
+    "MYP_NO_MEMORY": NoMemory,
+    "MYP_BUFFER_TOO_SMALL": BufferTooSmall,
+    "MYP_ROW_TOO_LARGE": RowTooLarge,
+}

@@ -1,0 +1,74 @@
+"""What packets say, as tuples with names."""
+import datetime
+from typing import NamedTuple, Optional, Tuple, Union
+
+# A value: None, a byte string, a number, a date with its time of day, or a time. A date that is none, as of the year 0, is a text.
+Value = Union[None, bytes, int, float, datetime.datetime, datetime.timedelta, str]
+Row = Tuple[Value, ...]
+
+
+class Handshake(NamedTuple):
+    """The server's greeting."""
+
+    server_version: str
+    connection_id: int
+    capabilities: int
+    mariadb_capabilities: int
+    status: int
+    nonce: bytes
+    auth_plugin: str
+
+
+class Change(NamedTuple):
+    """A change of the session, of a number of enum myp_session_state: its content, and the variables of one that has some."""
+
+    kind: int
+    content: bytes
+    variables: Tuple[Tuple[str, str], ...]
+
+
+class OkPacket(NamedTuple):
+    """An OK packet, or an end."""
+
+    affected_rows: int
+    last_insert_id: int
+    status: int
+    warnings: int
+    info: str
+    changes: Tuple[Change, ...]
+
+
+class Statement(NamedTuple):
+    """A prepared statement."""
+
+    statement_id: int
+    columns: int
+    params: int
+    warnings: int
+
+
+class Column(NamedTuple):
+    """The definition of a column: its names, and of which type it is."""
+
+    schema: str
+    table: str
+    org_table: str
+    name: str
+    org_name: str
+    character_set: int
+    length: int
+    column_type: int
+    flags: int
+    decimals: int
+
+    @property
+    def is_unsigned(self) -> bool:
+        return bool(self.flags & 32)
+
+
+class ServerError(Exception):
+    """What a server refuses, with the SQL state where it has one."""
+
+    def __init__(self, code: int, state: Optional[str], message: str):
+        super().__init__(f"{code} ({state}): {message}" if state else f"{code}: {message}")
+        self.code, self.state, self.message = code, state, message

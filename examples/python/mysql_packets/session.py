@@ -1,0 +1,152 @@
+"""The packets of a connection, by what both sides agreed on."""
+import ctypes
+from typing import Iterator, List, Optional, Sequence, Tuple
+
+from .library import Library
+from .records import Change, Column, Handshake, OkPacket, Row, ServerError, Statement, Value
+
+# the most bytes of a payload that are asked for at once
+LIMIT = 1 << 24
+
+
+class Session:
+    """What is read and written of a connection. It has no socket: a payload is what stands after a header of four bytes."""
+
+    def __init__(self, library: Optional[Library] = None):
+        self.library = library or Library()
+        self.capabilities = self.mariadb_capabilities = 0
+
+    def _text(self, span) -> str:
+        return self.library.text(span).decode("utf-8", "surrogateescape")
+
+    def _flags(self, prefix: str, names: Sequence[str]) -> int:
+        return sum(getattr(self.library, prefix + name) for name in names)
+
+    # ---- headers
+
+    def read_header(self, header: bytes) -> Tuple[int, int]:
+        """How many bytes the payload has, and the packet's sequence number."""
+        it = self.library.read("myp_read_header", header, into="myp_header")
+        return it.payload_length, it.sequence_id
+
+    def write_header(self, length: int, sequence: int) -> bytes:
+        return self.library.write("myp_write_header", length, sequence)
+
+    # ---- the login
+
+    def wanted(self) -> int:
+        """The capabilities of what is read and written here."""
+        return self._flags("MYP_CLIENT_", ["PROTOCOL_41", "TRANSACTIONS", "SECURE_CONNECTION", "PLUGIN_AUTH", "DEPRECATE_EOF"])
+
+    def read_handshake(self, payload: bytes) -> Handshake:
+        it = self.library.read("myp_read_handshake", payload, into="myp_handshake")
+        nonce = (self.library.text(it.scramble_1) + self.library.text(it.scramble_2))[:20]
+        return Handshake(self._text(it.server_version), it.connection_id, it.capabilities, it.mariadb_capabilities, it.status_flags, nonce,
+                         self._text(it.auth_plugin_name))
+
+    def agree(self, greeting: Handshake, capabilities: int, mariadb_capabilities: int = 0) -> None:
+        """Keeps what both sides can do: those of these that the server has."""
+        self.capabilities = greeting.capabilities & capabilities
+        self.mariadb_capabilities = greeting.mariadb_capabilities & mariadb_capabilities
+
+    def write_login(self, greeting: Handshake, user: str, password: str = "", database: str = "", collation: int = 45) -> bytes:
+        """The answer to a greeting, by mysql_native_password."""
+        p = self.library
+        if database:
+            self.capabilities |= greeting.capabilities & p.MYP_CLIENT_CONNECT_WITH_DB
+        answer = p.write("myp_scramble_native", password.encode(), greeting.nonce) if password else b""
+        return p.write("myp_write_login", p.new(
+            "myp_login", user=user.encode(), auth_response=answer, database=database.encode(), has_database=int(bool(database)),
+            auth_plugin_name=b"mysql_native_password", has_auth_plugin=1, capabilities=self.capabilities,
+            mariadb_capabilities=self.mariadb_capabilities, max_packet_size=LIMIT, collation=collation))
+
+    # ---- replies
+
+    def is_error(self, payload: bytes) -> bool:
+        return self.library.read("myp_reply_kind", payload, into="uint32_t").value == self.library.MYP_REPLY_ERROR
+
+    def read_error(self, payload: bytes) -> ServerError:
+        it = self.library.read("myp_read_error", payload, self.capabilities, into="myp_error")
+        return ServerError(it.code, self._text(it.sql_state) or None, self._text(it.message))
+
+    def read_ok(self, payload: bytes, kind: str = "COMMON") -> OkPacket:
+        """An OK packet, or an end: COMMON, TERMINATOR, OLD_EOF or STREAM_END."""
+        p = self.library
+        it = p.read("myp_read_ok", payload, getattr(p, f"MYP_OK_{kind}"), self.capabilities, into="myp_ok")
+        return OkPacket(it.affected_rows, it.last_insert_id, it.status_flags, it.warnings, self._text(it.info), tuple(self._changes(it.session_state)))
+
+    def _changes(self, rest) -> Iterator[Change]:
+        p, change, name, value = self.library, self.library.new("myp_change"), self.library.bytes(b""), self.library.bytes(b"")
+        while rest.len and p.next("myp_next_change", rest, change):
+            variables = []
+            while p.next("myp_next_variable", change.variables, name, value):
+                variables.append((self._text(name), self._text(value)))
+            yield Change(change.change_type, p.text(change.text) or p.text(change.content), tuple(variables))
+
+    # ---- results
+
+    def read_column_count(self, payload: bytes) -> int:
+        return self.library.read("myp_read_column_count", payload, self.mariadb_capabilities, into="myp_column_count").count
+
+    def read_column(self, payload: bytes) -> Column:
+        it = self.library.read("myp_read_column", payload, into="myp_column")
+        names = (self._text(span) for span in (it.schema, it.table, it.org_table, it.name, it.org_name))
+        return Column(*names, it.character_set, it.column_length, it.column_type, it.flags, it.decimals)
+
+    def read_text_row(self, payload: bytes, columns: Sequence[Column]) -> Row:
+        """The values of a text row: a byte string each, or None."""
+        return self._row("myp_read_text_row", payload, len(columns))
+
+    def read_binary_row(self, payload: bytes, columns: Sequence[Column]) -> Row:
+        """The values of a binary row, by the types of its columns."""
+        types = self.library.array("myp_column_type", [self._type(it.column_type, it.is_unsigned) for it in columns])
+        return self._row("myp_read_binary_row", payload, len(columns), types, len(columns))
+
+    def _type(self, column_type: int, is_unsigned: bool):
+        return self.library.new("myp_column_type", column_type=column_type, is_unsigned=int(is_unsigned))
+
+    def _row(self, call: str, payload: bytes, count: int, *types) -> Row:
+        p = self.library
+        values, used, held = p.array("myp_value", [p.new("myp_value") for _ in range(count)]), ctypes.c_size_t(), p.bytes(payload)
+        code = getattr(p.dll, call)(held.data, held.len, *types, values, count, ctypes.byref(used))
+        if code:
+            raise p.refusal(call, code)
+        return tuple(p.content(it) for it in values[:count])
+
+    # ---- commands
+
+    def write_query(self, sql: str) -> bytes:
+        return bytes([self.library.MYP_COM_QUERY]) + sql.encode()
+
+    def write_prepare(self, sql: str) -> bytes:
+        return bytes([self.library.MYP_COM_STMT_PREPARE]) + sql.encode()
+
+    def read_statement(self, payload: bytes) -> Statement:
+        it = self.library.read("myp_read_statement", payload, into="myp_statement")
+        return Statement(it.statement_id, it.num_columns, it.num_params, it.warning_count)
+
+    def write_execute(self, statement: Statement, values: Sequence[Value]) -> List[bytes]:
+        """The commands of an execution: one, after which the answer comes, and before it the long data that it is too large with."""
+        p, long_data = self.library, ctypes.c_uint8()
+        held = p.array("myp_value", [p.value(it) for it in values])
+        request = p.write("myp_write_execute", statement.statement_id, held, after=[long_data])
+        ahead = [it for it in enumerate(values) if long_data.value and isinstance(it[1], (bytes, str))]
+        return [*(self.write_long_data(statement, place, it) for place, it in ahead), request]
+
+    def write_long_data(self, statement: Statement, param: int, content: "bytes | str") -> bytes:
+        content = content.encode() if isinstance(content, str) else content
+        return self.library.write("myp_write_long_data", statement.statement_id, param, content, size=len(content) + 16)
+
+    def write_close(self, statement: Statement) -> bytes:
+        return self.library.write("myp_write_close", statement.statement_id)
+
+    def write_bulk(self, statement: Statement, rows: Sequence[Sequence[Value]], limit: int = LIMIT) -> Iterator[bytes]:
+        """The fewest requests of at most `limit` - 4 bytes with all rows, which are of one length. Each is answered by an OK packet."""
+        p, columns = self.library, len(rows[0]) if rows else 0
+        types = p.array("myp_column_type", [p.type_of(column) for column in zip(*rows)])
+        values = p.array("myp_value", [p.value(it) for row in rows for it in row])
+        place, size, left, taken = ctypes.addressof(values), ctypes.sizeof(p.types["myp_value"]), len(rows), ctypes.c_size_t()
+        while left:
+            some = ctypes.cast(place, ctypes.POINTER(p.types["myp_value"]))
+            yield p.write("myp_write_bulk", statement.statement_id, 0, limit, types, some, left * columns, size=limit, after=[taken])
+            place, left = place + taken.value * columns * size, left - taken.value

@@ -1,0 +1,148 @@
+#!/usr/bin/env python3
+"""The Python package of examples/python, installed by pip in an environment of its own: a session that a MariaDB server recorded, packets of
+the protocol's pages, an exception a code, and where the library is found.
+
+package.py PREFIX    PREFIX is where ./mypackets-c put the library
+The last line is 'N passed, N failed'. Without venv, pip and setuptools it says that it is not run."""
+import datetime
+import os
+import shutil
+import subprocess
+import sys
+import tempfile
+from pathlib import Path
+
+TOP = Path(__file__).resolve().parent.parent.parent
+INSIDE = "--inside"
+
+
+def installed(folder):
+    """The Python of a new environment that has the package, or why there is none."""
+    python = Path(folder) / "venv/bin/python"
+    source = Path(folder) / "source"
+    shutil.copytree(TOP / "examples/python", source, ignore=shutil.ignore_patterns("__pycache__"))
+    for command in ([sys.executable, "-m", "venv", "--system-site-packages", python.parent.parent],
+                    [python, "-c", "import setuptools"],
+                    [python, "-m", "pip", "install", "--quiet", "--no-index", "--no-deps", "--no-build-isolation", "--disable-pip-version-check", source]):
+        run = subprocess.run(command, capture_output=True, text=True)
+        if run.returncode:
+            return None, f"{' '.join(map(str, command[1:4]))}: {(run.stderr.strip() or run.stdout.strip()).splitlines()[-1:]}"
+    return python, ""
+
+
+def main(prefix):
+    prefix = Path(prefix).resolve()
+    with tempfile.TemporaryDirectory() as folder:
+        python, why = installed(folder)
+        if python is None:
+            print(f"package.py: not run: {why}\n0 passed, 0 failed")
+            return 0
+        bare = {name: it for name, it in os.environ.items() if name not in ("MYSQL_PACKETS_PREFIX", "PYTHONPATH", "LD_LIBRARY_PATH")}
+        named = {**bare, "MYSQL_PACKETS_PREFIX": str(prefix)}
+        run = subprocess.run([python, __file__, INSIDE], cwd=folder, env=named, capture_output=True, text=True)
+        *said, last = run.stdout.splitlines() or ["0 passed, 1 failed"]
+        print("\n".join([*said, run.stderr]).strip())
+        passed, failed = (int(it) for it in last.split() if it.isdigit())
+        # (where no prefix is named and none is beside the package, that is said)
+        finds = [python, "-c", "import mysql_packets; mysql_packets.Library()"]
+        lost = subprocess.run(finds, cwd=folder, env=bare, capture_output=True, text=True)
+        here = next(Path(folder).glob("venv/lib/*/site-packages/mysql_packets"))
+        shutil.copy(prefix / "include/mysql_packets.h", here)
+        shutil.copy(prefix / "lib/libmysql_packets.so", here)
+        beside = subprocess.run(finds, cwd=folder, env=bare, capture_output=True, text=True)
+        for name, holds in (("a library that is not found is said", "mypackets-c" in lost.stderr), ("the library beside it", not beside.returncode)):
+            passed, failed = passed + holds, failed + (not holds)
+            if not holds:
+                print(f"  FAILED: {name}: {lost.stderr}{beside.stderr}")
+    print(f"{passed} passed, {failed} failed")
+    return 1 if failed else 0
+
+
+def frames(stream):
+    """The payloads of a stream."""
+    while stream:
+        length = int.from_bytes(stream[:3], "little")
+        yield stream[4 : 4 + length]
+        stream = stream[4 + length :]
+
+
+def inside():
+    import mysql_packets as my
+
+    passed = failed = 0
+
+    def expect(name, got, want):
+        nonlocal passed, failed
+        passed, failed = passed + (got == want), failed + (got != want)
+        if got != want:
+            print(f"  FAILED: {name}: {got!r} is not {want!r}")
+
+    def refused(name, kind, call, *arguments):
+        try:
+            expect(name, call(*arguments), kind)
+        except my.PacketError as error:
+            expect(name, type(error), kind)
+
+    session, p = my.Session(), my.Library()
+    # what a MariaDB 10.11 sent to a client that prepares and executes
+    greeting, ok, prepared, *rest = frames((TOP / "crates/examples_driver/stdin").read_bytes())
+    hello = session.read_handshake(greeting)
+    expect("greeting", (hello.server_version, hello.connection_id, hello.auth_plugin), ("5.5.5-10.11.19-MariaDB-0+deb12u1-log", 6, "mysql_native_password"))
+    expect("nonce", (hello.nonce[:8], len(hello.nonce)), (b"H.Mv,t)k", 20))
+    session.agree(hello, session.wanted() | p.MYP_CLIENT_SESSION_TRACK)
+    login = session.write_login(hello, "me", "secret", "live")
+    read = p.read("myp_read_login_request", login, into="myp_login_request")
+    expect("login", (p.text(read.user), p.text(read.database), read.capabilities), (b"me", b"live", session.capabilities))
+    done = session.read_ok(ok)
+    expect("login's OK packet", (done.status & 2, done.changes), (2, (my.Change(1, b"live", ()),)))
+    statement = session.read_statement(prepared)
+    expect("statement", statement, my.Statement(1, 2, 2, 0))
+    params, columns, answer = rest[:2], [session.read_column(it) for it in rest[2:4]], rest[4:]
+    expect("parameters", [session.read_column(it).name for it in params], ["?", "?"])
+    expect("columns", [(it.name, it.column_type, it.is_unsigned) for it in columns], [("?", p.MYP_TYPE_VAR_STRING, False), ("?", p.MYP_TYPE_STRING, False)])
+    count = session.read_column_count(answer[0])
+    columns = [session.read_column(it) for it in answer[1 : 1 + count]]
+    rows = [session.read_binary_row(it, columns) for it in answer[1 + count : -1]]
+    expect("rows", rows, [(b"-5", b"abc"), (b"z", None)])
+    expect("end", session.read_ok(answer[-1], "TERMINATOR").warnings, 0)
+
+    # packets of the protocol's pages
+    error = bytes.fromhex("ff48042348593030304e6f207461626c65732075736564")
+    expect("is an error", (session.is_error(error), session.is_error(ok)), (True, False))
+    said = session.read_error(error)
+    expect("error", (said.code, said.state, said.message, str(said)), (1096, "HY000", "No tables used", "1096 (HY000): No tables used"))
+    expect("text row", session.read_text_row(b"\x011\xfb", columns), (b"1", None))
+    kinds = {"LONG": b"\x01\0\0\0", "LONGLONG": b"\xff" * 8, "FLOAT": b"\x33\x33\x23\x41", "DOUBLE": b"\x66\x66\x66\x66\x66\x66\x24\x40",
+             "DATETIME": bytes.fromhex("0bda070a11131b1e01000000"), "DATE": bytes.fromhex("04da070a11"), "TIME": bytes.fromhex("0c0178000000131b1e01000000")}
+    types = [my.Column("", "", "", "", "", 63, 0, getattr(p, f"MYP_TYPE_{it}"), 0, 0) for it in kinds]
+    row = session.read_binary_row(b"\0" + bytes(2) + b"".join(kinds.values()), types)
+    whole, single = row[:2], row[2]
+    expect("whole numbers", whole, (1, -1))
+    expect("a float and a double", (abs(single - 10.2) < 1e-6, row[3]), (True, 10.2))
+    expect("a date with its time", row[4], datetime.datetime(2010, 10, 17, 19, 27, 30, 1))
+    expect("a date", row[5], datetime.datetime(2010, 10, 17))
+    expect("a time", row[6], -datetime.timedelta(120, hours=19, minutes=27, seconds=30, microseconds=1))
+    expect("an unsigned number", session.read_binary_row(b"\0\0" + b"\xff" * 8, [types[1]._replace(flags=32)]), (2**64 - 1,))
+    expect("no date", session.read_binary_row(b"\0\0\0", [types[4]]), ("0000-00-00 00:00:00.000000",))
+
+    # commands
+    expect("query", session.write_query("select 1"), b"\x03select 1")
+    expect("close", session.write_close(statement), b"\x19\x01\0\0\0")
+    expect("execution", session.write_execute(statement, ["foobar"]), [bytes.fromhex("170100000000010000000001fd0006666f6f626172")])
+    expect("long data", session.write_long_data(statement, 1, b"ab"), b"\x18\x01\0\0\0\x01\0ab")
+    large = session.write_execute(statement, [b"x" * (1 << 24), 1])
+    expect("an execution that is too large", [(it[0], len(it) > 1 << 24) for it in large], [(0x18, True), (0x17, False)])
+    expect("bulk", [len(it) <= 1000 for it in session.write_bulk(statement, [(n, "x" * 100) for n in range(20)], 1004)], [True] * 3)
+    expect("header", (session.write_header(5, 7), session.read_header(b"\5\0\0\7")), (b"\5\0\0\7", (5, 7)))
+
+    # an exception a code
+    refused("a cut packet", my.UnexpectedEof, session.read_ok, ok[:5])
+    refused("another first byte", my.InvalidData, session.read_ok, b"\1" + ok[1:])
+    refused("a length that no header has", my.InvalidInput, session.write_header, 1 << 24, 0)
+    refused("a row past the limit", my.RowTooLarge, list, session.write_bulk(statement, [("x" * 2000,)], 1004))
+    print(f"{passed} passed, {failed} failed")
+    return 1 if failed else 0
+
+
+if __name__ == "__main__":
+    sys.exit(inside() if sys.argv[1:] == [INSIDE] else main(*sys.argv[1:]))
