@@ -107,6 +107,9 @@ static void log_in(const char *user, const char *password, const char *schema)
     size_t answer_length = 0, length = 0;
     myp_handshake handshake = MYP_HANDSHAKE_INIT;
     myp_bytes packet = receive();
+    /* an error in place of the greeting, before anything is agreed on: MySQL sends it with an SQL state, MariaDB without one */
+    capabilities = packet.len > 3 && packet.data[3] == '#' ? MYP_CLIENT_PROTOCOL_41 : 0;
+    reply_kind(packet);
     check(myp_read_handshake(packet.data, packet.len, &handshake), "handshake");
     printf("server %.*s\n", (int)handshake.server_version.len, (const char *)handshake.server_version.data);
     capabilities = handshake.capabilities
@@ -177,6 +180,8 @@ static void show_result(int is_binary)
         uint32_t kind = 0;
         packet = receive();
         check(myp_row_kind(packet.data, packet.len, capabilities, &kind), "row");
+        if (kind == MYP_REPLY_ERROR)
+            show_error(packet);
         if (kind != MYP_REPLY_ROW)
             return;
         check(is_binary ? myp_read_binary_row(packet.data, packet.len, types, n, values, n, &used)
@@ -233,6 +238,9 @@ int main(int argc, char **argv)
     freeaddrinfo(found);
     log_in(argv[3], argv[4], argv[5]);
     send_command(MYP_COM_QUERY, "SELECT 1 + 1, 'text', NULL");
+    show_result(0);
+    /* an error among the rows */
+    send_command(MYP_COM_QUERY, "SELECT seq, IF(seq < 3, 'a row', (SELECT seq FROM seq_1_to_2)) FROM seq_1_to_5");
     show_result(0);
     send_command(MYP_COM_QUERY, "CREATE OR REPLACE TABLE numbers (n BIGINT, name VARCHAR(20))");
     receive_ok();

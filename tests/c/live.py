@@ -14,7 +14,8 @@ import server
 from lines import summary
 
 ROWS = [f"row {n} 'odd' '{n / 2:.4f}' 2024-02-29 01:02:03" for n in range(99991, 100000, 2)]
-WANTED = ["row '2' 'text' NULL", *ROWS, "error 1146 (42S02): Table 'live.nothing_here' doesn't exist"]
+BROKEN = ["row '1' 'a row'", "row '2' 'a row'", "error 1242 (21000): Subquery returns more than 1 row"]
+WANTED = ["row '2' 'text' NULL", *BROKEN, *ROWS, "error 1146 (42S02): Table 'live.nothing_here' doesn't exist"]
 
 
 def driver(prefix, folder, port):
