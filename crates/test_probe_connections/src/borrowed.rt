@@ -183,15 +183,8 @@ impl<'a> InPlace<ComChangeUser<'a>, ComChangeUserRef<'a>> for Connections {
     }
 }
 
-impl<'a, T: PluginRequestHeader, const HEADER: u8> InPlace<
-    PluginRequest<'a, T, HEADER>,
-    PluginRequestRef<'a, T, HEADER>,
-> for Connections {
-    fn is(
-        place: &PluginRequestRef<'a, T, HEADER>,
-        owned: &PluginRequest<'a, T, HEADER>,
-        out: &mut Out,
-    ) -> bool {
+impl<'a> InPlace<AuthSwitchRequest<'a>, AuthSwitchRequestRef<'a>> for Connections {
+    fn is(place: &AuthSwitchRequestRef<'a>, owned: &AuthSwitchRequest<'a>, out: &mut Out) -> bool {
         fields!(place, owned; alike auth_plugin, plugin_data, plugin_data_raw)
             && AuthPlugin::from_bytes(place.auth_plugin_name()) == owned.auth_plugin()
             && place.to_packet() == *owned

@@ -9,6 +9,7 @@ mod dumps;
 mod forms;
 mod frames;
 mod handshake;
+mod next_factor;
 mod plugins;
 mod prelude;
 mod reply;

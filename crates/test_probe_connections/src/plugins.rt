@@ -44,8 +44,8 @@ impl Shows<AuthPluginData<'_>> for Connections {
     }
 }
 
-impl<T: PluginRequestHeader, const HEADER: u8> Shows<PluginRequest<'_, T, HEADER>> for Connections {
-    fn show(it: &PluginRequest<'_, T, HEADER>, out: &mut Out) {
+impl Shows<AuthSwitchRequest<'_>> for Connections {
+    fn show(it: &AuthSwitchRequest<'_>, out: &mut Out) {
         show_plugin(Some(&it.auth_plugin()), out);
         out.show("plugin_data", it.plugin_data());
         out.show("raw", it.plugin_data_raw());
@@ -143,20 +143,14 @@ pub fn plugin_data(out: &mut Out, request: &Request<'_>) {
 
 /// A switch that is made of words, as it is written and read again.
 pub fn make_switch(out: &mut Out, request: &Request<'_>) {
-    let packet: AuthSwitchRequest<'_> = PluginRequest::new(
-        words::name(request.word(1)),
-        words::name(request.word(2)),
-    );
+    let packet = AuthSwitchRequest::new(words::name(request.word(1)), words::name(request.word(2)));
     out.word("made");
     write_and_read(out, &packet, request, ())
 }
 
 /// A request for the next factor that is made of words, as it is written and read again.
 pub fn make_factor(out: &mut Out, request: &Request<'_>) {
-    let packet: AuthNextFactor<'_> = PluginRequest::new(
-        words::name(request.word(1)),
-        words::name(request.word(2)),
-    );
+    let packet = AuthNextFactor::new(words::name(request.word(1)), words::name(request.word(2)));
     out.word("made");
     write_and_read(out, &packet, request, ())
 }
