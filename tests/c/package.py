@@ -1,9 +1,9 @@
 #!/usr/bin/env python3
-"""The Python package of examples/python, installed by pip in an environment of its own: a session that a MariaDB server recorded, packets of
+"""The Python package of examples/python, installed in an environment of its own, by pip where it can build (it needs setuptools and wheel): a session that a MariaDB server recorded, packets of
 the protocol's pages, an exception a code, and where the library is found.
 
 package.py PREFIX    PREFIX is where ./mypackets-c put the library
-The last line is 'N passed, N failed'. Without venv, pip and setuptools it says that it is not run."""
+The last line is 'N passed, N failed'. Without venv it says that it is not run."""
 import datetime
 import os
 import shutil
@@ -17,25 +17,27 @@ INSIDE = "--inside"
 
 
 def installed(folder):
-    """The Python of a new environment that has the package, or why there is none."""
+    """The Python of a new environment that has the package, or none."""
     python = Path(folder) / "venv/bin/python"
     source = Path(folder) / "source"
     shutil.copytree(TOP / "examples/python", source, ignore=shutil.ignore_patterns("__pycache__"))
-    for command in ([sys.executable, "-m", "venv", "--system-site-packages", python.parent.parent],
-                    [python, "-c", "import setuptools"],
-                    [python, "-m", "pip", "install", "--quiet", "--no-index", "--no-deps", "--no-build-isolation", "--disable-pip-version-check", source]):
-        run = subprocess.run(command, capture_output=True, text=True)
-        if run.returncode:
-            return None, f"{' '.join(map(str, command[1:4]))}: {(run.stderr.strip() or run.stdout.strip()).splitlines()[-1:]}"
-    return python, ""
+    if subprocess.run([sys.executable, "-m", "venv", "--system-site-packages", python.parent.parent], capture_output=True).returncode:
+        return None
+    pip = [python, "-m", "pip", "install", "--quiet", "--no-index", "--no-deps", "--no-build-isolation", "--disable-pip-version-check", source]
+    if subprocess.run([python, "-c", "import pip, setuptools, wheel"], capture_output=True).returncode:
+        print("package.py: pip can't build here, so the package is copied: it lacks setuptools or wheel")
+        shutil.copytree(source / "mysql_packets", next(Path(folder).glob("venv/lib/*/site-packages")) / "mysql_packets")
+    else:
+        subprocess.run(pip, check=True)
+    return python
 
 
 def main(prefix):
     prefix = Path(prefix).resolve()
     with tempfile.TemporaryDirectory() as folder:
-        python, why = installed(folder)
+        python = installed(folder)
         if python is None:
-            print(f"package.py: not run: {why}\n0 passed, 0 failed")
+            print("package.py: not run: there is no venv\n0 passed, 0 failed")
             return 0
         bare = {name: it for name, it in os.environ.items() if name not in ("MYSQL_PACKETS_PREFIX", "PYTHONPATH", "LD_LIBRARY_PATH")}
         named = {**bare, "MYSQL_PACKETS_PREFIX": str(prefix)}

@@ -19,7 +19,7 @@ expect() {
 }
 
 # runs PROGRAM [FOLDER]: every call of it is found, and it says what it takes
-runs() { LD_BIND_NOW=1 LD_LIBRARY_PATH=${2:-} "$1" </dev/null 2>&1 | grep -q 'it takes HOST'; }
+runs() { [[ $(LD_BIND_NOW=1 LD_LIBRARY_PATH=${2:-} "$1" </dev/null 2>&1) == *'it takes HOST'* ]]; }
 
 # by_pkg_config FOLDER LIBDIR EXAMPLES: the driver over the shared library and over the archive
 by_pkg_config() {
