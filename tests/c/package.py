@@ -1,6 +1,6 @@
 #!/usr/bin/env python3
-"""The Python package of examples/python, installed in an environment of its own, by pip where it can build (it needs setuptools and wheel): a session that a MariaDB server recorded, packets of
-the protocol's pages, an exception a code, and where the library is found.
+"""The Python package of examples/python, installed in an environment of its own, by pip where setuptools and wheel are: a session that a MariaDB
+server recorded, packets of the protocol's pages, an exception a code, and where the library is found.
 
 package.py PREFIX    PREFIX is where ./mypackets-c put the library
 The last line is 'N passed, N failed'. Without venv it says that it is not run."""
@@ -24,7 +24,7 @@ def installed(folder):
     if subprocess.run([sys.executable, "-m", "venv", "--system-site-packages", python.parent.parent], capture_output=True).returncode:
         return None
     pip = [python, "-m", "pip", "install", "--quiet", "--no-index", "--no-deps", "--no-build-isolation", "--disable-pip-version-check", source]
-    if subprocess.run([python, "-c", "import pip, setuptools, wheel"], capture_output=True).returncode:
+    if subprocess.run([python, "-c", "import setuptools, wheel"], capture_output=True).returncode:
         print("package.py: pip can't build here, so the package is copied: it lacks setuptools or wheel")
         shutil.copytree(source / "mysql_packets", next(Path(folder).glob("venv/lib/*/site-packages")) / "mysql_packets")
     else:

@@ -7,7 +7,7 @@
 # hostile.c    the rows of tests/vectors/, cut and changed, right before a page that may not be touched
 # rows.py      the same rows and malformed input, compared with the reference decoder
 # live.py      the examples against a MariaDB server, where one is installed
-# package.py   the Python package, installed by pip in an environment of its own
+# package.py   the Python package, installed in an environment of its own
 # release.sh   what is handed out: made twice it is the same, and the driver is built with it in another folder
 #
 # The address and undefined behaviour sanitizers watch the programs in C, where the compiler has them. The last line is 'N passed, N
