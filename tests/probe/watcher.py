@@ -167,7 +167,8 @@ class Watcher:
             word, number = self.session.next(packet.side, packet.payload)
         except Refused as refusal:
             kinds = sorted((it[1:] for it in expected(self.session)), key=KINDS.index)
-            return {**head, "exchange": self.session.last, "kind": "refused", "refused": refusal.args[0] if refusal.args else "Unexpected", "expected": kinds}, False
+            refused = {**head, "exchange": self.session.last, "kind": "refused", "refused": refusal.args[0] if refusal.args else "Unexpected"}
+            return {**refused, "expected": kinds} if kinds else refused, False
         kind = word.split(":")[0]
         head.update(exchange=number, kind=kind)
         try:
