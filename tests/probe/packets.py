@@ -172,7 +172,7 @@ def wanted(packets):
 
 
 def request(packets):
-    return conversations.request(packets).replace("session", "packets", 1)
+    return conversations.request(packets).replace("session", "packets", 1).removesuffix(" expects")
 
 
 def changed(packets, chance):
