@@ -21,7 +21,7 @@ expect() {
 # runs PROGRAM [FOLDER]: every call of it is found, and it says what it takes
 runs() { [[ $(LD_BIND_NOW=1 LD_LIBRARY_PATH=${2:-} "$1" </dev/null 2>&1) == *'it takes HOST'* ]]; }
 
-# by_pkg_config FOLDER LIBDIR EXAMPLES: the driver over the shared library and over the archive
+# by_pkg_config FOLDER LIBDIR EXAMPLES: the driver over the shared library
 by_pkg_config() {
     local flags
     flags=$(PKG_CONFIG_PATH=$1/$2/pkgconfig pkg-config --cflags --libs mysql_packets) || return 1
@@ -51,7 +51,12 @@ mkdir -p -- "$work/other place"
 expect 'the tar is unpacked' tar -xzf "$work"/one/mysql-packets-*.tar.gz -C "$work/other place"
 tree=$(echo "$work/other place"/mysql-packets-*)
 expect "the tar's sums" sh -c 'cd -- "$1" && sha256sum -c SHA256SUMS' sh "$tree"
-expect 'pkg-config over the tar' by_pkg_config "$tree" lib "$tree/doc/examples"
+has_pkg_config=$(command -v pkg-config || true)
+if [[ $has_pkg_config ]]; then
+    expect 'pkg-config over the tar' by_pkg_config "$tree" lib "$tree/doc/examples"
+else
+    echo 'release.sh: not run: pkg-config is not installed'
+fi
 if command -v cmake >"$work/log"; then
     expect 'CMake over the tar, shared' by_cmake "$tree" "$tree/doc/examples" mysql_packets
     expect 'CMake over the tar, the archive' by_cmake "$tree" "$tree/doc/examples" static
@@ -65,6 +70,8 @@ for package in "$work"/one/*.deb; do
     expect "$(basename -- "$package") has its control file" dpkg-deb -f "$package" Package Version Depends
 done
 libdir=$(cd -- "$root/usr" && echo lib/*-linux-gnu)
-expect 'pkg-config over the Debian packages' by_pkg_config "$root/usr" "$libdir" "$root/usr/share/doc/libmysql-packets-dev/examples"
+if [[ $has_pkg_config ]]; then
+    expect 'pkg-config over the Debian packages' by_pkg_config "$root/usr" "$libdir" "$root/usr/share/doc/libmysql-packets-dev/examples"
+fi
 printf '%d passed, %d failed\n' "$passed" "$failed"
 ((failed == 0))
