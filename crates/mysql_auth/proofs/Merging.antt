@@ -10,6 +10,7 @@ use Rattle.std.specs.List.{IsDistinct, AllByRecursion, list_any}
 use Rattle.std.specs.Map.{keys_of}
 use Rattle.std.specs.Prelude.{nat_eq, string_bytes, string_eq}
 use Rattle.std.specs.declared.string.String.{String}
+use Rattle.std.proofs.lemmas.Bool.{or_parts}
 use Rattle.indexmap.specs.IndexMap.{insert_entry, insert_all}
 use Rattle.mysql_auth.specs.Attributes.{Attribute, merged, text_pair, lossy_pair, lossy_pairs}
 
@@ -42,15 +43,11 @@ merged-once es once = merged-after [] es once
 
 -- ---- a key that no other has
 
-same_or : (b c : Bool) → (b || c) ≡ false → (b ≡ false) × (c ≡ false)
-same_or false c none = (refl, none)
-same_or true c none = absurd cc
-
 -- it goes last
 pub new-last : (es : List Attribute) (k v : List ℕ) → list_any (λ e. same k e.0) es ≡ false → insert_entry same es k v ≡ es ++ (k, v) ∷ []
 new-last [] k v none = refl
 new-last (e ∷ es) k v none =
-    let each = same_or (same k e.0) (list_any (λ e. same k e.0) es) none in
+    let each = or_parts (same k e.0) (list_any (λ e. same k e.0) es) none in
     rw each.0 (ap (λ (rest : List Attribute). e ∷ rest) (new-last es k v each.1))
 
 keys-any : (es : List Attribute) (k : List ℕ) → list_any (same k) (keys_of es) ≡ list_any (λ e. same k e.0) es

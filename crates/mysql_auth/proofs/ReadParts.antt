@@ -1,6 +1,6 @@
 -- The parts of what was read: texts up to a zero have none, and a plugin is that of its name.
 use Rattle.std.proofs.Common.{◌≡◌, ℕ, zero, suc, ◌-◌, ◌<◌, ◌==◌, ◌&&◌, nat_lt, nat_eq, List, [], ◌∷◌, length, get_or, codes, Option, Bool, true, false, if◌then◌else◌, refl, sym, subst, ap, ◌∙◌, arith}
-use Rattle.std.proofs.lemmas.Bool.{ne_eqb}
+use Rattle.std.proofs.lemmas.Bool.{ne_eqb, and_right}
 use Rattle.std.specs.Cmp.Lexicographic.{pointwise}
 use Rattle.mysql_wire.proofs.Same.{bytes-same}
 use Rattle.mysql_wire.specs.Form.{Form, either, all_left, when}
@@ -32,15 +32,11 @@ other-than-zero (zero ∷ bytes) k lt h = absurd h
 other-than-zero (suc b ∷ bytes) zero lt h = ne_eqb (suc b) 0 (λ e. cc)
 other-than-zero (suc b ∷ bytes) (suc k) lt h = other-than-zero bytes k (omega (arith, lt)) h
 
-and-false : (a b : Bool) → b ≡ false → (a && b) ≡ false
-and-false true b e = e
-and-false false b e = refl
-
 stays : (bytes : List ℕ) → HasNoZero bytes → without_last_zero bytes ≡ bytes
 stays [] h = refl
 stays (b ∷ bytes) h =
     let last : (get_or (b ∷ bytes) (length (b ∷ bytes) - 1) 0 == 0) ≡ false = other-than-zero (b ∷ bytes) (length (b ∷ bytes) - 1) (omega arith) h in
-    let no : ends_in_zero (b ∷ bytes) ≡ false = and-false (nat_lt 0 (length (b ∷ bytes))) _ last in
+    let no : ends_in_zero (b ∷ bytes) ≡ false = and_right (nat_lt 0 (length (b ∷ bytes))) _ last in
     rw no refl
 
 -- ---- plugins

@@ -4,7 +4,7 @@ use Rattle.std.proofs.lemmas.Grind.{common_steps}
 use Rattle.std.specs.Prelude.{All, map, IsTrue, not, position}
 use Rattle.std.specs.List.{position_or_len}
 use Rattle.std.proofs.lemmas.List.Sums.{fails_before_first}
-use Rattle.std.proofs.lemmas.Bool.{and_parts, false_from_ne_true}
+use Rattle.std.proofs.lemmas.Bool.{and_parts, false_from_ne_true, not-false}
 use Rattle.std.proofs.lemmas.List.Elements.{All-head}
 use Rattle.std.proofs.lemmas.List.FromFn.{length-map-range_with_len}
 use Rattle.std.proofs.lemmas.List.Sums.{fold-append}
@@ -61,11 +61,7 @@ pub none_refused : (types : List ParamType) → position (λ kind. not (may_be_d
 none_refused types e = λ k d lt.
     let refused : ParamType → Bool = λ kind. not (may_be_declared kind) in
     let past : length types ≤ position_or_len refused types = grind (arith, common_steps) in
-    not_refused (may_be_declared (get_or types k d)) (fails_before_first refused types k d (omega (arith, past, lt)))
-  where
-    not_refused : (b : Bool) → not b ≡ false → b ≡ true
-    not_refused true h = refl
-    not_refused false h = let f : true ≡ false = h in cc
+    not-false (may_be_declared (get_or types k d)) (fails_before_first refused types k d (omega (arith, past, lt)))
 
 -- ---- the types so far
 

@@ -2,7 +2,7 @@
 use Rattle.std.proofs.Common.{◌≡◌, ◌≢◌, ℕ, ◌+◌, Bool, true, false, cond, if◌then◌else◌, List, [], ◌∷◌, ◌++◌, length, take, drop, Option, Some, None, Err, refl, sym, ◌∙◌, ap, subst, arith, length-append, append_assoc}
 use Rattle.std.proofs.lemmas.List.{append-nil, take-append-le, take-append-drop, take_at}
 use Rattle.std.proofs.lemmas.List.Sums.{take_while-cons}
-use Rattle.std.proofs.lemmas.Bool.{eqb-true, eq-eqb, and_from, and_parts}
+use Rattle.std.proofs.lemmas.Bool.{eqb-true, eq-eqb, and_from, and_parts, false_from_ne_true}
 use Rattle.std.proofs.lemmas.List.Elements.{All-nil, All-head, All-tail, All-push}
 use Rattle.std.specs.Prelude.{take_while, nat_eq, slice_get, All, option_map, ◌&&◌}
 use Rattle.std.specs.List.{prefix_len}
@@ -133,10 +133,6 @@ front_from columns n (row ∷ before) rest e t =
 slice_get_at : {X : Type 0} (xs : List X) (x : X) (ys : List X) → slice_get (xs ++ x ∷ ys) (length xs) ≡ Some x
 slice_get_at [] x ys = refl
 slice_get_at (y ∷ xs) x ys = slice_get_at xs x ys
-
-not_true : (b : Bool) → (b ≡ true → ⊥) → b ≡ false
-not_true true h = absurd (h refl)
-not_true false h = refl
 
 -- a run from s over all these rows has come so far: b is the builder, and the rest is still to come
 pub record Running (s : BuilderState) (all : List (List Content)) (requests : List BulkRequest) (ends : List ℕ) (sent : ℕ) (b : BuilderState) (rest : List (List Content)) : Type 0 where
@@ -366,7 +362,7 @@ module _ {s : BuilderState} {all : List (List Content)} {requests : List BulkReq
   other_length : (row : List Content) (rest : List (List Content)) → Running s all requests ends sent b (row ∷ rest) → (TakesArity b.arity (length row) → ⊥) → IsNew s → RefusesArity s all row
   other_length row rest r t n =
       let known : b.arity ≡ arity_after (option_map length s.columns) (rows_in r.cut ++ b.waiting) = arity_is r ∙ ap (λ o. arity_after o (rows_in r.cut ++ b.waiting)) n.arity in
-      let no : (taken_as_long s.columns (first_length all)) row ≡ false = not_true ((taken_as_long s.columns (first_length all)) row) (λ e.
+      let no : (taken_as_long s.columns (first_length all)) row ≡ false = false_from_ne_true ((taken_as_long s.columns (first_length all)) row) (λ e.
       let both = and_parts (nat_eq (length row) (first_length all)) (takes_types s.columns row) e in
       t (takes_as_long s.columns b.arity (rows_in r.cut ++ b.waiting) row rest all known r.whole (eqb-true (length row) (first_length all) both.0) both.1)) in
       let A : Option ℕ → Type 0 = λ o. TakesArity o (length row) in
@@ -376,7 +372,7 @@ module _ {s : BuilderState} {all : List (List Content)} {requests : List BulkReq
   other_types values rest r a t n =
       let T : BuilderState → Type 0 = λ u. TakesTypes u.columns values → ⊥ in
       let not_taken : TakesTypes s.columns values → ⊥ = subst T r.left t in
-      let no : (taken_as_long s.columns (first_length all)) values ≡ false = not_true ((taken_as_long s.columns (first_length all)) values) (λ e. not_taken (and_parts (nat_eq (length values) (first_length all)) (takes_types s.columns values) e).1) in
+      let no : (taken_as_long s.columns (first_length all)) values ≡ false = false_from_ne_true ((taken_as_long s.columns (first_length all)) values) (λ e. not_taken (and_parts (nat_eq (length values) (first_length all)) (takes_types s.columns values) e).1) in
       let A : Option ℕ → Type 0 = λ o. TakesArity o (length values) in
       (fronts_fit values rest r no n, next_after values rest r no, subst A (arity_after_front values rest r no) a, not_taken)
 

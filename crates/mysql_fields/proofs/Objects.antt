@@ -3,6 +3,7 @@ use Rattle.std.proofs.Common.{◌≡◌, ℕ, List, [], ◌∷◌, Bool, true, f
 use Rattle.std.specs.Ordering.{nat_cmp, match_ordering}
 use Rattle.std.specs.Cmp.Lexicographic.{slice_cmp}
 use Rattle.std.specs.Str.{is_utf8}
+use Rattle.std.proofs.lemmas.Bool.{or_parts}
 use Rattle.serde_json.specs.Data.{Data, string, array, Members, no_members, member, put}
 use Rattle.serde_json.specs.View.{items_of}
 use Rattle.mysql_values.specs.Value.{Content}
@@ -10,10 +11,6 @@ use Rattle.mysql_values.specs.Value as value
 use Rattle.mysql_fields.specs.Fields.{Held, Number, Bytes, Digits, Word, Flag, Value, Absent, Said, is_float, have_float, value_is_float}
 use Rattle.mysql_fields.specs.FieldObject.{bytes_data, digits_data, value_data, held_data, is_item, has_name, with_members, items_named, with_items, with_list, with_lists, object_of}
 use Rattle.serde_json.specs.Written.{has_float, items_have_float, members_have_float}
-
-both : (a b : Bool) → (a || b) ≡ false → (a ≡ false) × (b ≡ false)
-both true b h = absurd (true≢false h)
-both false b h = (refl, h)
 
 text-or-digits : (is : Bool) (bytes : List ℕ) → has_float (if is then string bytes else digits_data bytes) ≡ false
 text-or-digits true bytes = refl
@@ -51,7 +48,7 @@ put-at Greater k l d e ms hd he hm later = rw he later
 put-none : (k : List ℕ) (d : Data) (ms : Members) → has_float d ≡ false → members_have_float ms ≡ false → members_have_float (put k d ms) ≡ false
 put-none k d no_members hd hm = rw hd
 put-none k d (member l e ms) hd hm =
-    let parts = both (has_float e) (members_have_float ms) hm in
+    let parts = or_parts (has_float e) (members_have_float ms) hm in
     put-at (slice_cmp nat_cmp k l) k l d e ms hd parts.0 parts.1 (put-none k d ms hd parts.1)
 
 one-none : (is : Bool) (k : List ℕ) (d : Data) (ms : Members) → has_float d ≡ false → members_have_float ms ≡ false → members_have_float (if is then ms else put k d ms) ≡ false
@@ -61,7 +58,7 @@ one-none false k d ms hd hm = put-none k d ms hd hm
 members-none : (fields : List Said) (ms : Members) → have_float fields ≡ false → members_have_float ms ≡ false → members_have_float (with_members fields ms) ≡ false
 members-none [] ms h hm = hm
 members-none (field ∷ fields) ms h hm =
-    let parts = both (is_float field.held) (have_float fields) h in
+    let parts = or_parts (is_float field.held) (have_float fields) h in
     members-none fields _ parts.1 (one-none (is_item field) field.name (held_data field.held) ms (held-none field.held parts.0) hm)
 
 kept-none : (is : Bool) (d : Data) (ds : List Data) → has_float d ≡ false → items_have_float (items_of ds) ≡ false → items_have_float (items_of (if is then d ∷ ds else ds)) ≡ false
@@ -71,7 +68,7 @@ kept-none false d ds hd h = h
 items-none : (name : List ℕ) (fields : List Said) → have_float fields ≡ false → items_have_float (items_of (items_named name fields)) ≡ false
 items-none name [] h = refl
 items-none name (field ∷ fields) h =
-    let parts = both (is_float field.held) (have_float fields) h in
+    let parts = or_parts (is_float field.held) (have_float fields) h in
     kept-none (has_name name field) _ _ (held-none field.held parts.0) (items-none name fields parts.1)
 
 array-none : (name : List ℕ) (ds : List Data) (ms : Members) → items_have_float (items_of ds) ≡ false → members_have_float ms ≡ false → members_have_float (with_items name ds ms) ≡ false

@@ -1,6 +1,6 @@
 -- Names that are others.
 use Rattle.std.proofs.Common.{◌≡◌, ℕ, Bool, true, false, List, [], ◌∷◌, nat_eq, refl, arith}
-use Rattle.std.proofs.lemmas.Bool.{eqb-true}
+use Rattle.std.proofs.lemmas.Bool.{eqb-true, false_from_ne_true}
 use Rattle.std.proofs.lemmas.Grind.{common_steps}
 use Rattle.mysql_packets.specs.Named.{is_named}
 
@@ -15,10 +15,6 @@ same_name (n ∷ name) (w ∷ word) h =
     let f = same_name name word rest in
     cc
 
-tells : (b : Bool) → (b ≡ true → ⊥) → b ≡ false
-tells true h = absurd (h refl)
-tells false h = refl
-
 -- what is not that word has not that name
 pub other_name : (name word : List ℕ) → (name ≡ word → ⊥) → is_named name word ≡ false
-other_name name word other = tells (is_named name word) (λ h. other (same_name name word h))
+other_name name word other = false_from_ne_true (is_named name word) (λ h. other (same_name name word h))

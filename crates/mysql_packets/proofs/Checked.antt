@@ -5,10 +5,10 @@ use Rattle.std.proofs.lemmas.List.Sums.{AllPass-from_list_all, list_all-from_All
 use Rattle.std.specs.Char.{is_ascii_hexdigit}
 use Rattle.std.specs.List.{list_all}
 use Rattle.std.specs.Result.{result_ok}
+use Rattle.std.proofs.lemmas.Bool.{and_parts}
 use Rattle.hex.specs.Hex.{decode_of, is_hex_digit}
 use Rattle.hex.specs.declared.error.FromHexError.{FromHexError}
 use Rattle.hex.proofs.HexLemmas.{decode_of-digits, decode_of-ok}
-use Rattle.mysql_packets.proofs.Numerals.{both}
 use Rattle.mysql_packets.specs.Digits.{are_pairs, bytes_of, digits_bytes}
 
 same_digit : (c : ℕ) → is_ascii_hexdigit c ≡ is_hex_digit c
@@ -26,7 +26,7 @@ none_result (Err e) refused = refl
 pub bytes_of-pairs : (s : List ℕ) → are_pairs s ≡ true → bytes_of s ≡ Some (digits_bytes s)
 unfolding are_pairs
 bytes_of-pairs s checked =
-    let b = both (length s % 2 == 0) (list_all is_ascii_hexdigit s) checked in
+    let b = and_parts (length s % 2 == 0) (list_all is_ascii_hexdigit s) checked in
     let even : length s % 2 ≡ 0 = grind (arith, common_steps, b.0) in
     let spelled = decode_of-digits s even (AllPass-from_list_all is_hex_digit s (sym (same_digits s) ∙ b.1)) in
     rw spelled.1 refl

@@ -8,7 +8,8 @@ use Rattle.std.specs.Result.{OkIff, result_ok}
 use Rattle.std.specs.Str.Parse.{IsNumeral, ParsesUnsigned, digits_value, without_leading_plus, starts_with_minus}
 use Rattle.std.proofs.lemmas.Fmt.{IsAscii-from_digits}
 use Rattle.std.proofs.lemmas.Str.{IsUtf8-from_ascii}
-use Rattle.mysql_packets.proofs.Numerals.{AreDigits, both, numeral_of}
+use Rattle.std.proofs.lemmas.Bool.{and_parts}
+use Rattle.mysql_packets.proofs.Numerals.{AreDigits, numeral_of}
 use Rattle.mysql_packets.specs.Decimal.{is_decimal, decimal_of, below, number_below}
 
 decimal_digits : AreDigits 10 is_ascii_digit
@@ -18,7 +19,7 @@ decimal_digits c e = grind (arith, common_steps)
 pub is_numeral : (w : List ℕ) → is_decimal w ≡ true → IsNumeral 10 w × (without_leading_plus w ≡ w)
 unfolding is_decimal
 is_numeral w checked =
-    let b = both (nat_le 1 (length w)) (list_all is_ascii_digit w) checked in
+    let b = and_parts (nat_le 1 (length w)) (list_all is_ascii_digit w) checked in
     numeral_of 10 is_ascii_digit decimal_digits w b.0 b.1
 
 -- and a text

@@ -7,7 +7,8 @@ use Rattle.std.specs.Char.{is_ascii_hexdigit}
 use Rattle.std.specs.List.{list_all}
 use Rattle.std.specs.Result.{OkIff}
 use Rattle.std.specs.Str.Parse.{AllDigits, ParsesUnsigned, digits_value}
-use Rattle.mysql_packets.proofs.Numerals.{AreDigits, both, numeral_of}
+use Rattle.std.proofs.lemmas.Bool.{and_parts}
+use Rattle.mysql_packets.proofs.Numerals.{AreDigits, numeral_of}
 use Rattle.mysql_packets.specs.Capabilities.{is_flag_word}
 
 hexadecimal_digits : AreDigits 16 is_ascii_hexdigit
@@ -28,8 +29,8 @@ given_ok (Err e) P v p parsed = absurd (parsed p)
 pub flags_parse : {E : Type 0} (w : List ℕ) (r : Result ℕ E) → is_flag_word w ≡ true → ParsesUnsigned 32 16 w r → r ≡ Ok (digits_value 16 w)
 unfolding is_flag_word
 flags_parse w r checked parsed =
-    let b = both (nat_le 1 (length w)) (nat_le (length w) 8 && list_all is_ascii_hexdigit w) checked in
-    let d = both (nat_le (length w) 8) (list_all is_ascii_hexdigit w) b.1 in
+    let b = and_parts (nat_le 1 (length w)) (nat_le (length w) 8 && list_all is_ascii_hexdigit w) checked in
+    let d = and_parts (nat_le (length w) 8) (list_all is_ascii_hexdigit w) b.1 in
     let numeral = numeral_of 16 is_ascii_hexdigit hexadecimal_digits w b.0 d.1 in
     let short : length w ≤ 8 = grind (arith, common_steps, d.0) in
     let plain = rw numeral.1 at parsed in

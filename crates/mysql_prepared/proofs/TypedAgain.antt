@@ -5,6 +5,7 @@ use Rattle.std.proofs.lemmas.Grind.{common_steps}
 use Rattle.std.proofs.lemmas.List.Sums.{fails_before_first}
 use Rattle.std.proofs.lemmas.List.{length-map}
 use Rattle.std.proofs.lemmas.List.Elements.{All-head, All-tail}
+use Rattle.std.proofs.lemmas.Bool.{not-false}
 use Rattle.mysql_wire.specs.Each.{each}
 use Rattle.mysql_wire.specs.Form.{Form, either, give, map as map_form}
 use Rattle.mysql_wire.specs.Seq.{counted}
@@ -120,15 +121,11 @@ types-again (p ∷ ps) fit rest =
 abbrev Spelled : TypedExecuteParam → Type 0
 Spelled p = is_spelled p ≡ true
 
-not_refused : (b : Bool) → not b ≡ false → b ≡ true
-not_refused true h = refl
-not_refused false h = let f : true ≡ false = h in cc
-
 all_spelled : (ps : List TypedExecuteParam) → first_unspelled ps ≡ None → All Spelled ps
 all_spelled ps e = λ k d lt.
     let refused : TypedExecuteParam → Bool = λ p. not (is_spelled p) in
     let past : length ps ≤ position_or_len refused ps = grind (arith, common_steps) in
-    not_refused (is_spelled (get_or ps k d)) (fails_before_first refused ps k d (omega (arith, past, lt)))
+    not-false (is_spelled (get_or ps k d)) (fails_before_first refused ps k d (omega (arith, past, lt)))
 
 params-again : (l : Bool) (nulls : List ℕ) (place : ℕ) (bs : List BoundParam) (ps : List TypedExecuteParam) → ((i : ℕ) → cell nulls (place + i) ≡ get_or (map null_bit (contents typed_param_of ps)) i 0)
     → All TypedParamFits ps → All Spelled ps → AllBound l bs ps

@@ -1,7 +1,7 @@
 -- Intervals that are put in order: what they have, and that they are apart.
 use Rattle.std.proofs.Common.{◌≡◌, ℕ, zero, suc, ◌+◌, ◌<◌, ◌≤◌, ◌^◌, List, [], ◌∷◌, length, get_or, filter, sum_by, Bool, true, false, ◌&&◌, ◌||◌, nat_lt, nat_le, if◌then◌else◌, Result, Ok, Err, IfOk, refl, sym, ap, ◌∙◌, arith}
 use Rattle.std.specs.List.Sorted.{IsNonDecreasingBy, IsPermutation}
-use Rattle.std.proofs.lemmas.Bool.{lt-ltb, lt-leb, ltb-true, ltb-false, leb-false}
+use Rattle.std.proofs.lemmas.Bool.{lt-ltb, lt-leb, ltb-true, ltb-false, leb-false, and_parts}
 use Rattle.std.proofs.lemmas.Bool.Decides.{nat_tests}
 use Rattle.std.proofs.lemmas.List.Sorted.{length_permutation, sum_by-IsPermutation}
 use Rattle.std.proofs.lemmas.List.Sums.{sum_by-cons}
@@ -187,20 +187,15 @@ over-ok (Err e) P Q f h = tt
 
 -- ---- as servers write them
 
-both : (a b : Bool) → (a && b) ≡ true → (a ≡ true) × (b ≡ true)
-both true true h = (refl, refl)
-both true false h = absurd cc
-both false b h = absurd cc
-
 apart-after : (last : ℕ) (is : List GnoInterval) → are_apart_after last is ≡ true → NumbersFit is → are_after last is ≡ true
 apart-after last [] h k = refl
 apart-after last (i ∷ is) h k =
-    let p = both (nat_lt last (start i)) (has_any i && are_apart_after (end i) is) h in
-    let q = both (has_any i) (are_apart_after (end i) is) p.1 in
+    let p = and_parts (nat_lt last (start i)) (has_any i && are_apart_after (end i) is) h in
+    let q = and_parts (has_any i) (are_apart_after (end i) is) p.1 in
     rw (p.0, q.0, lt-ltb (end i) (2 ^ 63) k.1) (apart-after (end i) is q.1 k.2)
 
 pub apart-servers : (is : List GnoInterval) → are_apart is ≡ true → NumbersFit is → are_after 0 is ≡ true
 apart-servers [] h k = refl
 apart-servers (i ∷ is) h k =
-    let q = both (has_any i) (are_apart_after (end i) is) h in
+    let q = and_parts (has_any i) (are_apart_after (end i) is) h in
     rw (lt-ltb 0 (start i) k.0, q.0, lt-ltb (end i) (2 ^ 63) k.1) (apart-after (end i) is q.1 k.2)

@@ -3,7 +3,7 @@ use Rattle.std.proofs.Common.{◌≡◌, ℕ, zero, suc, ◌-◌, ◌<◌, ◌�
 use Rattle.std.specs.Char.{is_ascii_whitespace, to_ascii_lowercase}
 use Rattle.std.specs.List.{flat_map, list_all, slice_split, prefix_len, suffix_len}
 use Rattle.std.specs.Str.Parse.{AllDigits}
-use Rattle.std.proofs.lemmas.Bool.{ltb-true}
+use Rattle.std.proofs.lemmas.Bool.{ltb-true, and_parts}
 use Rattle.std.proofs.lemmas.Bool.Decides.{nat_tests}
 use Rattle.std.proofs.lemmas.List.{append-nil, take_all}
 use Rattle.std.proofs.lemmas.List.Splits.{slice_split_first}
@@ -72,14 +72,9 @@ digits-plain (d ∷ ds) h = let r = digit_from_value d h.0 in (digit-plain d r.0
 later-plain : (c : ℕ) → is_later c ≡ true → is_plain c ≡ true
 later-plain c h = grind (arith, nat_tests)
 
-both : (a b : Bool) → (a && b) ≡ true → (a ≡ true) × (b ≡ true)
-both true true h = (refl, refl)
-both true false h = absurd cc
-both false b h = absurd cc
-
 laters-plain : (cs : List ℕ) → list_all is_later cs ≡ true → Plain cs
 laters-plain [] h = tt
-laters-plain (c ∷ cs) h = let p = both (is_later c) (list_all is_later cs) h in (later-plain c p.0, laters-plain cs p.1)
+laters-plain (c ∷ cs) h = let p = and_parts (is_later c) (list_all is_later cs) h in (later-plain c p.0, laters-plain cs p.1)
 
 pub tag-plain : (tag : List ℕ) → IsTag tag → Plain tag
 tag-plain [] h = absurd (nothing h)

@@ -1,6 +1,7 @@
 -- The plain conditions on sids are enough for reading back.
 use Rattle.std.proofs.Common.{◌≡◌, ◌<◌, ◌^◌, ℕ, List, [], ◌∷◌, length, Option, Some, None, is_some, Bool, true, false, ◌||◌, nat_lt, if◌then◌else◌, refl}
 use Rattle.std.specs.List.{list_any}
+use Rattle.std.proofs.lemmas.Bool.{or_parts}
 use Rattle.mysql_wire.specs.CodecFits.{each_fits}
 use Rattle.mysql_wire.specs.CountedBytes.{u32_string}
 use Rattle.mysql_wire.specs.FormLaws.{whole-beginning}
@@ -29,17 +30,13 @@ tagged-fit : (sids : List Sid) → AreSids sids → each_fits tagged_sid tt sids
 tagged-fit [] h = tt
 tagged-fit (s ∷ sids) h = (tagged_sid-fits s _ h.0, tagged-fit sids h.1)
 
-neither : (a b : Bool) → (a || b) ≡ false → (a ≡ false) × (b ≡ false)
-neither true b h = absurd cc
-neither false b h = (refl, h)
-
 no_tag : (tag : Option (List ℕ)) → is_some tag ≡ false → tag ≡ None
 no_tag None h = refl
 no_tag (Some t) h = absurd cc
 
 plain-fit : (sids : List Sid) → AreSids sids → list_any has_tag sids ≡ false → each_fits sid tt sids []
 plain-fit [] h e = tt
-plain-fit (s ∷ sids) h e = let p = neither (has_tag s) (list_any has_tag sids) e in (sid-fits s _ h.0 (no_tag s.tag p.0), plain-fit sids h.1 p.1)
+plain-fit (s ∷ sids) h e = let p = or_parts (has_tag s) (list_any has_tag sids) e in (sid-fits s _ h.0 (no_tag s.tag p.0), plain-fit sids h.1 p.1)
 
 fit-as : (tagged : Bool) (sids : List Sid) → AreSids sids → any_tag sids ≡ tagged → each_fits (sid_as tagged) tt sids []
 unfolding any_tag

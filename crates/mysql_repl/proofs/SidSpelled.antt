@@ -3,7 +3,7 @@ use Rattle.std.proofs.Common.{◌≡◌, ◌⊎◌, inl, inr, ℕ, ◌+◌, ◌<
 use Rattle.std.specs.Char.{is_ascii_digit}
 use Rattle.std.specs.List.{list_all}
 use Rattle.std.specs.Str.Parse.{IsNumeral, AllDigits, without_leading_plus}
-use Rattle.std.proofs.lemmas.Bool.{lt-leb, ne_eqb}
+use Rattle.std.proofs.lemmas.Bool.{lt-leb, ne_eqb, and_parts}
 use Rattle.std.proofs.lemmas.Bool.Decides.{nat_tests}
 use Rattle.std.proofs.lemmas.List.{append-nil}
 use Rattle.std.proofs.lemmas.Str.Parse.{digit_from_value, without_leading_plus_none, without_leading_plus_plus}
@@ -127,11 +127,6 @@ unfolding read_after
 after-digit id [] h = absurd cc
 after-digit id (c ∷ cs) h = rw h refl
 
-both : (a b : Bool) → (a && b) ≡ true → (a ≡ true) × (b ≡ true)
-both true true h = (refl, refl)
-both true false h = absurd cc
-both false b h = absurd cc
-
 other : (c : ℕ) → is_later c ≡ true → c == 58 ≡ false
 other c h = ne_eqb c 58 (λ e. let wrong : is_later 58 ≡ true = rw e at h in absurd cc)
 
@@ -146,7 +141,7 @@ chosen id false false x y d e = absurd cc
 
 tag-lacks : (cs : List ℕ) → list_all is_later cs ≡ true → Lacks 58 cs
 tag-lacks [] h = tt
-tag-lacks (c ∷ cs) h = let p = both (is_later c) (list_all is_later cs) h in (other c p.0, tag-lacks cs p.1)
+tag-lacks (c ∷ cs) h = let p = and_parts (is_later c) (list_all is_later cs) h in (other c p.0, tag-lacks cs p.1)
 
 after-tag : (id tag text : List ℕ) → IsTag tag → read_after id (tag ++ 58 ∷ text) ≡ sid_with id (Some tag) (read_intervals text)
 unfolding read_after

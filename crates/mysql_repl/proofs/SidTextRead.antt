@@ -4,7 +4,7 @@ use Rattle.std.specs.Char.{is_ascii_digit}
 use Rattle.std.specs.List.{slice_split, join_with_byte}
 use Rattle.std.specs.Str.{all_ascii_digits, IsUtf8}
 use Rattle.std.specs.Str.Parse.{digits_value, without_leading_plus}
-use Rattle.std.proofs.lemmas.Bool.{ltb-true, leb-false, eqb-true, eqb-false}
+use Rattle.std.proofs.lemmas.Bool.{ltb-true, leb-false, eqb-true, eqb-false, cases_Bool}
 use Rattle.std.proofs.lemmas.List.{append-nil}
 use Rattle.std.proofs.lemmas.List.Splits.{length-slice_split, join_with_byte-slice_split}
 use Rattle.std.proofs.lemmas.Str.Parse.{without_leading_plus_none, without_leading_plus_plus}
@@ -24,7 +24,7 @@ use Rattle.mysql_repl.specs.TagString.{OptionalTag}
 use Rattle.mysql_repl.proofs.SidCuts.{cut-parts, utf8-before, utf8-after, no_colon-before}
 use Rattle.mysql_repl.proofs.SidSpelled.{sid-spelled}
 use Rattle.mysql_repl.proofs.SidTextAgain.{sid-text-again}
-use Rattle.mysql_repl.proofs.SidTexts.{which, numeral-from}
+use Rattle.mysql_repl.proofs.SidTexts.{numeral-from}
 use Rattle.mysql_repl.proofs.Tags.{no_fault-tag}
 use Rattle.mysql_repl.proofs.UuidBytes.{uuid-is}
 
@@ -41,7 +41,7 @@ number-by false small v n e = absurd cc
 plus-or-none : (text : List ℕ) → (text ≡ codes "+" ++ without_leading_plus text) ⊎ (without_leading_plus text ≡ text)
 plus-or-none [] = inr refl
 plus-or-none (c ∷ cs) =
-    elim (which (c == 43)) [
+    elim (cases_Bool (c == 43)) [
       | inl plus ↦
           let c_is : c ≡ 43 = eqb-true c 43 plus in
           inl (ap (λ (x : ℕ). x ∷ cs) c_is ∙ ap (λ (t : List ℕ). 43 ∷ t) (sym (without_leading_plus_plus (c ∷ cs) c_is)))

@@ -4,16 +4,12 @@ use Rattle.std.specs.List.{slice_split, position_or_len}
 use Rattle.std.specs.Result.{result_ok}
 use Rattle.std.specs.Str.{all_ascii_digits}
 use Rattle.std.specs.Str.Parse.{ParsesUnsigned, IsNumeral, digits_value, without_leading_plus}
-use Rattle.std.proofs.lemmas.Bool.{lt-ltb, le-ltb, ltb-true, ltb-false}
+use Rattle.std.proofs.lemmas.Bool.{lt-ltb, le-ltb, ltb-true, ltb-false, and_parts, cases_Bool}
 use Rattle.std.proofs.lemmas.List.{length-drop}
 use Rattle.std.proofs.lemmas.List.Splits.{slice_split_first, slice_split-cons_no}
 use Rattle.std.proofs.lemmas.Str.Parse.{IsNumeralModel, numerals_by_value, tells_all_ascii_digits}
 use Rattle.std.proofs.lemmas.Str.Pattern.{IsSplitOnceResult, split_once_first}
 use Rattle.mysql_repl.specs.SidText.{colon, hyphen, comma, is, has, before, after, number_in, number_of, parts_of}
-
-pub which : (b : Bool) → (b ≡ true) ⊎ (b ≡ false)
-which true = inl refl
-which false = inr refl
 
 -- ---- cuts
 
@@ -44,19 +40,14 @@ own = numerals_by_value (λ ds. all_ascii_digits ds ≡ true) tells_all_ascii_di
 pub number-ok : (ds : List ℕ) → IsNumeral 10 ds → digits_value 10 ds < 2 ^ 64 → number_in ds ≡ Some (digits_value 10 ds)
 number-ok ds numeral lt = rw (lt-ltb 0 (length ds) numeral.0, own.from ds numeral.1, lt-ltb (digits_value 10 ds) (2 ^ 64) lt) refl
 
-both : (a b : Bool) → (a && b) ≡ true → (a ≡ true) × (b ≡ true)
-both true true h = (refl, refl)
-both true false h = absurd cc
-both false b h = absurd cc
-
 pub numeral-from : (ds : List ℕ) → (nat_lt 0 (length ds) && all_ascii_digits ds) ≡ true → IsNumeral 10 ds
-numeral-from ds digits = let p = both (nat_lt 0 (length ds)) (all_ascii_digits ds) digits in (ltb-true _ _ p.0, own.to ds p.1)
+numeral-from ds digits = let p = and_parts (nat_lt 0 (length ds)) (all_ascii_digits ds) digits in (ltb-true _ _ p.0, own.to ds p.1)
 
 number-none : (ds : List ℕ) → (IsNumeral 10 ds × (digits_value 10 ds < 2 ^ 64) → ⊥) → number_in ds ≡ None
 number-none ds wrong =
-    elim (which (nat_lt 0 (length ds) && all_ascii_digits ds)) [
+    elim (cases_Bool (nat_lt 0 (length ds) && all_ascii_digits ds)) [
       | inl digits ↦
-          elim (which (nat_lt (digits_value 10 ds) (2 ^ 64))) [
+          elim (cases_Bool (nat_lt (digits_value 10 ds) (2 ^ 64))) [
             | inl small ↦ absurd (wrong (numeral-from ds digits, ltb-true _ _ small))
             | inr large ↦ rw (digits, large) refl
           ]
@@ -75,7 +66,7 @@ pub ruleset numbers = (number-parse)
 pub one-part : (p : ℕ → Bool) (xs : List ℕ) → nat_lt (position_or_len p xs) (length xs) ≡ false → slice_split p xs ≡ xs ∷ []
 one-part p [] h = refl
 one-part p (x ∷ xs) h =
-    elim (which (p x)) [
+    elim (cases_Bool (p x)) [
       | inl passes ↦ let none : nat_lt 0 (length (x ∷ xs)) ≡ false = rw passes at h in absurd (omega (arith, ltb-false _ _ none))
       | inr fails ↦
           let longer : nat_lt (1 + position_or_len p xs) (length (x ∷ xs)) ≡ false = rw fails at h in

@@ -2,7 +2,7 @@
 use Rattle.std.proofs.Common.{◌≡◌, ◌⊎◌, inl, inr, ℕ, ◌<◌, ◌≤◌, List, [], ◌∷◌, length, slice_get, Option, Some, None, Ok, Err, Bool, true, false, not, cond, ◌&&◌, if◌then◌else◌, nat_lt, nat_le, refl, sym, subst, ◌∙◌, arith}
 use Rattle.std.specs.List.{find, list_all}
 use Rattle.std.specs.Str.{chars, IsAscii, IsUtf8}
-use Rattle.std.proofs.lemmas.Bool.{leb-true, ltb-false, le-ltb, le-leb}
+use Rattle.std.proofs.lemmas.Bool.{leb-true, ltb-false, le-ltb, le-leb, and_parts, cases_Bool}
 use Rattle.std.proofs.lemmas.Bool.Decides.{nat_tests}
 use Rattle.std.proofs.lemmas.Str.{chars-IsAscii, encodes-chars, encodes-IsAscii, IsUtf8-from_ascii}
 use Rattle.std.proofs.lemmas.Str.Ascii.{IsAscii-nil, IsAscii-cons}
@@ -13,15 +13,6 @@ use Rattle.mysql_repl.specs.declared.tag.InvalidTag.TheVariants.{TooLong, Invali
 use Rattle.mysql_repl.specs.Tag.{is_first, is_later, is_tag, IsTag, later_fault, fault_of, tag_fault}
 use Rattle.mysql_repl.specs.TagString.{tag_of, tag_of-tag}
 
-both : (a b : Bool) → (a && b) ≡ true → (a ≡ true) × (b ≡ true)
-both true true h = (refl, refl)
-both true false h = absurd cc
-both false b h = absurd cc
-
-pub which : (b : Bool) → (b ≡ true) ⊎ (b ≡ false)
-which true = inl refl
-which false = inr refl
-
 later-ascii : (c : ℕ) → is_later c ≡ true → c < 128
 later-ascii c h = grind (arith, nat_tests)
 
@@ -30,7 +21,7 @@ first-later c h = rw h refl
 
 all-ascii : (cs : List ℕ) → list_all is_later cs ≡ true → IsAscii cs
 all-ascii [] h = IsAscii-nil
-all-ascii (c ∷ cs) h = let p = both (is_later c) (list_all is_later cs) h in IsAscii-cons c cs (later-ascii c p.0) (all-ascii cs p.1)
+all-ascii (c ∷ cs) h = let p = and_parts (is_later c) (list_all is_later cs) h in IsAscii-cons c cs (later-ascii c p.0) (all-ascii cs p.1)
 
 pub record TagParts (c : ℕ) (cs : List ℕ) : Type 0 where
   pub first : is_first c ≡ true
@@ -40,8 +31,8 @@ pub record TagParts (c : ℕ) (cs : List ℕ) : Type 0 where
 pub tag-parts : (c : ℕ) (cs : List ℕ) → IsTag (c ∷ cs) → TagParts c cs
 unfolding is_tag
 tag-parts c cs h =
-    let p = both (is_first c) (list_all is_later cs && nat_le (length cs) 31) h in
-    let q = both (list_all is_later cs) (nat_le (length cs) 31) p.1 in
+    let p = and_parts (is_first c) (list_all is_later cs && nat_le (length cs) 31) h in
+    let q = and_parts (list_all is_later cs) (nat_le (length cs) 31) p.1 in
     record { first = p.0; later = q.0; short = leb-true _ _ q.1 }
 
 pub nothing : IsTag [] → ⊥
@@ -54,7 +45,7 @@ tag-ascii (c ∷ cs) h = let p = tag-parts c cs h in IsAscii-cons c cs (later-as
 
 no_bad : (cs : List ℕ) → list_all is_later cs ≡ true → find (λ c. not (is_later c)) cs ≡ None
 no_bad [] h = refl
-no_bad (c ∷ cs) h = let p = both (is_later c) (list_all is_later cs) h in rw p.0 (no_bad cs p.1)
+no_bad (c ∷ cs) h = let p = and_parts (is_later c) (list_all is_later cs) h in rw p.0 (no_bad cs p.1)
 
 fault-none : (n c : ℕ) (bad : Option ℕ) → n ≤ 32 → is_first c ≡ true → bad ≡ None → fault_of n (Some c) bad ≡ None
 fault-none n c bad short first e = rw (le-ltb 32 n short, first, e) refl
@@ -91,7 +82,7 @@ from-chars n [] h = absurd cc
 from-chars n (c ∷ cs) h =
     let s = step (nat_lt 32 n) (is_first c) n c (find (λ c. not (is_later c)) (c ∷ cs)) h in
     let all : list_all is_later (c ∷ cs) ≡ true = all-later (c ∷ cs) s.2 in
-    let p = both (is_later c) (list_all is_later cs) all in
+    let p = and_parts (is_later c) (list_all is_later cs) all in
     let few : n ≤ 32 = ltb-false 32 n s.0 in
     (all-ascii (c ∷ cs) all, λ e. rw (s.1, p.1) (le-leb (length cs) 31 (omega (arith, few, e))))
 
@@ -107,7 +98,7 @@ no_fault-tag text utf8 h =
 pub bytes-not_utf8 : (c : ℕ) (cs : List ℕ) → (IsUtf8 (c ∷ cs) → ⊥) → tag_of (c ∷ cs) ≡ None
 unfolding tag_of
 bytes-not_utf8 c cs h =
-    elim (which (is_tag (c ∷ cs))) [
+    elim (cases_Bool (is_tag (c ∷ cs))) [
       | inl passes ↦ absurd (h (IsUtf8-from_ascii (c ∷ cs) (tag-ascii (c ∷ cs) passes)))
       | inr fails ↦ rw fails refl
     ]
@@ -115,7 +106,7 @@ bytes-not_utf8 c cs h =
 pub bytes-fault : (c : ℕ) (cs : List ℕ) (fault : InvalidTag) → tag_fault (c ∷ cs) ≡ Some fault → tag_of (c ∷ cs) ≡ None
 unfolding tag_of
 bytes-fault c cs fault h =
-    elim (which (is_tag (c ∷ cs))) [
+    elim (cases_Bool (is_tag (c ∷ cs))) [
       | inl passes ↦ let none : tag_fault (c ∷ cs) ≡ None = tag-no_fault (c ∷ cs) passes in absurd cc
       | inr fails ↦ rw fails refl
     ]

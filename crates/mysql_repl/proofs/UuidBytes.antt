@@ -2,7 +2,7 @@
 use Rattle.std.proofs.Common.{◌≡◌, ℕ, ◌+◌, ◌*◌, ◌<◌, ◌==◌, List, length, get_or, Option, Some, None, Bool, true, false, ◌&&◌, slice_index, take, drop, if◌then◌else◌, refl, subst, arith}
 use Rattle.std.specs.List.{All, list_all}
 use Rattle.std.specs.Option.{IfSome}
-use Rattle.std.proofs.lemmas.Bool.{eqb-true}
+use Rattle.std.proofs.lemmas.Bool.{eqb-true, and_parts}
 use Rattle.std.proofs.lemmas.Bool.Decides.{nat_tests}
 use Rattle.std.proofs.lemmas.List.Elements.{All-from_get_or}
 use Rattle.std.proofs.lemmas.List.Sums.{AllPass-from_list_all}
@@ -27,11 +27,6 @@ either-way : {A : Type 0} (P : A → Type 0) (t : Bool) (x y : Option A) → IfS
 either-way P true x y h k = h
 either-way P false x y h k = k
 
-both : (a b : Bool) → (a && b) ≡ true → (a ≡ true) × (b ≡ true)
-both true true h = (refl, refl)
-both true false h = absurd cc
-both false b h = absurd cc
-
 -- ---- the digits
 
 digit-small : (c : ℕ) → is_hex_digit c ≡ true → value_of c < 16
@@ -46,7 +41,7 @@ byte-small hex k size all below =
 
 made : (hex : List ℕ) → ((length hex == 32) && list_all is_hex_digit hex) ≡ true → IsUuid (by_index 16 (byte_of_digits hex))
 made hex h =
-    let p = both (length hex == 32) (list_all is_hex_digit hex) h in
+    let p = and_parts (length hex == 32) (list_all is_hex_digit hex) h in
     let f = byte_of_digits hex in
     let size = by_index_length 16 f in
     let each : (i : ℕ) → i < length (by_index 16 f) → get_or (by_index 16 f) i 0 < 256 =
