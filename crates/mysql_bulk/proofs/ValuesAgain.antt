@@ -44,29 +44,23 @@ followed t u value bytes again rest =
       (value, rest, again rest, (refl, refl)),
     )
 
+-- a value that is no NULL
+given-again : (t : ParamType) (x : Content) (bytes : List ℕ) → ((b : List ℕ) → spelled t x ≡ Some b → IsSpelling (bin_value t.column_type (is_unsigned_type t)) (read_under t x) b)
+    → option_map (λ (b : List ℕ). indicator_bytes BULK_INDICATOR_NONE ++ b) (spelled t x) ≡ Some bytes
+    → IsSpelling (param_value t.column_type (is_unsigned_type t)) (record { indicator = BULK_INDICATOR_NONE; content = read_under t x }) bytes
+given-again t x bytes again e =
+    let m = mapped (λ (b : List ℕ). indicator_bytes BULK_INDICATOR_NONE ++ b) (spelled t x) bytes e in
+    subst (IsSpelling (param_value t.column_type (is_unsigned_type t)) (record { indicator = BULK_INDICATOR_NONE; content = read_under t x })) m.2 (followed t (is_unsigned_type t) (read_under t x) m.0 (again m.0 m.1))
+
 pub cell-again : (t : ParamType) (cell : Cell) (bytes : List ℕ) → CellFits cell → cell_spelled t cell ≡ Some bytes → IsSpelling (param_value t.column_type (is_unsigned_type t)) (cell_read t cell) bytes
 cell-again t (Given NULL) bytes fits e = subst (IsSpelling (param_value t.column_type (is_unsigned_type t)) (cell_read t (Given NULL))) (same_Some (indicator_bytes BULK_INDICATOR_NULL) bytes e) (alone t (is_unsigned_type t) BULK_INDICATOR_NULL refl)
-cell-again t (Given (Bytes x)) bytes fits e =
-    let m = mapped (λ (b : List ℕ). indicator_bytes BULK_INDICATOR_NONE ++ b) (spelled t (Bytes x)) bytes e in
-    subst (IsSpelling (param_value t.column_type (is_unsigned_type t)) (cell_read t (Given (Bytes x)))) m.2 (followed t (is_unsigned_type t) (read_under t (Bytes x)) m.0 (under-again t (Bytes x) m.0 fits m.1))
-cell-again t (Given (Int x)) bytes fits e =
-    let m = mapped (λ (b : List ℕ). indicator_bytes BULK_INDICATOR_NONE ++ b) (spelled t (Int x)) bytes e in
-    subst (IsSpelling (param_value t.column_type (is_unsigned_type t)) (cell_read t (Given (Int x)))) m.2 (followed t (is_unsigned_type t) (read_under t (Int x)) m.0 (under-again t (Int x) m.0 fits m.1))
-cell-again t (Given (UInt x)) bytes fits e =
-    let m = mapped (λ (b : List ℕ). indicator_bytes BULK_INDICATOR_NONE ++ b) (spelled t (UInt x)) bytes e in
-    subst (IsSpelling (param_value t.column_type (is_unsigned_type t)) (cell_read t (Given (UInt x)))) m.2 (followed t (is_unsigned_type t) (read_under t (UInt x)) m.0 (under-again t (UInt x) m.0 fits m.1))
-cell-again t (Given (Float x)) bytes fits e =
-    let m = mapped (λ (b : List ℕ). indicator_bytes BULK_INDICATOR_NONE ++ b) (spelled t (Float x)) bytes e in
-    subst (IsSpelling (param_value t.column_type (is_unsigned_type t)) (cell_read t (Given (Float x)))) m.2 (followed t (is_unsigned_type t) (read_under t (Float x)) m.0 (under-again t (Float x) m.0 fits m.1))
-cell-again t (Given (Double x)) bytes fits e =
-    let m = mapped (λ (b : List ℕ). indicator_bytes BULK_INDICATOR_NONE ++ b) (spelled t (Double x)) bytes e in
-    subst (IsSpelling (param_value t.column_type (is_unsigned_type t)) (cell_read t (Given (Double x)))) m.2 (followed t (is_unsigned_type t) (read_under t (Double x)) m.0 (under-again t (Double x) m.0 fits m.1))
-cell-again t (Given (Date x)) bytes fits e =
-    let m = mapped (λ (b : List ℕ). indicator_bytes BULK_INDICATOR_NONE ++ b) (spelled t (Date x)) bytes e in
-    subst (IsSpelling (param_value t.column_type (is_unsigned_type t)) (cell_read t (Given (Date x)))) m.2 (followed t (is_unsigned_type t) (read_under t (Date x)) m.0 (under-again t (Date x) m.0 fits m.1))
-cell-again t (Given (Time x)) bytes fits e =
-    let m = mapped (λ (b : List ℕ). indicator_bytes BULK_INDICATOR_NONE ++ b) (spelled t (Time x)) bytes e in
-    subst (IsSpelling (param_value t.column_type (is_unsigned_type t)) (cell_read t (Given (Time x)))) m.2 (followed t (is_unsigned_type t) (read_under t (Time x)) m.0 (under-again t (Time x) m.0 fits m.1))
+cell-again t (Given (Bytes x)) bytes fits e = given-again t (Bytes x) bytes (λ b. under-again t (Bytes x) b fits) e
+cell-again t (Given (Int x)) bytes fits e = given-again t (Int x) bytes (λ b. under-again t (Int x) b fits) e
+cell-again t (Given (UInt x)) bytes fits e = given-again t (UInt x) bytes (λ b. under-again t (UInt x) b fits) e
+cell-again t (Given (Float x)) bytes fits e = given-again t (Float x) bytes (λ b. under-again t (Float x) b fits) e
+cell-again t (Given (Double x)) bytes fits e = given-again t (Double x) bytes (λ b. under-again t (Double x) b fits) e
+cell-again t (Given (Date x)) bytes fits e = given-again t (Date x) bytes (λ b. under-again t (Date x) b fits) e
+cell-again t (Given (Time x)) bytes fits e = given-again t (Time x) bytes (λ b. under-again t (Time x) b fits) e
 cell-again t Default bytes fits e = subst (IsSpelling (param_value t.column_type (is_unsigned_type t)) (cell_read t Default)) (same_Some (indicator_bytes BULK_INDICATOR_DEFAULT) bytes e) (alone t (is_unsigned_type t) BULK_INDICATOR_DEFAULT refl)
 cell-again t Ignore bytes fits e = subst (IsSpelling (param_value t.column_type (is_unsigned_type t)) (cell_read t Ignore)) (same_Some (indicator_bytes BULK_INDICATOR_IGNORE) bytes e) (alone t (is_unsigned_type t) BULK_INDICATOR_IGNORE refl)
 

@@ -1,6 +1,7 @@
 -- A refusal by a reader that takes no memory is that of the form.
-use Rattle.std.proofs.Common.{◌≡◌, None, ap, false}
+use Rattle.std.proofs.Common.{◌≡◌, Option, None, ap, Err, false, refl, ◌∙◌}
 use Rattle.mysql_wire.specs.Reading.{Reading, Faults}
+use Rattle.mysql_wire.specs.declared.fault.FaultKind.{FaultKind}
 use Rattle.mysql_wire.specs.declared.fault.FaultOf.{FaultOf}
 use Rattle.mysql_wire.specs.declared.fault.FaultOf.TheVariants as fault
 use Rattle.mysql_replies.specs.declared.ok_packet.OkPacketDeserializer.{OkPacketDeserializer}
@@ -11,34 +12,26 @@ use Rattle.mysql_auth.specs.declared.ssl_request.SslRequest.{SslRequest}
 use Rattle.mysql_conversation.specs.SessionSteps.{greeting_in, login_in}
 use Rattle.mysql_conversation.specs.Machine.{status_in, count_in, statement_in}
 
+-- what is found in a reading is nothing where that is refused
+pub nothing_found : {A B : Type 0} (found : Reading A → Option B) → ((kind : FaultKind) → found (Err kind) ≡ None) → (e : FaultOf) (read : Reading A) → Faults false e read → found read ≡ None
+nothing_found found nothing fault.UnexpectedEof read h = ap found h ∙ nothing _
+nothing_found found nothing (fault.InvalidData text) read h = ap found h ∙ nothing _
+nothing_found found nothing (fault.InvalidInput text) read h = ap found h ∙ nothing _
+nothing_found found nothing fault.Memory read h = absurd cc
+
 pub status-fault : {T : Type 0} (e : FaultOf) (read : Reading (OkPacketDeserializer T)) → Faults false e read → status_in read ≡ None
-status-fault fault.UnexpectedEof read h = ap status_in h
-status-fault (fault.InvalidData text) read h = ap status_in h
-status-fault (fault.InvalidInput text) read h = ap status_in h
-status-fault fault.Memory read h = absurd cc
+status-fault = nothing_found status_in (λ kind. refl)
 
 pub count-fault : (e : FaultOf) (read : Reading ColumnCount) → Faults false e read → count_in read ≡ None
-count-fault fault.UnexpectedEof read h = ap count_in h
-count-fault (fault.InvalidData text) read h = ap count_in h
-count-fault (fault.InvalidInput text) read h = ap count_in h
-count-fault fault.Memory read h = absurd cc
+count-fault = nothing_found count_in (λ kind. refl)
 
 pub statement-fault : (e : FaultOf) (read : Reading StmtPacketWithMetadata) → Faults false e read → statement_in read ≡ None
-statement-fault fault.UnexpectedEof read h = ap statement_in h
-statement-fault (fault.InvalidData text) read h = ap statement_in h
-statement-fault (fault.InvalidInput text) read h = ap statement_in h
-statement-fault fault.Memory read h = absurd cc
+statement-fault = nothing_found statement_in (λ kind. refl)
 
 pub greeting-fault : (e : FaultOf) (read : Reading HandshakePacket) → Faults false e read → greeting_in read ≡ None
-greeting-fault fault.UnexpectedEof read h = ap greeting_in h
-greeting-fault (fault.InvalidData text) read h = ap greeting_in h
-greeting-fault (fault.InvalidInput text) read h = ap greeting_in h
-greeting-fault fault.Memory read h = absurd cc
+greeting-fault = nothing_found greeting_in (λ kind. refl)
 
 pub login-fault : (e : FaultOf) (read : Reading SslRequest) → Faults false e read → login_in read ≡ None
-login-fault fault.UnexpectedEof read h = ap login_in h
-login-fault (fault.InvalidData text) read h = ap login_in h
-login-fault (fault.InvalidInput text) read h = ap login_in h
-login-fault fault.Memory read h = absurd cc
+login-fault = nothing_found login_in (λ kind. refl)
 
 pub ruleset faults = (status-fault, count-fault, statement-fault, greeting-fault, login-fault)

@@ -39,34 +39,19 @@ optional hold value = unwrap_or (option_map hold value) Absent
 
 -- a float, whose digits no clause knows
 abbrev pub value_is_float : Content → Bool
-value_is_float value.NULL = false
-value_is_float (value.Bytes bytes) = false
-value_is_float (value.Int n) = false
-value_is_float (value.UInt n) = false
 value_is_float (value.Float bits) = true
 value_is_float (value.Double bits) = true
-value_is_float (value.Date date) = false
-value_is_float (value.Time time) = false
+value_is_float _ = false
 
 -- a date or a time
 abbrev pub is_temporal : Content → Bool
-is_temporal value.NULL = false
-is_temporal (value.Bytes bytes) = false
-is_temporal (value.Int n) = false
-is_temporal (value.UInt n) = false
-is_temporal (value.Float bits) = false
-is_temporal (value.Double bits) = false
 is_temporal (value.Date date) = true
 is_temporal (value.Time time) = true
+is_temporal _ = false
 
 abbrev pub is_float : Held → Bool
-is_float (Number n) = false
-is_float (Bytes bytes) = false
-is_float (Digits bytes) = false
-is_float (Word word) = false
-is_float (Flag flag) = false
 is_float (Value value) = value_is_float value
-is_float Absent = false
+is_float _ = false
 
 abbrev pub have_float : List Said → Bool
 have_float [] = false

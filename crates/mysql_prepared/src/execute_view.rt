@@ -23,8 +23,8 @@ pub struct BoundParam {
     pub is_sent_ahead: bool,
 }
 
-/// Reads past so many types.
-fn skip_types<'s>(count: usize, buf: &mut ParseBuf<'_>) -> Result<(), FaultOf<'s>>
+/// Reads past the types of so many parameters, two bytes each. Fewer bytes are `UnexpectedEof`, and a type that is none is `InvalidData`.
+pub fn skip_param_types<'s>(count: usize, buf: &mut ParseBuf<'_>) -> Result<(), FaultOf<'s>>
     ensures value { Answers false result buf.new ((passed_types count).reads buf.old) }
 {
     for _ in 0..count {
@@ -137,7 +137,7 @@ impl<'a, 'c> ExecuteParamsView<'a, 'c> {
         let sends_types = new_params_bound.0 != 0;
         let types = rest.rest();
         if sends_types {
-            skip_types(params.len(), &mut rest)?;
+            skip_param_types(params.len(), &mut rest)?;
         }
         let none = nulls.as_bytes().iter().all(|byte| *byte == 0);
         Ok(ExecuteParamsView {

@@ -1,8 +1,9 @@
 -- How much a table keeps, and which packets have it take memory.
-use Rattle.std.specs.Prelude.{ℕ, zero, suc, ◌+◌, ◌≤◌, Bool, true, false, ◌&&◌, List, length, Option, Some, None, is_some}
+use Rattle.std.specs.Prelude.{◌≡◌, ℕ, zero, suc, ◌+◌, ◌≤◌, Bool, true, false, ◌&&◌, List, length, Option, Some, None, is_some, Result, OnOk, OnErr, IsTrue}
 use Rattle.mysql_conversation.specs.Agreements.{Agreed}
 use Rattle.mysql_conversation.specs.declared.kind.Kind.{Kind}
 use Rattle.mysql_conversation.specs.declared.kind.Kind.TheVariants as kind
+use Rattle.mysql_statements.specs.After.{after}
 use Rattle.mysql_statements.specs.Packets.{prepared_at, column_at}
 use Rattle.mysql_statements.specs.Table.{Table, held, without, has_place}
 use Rattle.mysql_statements.specs.declared.task.Task.{Task}
@@ -37,3 +38,8 @@ abbrev pub takes_memory : Agreed → Kind → List ℕ → Table → Bool
 takes_memory a (kind.PrepareOk columns params follow) p t = keeps_statement (prepared_at p) (params + columns) t
 takes_memory a kind.Column p t = is_some (column_at a p) && keeps_column t.task
 takes_memory a _ p t = false
+
+-- the table now is the one after the packet, where there was memory or not, which is asked for alone where something is to be kept
+abbrev pub IsTaken : {A E : Type 0} → Agreed → Kind → List ℕ → Table → Result A E → Table → Type 0
+IsTaken a k p t result now =
+    (OnOk result (now ≡ after true a k p t)) × (OnErr result (now ≡ after false a k p t)) × (OnErr result (IsTrue (takes_memory a k p t)))

@@ -2,11 +2,11 @@
 
 ghost use Rattle.std.specs.Prelude.{◌≡◌, length, false, true, IfOk, IfErr, Ok, Err, List, ℕ};
 ghost use Rattle.mysql_wire.specs.Reading.{Answers};
-ghost use Rattle.mysql_prepared.specs.ExecuteRead.{HasTypes, bound_left, passed_types};
+ghost use Rattle.mysql_prepared.specs.ExecuteRead.{HasTypes, bound_left};
 ghost use Rattle.mysql_statements.specs.Binding as spec;
 
 use crate::layout::Layout;
-use mysql_prepared::{BoundParam, ComStmtExecuteHead, NullBitmap};
+use mysql_prepared::{BoundParam, ComStmtExecuteHead, NullBitmap, skip_param_types};
 use mysql_replies::SessionCapabilities;
 use mysql_values::{ClientSide, ParamType};
 use mysql_wire::{CapabilityFlags, FaultOf, Flags, LeU16, LeU32, MyDeserialize, ParseBuf, RawInt};
@@ -58,16 +58,6 @@ pub(crate) fn read_front<'s>(
     }
 }
 
-/// Reads past so many types.
-fn skip_types<'s>(count: usize, buf: &mut ParseBuf<'_>) -> Result<(), FaultOf<'s>>
-    ensures value { Answers false result buf.new ((passed_types count).reads buf.old) }
-{
-    for _ in 0..count {
-        let _param_type: ParamType = buf.parse(())?;
-    }
-    Ok(())
-}
-
 /// Gives the parameters the types in these bytes, of which there are as many.
 fn set_types(params: &mut [BoundParam], types: ParseBuf<'_>)
     requires { HasTypes (length params.old) types }
@@ -92,7 +82,7 @@ pub(crate) fn bind(params: &mut [BoundParam], sends: bool, types: ParseBuf<'_>) 
         return false;
     }
     let mut rest = types.rest();
-    match skip_types(params.len(), &mut rest) {
+    match skip_param_types(params.len(), &mut rest) {
         Ok(()) => {
             set_types(params, types);
             true

@@ -63,9 +63,7 @@ impl Statements {
         kind: Kind,
         payload: &[u8],
     ) -> Result<(), AllocError>
-        ensures taken { OnOk result (self.new ≡ spec.after true agreed kind payload.now self.old) }
-        ensures memory { OnErr result (self.new ≡ spec.after false agreed kind payload.now self.old) }
-        ensures asked { OnErr result (IsTrue (bounds.takes_memory agreed kind payload.now self.old)) }
+        ensures { bounds.IsTaken agreed kind payload.now self.old result self.new }
     {
         match kind {
             Kind::Command(code) => {

@@ -5,5 +5,5 @@ use Rattle.mysql_statements.proofs.binding.bind.Goals as goal
 
 pub set_types-requires : goal.set_types-requires
 set_types-requires c =
-    types_there (length c.args.params.now) c.args.types c.skip_types.new.buf
-    (subst (λ (l : List ℕ). (passed_types (length c.args.params.now)).reads l ≡ Ok (tt, c.skip_types.new.buf)) c.rest-rest.ensures c.in-Ok.ensures.value)
+    types_there (length c.args.params.now) c.args.types c.skip_param_types.new.buf
+    (subst (λ (l : List ℕ). (passed_types (length c.args.params.now)).reads l ≡ Ok (tt, c.skip_param_types.new.buf)) c.rest-rest.ensures c.in-Ok.ensures.value)

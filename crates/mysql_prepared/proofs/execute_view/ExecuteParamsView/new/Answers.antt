@@ -3,7 +3,7 @@ use Rattle.mysql_wire.specs.Form.{either, give}
 use Rattle.mysql_prepared.specs.ExecuteRead.{passed_types, params_left, bound_left}
 use Rattle.mysql_prepared.proofs.NullBits.{has-bits}
 use Rattle.mysql_prepared.proofs.ParamViews.{begins-none, begins-some, is-none, is-some, passed-else, passed-then, read-all, types-there}
-use Rattle.mysql_prepared.proofs.execute_view.ExecuteParamsView.new.Goals.{then-sends_types+in_ok-skip_types, else-sends_types}
+use Rattle.mysql_prepared.proofs.execute_view.ExecuteParamsView.new.Goals.{then-sends_types+in_ok-skip_param_types, else-sends_types}
 use Rattle.mysql_prepared.proofs.execute_view.ExecuteParamsView.new.Goals as goal
 
 pub returns-then-is_empty-clause-values : goal.returns-then-is_empty-clause-values
@@ -25,7 +25,7 @@ invariant_of-result-2 c =
     let tb = c.rest-types.result in
     let after = c.if-sends_types.rest in
     let passed : (either (not (n.0 == 0)) (passed_types (length ps)) (give tt)).reads tb ≡ Ok (tt, after) = elim c.if-sends_types.branch [
-      | then-sends_types+in_ok-skip_types w ↦ rw w.rest-is (passed-then n.0 (length ps) tb w.skip_types.new.buf _ w.if-sends_types.true (rw c.rest-types.ensures w.in_ok-skip_types.ensures.value))
+      | then-sends_types+in_ok-skip_param_types w ↦ rw w.rest-is (passed-then n.0 (length ps) tb w.skip_param_types.new.buf _ w.if-sends_types.true (rw c.rest-types.ensures w.in_ok-skip_param_types.ensures.value))
       | else-sends_types w ↦ rw (w.rest-is, c.rest-types.ensures) (passed-else n.0 (length ps) c.parse.new.self w.if-sends_types.false)
     ] in (
       record {
@@ -44,7 +44,7 @@ returns-clause-values c =
     let after = c.if-sends_types.rest in
     let some : length ps ≢ 0 = is-some c.is_empty.result _ c.is_empty.ensures c.if-is_empty.false in
     let passed : (either (not (n.0 == 0)) (passed_types (length ps)) (give tt)).reads tb ≡ Ok (tt, after) = elim c.if-sends_types.branch [
-      | then-sends_types+in_ok-skip_types w ↦ rw w.rest-is (passed-then n.0 (length ps) tb w.skip_types.new.buf _ w.if-sends_types.true (rw c.rest-types.ensures w.in_ok-skip_types.ensures.value))
+      | then-sends_types+in_ok-skip_param_types w ↦ rw w.rest-is (passed-then n.0 (length ps) tb w.skip_param_types.new.buf _ w.if-sends_types.true (rw c.rest-types.ensures w.in_ok-skip_param_types.ensures.value))
       | else-sends_types w ↦ rw (w.rest-is, c.rest-types.ensures) (passed-else n.0 (length ps) c.parse.new.self w.if-sends_types.false)
     ] in
     begins-some ps c.args.buf c.in_ok-nulls.nulls c.deserialize.new.buf n tb after some c.in_ok-nulls.ensures.value (rw c.rest-types.ensures c.in_ok-new_params_bound.ensures.value) passed
@@ -58,7 +58,7 @@ returns-clause-read c =
     let s = not (n.0 == 0) in
     let some : length ps ≢ 0 = is-some c.is_empty.result _ c.is_empty.ensures c.if-is_empty.false in
     let passed : (either (not (n.0 == 0)) (passed_types (length ps)) (give tt)).reads tb ≡ Ok (tt, after) = elim c.if-sends_types.branch [
-      | then-sends_types+in_ok-skip_types w ↦ rw w.rest-is (passed-then n.0 (length ps) tb w.skip_types.new.buf _ w.if-sends_types.true (rw c.rest-types.ensures w.in_ok-skip_types.ensures.value))
+      | then-sends_types+in_ok-skip_param_types w ↦ rw w.rest-is (passed-then n.0 (length ps) tb w.skip_param_types.new.buf _ w.if-sends_types.true (rw c.rest-types.ensures w.in_ok-skip_param_types.ensures.value))
       | else-sends_types w ↦ rw (w.rest-is, c.rest-types.ensures) (passed-else n.0 (length ps) c.parse.new.self w.if-sends_types.false)
     ] in
     read-all ps c.args.buf (params_left s (length ps) c.in_ok-nulls.nulls.bytes 0 (bound_left s ps tb) after)

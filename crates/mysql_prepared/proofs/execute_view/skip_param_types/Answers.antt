@@ -1,7 +1,7 @@
 use Rattle.std.proofs.Common.{◌-◌, ◌≡◌, arith}
 use Rattle.std.proofs.lemmas.Result.{err_from_is_err_and}
 use Rattle.mysql_prepared.proofs.ParamViews.{skip-next, skip-fails, skip-done}
-use Rattle.mysql_prepared.proofs.execute_view.skip_types.Goals as goal
+use Rattle.mysql_prepared.proofs.execute_view.skip_param_types.Goals as goal
 
 pub returns-in_err-_param_type : goal.returns-in_err-_param_type
 returns-in_err-_param_type c =
