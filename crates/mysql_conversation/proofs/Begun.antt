@@ -1,11 +1,13 @@
 -- Each list that the machine takes is the beginning of a conversation, and each beginning is taken.
 use Rattle.std.specs.Prelude.{◌&&◌, ◌==◌, not}
 use Rattle.std.proofs.Common.{◌≡◌, ℕ, zero, suc, List, [], ◌∷◌, ◌++◌, ◌⊎◌, inl, inr, Option, Some, None, Result, Ok, Err, IfOk, OnErr, refl, sym, ap, subst, ◌∙◌, Bool, true, false, cond}
+use Rattle.std.proofs.lemmas.Bool.{and_parts}
 use Rattle.mysql_conversation.specs.Agreements.{Agreed, reports_progress}
 use Rattle.mysql_conversation.specs.Payloads.{first_is, IsError, is_report, begins_with_ff}
 use Rattle.mysql_conversation.specs.Conversation as c
 use Rattle.mysql_conversation.specs.Conversation.{Packet, IsConversation, IsBeginning, asks, inside}
-use Rattle.mysql_conversation.specs.Machine.{entrance, step, client_step, command_step, rests, listens, is_due, error_kind, Run, take_step, Takes}
+use Rattle.mysql_conversation.specs.Machine.{entrance, step, client_step, command_step, rests, listens, is_due, error_kind, Run, take_step, Takes, TakesOne}
+use Rattle.mysql_conversation.proofs.Runs.{join, part, once}
 use Rattle.mysql_conversation.specs.Taken.{packet}
 use Rattle.mysql_conversation.proofs.Classes.{chosen, some_is}
 use Rattle.mysql_conversation.proofs.States.{which_rests, due_of, due_runs, entrance_listens, step_listens}
@@ -136,19 +138,14 @@ each_ends a s = elim (which_rests s) [
 
 -- ---- reports among the packets
 
-both : (x y : Bool) → (x && y) ≡ true → (x ≡ true) × (y ≡ true)
-both true true h = (refl, refl)
-both true false h = absurd cc
-both false y h = absurd cc
-
 report_is_error : (n : ℕ) (p : List ℕ) → begins_with_ff (suc n) p ≡ true → first_is 0xff p ≡ true
 report_is_error n [] h = absurd cc
-report_is_error n (b ∷ p) h = (both (b == 0xff) (begins_with_ff n p) h).0
+report_is_error n (b ∷ p) h = (and_parts (b == 0xff) (begins_with_ff n p) h).0
 
 report_or_not : (a : Agreed) (p : List ℕ) (b : Bool) → is_report a p ≡ b → first_is 0xff p ≡ false → b ≡ false
 unfolding is_report
 report_or_not a p false e h = refl
-report_or_not a p true e h = let f = report_is_error 2 p (both (reports_progress a) (begins_with_ff 3 p) e).1 in absurd cc
+report_or_not a p true e h = let f = report_is_error 2 p (and_parts (reports_progress a) (begins_with_ff 3 p) e).1 in absurd cc
 
 pub no_report : (a : Agreed) (p : List ℕ) → first_is 0xff p ≡ false → is_report a p ≡ false
 no_report a p h = report_or_not a p (is_report a p) refl h
@@ -200,7 +197,7 @@ taken_as : (a : Agreed) (s : State) (side : Side) (p : List ℕ) (k : Kind) (m :
     → ((side ≡ Server) × (is_report a p ≡ true) × (is_due s ≡ true) × (kind.ProgressReport ≡ k) × (s ≡ m)) ⊎ (step a s side p ≡ Some (k, m))
 taken_as a s Client p k m h = inr h
 taken_as a s Server p k m h = elim (chosen (is_report a p && is_due s) _ _ _ h) [
-  | inl r ↦ (let e = some_is r.1 in let b = both (is_report a p) (is_due s) r.0 in inl (refl, b.0, b.1, ap (λ (o : Kind × State). o.0) e, ap (λ (o : Kind × State). o.1) e))
+  | inl r ↦ (let e = some_is r.1 in let b = and_parts (is_report a p) (is_due s) r.0 in inl (refl, b.0, b.1, ap (λ (o : Kind × State). o.0) e, ap (λ (o : Kind × State). o.1) e))
   | inr r ↦ inr r.1
 ]
 
@@ -231,39 +228,28 @@ takes_is_conversation a o items r =
     let h = takes_reported a (entrance o) items r in
     (h.0, run_is_conversation a o h.0 h.2, subst (λ b. c.Reported a b items h.0) (entrance_listens o) h.1)
 
--- ---- runs of a list and then another
-
-takes_join : (a : Agreed) (s : State) (xs : List Packet) (m : State) (ys : List Packet) (t : State) → Takes a s xs m → Takes a m ys t → Takes a s (xs ++ ys) t
-takes_join a s [] m ys t x y = subst (λ s. Takes a s ys t) (sym x) y
-takes_join a s (x ∷ xs) m ys t u y = (u.0, u.1, takes_join a u.0 xs m ys t u.2 y)
-
-pub takes_part : (a : Agreed) (s : State) (xs ys : List Packet) (t : State) → Takes a s (xs ++ ys) t → (m : State) × Takes a s xs m × Takes a m ys t
-takes_part a s [] ys t r = (s, refl, r)
-takes_part a s (x ∷ xs) ys t r = let h = takes_part a r.0 xs ys t r.2 in (h.0, (r.0, r.1, h.1), h.2)
+-- ---- the beginning of a conversation
 
 pub takes_is_beginning : (a : Agreed) (o : Opening) (items : List Packet) (t : State) → Takes a (entrance o) items t → IsBeginning a o items
 takes_is_beginning a o items t r =
     let h = each_takes a t in
-    (h.0, takes_is_conversation a o (items ++ h.0) (takes_join a (entrance o) items t h.0 state.Rest r h.1))
+    (h.0, takes_is_conversation a o (items ++ h.0) (join (TakesOne a) (entrance o) items t h.0 state.Rest r h.1))
 
 pub beginning_takes : (a : Agreed) (o : Opening) (items : List Packet) → IsBeginning a o items → (t : State) × Takes a (entrance o) items t
 beginning_takes a o items h =
-    let r = takes_part a (entrance o) items h.0 state.Rest (conversation_takes a o (items ++ h.0) h.1) in
+    let r = part (TakesOne a) (entrance o) items h.0 state.Rest (conversation_takes a o (items ++ h.0) h.1) in
     (r.0, r.1)
 
--- the machine has one state after a list
-pub takes_once : (a : Agreed) (s : State) (xs : List Packet) (t u : State) → Takes a s xs t → Takes a s xs u → t ≡ u
-takes_once a s [] t u x y = sym x ∙ y
-takes_once a s (p ∷ xs) t u x y =
-    let same : x.0 ≡ y.0 = ap (λ (o : Kind × State). o.1) (some_is (sym x.1 ∙ y.1)) in
-    takes_once a y.0 xs t u (subst (λ m. Takes a m xs t) same x.2) y.2
+-- the machine has one state after a packet
+pub one_state : (a : Agreed) (s : State) (x : Packet) (m n : State) → TakesOne a s x m → TakesOne a s x n → m ≡ n
+one_state a s x m n e f = ap (λ (o : Kind × State). o.1) (some_is (sym e ∙ f))
 
 -- where a packet is refused, no kind makes the list with it a beginning
 pub refused : (a : Agreed) (o : Opening) (items : List Packet) (s : State) (x : Packet) → Takes a (entrance o) items s → take_step a s x.from x.payload ≡ None → IsBeginning a o (items ++ x ∷ []) → ⊥
 refused a o items s x r e h =
     let b = beginning_takes a o (items ++ x ∷ []) h in
-    let p = takes_part a (entrance o) items (x ∷ []) b.0 b.1 in
-    let same : p.0 ≡ s = takes_once a (entrance o) items p.0 s p.1 r in
+    let p = part (TakesOne a) (entrance o) items (x ∷ []) b.0 b.1 in
+    let same : p.0 ≡ s = once (TakesOne a) (one_state a) (entrance o) items p.0 s p.1 r in
     let q : take_step a p.0 x.from x.payload ≡ Some (x.kind, p.2.0) = p.2.1 in
     let none : take_step a p.0 x.from x.payload ≡ None = subst (λ s. take_step a s x.from x.payload ≡ None) (sym same) e in
     absurd (cc (q, none))
@@ -274,10 +260,10 @@ pub at_rest_is : (a : Agreed) (o : Opening) (items : List Packet) (s : State) �
 at_rest_is a o items s r e = takes_is_conversation a o items (subst (λ t. Takes a (entrance o) items t) e r)
 
 pub conversation_at_rest : (a : Agreed) (o : Opening) (items : List Packet) (s : State) → Takes a (entrance o) items s → IsConversation a o items → s ≡ state.Rest
-conversation_at_rest a o items s r h = takes_once a (entrance o) items s state.Rest r (conversation_takes a o items h)
+conversation_at_rest a o items s r h = once (TakesOne a) (one_state a) (entrance o) items s state.Rest r (conversation_takes a o items h)
 
 pub one_more : (a : Agreed) (o : Opening) (items : List Packet) (s : State) (side : Side) (p : List ℕ) (k : Kind) (m : State) → Takes a (entrance o) items s → take_step a s side p ≡ Some (k, m) → Takes a (entrance o) (items ++ packet side p k ∷ []) m
-one_more a o items s side p k m r e = takes_join a (entrance o) items s (packet side p k ∷ []) m r (m, e, refl)
+one_more a o items s side p k m r e = join (TakesOne a) (entrance o) items s (packet side p k ∷ []) m r (m, e, refl)
 
 -- a packet is of one kind, after what came before it
 pub one_kind : (a : Agreed) (o : Opening) (items : List Packet) (side : Side) (p : List ℕ) (j k : Kind)
@@ -285,9 +271,9 @@ pub one_kind : (a : Agreed) (o : Opening) (items : List Packet) (side : Side) (p
 one_kind a o items side p j k g h =
     let b = beginning_takes a o (items ++ packet side p j ∷ []) g in
     let d = beginning_takes a o (items ++ packet side p k ∷ []) h in
-    let x = takes_part a (entrance o) items (packet side p j ∷ []) b.0 b.1 in
-    let y = takes_part a (entrance o) items (packet side p k ∷ []) d.0 d.1 in
-    let same : x.0 ≡ y.0 = takes_once a (entrance o) items x.0 y.0 x.1 y.1 in
+    let x = part (TakesOne a) (entrance o) items (packet side p j ∷ []) b.0 b.1 in
+    let y = part (TakesOne a) (entrance o) items (packet side p k ∷ []) d.0 d.1 in
+    let same : x.0 ≡ y.0 = once (TakesOne a) (one_state a) (entrance o) items x.0 y.0 x.1 y.1 in
     let u : take_step a y.0 side p ≡ Some (j, x.2.0) = subst (λ s. take_step a s side p ≡ Some (j, x.2.0)) same x.2.1 in
     ap (λ (o : Kind × State). o.0) (some_is (sym u ∙ y.2.1))
 

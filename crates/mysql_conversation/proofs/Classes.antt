@@ -1,7 +1,7 @@
 -- What a payload says of itself is what the machine takes it for.
 use Rattle.std.proofs.Common.{◌≡◌, ℕ, ◌<◌, List, [], ◌∷◌, ◌⊎◌, inl, inr, Option, Some, None, Ok, Err, refl, ap, subst, ◌∙◌, Bool, true, false, cond}
-use Rattle.std.proofs.lemmas.Bool.{eqb-true, eq-eqb}
-use Rattle.std.specs.Prelude.{◌==◌, ◌&&◌, nat_lt}
+use Rattle.std.proofs.lemmas.Bool.{eqb-true, eq-eqb, and_parts}
+use Rattle.std.specs.Prelude.{◌==◌, nat_lt}
 use Rattle.mysql_wire.specs.Flags.{StatusFlags}
 use Rattle.mysql_wire.specs.Form.{Form}
 use Rattle.mysql_wire.specs.Reading.{Reading}
@@ -139,13 +139,9 @@ reply_means a p r h = elim (chosen (begins_ok a p) _ _ _ h) [
 
 -- ---- lines
 
-both : (x y : Bool) → (x && y) ≡ true → x ≡ true
-both true y h = refl
-both false y h = absurd cc
-
 -- what begins as an OK packet begins with 00
 pub ok_is_zero : (a : Agreed) (p : List ℕ) → begins_ok a p ≡ true → first_is 0 p ≡ true
-ok_is_zero a p h = both (first_is 0 p) _ h
+ok_is_zero a p h = (and_parts (first_is 0 p) _ h).0
 
 pub zero_is_no_end : (deprecates : Bool) (p : List ℕ) → first_is 0 p ≡ true → looks_like_end deprecates p ≡ false
 zero_is_no_end deprecates p h = rw (first_unlike 0 0xfe p h refl) refl

@@ -1,22 +1,23 @@
 -- Which kinds go on with what was taken.
 use Rattle.std.proofs.Common.{◌≡◌, ◌↔◌, ◌+◌, ℕ, List, [], ◌∷◌, ◌++◌, inl, inr, Option, Some, None, refl, sym, ap, subst, ◌∙◌, Bool, true, false, cond}
 use Rattle.std.specs.Prelude.{◌&&◌, ◌||◌, ◌==◌, not}
-use Rattle.std.proofs.lemmas.Bool.{eqb-true}
+use Rattle.std.proofs.lemmas.Bool.{eqb-true, and_parts, or_cases, or_right, not-true}
 use Rattle.mysql_conversation.specs.Agreements.{Agreed}
 use Rattle.mysql_conversation.specs.Conversation.{Packet, IsBeginning, asks}
-use Rattle.mysql_conversation.specs.Machine.{entrance, Takes, take_step, rests, listens, is_due}
+use Rattle.mysql_conversation.specs.Machine.{entrance, Takes, TakesOne, take_step, rests, listens, is_due}
+use Rattle.mysql_conversation.proofs.Runs.{part, once}
 use Rattle.mysql_conversation.specs.Taken.{packet}
 use Rattle.mysql_conversation.specs.KindName.{name_of, index, is_in}
 use Rattle.mysql_conversation.specs.Expected.{expects, asking_names, pipe_expects}
 use Rattle.mysql_conversation.specs.Piped.{place}
 use Rattle.mysql_conversation.specs.Pipelined.{Numbered, IsPipelinedBeginning}
-use Rattle.mysql_conversation.specs.Standing.{Standing, standing, start, PipeRun, pipe_step, command_of, waits, push, settle, early, aside, in_turn, served}
-use Rattle.mysql_conversation.proofs.Begun.{beginning_takes, takes_is_beginning, takes_part, takes_once, one_more}
+use Rattle.mysql_conversation.specs.Standing.{Standing, standing, start, Steps, PipeRun, pipe_step, command_of, waits, push, settle, early, aside, in_turn, served}
+use Rattle.mysql_conversation.proofs.Begun.{beginning_takes, takes_is_beginning, one_state, one_more}
 use Rattle.mysql_conversation.proofs.Classes.{some_is}
-use Rattle.mysql_conversation.proofs.Named.{same, and_both, or_split, or_right, what_comes_is_named}
+use Rattle.mysql_conversation.proofs.Named.{same, what_comes_is_named}
 use Rattle.mysql_conversation.proofs.Witnesses.{what_is_named_comes}
 use Rattle.mysql_conversation.proofs.States.{take_listens}
-use Rattle.mysql_conversation.proofs.Stood.{beginning_runs, run_is_beginning, pipe_part, pipe_once, pipe_one_more}
+use Rattle.mysql_conversation.proofs.Stood.{beginning_runs, run_is_beginning, one_standing, pipe_one_more}
 use Rattle.mysql_conversation.proofs.Turns.{no_aside}
 use Rattle.mysql_conversation.specs.declared.kind.Format.TheVariants.{Text, Binary}
 use Rattle.mysql_conversation.specs.declared.kind.Kind.{Kind}
@@ -36,8 +37,8 @@ came : (a : Agreed) (o : Opening) (items : List Packet) (s : State) (side : Side
     → (m : State) × (take_step a s side p ≡ Some (k, m))
 came a o items s side p k r h =
     let b = beginning_takes a o (items ++ packet side p k ∷ []) h in
-    let q = takes_part a (entrance o) items (packet side p k ∷ []) b.0 b.1 in
-    (q.2.0, subst (λ s. take_step a s side p ≡ Some (k, q.2.0)) (takes_once a (entrance o) items q.0 s q.1 r) q.2.1)
+    let q = part (TakesOne a) (entrance o) items (packet side p k ∷ []) b.0 b.1 in
+    (q.2.0, subst (λ s. take_step a s side p ≡ Some (k, q.2.0)) (once (TakesOne a) (one_state a) (entrance o) items q.0 s q.1 r) q.2.1)
 
 pub goes_on : (a : Agreed) (o : Opening) (items : List Packet) (s : State) (side : Side) (n : KindName) → Takes a (entrance o) items s
     → expects a s side n ≡ true ↔ ((p : List ℕ) × (k : Kind) × (name_of k ≡ n) × IsBeginning a o (items ++ packet side p k ∷ []))
@@ -56,8 +57,8 @@ pipe_came : (a : Agreed) (o : Opening) (items : List Numbered) (w : Standing) (s
     → (m : Standing) × (pipe_step a w side p ≡ Some (k, i, m))
 pipe_came a o items w side p k i r h =
     let b = beginning_runs a o (items ++ place side p k i ∷ []) h in
-    let q = pipe_part a (start o) items (place side p k i ∷ []) b.0 b.1 in
-    (q.2.0, subst (λ w. pipe_step a w side p ≡ Some (k, i, q.2.0)) (pipe_once a (start o) items q.0 w q.1 r) q.2.1)
+    let q = part (Steps a) (start o) items (place side p k i ∷ []) b.0 b.1 in
+    (q.2.0, subst (λ w. pipe_step a w side p ≡ Some (k, i, q.2.0)) (once (Steps a) (one_standing a) (start o) items q.0 w q.1 r) q.2.1)
 
 -- whether the client may answer hangs on the name alone
 asks_by_name : (k : Kind) → is_in (name_of k) asking_names ≡ asks k
@@ -145,10 +146,6 @@ pipe_named a w Server p k i m h = server_named a w p k i m (take_step a w.state 
 abbrev Stepping : Agreed → Standing → Side → KindName → Type 0
 Stepping a w side n = (p : List ℕ) × (k : Kind) × (i : ℕ) × (m : Standing) × (name_of k ≡ n) × (pipe_step a w side p ≡ Some (k, i, m))
 
-not_true : (b : Bool) → not b ≡ true → b ≡ false
-not_true true h = absurd cc
-not_true false h = refl
-
 in_turn_taken : (w : Standing) (x : Kind × State) (b : Bool) → rests w.state ≡ b → (i : ℕ) × (m : Standing) × (in_turn w (Some x) ≡ Some (x.0, i, m))
 in_turn_taken w x true e = (w.last + 1, standing x.1 (w.last + 1) (w.last + 1) w.waiting, rw e refl)
 in_turn_taken w x false e = (w.number, standing x.1 w.number w.last w.waiting, rw e refl)
@@ -171,10 +168,10 @@ early_comes a w n d e =
 
 client_comes : (a : Agreed) (w : Standing) (n : KindName) (b : Bool) → is_due w.state ≡ b
     → cond b ((expects a w.state Client n && not (waits w.waiting)) || index n == index name.Command) (expects a w.state Client n) ≡ true → Stepping a w Client n
-client_comes a w n true d h = elim (or_split (expects a w.state Client n && not (waits w.waiting)) _ h) [
-  | inl g ↦ (let q = and_both (expects a w.state Client n) _ g in
+client_comes a w n true d h = elim (or_cases (expects a w.state Client n && not (waits w.waiting)) _ h) [
+  | inl g ↦ (let q = and_parts (expects a w.state Client n) _ g in
       let c = what_is_named_comes a w.state Client n q.0 in
-      (c.0, c.1, w.number, standing c.2 w.number w.last w.waiting, c.3, due_step a w c.0 d ∙ ap (λ o. aside w o (command_of c.0)) c.4 ∙ aside_taken w (c.1, c.2) (command_of c.0) (not_true (waits w.waiting) q.1)))
+      (c.0, c.1, w.number, standing c.2 w.number w.last w.waiting, c.3, due_step a w c.0 d ∙ ap (λ o. aside w o (command_of c.0)) c.4 ∙ aside_taken w (c.1, c.2) (command_of c.0) (not-true (waits w.waiting) q.1)))
   | inr g ↦ early_comes a w n d (same n name.Command (eqb-true (index n) (index name.Command) g))
 ]
 client_comes a w n false d h =
@@ -184,10 +181,10 @@ client_comes a w n false d h =
 
 server_comes : (a : Agreed) (w : Standing) (n : KindName) → (expects a w.state Server n && not (waits w.waiting && is_in n asking_names)) ≡ true → Stepping a w Server n
 server_comes a w n h =
-    let q = and_both (expects a w.state Server n) _ h in
+    let q = and_parts (expects a w.state Server n) _ h in
     let c = what_is_named_comes a w.state Server n q.0 in
     let asked : listens c.2 ≡ is_in n asking_names = (take_listens a w.state Server c.0 c.1 c.2 c.4).0 ∙ sym (asks_by_name c.1) ∙ ap (λ n. is_in n asking_names) c.3 in
-    let quiet : (listens c.2 && waits w.waiting) ≡ false = ap (λ b. b && waits w.waiting) asked ∙ swapped (is_in n asking_names) (waits w.waiting) ∙ not_true _ q.1 in
+    let quiet : (listens c.2 && waits w.waiting) ≡ false = ap (λ b. b && waits w.waiting) asked ∙ swapped (is_in n asking_names) (waits w.waiting) ∙ not-true _ q.1 in
     (c.0, c.1, w.number, settle c.2 w.number w.last w.waiting, c.3, rw (c.4, quiet) refl)
 
 pipe_comes : (a : Agreed) (w : Standing) (side : Side) (n : KindName) → pipe_expects a w side n ≡ true → Stepping a w side n

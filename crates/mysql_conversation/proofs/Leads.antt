@@ -1,13 +1,14 @@
 -- What the grammar allows, the machine takes.
 use Rattle.std.proofs.Common.{◌≡◌, ◌≢◌, ℕ, ◌<◌, zero, suc, List, [], ◌∷◌, ◌++◌, inl, inr, Option, Some, None, refl, sym, ap, subst, ◌∙◌, Bool, true, false, arith}
-use Rattle.std.specs.Prelude.{not}
+use Rattle.std.proofs.lemmas.Bool.{not-true}
 use Rattle.mysql_wire.specs.Flags.{StatusFlags}
+use Rattle.mysql_conversation.proofs.Runs.{join, part}
 use Rattle.mysql_conversation.specs.Parts.{nothing, never, ◌followed_by◌, ◌or◌, for_some, times, many, broken}
 use Rattle.mysql_conversation.specs.Payloads.{has_more, opens_cursor, first_is, IsOk, IsEnd, IsOldEnd, IsInfileRequest, IsCount, IsRow, IsPrepared, IsError, asks_cursor}
 use Rattle.mysql_conversation.specs.Agreements.{Agreed, deprecates_eof}
 use Rattle.mysql_conversation.specs.Conversation as c
 use Rattle.mysql_conversation.specs.Conversation.{Packet, sent, served, answering, answered, ending, format_of, authentication_kind, commands, inside}
-use Rattle.mysql_conversation.specs.Machine.{entrance, step, client_step, serve, rests, Run, answers, reply_step, infile_step, infile_reply_step, line_step, last_step, prepared_by, prepared_step, command_step, begun, acknowledgement_step, definitions_end_step, enter, defined, counted, less, define, ended, reply_of}
+use Rattle.mysql_conversation.specs.Machine.{entrance, step, client_step, serve, rests, Run, StepsTo, answers, reply_step, infile_step, infile_reply_step, line_step, last_step, prepared_by, prepared_step, command_step, begun, acknowledgement_step, definitions_end_step, enter, defined, counted, less, define, ended, reply_of}
 use Rattle.mysql_conversation.proofs.Classes.{ok_status_of, reply_ok, reply_infile, reply_count, line_row, line_end, old_end_of_is, statement_at_of, eqb_is, zero_is_no_end, ok_is_zero}
 use Rattle.mysql_conversation.proofs.States.{step_listens}
 use Rattle.mysql_conversation.specs.declared.state.After.{After}
@@ -299,32 +300,20 @@ lead_answered a code cursor (Some r) e = lead_then a _ _ _ (answers r) _ (lead_c
 lead_exchange : (a : Agreed) → Leads a state.Rest (c.exchange a) state.Rest
 lead_exchange a = lead_some a _ _ _ (λ code. lead_or a _ _ _ _ (lead_answered a code true (answering code true) refl) (lead_answered a code false (answering code false) refl))
 
--- ---- runs of a list and then another, and what is broken off
-
-pub run_join : (a : Agreed) (s : State) (xs : List Packet) (m : State) (ys : List Packet) (t : State) → Run a s xs m → Run a m ys t → Run a s (xs ++ ys) t
-run_join a s [] m ys t x y = subst (λ s. Run a s ys t) (sym x) y
-run_join a s (x ∷ xs) m ys t u y = (u.0, u.1, run_join a u.0 xs m ys t u.2 y)
-
-pub run_part : (a : Agreed) (s : State) (xs ys : List Packet) (t : State) → Run a s (xs ++ ys) t → (m : State) × Run a s xs m × Run a m ys t
-run_part a s [] ys t r = (s, refl, r)
-run_part a s (x ∷ xs) ys t r = let h = run_part a r.0 xs ys t r.2 in (h.0, (r.0, r.1, h.1), h.2)
+-- ---- what is broken off
 
 -- an exchange runs where a packet inside of it is taken
 pub inside_runs : (a : Agreed) (s : State) (x : Packet) (m : State) → c.IsInside x → step a s x.from x.payload ≡ Some (x.kind, m) → rests s ≡ false
-inside_runs a s x m i h = not_true (rests s) (sym (step_listens a s x.from x.payload x.kind m h).1 ∙ i)
-  where
-    not_true : (b : Bool) → not b ≡ true → b ≡ false
-    not_true true h = absurd cc
-    not_true false h = refl
+inside_runs a s x m i h = not-true (rests s) (sym (step_listens a s x.from x.payload x.kind m h).1 ∙ i)
 
 lead_broken : (a : Agreed) (s : State) (f : List Packet → List Packet → Type 0) → Leads a s f state.Rest → Leads a s (broken f c.IsInside (c.error a)) state.Rest
 lead_broken a s f l items rest t h r =
     let whole = l (h.0 ++ h.1 ∷ h.2) [] state.Rest h.5 refl in
-    let cut = run_part a s h.0 (h.1 ∷ h.2) state.Rest whole in
+    let cut = part (StepsTo a) s h.0 (h.1 ∷ h.2) state.Rest whole in
     let n = inside_runs a cut.0 h.1 cut.2.0 h.4 cut.2.1 in
     let err = h.7 in
     let last : Run a cut.0 h.3 t = subst (λ xs. Run a cut.0 xs t) (sym err.2) (state.Rest, error_step a cut.0 err.0 n err.1.0 err.1.1 err.1.2, r) in
-    subst (λ xs. Run a s xs t) (sym h.6) (run_join a s h.0 cut.0 h.3 t cut.1 last)
+    subst (λ xs. Run a s xs t) (sym h.6) (join (StepsTo a) s h.0 cut.0 h.3 t cut.1 last)
 
 lead_unless_broken : (a : Agreed) (s : State) (f : List Packet → List Packet → Type 0) → Leads a s f state.Rest → Leads a s (c.unless_broken a f) state.Rest
 lead_unless_broken a s f l = lead_or a s f (broken f c.IsInside (c.error a)) state.Rest l (lead_broken a s f l)

@@ -1,3 +1,4 @@
+pub mod Runs
 pub mod States
 pub mod Begun
 pub mod Classes

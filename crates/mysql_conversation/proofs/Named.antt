@@ -1,10 +1,11 @@
 -- Which kinds may come next: each that comes is named, and each that is named comes.
-use Rattle.std.proofs.Common.{◌≡◌, ℕ, zero, suc, List, [], ◌∷◌, ◌⊎◌, inl, inr, Option, Some, None, refl, sym, ap, subst, ◌∙◌, Bool, true, false, cond}
-use Rattle.std.proofs.lemmas.Bool.{eqb-true}
+use Rattle.std.proofs.Common.{◌≡◌, ℕ, zero, suc, List, [], ◌∷◌, inl, inr, Option, Some, None, refl, sym, ap, subst, ◌∙◌, Bool, true, false, cond}
+use Rattle.std.proofs.lemmas.Bool.{eqb-true, and_parts, or_cases, or_right}
 use Rattle.std.specs.Prelude.{◌==◌, ◌||◌, ◌&&◌}
 use Rattle.mysql_wire.specs.Form.{bytes}
 use Rattle.mysql_wire.specs.Flags.{StatusFlags}
 use Rattle.mysql_prepared.specs.declared.stmt_with_metadata.StmtPacketWithMetadata.{StmtPacketWithMetadata}
+use Rattle.mysql_conversation.proofs.States.{by_cond}
 use Rattle.mysql_conversation.specs.Agreements.{Agreed, deprecates_eof, asks_factors, reports_progress}
 use Rattle.mysql_conversation.specs.Payloads.{first_is, begins_ok, is_report, begins_with_ff, is_one_byte, asks_cursor, opens_cursor}
 use Rattle.mysql_conversation.specs.Conversation.{answering, ending, format_of}
@@ -36,18 +37,6 @@ use Rattle.mysql_conversation.specs.declared.state.State.TheVariants as state
 pub reported_is : (n : KindName) (b : Bool) (xs : List KindName) → is_in n (reported b xs) ≡ ((b && index n == 13) || is_in n xs)
 reported_is n true xs = refl
 reported_is n false xs = refl
-
-pub or_right : (a b : Bool) → b ≡ true → (a || b) ≡ true
-or_right true b h = refl
-or_right false b h = h
-
-pub or_split : (a b : Bool) → (a || b) ≡ true → (a ≡ true) ⊎ (b ≡ true)
-or_split true b h = inl refl
-or_split false b h = inr h
-
-pub and_both : (a b : Bool) → (a && b) ≡ true → (a ≡ true) × (b ≡ true)
-and_both true b h = (refl, h)
-and_both false b h = absurd cc
 
 -- ---- a name is known by its number
 
@@ -100,7 +89,7 @@ module _ (P : KindName → Type 0) where
 
   pub pick : (n : KindName) (xs : List KindName) → All xs → is_in n xs ≡ true → P n
   pick n [] h e = absurd cc
-  pick n (x ∷ xs) h e = elim (or_split (index n == index x) (is_in n xs) e) [
+  pick n (x ∷ xs) h e = elim (or_cases (index n == index x) (is_in n xs) e) [
     | inl i ↦ subst P (sym (same n x (eqb-true (index n) (index x) i))) h.0
     | inr i ↦ pick n xs h.1 i
   ]
@@ -133,10 +122,6 @@ row_named Execution xs = refl
 row_named Cursor xs = refl
 
 module _ (P : Kind → Type 0) where
-  by_cond : (b : Bool) (x y : Kind) → P x → P y → P (cond b x y)
-  by_cond true x y f g = f
-  by_cond false x y f g = g
-
   by_no_cond : (b : Bool) (x y : Kind) → P y → P (cond (b && false) x y)
   by_no_cond true x y f = f
   by_no_cond false x y f = f
@@ -265,8 +250,8 @@ error_named false xs = refl
 report_named : (a : Agreed) (s : State) (p : List ℕ) → (is_report a p && is_due s) ≡ true → (reports_progress a && is_due s) ≡ true
 unfolding is_report
 report_named a s p h =
-    let b = and_both (is_report a p) (is_due s) h in
-    rw ((and_both (reports_progress a) (begins_with_ff 3 p) b.0).0, b.1) refl
+    let b = and_parts (is_report a p) (is_due s) h in
+    rw ((and_parts (reports_progress a) (begins_with_ff 3 p) b.0).0, b.1) refl
 
 named_report : (b : Bool) (x : KindName) (xs : List KindName) → b ≡ true → is_in name.ProgressReport (x ∷ reported b xs) ≡ true
 named_report true x xs h = or_right (index name.ProgressReport == index x) true refl

@@ -1,19 +1,16 @@
 -- Of each side the packets stay in their order, and none comes before its command.
 use Rattle.mysql_conversation.specs.Agreements.{Agreed}
 use Rattle.std.proofs.Common.{◌≡◌, ◌≤◌, ℕ, ◌+◌, List, [], ◌∷◌, ◌++◌, inl, inr, refl, sym, ap, subst, ◌∙◌, Bool, true, false, arith}
-use Rattle.std.specs.Prelude.{◌&&◌, if◌then◌else◌}
+use Rattle.std.specs.Prelude.{if◌then◌else◌}
+use Rattle.std.proofs.lemmas.Bool.{and_parts}
 use Rattle.mysql_conversation.specs.Conversation.{Packet, commands, asks}
 use Rattle.mysql_conversation.specs.Pipelined.{Numbered, is_client, is_command, counted, AreNumbered, ArePassed, Early, IsPipelined}
 use Rattle.mysql_conversation.specs.Order.{from_client, from_server, FollowCommands, IsInterleaved}
 use Rattle.mysql_conversation.specs.declared.kind.Opening.{Opening}
 use Rattle.mysql_conversation.specs.declared.kind.Side.TheVariants.{Server}
 
-both : (x y : Bool) → (x && y) ≡ true → x ≡ true
-both true y h = refl
-both false y h = absurd cc
-
 client_of : (x : Packet) → is_command x ≡ true → is_client x.from ≡ true
-client_of x h = both (is_client x.from) (commands x.kind) h
+client_of x h = (and_parts (is_client x.from) (commands x.kind) h).0
 
 same_client : (x : Numbered) (xs ys : List Numbered) → from_client xs ≡ from_client ys → from_client (x ∷ xs) ≡ from_client (x ∷ ys)
 same_client x xs ys e = rw e refl

@@ -1,7 +1,8 @@
 -- The steps of a pipeline.
 use Rattle.mysql_conversation.specs.Agreements.{Agreed}
 use Rattle.std.proofs.Common.{◌≡◌, ℕ, ◌+◌, List, [], ◌∷◌, ◌++◌, ◌⊎◌, inl, inr, Option, Some, None, refl, sym, ap, subst, ◌∙◌, Bool, true, false, cond}
-use Rattle.std.specs.Prelude.{◌&&◌, not}
+use Rattle.std.specs.Prelude.{◌&&◌}
+use Rattle.std.proofs.lemmas.Bool.{and_parts, cases_Bool}
 use Rattle.mysql_conversation.specs.Conversation.{commands}
 use Rattle.mysql_conversation.specs.Machine.{take_step, rests, listens, is_due}
 use Rattle.mysql_conversation.specs.Pipelined.{Numbered, is_client, is_command}
@@ -27,22 +28,9 @@ outcome k n w = Some (k, n, w)
 abbrev pub Over : Standing → Type 0
 Over t = (t.state ≡ state.Rest) × (t.waiting ≡ [])
 
-pub which : (b : Bool) → (b ≡ true) ⊎ (b ≡ false)
-which true = inl refl
-which false = inr refl
-
-pub both : (x y : Bool) → (x && y) ≡ true → (x ≡ true) × (y ≡ true)
-both true true h = (refl, refl)
-both true false h = absurd cc
-both false y h = absurd cc
-
 pub not_both : (x y : Bool) → (x && y) ≡ false → y ≡ true → x ≡ false
 not_both true y h e = absurd cc
 not_both false y h e = refl
-
-pub not_true : (b : Bool) → not b ≡ true → b ≡ false
-not_true true h = absurd cc
-not_true false h = refl
 
 client_is : (s : Side) → is_client s ≡ true → s ≡ Client
 client_is Client h = refl
@@ -75,7 +63,7 @@ settle_more m i l q c h = settle_more_at m i l q c (turn m) h
 
 pub settle_last : (m : State) (i l : ℕ) (q : List Waiting) → (settle m i l q).last ≡ l
 settle_last m i l [] = refl
-settle_last m i l (n ∷ q) = elim (which (rests m)) [
+settle_last m i l (n ∷ q) = elim (cases_Bool (rests m)) [
   | inl e ↦ rw e (settle_last (begin n.command) n.number l q)
   | inr e ↦ rw e refl
 ]
@@ -83,7 +71,7 @@ settle_last m i l (n ∷ q) = elim (which (rests m)) [
 -- who settles is asked no more and no less
 pub settle_listens : (m : State) (i l : ℕ) (q : List Waiting) → listens (settle m i l q).state ≡ listens m
 settle_listens m i l [] = refl
-settle_listens m i l (n ∷ q) = elim (which (rests m)) [
+settle_listens m i l (n ∷ q) = elim (cases_Bool (rests m)) [
   | inl e ↦ rw e (settle_listens (begin n.command) n.number l q ∙ begin_listens n.command ∙ sym (ap listens (rests_is m e)))
   | inr e ↦ rw e refl
 ]
@@ -216,6 +204,6 @@ by_client d w x v f h = subst (λ side. pipe_step d w side x.packet.payload ≡ 
 pub command_back : (d : Agreed) (w : Standing) (x : Numbered) (v : Standing) → is_command x.packet ≡ true → Steps d w x v
     → (x.packet.from ≡ Client) × (Began w x.packet.payload x.packet.kind x.number v × (listens w.state ≡ false))
 command_back d w x v h e =
-    let b = both (is_client x.packet.from) (commands x.packet.kind) h in
+    let b = and_parts (is_client x.packet.from) (commands x.packet.kind) h in
     let f : x.packet.from ≡ Client = client_is x.packet.from b.0 in
     (f, command_back_at d w x.packet.payload x.packet.kind x.number v (turn w.state) b.1 (by_client d w x v f e))

@@ -2,6 +2,7 @@
 use Rattle.mysql_conversation.specs.Agreements.{Agreed}
 use Rattle.std.proofs.Common.{◌≡◌, ℕ, ◌+◌, List, [], ◌∷◌, ◌++◌, ◌⊎◌, inl, inr, Some, refl, sym, ap, subst, ◌∙◌, Bool, true, false}
 use Rattle.std.specs.Prelude.{◌&&◌, not}
+use Rattle.std.proofs.lemmas.Bool.{and_parts, cases_Bool, not-true}
 use Rattle.mysql_conversation.specs.Conversation.{Packet}
 use Rattle.mysql_conversation.specs.Conversation.{asks, commands, inside}
 use Rattle.mysql_conversation.specs.Machine.{take_step, Takes, rests, listens, is_due}
@@ -17,7 +18,7 @@ use Rattle.mysql_conversation.specs.declared.kind.Side.TheVariants.{Client, Serv
 use Rattle.mysql_conversation.specs.declared.state.State.{State}
 use Rattle.mysql_conversation.specs.declared.state.State.TheVariants as state
 use Rattle.mysql_conversation.specs.declared.state.Command.{Command}
-use Rattle.mysql_conversation.proofs.PipeSteps.{outcome, Over, which, both, not_both, not_true, side_is, waits_more, after, settle_more, settle_last, settle_listens, served_back, server_back, server_next, IsOf, taken_early, taken_at_rest, Began, loaded_back, client_turn, client_due, client_rest, command_due, aside_due, by_client, command_back}
+use Rattle.mysql_conversation.proofs.PipeSteps.{outcome, Over, not_both, side_is, waits_more, after, settle_more, settle_last, settle_listens, served_back, server_back, server_next, IsOf, taken_early, taken_at_rest, Began, loaded_back, client_turn, client_due, client_rest, command_due, aside_due, by_client, command_back}
 
 -- ---- whether the client is asked
 
@@ -26,7 +27,7 @@ command_asks (kind.Command code) h = refl
 command_asks _ h = absurd cc
 
 after_listens : (w : Standing) (c : Command) (k : Kind) (v : Standing) → listens w.state ≡ false → kind_of c ≡ k → after w c ≡ v → listens v.state ≡ asks k
-after_listens w c k v l e h = elim (which (is_due w.state)) [
+after_listens w c k v l e h = elim (cases_Bool (is_due w.state)) [
   | inl sp ↦ (let a : push w c ≡ v = sym (after_early w c sp) ∙ h in ap (λ (w : Standing). listens w.state) (sym a) ∙ l ∙ sym (command_asks k (ap commands (sym e) ∙ kind_is_command c)))
   | inr sp ↦ (let a : standing (begin c) (w.last + 1) (w.last + 1) w.waiting ≡ v = after_rest w c sp ∙ h in ap (λ (w : Standing). listens w.state) (sym a) ∙ begin_listens c ∙ sym (command_asks k (ap commands (sym e) ∙ kind_is_command c)))
 ]
@@ -43,7 +44,7 @@ client_listens d w p k n v (inl e) h =
 client_listens d w p k n v (inr (inl a)) h =
     let b = loaded_back d w p k n v (take_step d w.state Client p) a.1 refl (client_turn d w p (outcome k n v) a.2 h) in
     ap (λ (w : Standing). listens w.state) (sym b.3) ∙ (take_listens d w.state Client p k b.0 b.1).0
-client_listens d w p k n v (inr (inr a)) h = elim (which (commands k)) [
+client_listens d w p k n v (inr (inr a)) h = elim (cases_Bool (commands k)) [
   | inl c ↦ (let b = command_due d w p k n v (take_step d w.state Client p) a.0 refl c (client_due d w p (outcome k n v) a.0 h) in after_listens w b.0 k v a.2 b.2 b.4)
   | inr c ↦ (let b = aside_due d w p k n v (take_step d w.state Client p) a.0 refl c (client_due d w p (outcome k n v) a.0 h) in
       ap (λ (w : Standing). listens w.state) (sym b.4) ∙ (take_listens d w.state Client p k b.0 b.1).0)
@@ -68,8 +69,8 @@ swap d w y x u v lw f ps cmd a b =
     let cb = command_back d u x v cmd b in
     let c = cb.1.0.0 in
     let nl : listens m ≡ false = sym (settle_listens m w.number w.last w.waiting) ∙ ap (λ (w : Standing). listens w.state) z ∙ cb.1.1 in
-    let i : not (rests w.state) ≡ true = sym (take_listens d w.state Server y.packet.payload y.packet.kind m s.1).1 ∙ (both (not (asks y.packet.kind)) (inside y.packet.kind) ps).1 in
-    let sp : is_due w.state ≡ true = due_of w.state (not_true (rests w.state) i) lw in
+    let i : not (rests w.state) ≡ true = sym (take_listens d w.state Server y.packet.payload y.packet.kind m s.1).1 ∙ (and_parts (not (asks y.packet.kind)) (inside y.packet.kind) ps).1 in
+    let sp : is_due w.state ≡ true = due_of w.state (not-true (rests w.state) i) lw in
     let lasts : w.last ≡ u.last = sym (settle_last m w.number w.last w.waiting) ∙ ap (λ (w : Standing). w.last) z in
     let n : x.number ≡ w.last + 1 = sym cb.1.0.3 ∙ ap (λ n. n + 1) (sym lasts) in
     let same : settle m w.number (w.last + 1) (w.waiting ++ wait c (w.last + 1) ∷ []) ≡ v =
@@ -80,7 +81,7 @@ swap d w y x u v lw f ps cmd a b =
     )
 
 passed_asks : (k : Kind) → passes k ≡ true → asks k ≡ false
-passed_asks k h = not_true (asks k) (both (not (asks k)) (inside k) h).0
+passed_asks k h = not-true (asks k) (and_parts (not (asks k)) (inside k) h).0
 
 sooner : (d : Agreed) (w : Standing) (x : Numbered) (front back : List Numbered) (t : Standing) → listens w.state ≡ false → is_command x.packet ≡ true → ArePassed front
     → PipeRun d w (front ++ x ∷ back) t → PipeRun d w (x ∷ front ++ back) t
@@ -92,7 +93,7 @@ sooner d w x (y ∷ front) back t l c f r =
     (s.0, s.1, (h.0, s.2, h.2))
 
 command_kind_asks : (x : Packet) → is_command x ≡ true → asks x.kind ≡ false
-command_kind_asks x h = command_asks x.kind (both (is_client x.from) (commands x.kind) h).1
+command_kind_asks x h = command_asks x.kind (and_parts (is_client x.from) (commands x.kind) h).1
 
 pub early_runs : (d : Agreed) (w : Standing) (b : Bool) (items others : List Numbered) (t : Standing) → listens w.state ≡ b → Early b items others → PipeRun d w others t → PipeRun d w items t
 early_runs d w b [] others t l h r = subst (λ xs. PipeRun d w xs t) h r
@@ -152,7 +153,7 @@ later d w c x (y ∷ ys) t sp of n h o =
     let st : Steps d w y u = server_next d w y m u f s.1 (rw nl refl) s.3 refl in
     let z : after u c ≡ h.0 = sym (settle_more m w.number w.last w.waiting c nl) ∙ s.4 in
     let n' : x.number ≡ u.last + 1 = n ∙ ap (λ n. n + 1) (sym (settle_last m w.number w.last w.waiting)) in
-    elim (which (is_due u.state)) [
+    elim (cases_Bool (is_due u.state)) [
       | inl e ↦ (let r = later d u c x ys t e of n' (subst (λ w. InTurn d w ys t) (sym (after_early u c e ∙ z)) h.3) o in
           (y ∷ r.0, r.1, (f, ps, r.2), ap (λ xs. y ∷ xs) r.3, (u, st, h.2, r.4)))
       | inr e ↦ (let rest : u.state ≡ state.Rest = rest_is u.state (turn u.state) (settle_listens m w.number w.last w.waiting ∙ nl) e in
@@ -174,11 +175,11 @@ abbrev CameEarly : Agreed → Standing → Numbered → Standing → Type 0
 CameEarly d w x v = (is_due w.state ≡ true) × (x.packet.from ≡ Client) × Began w x.packet.payload x.packet.kind x.number v
 
 came : (d : Agreed) (w : Standing) (x : Numbered) (v : Standing) → Steps d w x v → CameEarly d w x v ⊎ (is_due w.state ≡ true → commands x.packet.kind ≡ false)
-came d w x v h = elim (which (is_due w.state)) [
+came d w x v h = elim (cases_Bool (is_due w.state)) [
   | inr sp ↦ inr (λ k. absurd cc)
   | inl sp ↦ elim (side_is x.packet.from) [
     | inr f ↦ inr (λ k. server_kind d w x v (due_runs w.state sp).0 f h)
-    | inl f ↦ elim (which (commands x.packet.kind)) [
+    | inl f ↦ elim (cases_Bool (commands x.packet.kind)) [
       | inr c ↦ inr (λ k. c)
       | inl c ↦ inl (sp, f, command_due d w x.packet.payload x.packet.kind x.number v (take_step d w.state Client x.packet.payload) sp refl c (client_due d w x.packet.payload (outcome x.packet.kind x.number v) sp (by_client d w x v f h)))
     ]

@@ -1,6 +1,7 @@
 -- Whose turn it is in each state, and what the kind of a packet says of it.
 use Rattle.std.proofs.Common.{◌≡◌, ℕ, zero, suc, List, [], ◌∷◌, ◌⊎◌, inl, inr, Option, Some, None, refl, sym, ap, subst, ◌∙◌, Bool, true, false, cond}
 use Rattle.std.specs.Prelude.{◌&&◌, not}
+use Rattle.std.proofs.lemmas.Bool.{and_parts}
 use Rattle.mysql_wire.specs.Flags.{StatusFlags}
 use Rattle.mysql_prepared.specs.Stmt.{num_columns, num_params}
 use Rattle.mysql_prepared.specs.StmtWithMetadata.{packet_of}
@@ -138,7 +139,7 @@ fits_end : (d : Bool) (m : State) → listens m ≡ false → Fits (Some (ending
 fits_end d m h = (h ∙ sym (ending_asks d), ending_inside d)
 
 module _ (P : Kind → Type 0) where
-  by_cond : (b : Bool) (x y : Kind) → P x → P y → P (cond b x y)
+  pub by_cond : (b : Bool) (x y : Kind) → P x → P y → P (cond b x y)
   by_cond true x y f g = f
   by_cond false x y f g = g
 
@@ -293,15 +294,10 @@ step_listens a s Server p k m h = elim (chosen (first_is 0xff p) _ _ _ h) [
   | inr e ↦ served_listens a s p k m e.1
 ]
 
-both : (x y : Bool) → (x && y) ≡ true → (x ≡ true) × (y ≡ true)
-both true true h = (refl, refl)
-both true false h = absurd cc
-both false y h = absurd cc
-
 pub take_listens : (a : Agreed) (s : State) (side : Side) (p : List ℕ) (k : Kind) (m : State) → take_step a s side p ≡ Some (k, m) → (listens m ≡ asks k) × (inside k ≡ not (rests s))
 take_listens a s Client p k m h = step_listens a s Client p k m h
 take_listens a s Server p k m h = elim (chosen (is_report a p && is_due s) _ _ _ h) [
-  | inl r ↦ (let d = due_runs s (both (is_report a p) (is_due s) r.0).1 in
+  | inl r ↦ (let d = due_runs s (and_parts (is_report a p) (is_due s) r.0).1 in
       subst (λ (x : Kind × State). (listens x.1 ≡ asks x.0) × (inside x.0 ≡ not (rests s))) (some_is r.1) (d.1, ap not (sym d.0)))
   | inr r ↦ step_listens a s Server p k m r.1
 ]

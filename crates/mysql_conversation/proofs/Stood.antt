@@ -1,11 +1,12 @@
 -- Each list that the machine with commands that wait takes is the beginning of a pipelined conversation, and each beginning is taken.
 use Rattle.mysql_conversation.specs.Agreements.{Agreed}
-use Rattle.std.proofs.Common.{◌≡◌, ℕ, ◌+◌, List, [], ◌∷◌, ◌++◌, inl, inr, Some, None, refl, sym, ap, subst, ◌∙◌, Bool, true, false}
-use Rattle.std.specs.Prelude.{◌≢◌, Option, not, Result, Ok, Err, IfOk, IfErr}
+use Rattle.std.proofs.Common.{◌≡◌, ℕ, ◌+◌, List, [], ◌∷◌, ◌++◌, inl, inr, Some, None, refl, sym, ap, subst, ◌∙◌, Bool, false}
+use Rattle.std.specs.Prelude.{◌≢◌, Option, Result, Ok, Err, IfOk, IfErr}
 use Rattle.mysql_conversation.specs.Conversation.{Packet, IsConversation, asks}
 use Rattle.mysql_conversation.specs.Machine.{take_step, rests, listens, entrance}
 use Rattle.mysql_conversation.specs.Pipelined.{Numbered, packets, counted, AreNumbered, Early, IsPipelined, IsPipelinedBeginning, numbered}
 use Rattle.mysql_conversation.specs.Standing.{Standing, standing, begin, waits, settle, pipe_step, step_of, Steps, PipeRun, start}
+use Rattle.mysql_conversation.proofs.Runs.{join, part, once}
 use Rattle.mysql_conversation.specs.Piped.{place}
 use Rattle.mysql_conversation.proofs.Begun.{conversation_takes, takes_is_conversation}
 use Rattle.mysql_conversation.proofs.Ends.{short_report}
@@ -78,40 +79,29 @@ standing_ends_at d s i l q (inr (inr a)) = subst (λ w. PipeEnds d w) (settle_st
 standing_ends : (d : Agreed) (w : Standing) → PipeEnds d w
 standing_ends d w = standing_ends_at d w.state w.number w.last w.waiting (turn w.state)
 
--- ---- runs of a list and then another
-
-pipe_join : (d : Agreed) (w : Standing) (xs : List Numbered) (m : Standing) (ys : List Numbered) (t : Standing) → PipeRun d w xs m → PipeRun d m ys t → PipeRun d w (xs ++ ys) t
-pipe_join d w [] m ys t a b = subst (λ w. PipeRun d w ys t) (sym a) b
-pipe_join d w (x ∷ xs) m ys t a b = (a.0, a.1, pipe_join d a.0 xs m ys t a.2 b)
-
-pub pipe_part : (d : Agreed) (w : Standing) (xs ys : List Numbered) (t : Standing) → PipeRun d w (xs ++ ys) t → (m : Standing) × PipeRun d w xs m × PipeRun d m ys t
-pipe_part d w [] ys t r = (w, refl, r)
-pipe_part d w (x ∷ xs) ys t r = let h = pipe_part d r.0 xs ys t r.2 in (h.0, (r.0, r.1, h.1), h.2)
+-- ---- the beginning of a pipelined conversation
 
 pub run_is_beginning : (d : Agreed) (o : Opening) (items : List Numbered) (t : Standing) → PipeRun d (start o) items t → IsPipelinedBeginning d o items
 run_is_beginning d o items t r =
     let h = standing_ends d t in
-    (h.0, run_is_pipelined d o (items ++ h.0) h.1 (pipe_join d (start o) items t h.0 h.1 r h.2) h.3)
+    (h.0, run_is_pipelined d o (items ++ h.0) h.1 (join (Steps d) (start o) items t h.0 h.1 r h.2) h.3)
 
 pub beginning_runs : (d : Agreed) (o : Opening) (items : List Numbered) → IsPipelinedBeginning d o items → (t : Standing) × PipeRun d (start o) items t
 beginning_runs d o items h =
     let g = pipelined_runs d o (items ++ h.0) h.1 in
-    let r = pipe_part d (start o) items h.0 g.0 g.1 in
+    let r = part (Steps d) (start o) items h.0 g.0 g.1 in
     (r.0, r.1)
 
--- the machine has one state after a list
-pub pipe_once : (d : Agreed) (w : Standing) (xs : List Numbered) (t u : Standing) → PipeRun d w xs t → PipeRun d w xs u → t ≡ u
-pipe_once d w [] t u a b = sym a ∙ b
-pipe_once d w (x ∷ xs) t u a b =
-    let same : a.0 ≡ b.0 = ap (λ (o : Outcome). o.2) (some_is (sym a.1 ∙ b.1)) in
-    pipe_once d b.0 xs t u (subst (λ m. PipeRun d m xs t) same a.2) b.2
+-- the machine has one state after a packet
+pub one_standing : (d : Agreed) (w : Standing) (x : Numbered) (m n : Standing) → Steps d w x m → Steps d w x n → m ≡ n
+one_standing d w x m n e f = ap (λ (o : Outcome). o.2) (some_is (sym e ∙ f))
 
 -- where a packet is refused, no kind and no number makes the list with it a beginning
 pub pipe_refused : (d : Agreed) (o : Opening) (items : List Numbered) (w : Standing) (x : Numbered) → PipeRun d (start o) items w → step_of d w x ≡ None → IsPipelinedBeginning d o (items ++ x ∷ []) → ⊥
 pipe_refused d o items w x r e h =
     let b = beginning_runs d o (items ++ x ∷ []) h in
-    let p = pipe_part d (start o) items (x ∷ []) b.0 b.1 in
-    let same : p.0 ≡ w = pipe_once d (start o) items p.0 w p.1 r in
+    let p = part (Steps d) (start o) items (x ∷ []) b.0 b.1 in
+    let same : p.0 ≡ w = once (Steps d) (one_standing d) (start o) items p.0 w p.1 r in
     let q : step_of d p.0 x ≡ Some (x.packet.kind, x.number, p.2.0) = p.2.1 in
     let none : step_of d p.0 x ≡ None = subst (λ w. step_of d w x ≡ None) (sym same) e in
     absurd (cc (q, none))
@@ -121,10 +111,10 @@ pipe_refused d o items w x r e h =
 pub pipe_at_rest : (d : Agreed) (o : Opening) (items : List Numbered) (w : Standing) → PipeRun d (start o) items w → IsPipelined d o items → Over w
 pipe_at_rest d o items w r h =
     let g = pipelined_runs d o items h in
-    subst (λ w. Over w) (pipe_once d (start o) items g.0 w g.1 r) g.2
+    subst (λ w. Over w) (once (Steps d) (one_standing d) (start o) items g.0 w g.1 r) g.2
 
 pub pipe_one_more : (d : Agreed) (o : Opening) (items : List Numbered) (w : Standing) (side : Side) (p : List ℕ) (k : Kind) (n : ℕ) (m : Standing) → PipeRun d (start o) items w → pipe_step d w side p ≡ Some (k, n, m) → PipeRun d (start o) (items ++ place side p k n ∷ []) m
-pipe_one_more d o items w side p k n m r e = pipe_join d (start o) items w (place side p k n ∷ []) m r (m, e, refl)
+pipe_one_more d o items w side p k n m r e = join (Steps d) (start o) items w (place side p k n ∷ []) m r (m, e, refl)
 
 -- a step that is taken goes on with what was taken
 pub pipe_comes : (d : Agreed) (o : Opening) (items : List Numbered) (w : Standing) (side : Side) (p : List ℕ) (r : Option Outcome) → PipeRun d (start o) items w → pipe_step d w side p ≡ r → r ≢ None
@@ -138,9 +128,9 @@ pub pipe_one_kind : (d : Agreed) (o : Opening) (items : List Numbered) (side : S
 pipe_one_kind d o items side p j k m n g h =
     let b = beginning_runs d o (items ++ place side p j m ∷ []) g in
     let c = beginning_runs d o (items ++ place side p k n ∷ []) h in
-    let x = pipe_part d (start o) items (place side p j m ∷ []) b.0 b.1 in
-    let y = pipe_part d (start o) items (place side p k n ∷ []) c.0 c.1 in
-    let same : x.0 ≡ y.0 = pipe_once d (start o) items x.0 y.0 x.1 y.1 in
+    let x = part (Steps d) (start o) items (place side p j m ∷ []) b.0 b.1 in
+    let y = part (Steps d) (start o) items (place side p k n ∷ []) c.0 c.1 in
+    let same : x.0 ≡ y.0 = once (Steps d) (one_standing d) (start o) items x.0 y.0 x.1 y.1 in
     let u : pipe_step d y.0 side p ≡ Some (j, m, x.2.0) = subst (λ s. pipe_step d s side p ≡ Some (j, m, x.2.0)) same x.2.1 in
     let o = some_is (sym u ∙ y.2.1) in
     (ap (λ (o : Outcome). o.0) o, ap (λ (o : Outcome). o.1) o)
@@ -175,10 +165,6 @@ lift_ok (Err e) f h = tt
 pub lift_err : {A E : Type 0} {P Q : E → Type 0} (r : Result A E) → ((x : E) → P x → Q x) → IfErr r P → IfErr r Q
 lift_err (Ok x) f h = tt
 lift_err (Err e) f h = f e h
-
-pub not_true : (b : Bool) → not b ≡ true → b ≡ false
-not_true true h = absurd cc
-not_true false h = refl
 
 -- what was agreed on and where it began stay
 pub run_stays : (d e : Agreed) (o q : Opening) (xs : List Numbered) (t : Standing) → e ≡ d → q ≡ o → PipeRun d (start o) xs t → PipeRun e (start q) xs t

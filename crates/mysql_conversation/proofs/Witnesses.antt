@@ -1,6 +1,6 @@
 -- A packet of each kind that may come next.
 use Rattle.std.proofs.Common.{◌≡◌, ◌<◌, ℕ, List, [], ◌∷◌, Some, None, Ok, refl, ap, ◌∙◌, Bool, true, false}
-use Rattle.std.proofs.lemmas.Bool.{ltb-true}
+use Rattle.std.proofs.lemmas.Bool.{ltb-true, and_parts}
 use Rattle.std.specs.Prelude.{◌&&◌, not}
 use Rattle.mysql_wire.specs.Form.{bytes, number}
 use Rattle.mysql_wire.specs.Int.{raw, raw_int}
@@ -210,14 +210,10 @@ error_is false = refl
 comes_error : (a : Agreed) (s : State) → Comes a s Server (error_name (rests s))
 comes_error a s = (0xff ∷ [], error_kind (rests s), state.Rest, error_is (rests s), rw (short_report a) refl)
 
-both : (x y : Bool) → (x && y) ≡ true → (x ≡ true) × (y ≡ true)
-both true y h = (refl, h)
-both false y h = absurd cc
-
 comes_report : (a : Agreed) (s : State) → (reports_progress a && is_due s) ≡ true → Comes a s Server name.ProgressReport
 unfolding is_report
 comes_report a s h =
-    let b = both (reports_progress a) (is_due s) h in
+    let b = and_parts (reports_progress a) (is_due s) h in
     (0xff ∷ 0xff ∷ 0xff ∷ [], kind.ProgressReport, s, refl, rw (b.0, b.1) refl)
 
 with_report : (a : Agreed) (s : State) (b : Bool) → (reports_progress a && is_due s) ≡ b → All (Comes a s Server) (reported b (served_names a s))

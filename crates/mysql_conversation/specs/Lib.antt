@@ -2,6 +2,8 @@ pub mod Agreements
 pub mod Parts
 pub mod Payloads
 pub mod Conversation
+pub mod ConversationState
+pub mod Runs
 pub mod Machine
 pub mod Taken
 pub mod History

@@ -10,6 +10,7 @@ use Rattle.mysql_prepared.specs.Stmt.{num_columns, num_params}
 use Rattle.mysql_prepared.specs.StmtWithMetadata.{stmt_with_metadata, packet_of}
 use Rattle.mysql_prepared.specs.declared.stmt_with_metadata.StmtPacketWithMetadata.{StmtPacketWithMetadata}
 use Rattle.mysql_conversation.specs.Agreements.{Agreed, deprecates_eof}
+use Rattle.mysql_conversation.specs.Runs.{Runs}
 use Rattle.mysql_conversation.specs.Payloads.{has_more, opens_cursor, first_is, begins_ok, definitions_follow, ok_form, terminator_form, old_end_form, looks_like_end, is_report, asks_cursor}
 use Rattle.mysql_conversation.specs.Conversation.{Packet, answering, authentication_kind, ending, format_of}
 use Rattle.mysql_conversation.specs.declared.state.After.{After}
@@ -304,9 +305,11 @@ step a s Client p = client_step s p
 step a s Server p = if first_is 0xff p then (if is_report a p then None else Some (error_kind (rests s), state.Rest)) else serve a s p
 
 -- from a state the machine takes these packets, answers their kinds, and is in this state then
+abbrev pub StepsTo : Agreed → State → Packet → State → Type 0
+StepsTo a s x m = step a s x.from x.payload ≡ Some (x.kind, m)
+
 abbrev pub Run : Agreed → State → List Packet → State → Type 0
-Run a s [] t = s ≡ t
-Run a s (x ∷ xs) t = (mid : State) × (step a s x.from x.payload ≡ Some (x.kind, mid)) × Run a mid xs t
+Run a s items t = Runs (StepsTo a) s items t
 
 -- which packet it is, and the state after it
 abbrev pub take_step : Agreed → State → Side → List ℕ → Option (Kind × State)
@@ -314,6 +317,8 @@ take_step a s Client p = step a s Client p
 take_step a s Server p = if is_report a p && is_due s then Some (kind.ProgressReport, s) else step a s Server p
 
 -- the same of packets among which may be reports
+abbrev pub TakesOne : Agreed → State → Packet → State → Type 0
+TakesOne a s x m = take_step a s x.from x.payload ≡ Some (x.kind, m)
+
 abbrev pub Takes : Agreed → State → List Packet → State → Type 0
-Takes a s [] t = s ≡ t
-Takes a s (x ∷ xs) t = (mid : State) × (take_step a s x.from x.payload ≡ Some (x.kind, mid)) × Takes a mid xs t
+Takes a s items t = Runs (TakesOne a) s items t

@@ -1,4 +1,5 @@
 -- The machine with commands that wait.
+use Rattle.mysql_conversation.specs.Runs.{Runs}
 use Rattle.mysql_conversation.specs.Agreements.{Agreed}
 use Rattle.std.specs.Prelude.{◌≡◌, ℕ, ◌+◌, List, [], ◌∷◌, ◌++◌, Bool, true, false, Option, Some, None, ◌&&◌, if◌then◌else◌}
 use Rattle.mysql_conversation.specs.Conversation.{answering}
@@ -91,8 +92,7 @@ abbrev pub Steps : Agreed → Standing → Numbered → Standing → Type 0
 Steps a w x m = step_of a w x ≡ Some (x.packet.kind, x.number, m)
 
 abbrev pub PipeRun : Agreed → Standing → List Numbered → Standing → Type 0
-PipeRun a w [] t = w ≡ t
-PipeRun a w (x ∷ xs) t = (mid : Standing) × Steps a w x mid × PipeRun a mid xs t
+PipeRun a w items t = Runs (Steps a) w items t
 
 abbrev pub start : Opening → Standing
 start o = standing (entrance o) 0 0 []

@@ -1,7 +1,8 @@
 //! Which packet comes next.
 
-ghost use Rattle.std.specs.Prelude.{◌≡◌, ◌↔◌, IfOk, OnErr, IsTrue, List, [], ◌∷◌, ◌++◌};
+ghost use Rattle.std.specs.Prelude.{◌≡◌, ◌↔◌, IfOk, IfSome, IfNone, OnErr, IsTrue, List, [], ◌∷◌, ◌++◌};
 
+use crate::conversation_state::{ConversationState, numbers_of, state_at};
 use crate::expected::expects;
 use crate::kind::{Kind, Opening, Side, Unexpected};
 use crate::kind_name::KindName;
@@ -24,6 +25,7 @@ pub struct Conversation {
 
 impl Conversation {
     ghost use Rattle.mysql_conversation.specs.Conversation.{Packet, IsConversation, IsBeginning};
+    ghost use Rattle.mysql_conversation.specs.ConversationState.{TakenAt};
     ghost use Rattle.mysql_conversation.specs.History as history;
     ghost use Rattle.mysql_conversation.specs.History.{Taken, GoesOn};
     ghost use Rattle.mysql_conversation.specs.Taken.{packet};
@@ -41,6 +43,34 @@ impl Conversation {
             opening,
             state: entrance(opening),
         }
+    }
+
+    /// One that goes on from where another stood, under what both sides agreed on; none where the numbers are of no state.
+    pub fn from_state(
+        alloc: Global,
+        agreed: SessionCapabilities,
+        state: &ConversationState,
+    ) -> Option<Self>
+        ensures taken { IfSome result (λ c. (items : List Packet) → TakenAt agreed state.now items → Taken c items) }
+        ensures agreed { IfSome result (λ c. history.agreed c ≡ agreed) }
+        ensures opening { IfSome result (λ c. history.opening c ≡ state.now.opening) }
+        ensures none { IfNone result ((items : List Packet) → TakenAt agreed state.now items → ⊥) }
+    {
+        let stands_at = state_at(state)?;
+        Some(Conversation {
+            alloc,
+            agreed,
+            opening: state.opening,
+            state: stands_at,
+        })
+    }
+
+    /// Where it stands, in plain numbers.
+    pub fn state(&self) -> ConversationState
+        ensures taken { (items : List Packet) → Taken self.now items → TakenAt (history.agreed self.now) result items }
+        ensures opening { result.opening ≡ history.opening self.now }
+    {
+        numbers_of(self.opening, self.state)
     }
 
     /// Whether the last exchange is over.

@@ -5,62 +5,36 @@ ghost use Rattle.mysql_conversation.specs.KindName as spec;
 
 use crate::kind::{Format, Kind};
 
-/// A kind by its name alone, without what the packet says of itself.
+/// A kind by its name alone, without what the packet says of itself: each is that of [`Kind`], and a [`Kind::Row`] is a row of text or a
+/// binary one.
 #[derive(Clone, Copy, Debug, PartialEq, Eq)]
 pub enum KindName {
-    /// [`Kind::Handshake`].
     Handshake,
-    /// [`Kind::SslRequest`].
     SslRequest,
-    /// [`Kind::Login`].
     Login,
-    /// [`Kind::AuthSwitch`].
     AuthSwitch,
-    /// [`Kind::OldAuthSwitch`].
     OldAuthSwitch,
-    /// [`Kind::AuthMoreData`].
     AuthMoreData,
-    /// [`Kind::AuthNextFactor`].
     AuthNextFactor,
-    /// [`Kind::AuthPluginData`].
     AuthPluginData,
-    /// [`Kind::AuthData`].
     AuthData,
-    /// [`Kind::Command`].
     Command,
-    /// [`Kind::Ok`].
     Ok,
-    /// [`Kind::Error`].
     Error,
-    /// [`Kind::UnaskedError`].
     UnaskedError,
-    /// [`Kind::ProgressReport`].
     ProgressReport,
-    /// [`Kind::LocalInfile`].
     LocalInfile,
-    /// [`Kind::InfileContent`].
     InfileContent,
-    /// [`Kind::InfileEnd`].
     InfileEnd,
-    /// [`Kind::ColumnCount`].
     ColumnCount,
-    /// [`Kind::Column`].
     Column,
-    /// [`Kind::Eof`].
     Eof,
-    /// [`Kind::OkTerminator`].
     OkTerminator,
-    /// [`Kind::Row`] as text.
     TextRow,
-    /// [`Kind::Row`] in binary.
     BinaryRow,
-    /// [`Kind::PrepareOk`].
     PrepareOk,
-    /// [`Kind::Statistics`].
     Statistics,
-    /// [`Kind::BinlogEvent`].
     BinlogEvent,
-    /// [`Kind::SemiSyncAck`].
     SemiSyncAck,
 }
 
@@ -95,6 +69,14 @@ impl KindName {
         KindName::BinlogEvent,
         KindName::SemiSyncAck,
     ];
+
+    /// Its place among all of them, from 0 on.
+    #[inline]
+    pub fn index(self) -> u8
+        ensures value { result ≡ spec.index self }
+    {
+        self as u8
+    }
 
     /// The name, in small letters with underscores: `text_row`.
     pub fn as_str(self) -> &'static str

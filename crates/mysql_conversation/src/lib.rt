@@ -7,6 +7,7 @@
 
 mod agreed;
 mod conversation;
+mod conversation_state;
 mod expected;
 mod kind;
 mod kind_name;
@@ -20,6 +21,7 @@ mod step;
 
 pub use agreed::agreed_on;
 pub use conversation::Conversation;
+pub use conversation_state::ConversationState;
 pub use kind::{Format, Kind, Opening, Side, Unexpected};
 pub use kind_name::KindName;
 pub use pipeline::{Pipeline, Refusal};

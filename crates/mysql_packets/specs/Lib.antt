@@ -224,6 +224,7 @@ pub use Rattle.mysql_frames.specs.FrameReader
 pub use Rattle.mysql_frames.specs.Frames
 pub use Rattle.mysql_conversation.specs.Agreements
 pub use Rattle.mysql_conversation.specs.Conversation
+pub use Rattle.mysql_conversation.specs.ConversationState
 pub use Rattle.mysql_conversation.specs.History
 pub use Rattle.mysql_conversation.specs.KindName
 pub use Rattle.mysql_conversation.specs.Order

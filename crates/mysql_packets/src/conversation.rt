@@ -1,6 +1,6 @@
 //! Conversations: which packet comes next.
 
 pub use mysql_conversation::{
-    Conversation, Format, Kind, KindName, Opening, Pipeline, Refusal, Session, Side, Unexpected,
-    agreed_on,
+    Conversation, ConversationState, Format, Kind, KindName, Opening, Pipeline, Refusal, Session,
+    Side, Unexpected, agreed_on,
 };

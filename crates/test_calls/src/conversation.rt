@@ -77,10 +77,12 @@ fn sign_of(side: Side) -> &'static str {
     }
 }
 
-/// Adds a packet's kind, and what the kind tells.
+/// Adds a packet's kind, whose name is found by its place, and what the kind tells.
 fn show_kind(out: &mut Out, side: Side, kind: Kind) {
     out.word(sign_of(side));
-    out.push(kind.name().as_str());
+    if let Some(name) = KindName::ALL.get(usize::from(kind.name().index())) {
+        out.push(name.as_str());
+    }
     match kind {
         Kind::Command(code) => show_number(out, u64::from(code)),
         Kind::ColumnCount(count, follow) => {
@@ -273,13 +275,10 @@ pub fn conversation(out: &mut Out, request: &Request<'_>) {
     out.show("waiting", pipeline.waiting());
 }
 
-/// A conversation of payloads, in which none may.
+/// A conversation of payloads, in which none may. After each packet it goes on from its state in plain numbers.
 pub fn payloads(out: &mut Out, request: &Request<'_>) {
-    let mut conversation = Conversation::new(
-        request.alloc,
-        agreed_by(request, 2),
-        opening_by(request),
-    );
+    let agreed = agreed_by(request, 2);
+    let mut conversation = Conversation::new(request.alloc, agreed, opening_by(request));
     for word in request.line.split(' ').skip(4) {
         if word == "expects" {
             break;
@@ -293,6 +292,11 @@ pub fn payloads(out: &mut Out, request: &Request<'_>) {
                 out.word(sign_of(side));
                 out.push("refused:Unexpected");
             }
+        }
+        let state = conversation.state();
+        match Conversation::from_state(request.alloc, agreed, &state) {
+            Some(again) => conversation = again,
+            None => return out.word("no_state"),
         }
     }
     if request.line.ends_with(" expects") {

@@ -1,0 +1,56 @@
+-- Where a conversation stands, in plain numbers.
+use Rattle.std.specs.Prelude.{◌≡◌, ℕ, ◌==◌, List, Bool, true, false, Option, Some, None, if◌then◌else◌}
+use Rattle.std.specs.Option.{option_map}
+use Rattle.mysql_conversation.specs.Agreements.{Agreed}
+use Rattle.mysql_conversation.specs.Conversation.{Packet}
+use Rattle.mysql_conversation.specs.Machine.{Takes, entrance}
+use Rattle.mysql_conversation.specs.declared.conversation_state.ConversationState.{ConversationState}
+use Rattle.mysql_conversation.specs.declared.kind.Opening.{Opening}
+use Rattle.mysql_conversation.specs.declared.state.After.{After}
+use Rattle.mysql_conversation.specs.declared.state.After.TheVariants as after
+use Rattle.mysql_conversation.specs.declared.state.Request.{Request}
+use Rattle.mysql_conversation.specs.declared.state.Request.TheVariants.{Query, Execution, Cursor}
+use Rattle.mysql_conversation.specs.declared.state.State.{State}
+use Rattle.mysql_conversation.specs.declared.state.State.TheVariants as state
+
+-- a place at which nothing is counted
+abbrev pub at : Opening → ℕ → ℕ → ConversationState
+at opening place request = record { opening = opening; place = place; request = request; after = 0; definitions = 0; columns = 0 }
+
+abbrev pub request_at : ℕ → Option Request
+request_at n = if n == 0 then Some Query else (if n == 1 then Some Execution else (if n == 2 then Some Cursor else None))
+
+abbrev pub is_asked_at : ℕ → Option Bool
+is_asked_at n = if n == 0 then Some false else (if n == 1 then Some true else None)
+
+-- what follows definitions
+abbrev pub after_at : ConversationState → Option After
+after_at s =
+    if s.after == 0 then Some after.Rest
+    else (if s.after == 1 then option_map after.Rows (request_at s.request)
+    else (if s.after == 2 then Some (after.Columns s.columns)
+    else None))
+
+-- the state of these numbers, where they are of one
+abbrev pub state_at : ConversationState → Option State
+state_at s =
+    if s.place == 0 then Some state.Rest
+    else (if s.place == 1 then option_map state.Authentication (is_asked_at s.request)
+    else (if s.place == 2 then option_map state.Reply (request_at s.request)
+    else (if s.place == 3 then option_map state.Infile (request_at s.request)
+    else (if s.place == 4 then option_map state.InfileReply (request_at s.request)
+    else (if s.place == 5 then option_map (state.Definitions s.definitions) (after_at s)
+    else (if s.place == 6 then option_map state.DefinitionsEnd (after_at s)
+    else (if s.place == 7 then option_map state.Rows (request_at s.request)
+    else (if s.place == 8 then Some state.Prepared
+    else (if s.place == 9 then Some state.Fetch
+    else (if s.place == 10 then Some state.Acknowledgement
+    else (if s.place == 11 then Some state.Text
+    else (if s.place == 12 then Some state.Fields
+    else (if s.place == 13 then Some state.Events
+    else (if s.place == 14 then Some state.Refusal
+    else None))))))))))))))
+
+-- a conversation that stands there has taken these packets, of these kinds
+abbrev pub TakenAt : Agreed → ConversationState → List Packet → Type 0
+TakenAt agreed s items = (m : State) × (state_at s ≡ Some m) × Takes agreed (entrance s.opening) items m

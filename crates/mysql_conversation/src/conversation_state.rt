@@ -1,0 +1,159 @@
+//! Where a conversation stands, in plain numbers.
+
+ghost use Rattle.std.specs.Prelude.{◌≡◌, Some};
+ghost use Rattle.mysql_conversation.specs.ConversationState as spec;
+ghost use Rattle.mysql_conversation.specs.ConversationState.{after_at, request_at, state_at};
+
+use crate::kind::Opening;
+use crate::state::{After, Request, State};
+
+/// Where a conversation stands, for those who keep it in numbers of their own, as in a struct of C.
+///
+/// [`Conversation::state`](crate::Conversation::state) gives it, and [`Conversation::from_state`](crate::Conversation::from_state) goes on
+/// from there. The numbers are those of this version of the library alone.
+#[derive(Clone, Copy, Debug, PartialEq, Eq)]
+pub struct ConversationState {
+    /// Where it began.
+    pub opening: Opening,
+    /// What comes next.
+    pub place: u8,
+    /// What asked for it.
+    pub request: u8,
+    /// What follows definitions.
+    pub after: u8,
+    /// How many definitions come after the next one.
+    pub definitions: u64,
+    /// How many definitions of columns follow those of parameters.
+    pub columns: u64,
+}
+
+/// A place at which nothing is counted.
+fn at(opening: Opening, place: u8, request: u8) -> ConversationState
+    ensures { result ≡ spec.at opening place request }
+{
+    ConversationState {
+        opening,
+        place,
+        request,
+        after: 0,
+        definitions: 0,
+        columns: 0,
+    }
+}
+
+fn number_of(request: Request) -> u8
+    ensures { request_at result ≡ Some request }
+{
+    match request {
+        Request::Query => 0,
+        Request::Execution => 1,
+        Request::Cursor => 2,
+    }
+}
+
+/// A place among definitions, after the next of which so many come.
+fn at_definitions(opening: Opening, place: u8, definitions: u64, after: After) -> ConversationState
+    ensures opening { result.opening ≡ opening }
+    ensures place { result.place ≡ place }
+    ensures definitions { result.definitions ≡ definitions }
+    ensures after { after_at result ≡ Some after }
+{
+    let mut state = at(opening, place, 0);
+    state.definitions = definitions;
+    match after {
+        After::Rest => {}
+        After::Rows(request) => {
+            state.after = 1;
+            state.request = number_of(request);
+        }
+        After::Columns(columns) => {
+            state.after = 2;
+            state.columns = columns;
+        }
+    }
+    state
+}
+
+/// The numbers of a state.
+pub(crate) fn numbers_of(opening: Opening, state: State) -> ConversationState
+    ensures opening { result.opening ≡ opening }
+    ensures state { state_at result ≡ Some state }
+{
+    match state {
+        State::Rest => at(opening, 0, 0),
+        State::Authentication(is_asked) => at(opening, 1, u8::from(is_asked)),
+        State::Reply(request) => at(opening, 2, number_of(request)),
+        State::Infile(request) => at(opening, 3, number_of(request)),
+        State::InfileReply(request) => at(opening, 4, number_of(request)),
+        State::Definitions(left, after) => at_definitions(opening, 5, left, after),
+        State::DefinitionsEnd(after) => at_definitions(opening, 6, 0, after),
+        State::Rows(request) => at(opening, 7, number_of(request)),
+        State::Prepared => at(opening, 8, 0),
+        State::Fetch => at(opening, 9, 0),
+        State::Acknowledgement => at(opening, 10, 0),
+        State::Text => at(opening, 11, 0),
+        State::Fields => at(opening, 12, 0),
+        State::Events => at(opening, 13, 0),
+        State::Refusal => at(opening, 14, 0),
+    }
+}
+
+fn request_at(number: u8) -> Option<Request>
+    ensures { result ≡ request_at number }
+{
+    match number {
+        0 => Some(Request::Query),
+        1 => Some(Request::Execution),
+        2 => Some(Request::Cursor),
+        _ => None,
+    }
+}
+
+/// Whether something was asked for.
+fn is_asked_at(number: u8) -> Option<bool>
+    ensures { result ≡ spec.is_asked_at number }
+{
+    match number {
+        0 => Some(false),
+        1 => Some(true),
+        _ => None,
+    }
+}
+
+fn after_at(numbers: &ConversationState) -> Option<After>
+    ensures { result ≡ after_at numbers.now }
+{
+    match numbers.after {
+        0 => Some(After::Rest),
+        1 => request_at(numbers.request).map(After::Rows),
+        2 => Some(After::Columns(numbers.columns)),
+        _ => None,
+    }
+}
+
+/// The state of these numbers, where they are of one.
+pub(crate) fn state_at(numbers: &ConversationState) -> Option<State>
+    ensures { result ≡ state_at numbers.now }
+{
+    match numbers.place {
+        0 => Some(State::Rest),
+        1 => is_asked_at(numbers.request).map(State::Authentication),
+        2 => request_at(numbers.request).map(State::Reply),
+        3 => request_at(numbers.request).map(State::Infile),
+        4 => request_at(numbers.request).map(State::InfileReply),
+        5 => {
+            let after = after_at(numbers)?;
+            Some(State::Definitions(numbers.definitions, after))
+        }
+        6 => after_at(numbers).map(State::DefinitionsEnd),
+        7 => request_at(numbers.request).map(State::Rows),
+        8 => Some(State::Prepared),
+        9 => Some(State::Fetch),
+        10 => Some(State::Acknowledgement),
+        11 => Some(State::Text),
+        12 => Some(State::Fields),
+        13 => Some(State::Events),
+        14 => Some(State::Refusal),
+        _ => None,
+    }
+}
