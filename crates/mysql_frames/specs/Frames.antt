@@ -1,5 +1,5 @@
 -- Frames: how payloads stand in a stream of bytes.
-use Rattle.std.specs.Prelude.{◌≡◌, ℕ, ◌+◌, ◌/◌, ◌%◌, ◌<◌, zero, suc, List, [], ◌∷◌, ◌++◌, length}
+use Rattle.std.specs.Prelude.{◌≡◌, ℕ, ◌+◌, ◌/◌, ◌%◌, ◌<◌, ◌≤◌, zero, suc, List, [], ◌∷◌, ◌++◌, length}
 
 -- how many bytes of a payload stand in one frame at most
 abbrev pub most : ℕ
@@ -12,6 +12,10 @@ header len number = (len % 256) ∷ (len / 256 % 256) ∷ (len / 65536) ∷ numb
 -- the number after this one
 abbrev pub next : ℕ → ℕ
 next number = (number + 1) % 256
+
+-- the bytes are a frame of this number and content, and then the rest
+abbrev pub IsFrame : ℕ → List ℕ → List ℕ → List ℕ → Type 0
+IsFrame number content bytes rest = (length content ≤ most) × (bytes ≡ header (length content) number ++ (content ++ rest))
 
 -- Where a frame has `size` bytes of a payload at most: the bytes are so many full frames and a shorter one, maybe of nothing, with this payload, counted from a number on, and
 -- then the rest. The frame after them would have the number `after`.

@@ -10,6 +10,7 @@
 #![tactic(auto)]
 
 mod error;
+mod frame;
 mod header;
 pub mod laws;
 mod reader;
@@ -17,6 +18,7 @@ mod unfinished;
 mod writer;
 
 pub use error::FrameError;
+pub use frame::{Frame, next_frame};
 pub use header::{MAX_FRAME_LEN, sequence_id_at};
 pub use reader::FrameReader;
 pub use writer::{write_frames, write_packet};

@@ -1,5 +1,6 @@
 //! Frames: payloads out of a stream of bytes, and packets into it.
 
 pub use mysql_frames::{
-    FrameError, FrameReader, MAX_FRAME_LEN, sequence_id_at, write_frames, write_packet,
+    Frame, FrameError, FrameReader, MAX_FRAME_LEN, next_frame, sequence_id_at, write_frames,
+    write_packet,
 };

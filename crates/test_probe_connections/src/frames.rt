@@ -3,12 +3,13 @@
 //! `frames LIMIT NUMBER PIECE BYTES`: a stream that comes in pieces of so many bytes, or whole where that is 0. In place of NUMBER `sent`:
 //! each payload begins with the number that it was sent with. `write_frames NUMBER BYTES`.
 //! `long_frames LENGTH NUMBER PIECE`: a payload of so many bytes, written, and read again in such pieces. `sequence_id BYTES`.
+//! `next_frame BYTES`: the frames, one by one.
 
 ghost use Rattle.std.specs.Prelude.{◌≤◌};
 
 use crate::prelude::*;
 use mysql_frames::{
-    FrameError, FrameReader, MAX_FRAME_LEN, sequence_id_at, write_frames, write_packet,
+    FrameError, FrameReader, MAX_FRAME_LEN, next_frame, sequence_id_at, write_frames, write_packet,
 };
 
 /// A sequence number among the words.
@@ -94,6 +95,9 @@ pub fn long(out: &mut Out, request: &Request<'_>) -> Result {
             "header",
             frame.first_chunk::<4>().map(|header| header.as_slice()),
         );
+        if let Some((frame, _rest)) = next_frame(frame) {
+            out.show("last", frame.is_last());
+        }
     }
     out.show("after", after);
     let packet: RawBytes<'_, EofBytes> = RawBytes::new(CowSlice::Borrowed(&payload));
@@ -115,4 +119,19 @@ pub fn long(out: &mut Out, request: &Request<'_>) -> Result {
 /// The sequence number that bytes begin with.
 pub fn sequence_id(out: &mut Out, request: &Request<'_>) {
     out.show("number", sequence_id_at(&request.bytes))
+}
+
+/// The frames that the bytes begin with, and how many bytes are left.
+pub fn each(out: &mut Out, request: &Request<'_>) {
+    let mut rest = request.bytes.as_slice();
+    for _ in 0..request.bytes.len() {
+        let Some((frame, after)) = next_frame(rest) else {
+            break;
+        };
+        out.show("content", frame.content);
+        out.show("number", frame.sequence_id);
+        out.show("last", frame.is_last());
+        rest = after;
+    }
+    out.show("left", rest.len());
 }

@@ -66,7 +66,7 @@ fn of_wire_forms(out: &mut Out, request: &Request<'_>) -> bool {
             call "buf": buffers::calls, "content": buffers::content, "varlen": buffers::varlen, "code": forms::code,
                 "names": forms::names, "debug": forms::debug, "push_seq": forms::push, "sizes": forms::sizes,
                 "frames": frames::read, "write_frames": frames::write, "long_frames": frames::long,
-                "sequence_id": frames::sequence_id,),
+                "sequence_id": frames::sequence_id, "next_frame": frames::each,),
     }
 }
 

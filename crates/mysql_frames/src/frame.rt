@@ -1,0 +1,46 @@
+//! Frames, one by one.
+
+ghost use Rattle.std.specs.Prelude.{◌≡◌, ◌<◌, ◌↔◌, IfSome, IfNone, IsTrue, List, ℕ, length};
+ghost use Rattle.mysql_frames.specs.Frames.{IsFrame, most};
+
+use crate::header::{HEADER_LEN, MAX_FRAME_LEN, length_in};
+
+/// A frame, of which the content stays where it is.
+#[derive(Clone, Copy, Debug, PartialEq, Eq)]
+pub struct Frame<'a> {
+    /// Its sequence number.
+    pub sequence_id: u8,
+    /// What it has of a payload.
+    pub content: &'a [u8],
+}
+
+impl<'a> Frame<'a> {
+    /// Whether its payload ends with it: a full frame is followed by another one, maybe of nothing.
+    #[inline]
+    pub fn is_last(&self) -> bool
+        ensures value { IsTrue result ↔ (length self.now.content.now < most) }
+    {
+        self.content.len() < MAX_FRAME_LEN
+    }
+}
+
+/// The frame that the bytes begin with, and the bytes after it; none where it is not whole.
+///
+/// It takes no memory. A payload is the contents of its frames, up to the one that is its last; [`FrameReader`](crate::FrameReader) joins
+/// them.
+#[inline]
+pub fn next_frame(bytes: &[u8]) -> Option<(Frame<'_>, &[u8])>
+    ensures there { IfSome result (λ x. IsFrame x.0.sequence_id x.0.content.now bytes.now x.1.now) }
+    ensures none { IfNone result ((number : ℕ) (content rest : List ℕ) → IsFrame number content bytes.now rest → ⊥) }
+{
+    if bytes.len() < HEADER_LEN {
+        return None;
+    }
+    let (head, after) = bytes.split_at(HEADER_LEN);
+    let (content, rest) = after.split_at_checked(length_in(head))?;
+    let frame = Frame {
+        sequence_id: head[3],
+        content,
+    };
+    Some((frame, rest))
+}
