@@ -87,6 +87,17 @@ uint32_t myp_read_header(const uint8_t *bytes, size_t len, myp_header *out);
  * MYP_BUFFER_TOO_SMALL. */
 uint32_t myp_write_header(uint32_t payload_length, uint8_t sequence_id, uint8_t *out, size_t size, size_t *written);
 
+/* A frame, and what it has of a payload. Initializer: MYP_FRAME_INIT. */
+typedef struct myp_frame {
+    myp_bytes content;
+    uint8_t sequence_id;
+    uint8_t is_last; /* 1 where its payload ends with it; 0 of 16,777,215 bytes: another frame follows, maybe of nothing */
+} myp_frame;
+#define MYP_FRAME_INIT { MYP_BYTES_INIT, 0, 0 }
+
+/* Takes the next frame of a stream off the front of `rest`. MYP_END where it is not whole there: read on. */
+uint32_t myp_next_frame(myp_bytes *rest, myp_frame *out);
+
 enum myp_reply {
     MYP_REPLY_OK = 0,
     MYP_REPLY_ERROR = 1,        /* an error, or a progress report: myp_read_error tells which */
@@ -116,6 +127,78 @@ typedef struct myp_column_count {
 /* Reads the count of columns, length-encoded, and under MYP_MARIADB_CLIENT_CACHE_METADATA a byte that says whether definitions
  * follow. MYP_UNEXPECTED_EOF; MYP_INVALID_DATA of a number that begins with fb or ff. */
 uint32_t myp_read_column_count(const uint8_t *packet, size_t len, uint32_t mariadb_capabilities, myp_column_count *out);
+
+/* ---- which packet comes next */
+
+enum myp_side { MYP_FROM_CLIENT = 0, MYP_FROM_SERVER = 1 };
+enum myp_opening { MYP_AFTER_LOGIN = 0, MYP_BETWEEN_COMMANDS = 1 };
+
+/* What a packet is, by all that came before. */
+enum myp_packet_kind {
+    MYP_PACKET_HANDSHAKE = 0,
+    MYP_PACKET_SSL_REQUEST, /* a request to go on in TLS */
+    MYP_PACKET_LOGIN,
+    MYP_PACKET_AUTH_SWITCH,
+    MYP_PACKET_OLD_AUTH_SWITCH, /* the byte fe alone */
+    MYP_PACKET_AUTH_MORE_DATA,
+    MYP_PACKET_AUTH_NEXT_FACTOR,
+    MYP_PACKET_AUTH_PLUGIN_DATA, /* what a plugin of the server says in its own words */
+    MYP_PACKET_AUTH_DATA, /* what the client answers to any of these */
+    MYP_PACKET_COMMAND, /* its first byte in `command` */
+    MYP_PACKET_OK,
+    MYP_PACKET_ERROR, /* it ends what a command asked for */
+    MYP_PACKET_UNASKED_ERROR, /* an error that answers no command: the server ends the connection */
+    MYP_PACKET_PROGRESS_REPORT,
+    MYP_PACKET_LOCAL_INFILE,
+    MYP_PACKET_INFILE_CONTENT, /* a part of the file */
+    MYP_PACKET_INFILE_END, /* an empty packet */
+    MYP_PACKET_COLUMN_COUNT, /* how many in `columns` */
+    MYP_PACKET_COLUMN, /* the definition of a column or a parameter */
+    MYP_PACKET_EOF, /* the end of definitions, of rows or of events */
+    MYP_PACKET_OK_TERMINATOR, /* the same as an OK packet */
+    MYP_PACKET_TEXT_ROW,
+    MYP_PACKET_BINARY_ROW,
+    MYP_PACKET_PREPARE_OK, /* a prepared statement: `columns` and `params` */
+    MYP_PACKET_STATISTICS, /* the text that answers COM_STATISTICS */
+    MYP_PACKET_BINLOG_EVENT,
+    MYP_PACKET_SEMI_SYNC_ACK /* a replica's acknowledgement of an event */
+};
+
+/* A conversation of a client and a server, from the client's login on: what both sides agreed on, and what comes next. Its numbers are of this
+ * version of the library alone. A copy goes on from where it was made. Initializer: MYP_CONVERSATION_INIT. */
+typedef struct myp_conversation {
+    uint64_t definitions;
+    uint64_t columns;
+    uint32_t capabilities;
+    uint32_t mariadb_capabilities;
+    uint8_t opening; /* of enum myp_opening */
+    uint8_t place;
+    uint8_t request;
+    uint8_t after;
+} myp_conversation;
+#define MYP_CONVERSATION_INIT { 0, 0, 0, 0, 0, 0, 0, 0 }
+
+/* Initializer: MYP_PACKET_INIT. What its kind doesn't name is 0. */
+typedef struct myp_packet {
+    uint64_t columns;
+    uint16_t params;
+    uint8_t kind; /* of enum myp_packet_kind */
+    uint8_t command;
+    uint8_t metadata_follows; /* of MYP_PACKET_COLUMN_COUNT and MYP_PACKET_PREPARE_OK: 1 where definitions follow */
+} myp_packet;
+#define MYP_PACKET_INIT { 0, 0, 0, 0, 0 }
+
+/* Begins a conversation of which no packet came, by what both sides can do: after the client's login, or between two commands of a connection
+ * that is taken up later. MYP_INVALID_INPUT of another opening. */
+uint32_t myp_begin_conversation(uint32_t capabilities, uint32_t mariadb_capabilities, uint8_t opening, myp_conversation *out);
+
+/* Takes the next payload, of a side of enum myp_side, and says which packet it is. Each command is answered before the next one comes.
+ * MYP_INVALID_DATA where no packet of this payload comes here; MYP_INVALID_INPUT of another side, or of a struct that is no conversation's.
+ * After both the conversation stands where it stood. */
+uint32_t myp_next_packet(myp_conversation *conversation, uint32_t from, const uint8_t *payload, size_t len, myp_packet *out);
+
+/* Says whether all that was asked for is answered: 1 or 0. MYP_INVALID_INPUT of a struct that is no conversation's. */
+uint32_t myp_is_at_rest(const myp_conversation *conversation, uint8_t *is_at_rest);
 
 /* ---- what a server says */
 

@@ -13,6 +13,19 @@ static void headers(void)
     CHECK(myp_write_header(0xffffff, 3, out, sizeof out, &n) == MYP_OK && n == 4 && !memcmp(out, "\xff\xff\xff\x03", 4));
     CHECK(myp_write_header(0x1000000, 3, out, sizeof out, &n) == MYP_INVALID_INPUT && n == 0);
     CHECK(myp_write_header(1, 3, out, 3, &n) == MYP_BUFFER_TOO_SMALL && n == 4);
+    static const uint8_t stream[] = { 1, 0, 0, 0, 0x0e, 0, 0, 0, 9, 2, 0, 0, 1, 'a' };
+    myp_bytes rest = { stream, sizeof stream };
+    myp_frame f = MYP_FRAME_INIT;
+    CHECK(myp_next_frame(&rest, &f) == MYP_OK && f.content.data == stream + 4 && f.content.len == 1 && f.sequence_id == 0 && f.is_last == 1 && rest.data == stream + 5);
+    CHECK(myp_next_frame(&rest, &f) == MYP_OK && f.content.len == 0 && f.sequence_id == 9 && f.is_last == 1 && rest.len == 5);
+    CHECK(myp_next_frame(&rest, &f) == MYP_END && f.sequence_id == 9 && rest.len == 5);
+    static uint8_t full[4 + 0xffffff + 4] = { 0xff, 0xff, 0xff, 2 };
+    full[4 + 0xffffff + 3] = 3;
+    rest.data = full, rest.len = sizeof full - 5;
+    CHECK(myp_next_frame(&rest, &f) == MYP_END);
+    rest.len = sizeof full;
+    CHECK(myp_next_frame(&rest, &f) == MYP_OK && f.content.len == 0xffffff && f.sequence_id == 2 && f.is_last == 0);
+    CHECK(myp_next_frame(&rest, &f) == MYP_OK && f.content.len == 0 && f.sequence_id == 3 && f.is_last == 1 && rest.len == 0);
 }
 
 static void replies(void)
@@ -31,6 +44,32 @@ static void replies(void)
     CHECK(myp_read_column_count((const uint8_t *)"\xfc\x00\x01", 3, 0, &c) == MYP_OK && c.count == 256 && c.metadata_follows == 1 && c.used == 3);
     CHECK(myp_read_column_count((const uint8_t *)"\x02\x00", 2, MYP_MARIADB_CLIENT_CACHE_METADATA, &c) == MYP_OK && c.count == 2 && c.metadata_follows == 0 && c.used == 2);
     CHECK(myp_read_column_count((const uint8_t *)"\xfb", 1, 0, &c) == MYP_INVALID_DATA && c.count == 2);
+}
+
+/* a query and its rows, an execution of a statement that has none, and what doesn't come */
+static void conversations(void)
+{
+    static const uint8_t column[] = "\x03" "def" "\0\0\0\x01" "1\0\x0c\x3f\0\x01\0\0\0\x03\x81\0\0\0\0", eof[] = { 0xfe, 0, 0, 2, 0 }, ok[] = { 0, 0, 0, 2, 0, 0, 0 };
+    myp_conversation c = MYP_CONVERSATION_INIT;
+    myp_packet p = MYP_PACKET_INIT;
+    uint8_t rests = 7;
+    CHECK(myp_begin_conversation(0, 0, 2, &c) == MYP_INVALID_INPUT && c.opening == 0);
+    CHECK(myp_begin_conversation(0, 0, MYP_AFTER_LOGIN, &c) == MYP_OK && myp_is_at_rest(&c, &rests) == MYP_OK && rests == 0);
+    CHECK(myp_next_packet(&c, MYP_FROM_SERVER, ok, 7, &p) == MYP_OK && p.kind == MYP_PACKET_OK && myp_is_at_rest(&c, &rests) == MYP_OK && rests == 1);
+    CHECK(myp_next_packet(&c, MYP_FROM_CLIENT, (const uint8_t *)"\x03" "select 1", 9, &p) == MYP_OK && p.kind == MYP_PACKET_COMMAND && p.command == MYP_COM_QUERY);
+    CHECK(myp_next_packet(&c, MYP_FROM_CLIENT, (const uint8_t *)"\x0e", 1, &p) == MYP_INVALID_DATA && p.command == MYP_COM_QUERY);
+    CHECK(myp_next_packet(&c, MYP_FROM_SERVER, (const uint8_t *)"\x01", 1, &p) == MYP_OK && p.kind == MYP_PACKET_COLUMN_COUNT && p.columns == 1 && p.metadata_follows == 1 && p.command == 0);
+    CHECK(myp_next_packet(&c, MYP_FROM_SERVER, column, sizeof column - 1, &p) == MYP_OK && p.kind == MYP_PACKET_COLUMN);
+    CHECK(myp_next_packet(&c, MYP_FROM_SERVER, (const uint8_t *)"\x01" "1", 2, &p) == MYP_INVALID_DATA && p.kind == MYP_PACKET_COLUMN);
+    CHECK(myp_next_packet(&c, MYP_FROM_SERVER, eof, 5, &p) == MYP_OK && p.kind == MYP_PACKET_EOF);
+    myp_conversation copy = c;
+    CHECK(myp_next_packet(&copy, MYP_FROM_SERVER, (const uint8_t *)"\x01" "1", 2, &p) == MYP_OK && p.kind == MYP_PACKET_TEXT_ROW);
+    CHECK(myp_next_packet(&copy, MYP_FROM_SERVER, eof, 5, &p) == MYP_OK && p.kind == MYP_PACKET_EOF && myp_is_at_rest(&copy, &rests) == MYP_OK && rests == 1);
+    CHECK(myp_is_at_rest(&c, &rests) == MYP_OK && rests == 0 && myp_next_packet(&c, 2, eof, 5, &p) == MYP_INVALID_INPUT);
+    CHECK(myp_next_packet(&copy, MYP_FROM_CLIENT, (const uint8_t *)"\x17\1\0\0\0\0\1\0\0\0", 10, &p) == MYP_OK && p.command == MYP_COM_STMT_EXECUTE);
+    CHECK(myp_next_packet(&copy, MYP_FROM_SERVER, (const uint8_t *)"\xff\x15\x04#28000no", 11, &p) == MYP_OK && p.kind == MYP_PACKET_ERROR);
+    copy.place = 99;
+    CHECK(myp_is_at_rest(&copy, &rests) == MYP_INVALID_INPUT && rests == 0 && myp_next_packet(&copy, MYP_FROM_SERVER, eof, 5, &p) == MYP_INVALID_INPUT && copy.place == 99);
 }
 
 static void connection(void)
@@ -143,9 +182,10 @@ int main(void)
     CHECK(sizeof(myp_column) == 104 && sizeof(myp_ok) == 64 && sizeof(myp_error) == 56 && sizeof(myp_handshake) == 88 && sizeof(myp_statement) == 24 && sizeof(myp_column_count) == 24);
     CHECK(sizeof(myp_change) == 56 && sizeof(myp_login) == 96 && sizeof(myp_change_user) == 88 && sizeof(myp_ssl_request) == 16 && sizeof(myp_attribute) == 32 && sizeof(myp_bulk_rule) == 16);
     CHECK(sizeof(myp_replica) == 72 && sizeof(myp_interval) == 16 && sizeof(myp_sid) == 72 && sizeof(myp_ssl_request) == 16 && sizeof(myp_login_request) == 104);
-    CHECK(sizeof(myp_long_data) == 24 && sizeof(myp_execution_head) == 16 && sizeof(myp_param) == 3 && sizeof(myp_user_change) == 96 && sizeof(myp_dump) == 32 && sizeof(myp_gtid_dump) == 64 && sizeof(myp_sid_places) == 56 && sizeof(myp_execution) == 16);
+    CHECK(sizeof(myp_long_data) == 24 && sizeof(myp_execution_head) == 16 && sizeof(myp_param) == 3 && sizeof(myp_user_change) == 96 && sizeof(myp_dump) == 32 && sizeof(myp_gtid_dump) == 64 && sizeof(myp_sid_places) == 56 && sizeof(myp_execution) == 16 && sizeof(myp_conversation) == 32 && sizeof(myp_packet) == 16 && sizeof(myp_frame) == 24);
     headers();
     replies();
+    conversations();
     connection();
     answers();
     results();

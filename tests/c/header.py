@@ -17,6 +17,7 @@ sys.path.insert(0, str(TOP / "tests/probe"))
 from lines import summary
 
 CRATE, WIRE = TOP / "crates/mysql_packets_c/src", TOP / "crates/mysql_wire/specs"
+KIND_NAMES = TOP / "crates/mysql_conversation/specs/KindName.antt"
 HEADER = TOP / "include/mysql_packets.h"
 STRUCT = re.compile(r"((?:^///[^\n]*\n)+)#\[repr\(C\)\]\n(?:#\[[^\n]*\n)*pub struct (\w+)(?:<'a>)? \{(.*?)^\}", re.M | re.S)
 FIELD = re.compile(r"^    pub (\w+): ([^\n]+),$", re.M)
@@ -26,7 +27,7 @@ RENAMED = {"MYP_CLIENT_PROGRESS": "CLIENT_PROGRESS_OBSOLETE", "MYP_CLIENT_MULTI_
            "MYP_DUMP_NON_BLOCK": "BINLOG_DUMP_NON_BLOCK", "MYP_DUMP_THROUGH_POSITION": "BINLOG_THROUGH_POSITION",
            "MYP_DUMP_THROUGH_GTID": "BINLOG_THROUGH_GTID"}
 # the flags, commands and kinds, each of which the library has
-IS_IN_THE_TABLE = re.compile(r"MYP_(CLIENT|MARIADB_CLIENT|SERVER|COM|DUMP|SESSION_TRACK)_|MYP_\w+_FLAG$|MYP_NUM_FLAG$")
+IS_IN_THE_TABLE = re.compile(r"MYP_(CLIENT|MARIADB_CLIENT|SERVER|COM|DUMP|SESSION_TRACK|PACKET)_|MYP_\w+_FLAG$|MYP_NUM_FLAG$")
 SIZES = {"u8": 1, "u16": 2, "u32": 4, "u64": 8, "usize": 8}
 C_TYPES = {"u8": "uint8_t", "u16": "uint16_t", "u32": "uint32_t", "u64": "uint64_t", "usize": "size_t"}
 
@@ -98,6 +99,8 @@ def numbers_of_the_library():
     found.update({f"MYP_{name}": int(value) for name, value in types})
     states = re.findall(r"^session_state_type_code variant\.(\w+) = (\d+)$", (WIRE / "SessionStateType.antt").read_text(), re.M)
     found.update({f"MYP_{name}": int(value) for name, value in states})
+    packets = re.findall(r"^index name\.(\w+) = (\d+)$", KIND_NAMES.read_text(), re.M)
+    found.update({f"MYP_PACKET_{re.sub('(?<!^)(?=[A-Z])', '_', name).upper()}": int(value) for name, value in packets})
     codes = re.findall(r"^pub\(crate\) const (\w+): u32 = (\d+);$", (CRATE / "code.rt").read_text(), re.M)
     found.update({f"MYP_{name}": int(value) for name, value in codes})
     return found

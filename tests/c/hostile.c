@@ -86,6 +86,14 @@ static void read_all(size_t len)
     myp_column_count count;
     memset(&count, 7, sizeof count);
     CALL(count, myp_read_column_count(p, len, caps, &count));
+    static myp_conversation stands = MYP_CONVERSATION_INIT;
+    myp_conversation any;
+    myp_packet next;
+    for (size_t i = 0; i < sizeof any; i++)
+        ((uint8_t *)&any)[i] = (uint8_t)(varied() % (i < 24 ? 256 : 16));
+    memset(&next, 7, sizeof next);
+    CALL(next, myp_next_packet(&any, (uint32_t)varied() % 3, p, len, &next));
+    CALL(stands, myp_next_packet(&stands, (uint32_t)varied() % 2, p, len, &next));
     myp_statement s;
     memset(&s, 7, sizeof s);
     CALL(s, myp_read_statement(p, len, &s));

@@ -3,6 +3,7 @@
 
 The last line is 'N passed, N failed'."""
 import os
+import re
 import subprocess
 import sys
 import tempfile
@@ -18,14 +19,65 @@ BROKEN = ["row '1' 'a row'", "row '2' 'a row'", "error 1242 (21000): Subquery re
 WANTED = ["row '2' 'text' NULL", *BROKEN, *ROWS, "error 1146 (42S02): Table 'live.nothing_here' doesn't exist"]
 
 
-def driver(prefix, folder, port):
-    """What the driver in C prints, built as a user builds it."""
+# what the clients ask through the recorder, and what must be among the lines of it: of each client the same
+ASKED = ["select 1, 'a' union all select 2, null", "create temporary table t (a int)", "insert into t values (1), (2), (3)", "select * from nothing_here"]
+RECORDED = {
+    "login native": 1, "command code=3 select 1, 'a' union all select 2, null": 1, "column_count columns=2": 1, "text_row": 2,
+    "command code=3 insert into t values (1), (2), (3)": 1, "ok affected_rows=3": 1, "error 1146 Table 'live.nothing_here' doesn't exist": 1, "command code=1": 1,
+}
+
+
+def built(name, prefix, folder):
+    """An example in C, built as a user builds it, and what it runs under."""
     environment = {**os.environ, "PKG_CONFIG_PATH": str(prefix / "lib/pkgconfig"), "LD_LIBRARY_PATH": str(prefix / "lib")}
     flags = subprocess.run(["pkg-config", "--cflags", "--libs", "mysql_packets"], env=environment, capture_output=True, text=True, check=True).stdout.split()
-    program = Path(folder) / "driver"
-    subprocess.run(["cc", "-std=gnu11", "-Wall", "-Wextra", "-Werror", TOP / "examples/c/driver.c", *flags, "-o", program], check=True)
+    program = Path(folder) / name
+    subprocess.run(["cc", "-std=gnu11", "-Wall", "-Wextra", "-Werror", TOP / f"examples/c/{name}.c", *flags, "-o", program], check=True)
+    return program, environment
+
+
+def driver(prefix, folder, port):
+    """What the driver in C prints."""
+    program, environment = built("driver", prefix, folder)
     ran = subprocess.run([program, "127.0.0.1", str(port), "native", "secret", "live"], env=environment, capture_output=True, text=True, timeout=120)
     return ran.stdout.splitlines() + ran.stderr.splitlines()
+
+
+def clients(port):
+    """The commands that ask through this port, by the name of the client."""
+    asks = "import sys, pymysql\nc = pymysql.connect(host='127.0.0.1', port=int(sys.argv[1]), user='native', password='secret', database='live').cursor()\n"
+    for it in ASKED:
+        asks += f"try: c.execute({it!r}); print(c.fetchall())\nexcept pymysql.err.ProgrammingError as error: print(error)\n"
+    asks += "c.connection.close()"
+    yield "mariadb", [server.found("mariadb"), "--no-defaults", "-h127.0.0.1", f"-P{port}", "-unative", "-psecret", "--skip-ssl", "--force", "live", "-e", "; ".join(ASKED)]
+    python = next((it for it in (sys.executable, "/usr/bin/python3") if subprocess.run([it, "-c", "import pymysql"], capture_output=True).returncode == 0), None)
+    if python:
+        yield "pymysql", [python, "-c", asks, str(port)]
+
+
+def recorded(prefix, folder, port):
+    """What the recorder prints of each client's connection, up to its end."""
+    program, environment = built("recorder", prefix, folder)
+    own = server.free_port()
+    with subprocess.Popen([program, str(own), "127.0.0.1", str(port)], env=environment, stdout=subprocess.PIPE, text=True) as recorder:
+        recorder.stdout.readline()
+        for name, command in clients(own):
+            subprocess.run(command, capture_output=True, timeout=60)
+            lines = []
+            for line in recorder.stdout:
+                lines.append(line.rstrip())
+                if line.startswith("closed"):
+                    break
+            yield name, lines
+        recorder.kill()
+
+
+def wrong_in(lines):
+    """What lacks among the lines of a connection, and what must not be there."""
+    found = [re.sub(r"^[<>] \d+ ", "", it) for it in lines]
+    lacks = [f"{count} lines '{line}'" for line, count in RECORDED.items() if sum(it.startswith(line) for it in found) < count]
+    refused = [it for it in lines if "refused" in it]
+    return lacks + refused + ["an end at which all is answered"] * (lines[-1:] != ["closed, all is answered"])
 
 
 def rows_in(lines):
@@ -54,6 +106,9 @@ def main(prefix):
             passed += 1
         else:
             wrong.append(f"driver: {taken} rows in {requests} requests, of which {stored} are stored")
+        for name, lines in recorded(prefix, folder, port):
+            lacks = wrong_in(lines)
+            passed, wrong = passed + (not lacks), wrong + [f"recorder, {name}: {lacks}"] * bool(lacks)
         ran = subprocess.run([sys.executable, TOP / "examples/python/insert.py", prefix, "127.0.0.1", str(port), "native", "secret", "live"],
                              capture_output=True, text=True, timeout=120)
         count = subprocess.run([server.found("mariadb"), "--no-defaults", "-h127.0.0.1", f"-P{port}", "-unative", "-psecret", "live", "-Be",

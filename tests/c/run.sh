@@ -6,6 +6,7 @@
 # memory.c     each allocation of each call fails in turn
 # hostile.c    the rows of tests/vectors/, cut and changed, right before a page that may not be touched
 # rows.py      the same rows and malformed input, compared with the reference decoder
+# conversations.py   which packet comes next, in recorded conversations and changed ones, compared with the second tracker
 # live.py      the examples against a MariaDB server, where one is installed
 # package.py   the Python package, installed in an environment of its own
 # release.sh   what is handed out: made twice it is the same, and the driver is built with it in another folder
@@ -63,6 +64,7 @@ expect 'hostile.c is built' built hostile "${sanitize[@]}"
 "$top/tests/c/rows.py" --seeds >"$work/seeds"
 expect 'hostile.c' "$work/hostile" "$count" 1 <"$work/seeds"
 counted "$top/tests/c/rows.py" "$prefix/lib/libmysql_packets.so" "$count"
+counted "$top/tests/c/conversations.py" "$prefix/lib/libmysql_packets.so"
 counted "$top/tests/c/live.py" "$prefix"
 counted "$top/tests/c/package.py" "$prefix"
 counted "$top/tests/c/release.sh"

@@ -1,4 +1,5 @@
 pub mod Codes
+pub mod Conversations
 pub mod FilledRows
 pub mod Answers
 pub mod Changes

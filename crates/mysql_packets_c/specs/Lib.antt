@@ -8,6 +8,7 @@ pub mod Close
 pub mod Code
 pub mod Column
 pub mod ColumnCount
+pub mod Conversation
 pub mod ColumnType
 pub mod Dump
 pub mod ErrPacket
