@@ -1,6 +1,7 @@
 //! Callers of the library with contracts of their own, which rest on its contracts and laws: `docs/CALLING.md` walks through one.
 #![tactic(auto)]
 
+mod audit;
 mod client;
 mod gtids;
 mod load;
@@ -8,9 +9,10 @@ mod proxy;
 mod report;
 mod server;
 
+pub use audit::{Sent, is_whole_session};
 pub use client::execution;
 pub use gtids::{kept, merged};
 pub use load::stream;
 pub use proxy::{forward, statement};
 pub use report::{sum_of_column, value_at};
-pub use server::resend;
+pub use server::{resend, send_row};
