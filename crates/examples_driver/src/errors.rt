@@ -4,7 +4,7 @@ use crate::connection::Connection;
 use crate::error::{Error, Result};
 use mysql_packets::conversation::Kind;
 use mysql_packets::observer::{ReadContext, ServerPacket, server_packet};
-use mysql_packets::packets::{Column, ServerError, ServerErrorRef};
+use mysql_packets::packets::{Column, ErrPacket, ErrPacketRef, ServerError};
 use std::alloc::Global;
 use std::io::{Read, Write};
 
@@ -51,15 +51,19 @@ fn keep_packet<R: Read, W: Write>(
             Ok(connection.reports.push(report)?)
         }
         ServerPacket::GreetingError(packet) => {
-            Err(Error::Server(owned(alloc, packet.server_error())?))
+            let error = packet.server_error().to_error();
+            Err(Error::Server(error.into_owned(alloc)?))
         }
         ServerPacket::Error(packet) | ServerPacket::UnaskedError(packet) => {
-            Err(Error::Server(owned(alloc, packet.server_error())?))
+            Err(Error::Server(error_of(alloc, packet)?))
         }
         _ => Err(Error::Unknown("an error of another kind")),
     }
 }
 
-fn owned(alloc: Global, error: &ServerErrorRef<'_>) -> Result<ServerError<'static>> {
-    Ok(error.to_error().into_owned(alloc)?)
+fn error_of(alloc: Global, packet: &ErrPacketRef<'_>) -> Result<ServerError<'static>> {
+    match packet.to_packet() {
+        ErrPacket::Error(error) => Ok(error.into_owned(alloc)?),
+        ErrPacket::Progress(_) => Err(Error::Unknown("a report in place of an error")),
+    }
 }
