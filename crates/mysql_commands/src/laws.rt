@@ -1,10 +1,11 @@
 //! Laws: functions with nothing in them, whose contracts hold for all values.
 #![tactic(auto)]
 
-ghost use Rattle.std.specs.Prelude.{◌≡◌, ◌++◌, List, ℕ};
+ghost use Rattle.std.specs.Prelude.{◌≡◌, ◌++◌, ◌↔◌, IsTrue, List, ℕ};
 ghost use Rattle.mysql_wire.specs.Flags.{CapabilityFlags};
 ghost use Rattle.mysql_commands.specs.AsRead.{AreBytes};
 ghost use Rattle.mysql_commands.specs.Command.{command, command_bytes, CommandFits};
+ghost use Rattle.mysql_commands.specs.declared.as_sent.AsSent.{AsSent};
 ghost use Rattle.mysql_commands.specs.declared.command.Command.{Command};
 
 /// What is written of a command is read again, under the flags that both sides know.
@@ -17,4 +18,10 @@ pub fn command_round_trips()
 #[tactic(auto, using(crate::proofs::CommandsAsRead::as_read))]
 pub fn read_commands_are_written_as_they_were()
     ensures written { (c : CapabilityFlags) (v : Command) (before rest : List ℕ) → AreBytes before → (command c).Spells v before rest → command_bytes v ++ rest ≡ before }
+{}
+
+/// What was sent is equal exactly where its bytes are the same, whatever they are read as.
+#[tactic(auto, using(crate::proofs::SentAlike::sent_alike))]
+pub fn equal_sent_values_have_the_same_bytes<T>()
+    ensures same { (x y : AsSent T) → IsTrue (⟦<crate::as_sent::AsSent<'static, T> as PartialEq>⟧.eq x y) ↔ (x.bytes ≡ y.bytes) }
 {}
