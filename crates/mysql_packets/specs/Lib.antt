@@ -1,6 +1,7 @@
 pub mod Digits
 pub mod Decimal
 pub mod Parts
+pub mod TimeText
 pub mod RowText
 pub mod Input
 pub mod Capabilities
