@@ -1,5 +1,6 @@
 pub mod LastPart
 pub mod CommandAgain
+pub mod QueryAgain
 pub mod SentAlike
 pub mod AttributeViews
 pub mod AsRead
