@@ -18,7 +18,7 @@ use Rattle.mysql_wire.specs.Writing.{le_bytes}
 use Rattle.mysql_wire.specs.declared.codes.server_command.ServerCommand.TheVariants as name
 use Rattle.mysql_wire.specs.declared.lenenc.LenEnc.{LenEnc}
 use Rattle.mysql_values.specs.ParamType.{param_type, type_of}
-use Rattle.mysql_values.specs.Value.{Content, bin}
+use Rattle.mysql_values.specs.Value.{bin}
 use Rattle.mysql_values.specs.ValueRef.{ref_content}
 use Rattle.mysql_prepared.proofs.ExecutionAgain.{type-fits, one-again}
 use Rattle.mysql_prepared.specs.Bitmap.{cell, bytes_for}
@@ -32,7 +32,7 @@ use Rattle.mysql_prepared.specs.declared.com_query.ComQuery.{ComQuery}
 use Rattle.mysql_prepared.specs.declared.execute_param.QueryAttribute.{QueryAttribute}
 use Rattle.mysql_commands.specs.Command.{command, command_bytes, CommandFits}
 use Rattle.mysql_commands.specs.Query.{query, query_of, sends_attributes}
-use Rattle.mysql_commands.specs.QueryAttributes.{Attribute, NamedType, attribute, front, lenenc_int, named_type, query_attributes, value_of, values}
+use Rattle.mysql_commands.specs.QueryAttributes.{Attribute, attribute, front, lenenc_int, named_type, query_attributes, values}
 use Rattle.mysql_commands.specs.SentQuery.{AttributeFits, AttributesFit, SentQueryFits, attribute_read, attributes_bytes, attributes_read, query_read, type_read}
 use Rattle.mysql_commands.specs.declared.command.Command.TheVariants as variant
 use Rattle.mysql_commands.proofs.CommandAgain.{command-again}
