@@ -64,55 +64,55 @@ new_writer_holds : (call : BulkCall) (types : List ParamType) (capacity : ℕ) �
 new_writer_holds call types capacity = record { count = refl; size = refl; bytes = refl; taken = All-nil (Spells types); fits = λ some. absurd (some refl) }
 
 -- what its run gives of rows that are these, and says why it ended
-run_gives : (call : BulkCall) (types : List ParamType) (w left : WriterState) (given rows : List (List Cell)) (requests : List (List ℕ)) (told refusal : Option BulkRowRefusal)
+run_gives : (call : BulkCall) (types : List ParamType) (w left : WriterState) (given rows : List (List Cell)) (requests : List (List ℕ)) (outcome refusal : Option BulkRowRefusal)
     → w ≡ writer_of (builder_of call) types w.capacity
-    → ((before : List (List Cell)) → HoldsCells w before → CellsRunGives w before given requests told left)
+    → ((before : List (List Cell)) → HoldsCells w before → CellsRunGives w before given requests outcome left)
     → given ≡ rows
-    → told ≡ refusal
+    → outcome ≡ refusal
     → CellsRunGives (writer_of (builder_of call) types w.capacity) [] rows requests refusal left
-run_gives call types w left given rows requests told refusal settings run same said =
+run_gives call types w left given rows requests outcome refusal settings run same said =
     let new = writer_of (builder_of call) types w.capacity in
     let holds = subst (λ (v : WriterState). HoldsCells v []) (sym settings) (new_writer_holds call types w.capacity) in
-    let gives = subst (λ (v : WriterState). CellsRunGives v [] given requests told left) settings (run [] holds) in
-    subst (λ (o : Option BulkRowRefusal). CellsRunGives new [] rows requests o left) said (subst (λ (rs : List (List Cell)). CellsRunGives new [] rs requests told left) same gives)
+    let gives = subst (λ (v : WriterState). CellsRunGives v [] given requests outcome left) settings (run [] holds) in
+    subst (λ (o : Option BulkRowRefusal). CellsRunGives new [] rows requests o left) said (subst (λ (rs : List (List Cell)). CellsRunGives new [] rs requests outcome left) same gives)
 
 -- a run that was refused
-pub cells_refused : {E : Type 0} (call : BulkCall) (types : List ParamType) (w left : WriterState) (given rows : List (List Cell)) (requests : List (List ℕ)) (told : Option BulkRowRefusal) (e : BulkRowRefusal) (text name : List ℕ) (r : Result Answer E)
+pub cells_refused : {E : Type 0} (call : BulkCall) (types : List ParamType) (w left : WriterState) (given rows : List (List Cell)) (requests : List (List ℕ)) (outcome : Option BulkRowRefusal) (e : BulkRowRefusal) (text name : List ℕ) (r : Result Answer E)
     → w ≡ writer_of (builder_of call) types w.capacity
-    → ((before : List (List Cell)) → HoldsCells w before → CellsRunGives w before given requests told left)
+    → ((before : List (List Cell)) → HoldsCells w before → CellsRunGives w before given requests outcome left)
     → given ≡ rows
-    → told ≡ Some e
+    → outcome ≡ Some e
     → name ≡ row_refusal_name e
     → text ≡ bytes_lines requests
     → IfOk r (λ answer. answer ≡ refused_by text name)
     → IfOk r (AnswersCells call types rows)
-cells_refused call types w left given rows requests told e text name (Ok answer) settings run same said named lines is = record {
+cells_refused call types w left given rows requests outcome e text name (Ok answer) settings run same said named lines is = record {
   requests = requests;
   refusal = Some e;
   capacity = w.capacity;
   left = left;
-  gives = run_gives call types w left given rows requests told (Some e) settings run same said;
+  gives = run_gives call types w left given rows requests outcome (Some e) settings run same said;
   shown = is ∙ rw (lines, named) refl;
 }
-cells_refused call types w left given rows requests told e text name (Err error) settings run same said named lines is = tt
+cells_refused call types w left given rows requests outcome e text name (Err error) settings run same said named lines is = tt
 
 -- a run that sent all rows
-pub cells_sent : {E : Type 0} (call : BulkCall) (types : List ParamType) (w left : WriterState) (given rows : List (List Cell)) (requests : List (List ℕ)) (told : Option BulkRowRefusal) (text : List ℕ) (count row_count : ℕ) (r : Result Answer E)
+pub cells_sent : {E : Type 0} (call : BulkCall) (types : List ParamType) (w left : WriterState) (given rows : List (List Cell)) (requests : List (List ℕ)) (outcome : Option BulkRowRefusal) (text : List ℕ) (count row_count : ℕ) (r : Result Answer E)
     → w ≡ writer_of (builder_of call) types w.capacity
-    → ((before : List (List Cell)) → HoldsCells w before → CellsRunGives w before given requests told left)
+    → ((before : List (List Cell)) → HoldsCells w before → CellsRunGives w before given requests outcome left)
     → given ≡ rows
-    → told ≡ None
+    → outcome ≡ None
     → text ≡ bytes_lines requests
     → count ≡ length requests
     → row_count ≡ length rows
     → IfOk r (λ answer. answer ≡ done (text ++ last_lines count row_count true))
     → IfOk r (AnswersCells call types rows)
-cells_sent call types w left given rows requests told text count row_count (Ok answer) settings run same said lines counted rows_counted is = record {
+cells_sent call types w left given rows requests outcome text count row_count (Ok answer) settings run same said lines counted rows_counted is = record {
   requests = requests;
   refusal = None;
   capacity = w.capacity;
   left = left;
-  gives = run_gives call types w left given rows requests told None settings run same said;
+  gives = run_gives call types w left given rows requests outcome None settings run same said;
   shown = is ∙ rw (lines, counted, rows_counted) refl;
 }
-cells_sent call types w left given rows requests told text count row_count (Err error) settings run same said lines counted rows_counted is = tt
+cells_sent call types w left given rows requests outcome text count row_count (Err error) settings run same said lines counted rows_counted is = tt
