@@ -196,7 +196,8 @@ fewest: yes
 bulk_on $'i1\n\n' 'types always, two rows a request, and declared types that a row does not fit' 1 $'refused: MixedArity\n' \
     1 31 types rows=2 columns=8u
 bulk_on $'u5\ni-1\n' 'an unsigned column with -1' 1 $'refused: MixedTypes\n' 1 31 columns=8u
-bulk_on $'i5\n' 'a type that may not be declared' 1 $'refused: ColumnType\n' 1 31 columns=3
+bulk_on $'i5\nD\n' 'a column of four bytes, with DEFAULT' 0 $'request: fa0100000080000300000500000002\nrequests: 1\nrows: 2\nfewest: yes\n' 1 31 columns=3
+bulk_on $'D\n' 'DEFAULT without declared types' 2 "$usage" 1 31
 bulk_on $'i5\n' 'a word that is no type' 2 "$usage" 1 31 columns=LONGLONG
 bulk_on $'i1\nx\n' 'a line that is no row' 2 "$usage" 1 31
 bulk_on $'i1\n' 'a limit below 4' 2 "$usage" 1 3

@@ -34,6 +34,14 @@ bytes-before (b ∷ front) rest h = (h.0, bytes-before front rest h.1)
 pub bytes-left : (a before mid : List ℕ) → AreBytes before → a ++ mid ≡ before → AreBytes mid
 bytes-left a before mid h e = bytes-after a mid (subst AreBytes (sym e) h)
 
+-- a part that was read and is written as it stood, and the bytes after it
+pub record Took (part before mid : List ℕ) : Type 0 where
+  pub parts : part ++ mid ≡ before
+  pub left : AreBytes mid
+
+pub took : (part before mid : List ℕ) → part ++ mid ≡ before → AreBytes before → Took part before mid
+took part before mid e h = record { parts = e; left = bytes-left part before mid h e }
+
 -- numbers of as many bytes are one where they are worth the same
 one-number : (a b : List ℕ) → AreBytes a → AreBytes b → length a ≡ length b → le_value a ≡ le_value b → a ≡ b
 one-number [] [] ha hb len e = refl

@@ -37,44 +37,18 @@ as-unknown : (c : CapabilityFlags) (o : Option ServerCommand) (v : Command) (byt
     → (reads_as unknown_command c variant.Unknown).Spells v bytes rest → (command_named c o).Spells v bytes rest
 as-unknown c None v bytes rest e s = s
 as-unknown c (Some name.COM_SLEEP) v bytes rest e s = s
-as-unknown c (Some name.COM_QUIT) v bytes rest e s = absurd cc
-as-unknown c (Some name.COM_INIT_DB) v bytes rest e s = absurd cc
-as-unknown c (Some name.COM_QUERY) v bytes rest e s = absurd cc
-as-unknown c (Some name.COM_FIELD_LIST) v bytes rest e s = absurd cc
-as-unknown c (Some name.COM_CREATE_DB) v bytes rest e s = absurd cc
-as-unknown c (Some name.COM_DROP_DB) v bytes rest e s = absurd cc
-as-unknown c (Some name.COM_REFRESH) v bytes rest e s = absurd cc
-as-unknown c (Some name.COM_SHUTDOWN) v bytes rest e s = absurd cc
-as-unknown c (Some name.COM_STATISTICS) v bytes rest e s = absurd cc
-as-unknown c (Some name.COM_PROCESS_INFO) v bytes rest e s = absurd cc
 as-unknown c (Some name.COM_CONNECT) v bytes rest e s = s
-as-unknown c (Some name.COM_PROCESS_KILL) v bytes rest e s = absurd cc
-as-unknown c (Some name.COM_DEBUG) v bytes rest e s = absurd cc
-as-unknown c (Some name.COM_PING) v bytes rest e s = absurd cc
 as-unknown c (Some name.COM_TIME) v bytes rest e s = s
 as-unknown c (Some name.COM_DELAYED_INSERT) v bytes rest e s = s
-as-unknown c (Some name.COM_CHANGE_USER) v bytes rest e s = absurd cc
-as-unknown c (Some name.COM_BINLOG_DUMP) v bytes rest e s = absurd cc
-as-unknown c (Some name.COM_TABLE_DUMP) v bytes rest e s = absurd cc
 as-unknown c (Some name.COM_CONNECT_OUT) v bytes rest e s = s
-as-unknown c (Some name.COM_REGISTER_SLAVE) v bytes rest e s = absurd cc
-as-unknown c (Some name.COM_STMT_PREPARE) v bytes rest e s = absurd cc
-as-unknown c (Some name.COM_STMT_EXECUTE) v bytes rest e s = absurd cc
-as-unknown c (Some name.COM_STMT_SEND_LONG_DATA) v bytes rest e s = absurd cc
-as-unknown c (Some name.COM_STMT_CLOSE) v bytes rest e s = absurd cc
-as-unknown c (Some name.COM_STMT_RESET) v bytes rest e s = absurd cc
-as-unknown c (Some name.COM_SET_OPTION) v bytes rest e s = absurd cc
-as-unknown c (Some name.COM_STMT_FETCH) v bytes rest e s = absurd cc
 as-unknown c (Some name.COM_DAEMON) v bytes rest e s = s
-as-unknown c (Some name.COM_BINLOG_DUMP_GTID) v bytes rest e s = absurd cc
-as-unknown c (Some name.COM_RESET_CONNECTION) v bytes rest e s = absurd cc
 as-unknown c (Some name.COM_CLONE) v bytes rest e s = s
 as-unknown c (Some name.COM_SUBSCRIBE_GROUP_REPLICATION_STREAM) v bytes rest e s = s
-as-unknown c (Some name.COM_STMT_BULK_EXECUTE) v bytes rest e s = absurd cc
 as-unknown c (Some name.COM_SLAVE_WORKER) v bytes rest e s = s
 as-unknown c (Some name.COM_SLAVE_IO) v bytes rest e s = s
 as-unknown c (Some name.COM_SLAVE_SQL) v bytes rest e s = s
 as-unknown c (Some name.COM_MULTI) v bytes rest e s = s
+as-unknown c (Some other) v bytes rest e s = absurd cc
 
 one-byte : (n : ℕ) → n < 256 → le_bytes 1 n ≡ n ∷ []
 unfolding le_bytes

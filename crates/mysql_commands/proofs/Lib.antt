@@ -1,5 +1,7 @@
 pub mod LastPart
 pub mod CommandAgain
+pub mod QueryAgain
+pub mod SentAlike
 pub mod AttributeViews
 pub mod AsRead
 pub mod PacketsAsRead

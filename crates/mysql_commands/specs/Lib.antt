@@ -5,6 +5,7 @@ pub mod BulkExecute
 pub mod FieldList
 pub mod QueryAttributes
 pub mod Query
+pub mod SentQuery
 pub mod SetOption
 pub mod StmtExecute
 pub mod StmtFetch

@@ -11,9 +11,12 @@ use mysql_wire::{AnyWidth, Buffer, FaultOf, MyDeserialize, MySerialize, ParseBuf
 /// A value that was read, with the bytes that it was read of: it is written as it was sent, byte for byte, whichever spelling
 /// that is.
 ///
-/// It is made by reading alone. A value of one's own is written by its own type.
-#[derive(Drop)]
+/// It is made by reading alone. A value of one's own is written by its own type. Two of them are equal where their bytes are: under
+/// one context their values are the same then.
+#[derive(Clone, Debug, Drop)]
+#[derive_where(PartialEq, Eq)]
 pub struct AsSent<'a, T> {
+    #[derive_where(skip(EqHashOrd))]
     value: T,
     bytes: BytesRef<'a>,
 }

@@ -19,7 +19,7 @@ use mysql_repl::{ComBinlogDumpGtidRef, ComBinlogDumpRef, ComRegisterSlaveRef, Co
 /// It is read under the capabilities that both sides have, and written as it was read, byte for byte. A command of one text is
 /// its byte and the text to the end, and one without a field its byte alone. The texts stay in the packet, and neither reading nor
 /// writing takes memory.
-#[derive(Drop)]
+#[derive(Clone, Debug, PartialEq, Eq, Drop)]
 pub enum Command<'a> {
     /// `COM_QUIT`, `01`: the client ends the connection. Nothing is answered.
     Quit,

@@ -1,11 +1,17 @@
 //! Laws: functions with nothing in them, whose contracts hold for all values.
 #![tactic(auto)]
 
-ghost use Rattle.std.specs.Prelude.{◌≡◌, ◌++◌, List, ℕ};
+ghost use Rattle.std.specs.Prelude.{◌≡◌, ◌++◌, ◌↔◌, IsTrue, List, [], ℕ, Ok};
 ghost use Rattle.mysql_wire.specs.Flags.{CapabilityFlags};
 ghost use Rattle.mysql_commands.specs.AsRead.{AreBytes};
 ghost use Rattle.mysql_commands.specs.Command.{command, command_bytes, CommandFits};
+ghost use Rattle.mysql_commands.specs.Query.{query};
+ghost use Rattle.mysql_commands.specs.SentQuery.{SentQueryFits, query_read};
+ghost use Rattle.mysql_commands.specs.declared.as_sent.AsSent.{AsSent};
 ghost use Rattle.mysql_commands.specs.declared.command.Command.{Command};
+ghost use Rattle.mysql_commands.specs.declared.command.Command.TheVariants.{Query};
+ghost use Rattle.mysql_prepared.specs.ComQuery.{query_bytes};
+ghost use Rattle.mysql_prepared.specs.declared.com_query.ComQuery.{ComQuery};
 
 /// What is written of a command is read again, under the flags that both sides know.
 #[tactic(auto, using(crate::proofs::CommandAgain::commands_again))]
@@ -17,4 +23,19 @@ pub fn command_round_trips()
 #[tactic(auto, using(crate::proofs::CommandsAsRead::as_read))]
 pub fn read_commands_are_written_as_they_were()
     ensures written { (c : CapabilityFlags) (v : Command) (before rest : List ℕ) → AreBytes before → (command c).Spells v before rest → command_bytes v ++ rest ≡ before }
+{}
+
+/// What a client sends of a query is read as that query, by its own reader and among all commands: the text, and where both sides have
+/// CLIENT_QUERY_ATTRIBUTES the attributes, each with its name and its value, and the type that the value is sent as.
+#[tactic(auto, using(crate::proofs::QueryAgain::queries_again))]
+pub fn sent_queries_are_read()
+    ensures spelled { (c : CapabilityFlags) (q : ComQuery) → SentQueryFits c q → (query.form c).Spells (query_read q) (query_bytes q) [] }
+    ensures read { (c : CapabilityFlags) (q : ComQuery) → SentQueryFits c q → (query.form c).reads (query_bytes q) ≡ Ok (query_read q, []) }
+    ensures command { (c : CapabilityFlags) (q : ComQuery) → SentQueryFits c q → (command c).reads (query_bytes q) ≡ Ok (Query (query_read q), []) }
+{}
+
+/// What was sent is equal exactly where its bytes are the same, whatever they are read as.
+#[tactic(auto, using(crate::proofs::SentAlike::sent_alike))]
+pub fn equal_sent_values_have_the_same_bytes<T>()
+    ensures same { (x y : AsSent T) → IsTrue (⟦<crate::as_sent::AsSent<'static, T> as PartialEq>⟧.eq x y) ↔ (x.bytes ≡ y.bytes) }
 {}

@@ -35,7 +35,7 @@ pub type ComQueryHeader = ConstU8<InvalidComQueryHeader, 0x03>;
 /// | to the end | the text |
 ///
 /// Another first byte is `InvalidData`; the attributes have faults of their own. It is written as it was read, byte for byte.
-#[derive(Drop)]
+#[derive(Clone, Debug, PartialEq, Eq, Drop)]
 pub struct ComQueryRef<'a> {
     attributes: Option<AsSent<'a, QueryAttributesRef<'a>>>,
     text: BytesRef<'a>,

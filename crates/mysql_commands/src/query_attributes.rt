@@ -12,10 +12,13 @@ use crate::named_types::NamedTypesRef;
 use mysql_prepared::NullBitmap;
 use mysql_values::{ClientSide, ParamType, ValueRef, read_bin_ref};
 use mysql_wire::{
-    AnyWidth, ConstFault, ConstU8, FaultOf, Flags, LenEnc, MyDeserialize, ParseBuf, RawInt,
-    StmtExecuteParamFlags,
+    AnyWidth, ConstFault, ConstU8, EofBytes, FaultOf, Flags, LenEnc, MyDeserialize, ParseBuf,
+    RawBytes, RawInt, StmtExecuteParamFlags,
 };
+use std::alloc::AllocError;
 use std::borrow::CowSlice;
+use std::fmt;
+use std::fmt::Debug;
 use std::marker::Model;
 use thiserror::Error;
 
@@ -77,6 +80,29 @@ impl<'a> QueryAttributeRef<'a> {
         ensures value { spec.holds result self.now }
     {
         self.value
+    }
+}
+
+impl Clone for QueryAttributeRef<'_> {
+    ghost is_clone = { λ a copy. copy ≡ a };
+
+    fn clone(&self) -> Result<Self, AllocError> {
+        Ok(QueryAttributeRef {
+            param_type: self.param_type,
+            name: self.name,
+            value: self.value,
+        })
+    }
+}
+
+impl Debug for QueryAttributeRef<'_> {
+    fn fmt<W: fmt::Write>(&self, f: &mut fmt::Formatter<W>) -> fmt::Result {
+        let name: RawBytes<'_, EofBytes> = RawBytes::new(CowSlice::Borrowed(self.name));
+        f.debug_struct("QueryAttributeRef")
+            .field("param_type", &self.param_type)
+            .field("name", &name)
+            .field("value", &self.value)
+            .finish()
     }
 }
 
@@ -155,6 +181,14 @@ impl<'a> Model for QueryAttributesView<'a> {
     ghost view = { λ v. attributes_left v.nulls v.place v.types v.values };
 
     ghost invariant = { λ v. HasMarks v.nulls v.place (length v.types) };
+}
+
+impl Clone for QueryAttributesView<'_> {
+    ghost is_clone = { λ v copy. copy ≡ v };
+
+    fn clone(&self) -> Result<Self, AllocError> {
+        Ok(self.again())
+    }
 }
 
 impl<'a> QueryAttributesView<'a> {
@@ -279,6 +313,30 @@ impl<'a> QueryAttributesRef<'a> {
         ensures good { spec.IsGood result }
     {
         self.view.again()
+    }
+}
+
+impl Clone for QueryAttributesRef<'_> {
+    ghost is_clone = { λ q copy. copy ≡ q };
+
+    fn clone(&self) -> Result<Self, AllocError> {
+        Ok(QueryAttributesRef {
+            view: self.view.again(),
+        })
+    }
+}
+
+/// The list of the attributes.
+impl Debug for QueryAttributesRef<'_> {
+    fn fmt<W: fmt::Write>(&self, f: &mut fmt::Formatter<W>) -> fmt::Result {
+        let mut list = f.debug_list();
+        let mut view = self.view();
+        for _ in 0..view.left() {
+            if let Ok(Some(attribute)) = view.next_attribute() {
+                list.entry(&attribute);
+            }
+        }
+        list.finish()
     }
 }
 

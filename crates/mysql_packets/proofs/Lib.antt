@@ -10,5 +10,4 @@ pub mod Outputs
 pub mod Rows
 pub mod Types
 pub mod BulkAnswers
-pub mod BulkTypes
 pub mod Calls

@@ -1,51 +1,49 @@
 -- The command `bulk`.
-use Rattle.std.specs.Prelude.{◌≡◌, ℕ, ◌-◌, true, false, not, List, [], ◌∷◌, ◌++◌, length, position, Option, Some, None, option_map, Result, Ok, Err, Bool, codes, decimal, if◌then◌else◌}
+use Rattle.std.specs.Prelude.{◌≡◌, ℕ, ◌-◌, true, false, List, [], ◌∷◌, ◌++◌, length, Option, Some, None, Bool, codes, decimal, if◌then◌else◌}
 use Rattle.std.specs.List.{concat, flat_map}
 use Rattle.hex.specs.Hex.{encode_lower}
 use Rattle.mysql_values.specs.declared.param_type.ParamType.{ParamType}
 use Rattle.mysql_values.specs.Value.{Content}
-use Rattle.mysql_bulk.specs.declared.error.BulkColumnTypeError.{BulkColumnTypeError}
 use Rattle.mysql_bulk.specs.declared.error.BulkExecuteRequestError.TheVariants as error
 use Rattle.mysql_bulk.specs.declared.error.BulkExecuteRequestBuilderError.{BulkExecuteRequestBuilderError}
 use Rattle.mysql_bulk.specs.declared.error.BulkExecuteRequestBuilderError.TheVariants as builder_error
+use Rattle.mysql_bulk.specs.declared.error.BulkRowRefusal.{BulkRowRefusal}
+use Rattle.mysql_bulk.specs.declared.error.BulkRowRefusal.TheVariants as refused
+use Rattle.mysql_bulk.specs.BulkValue.{Cell}
 use Rattle.mysql_bulk.specs.Request.{BulkRequest, request_bytes}
 use Rattle.mysql_bulk.specs.Builder.{BuilderState}
-use Rattle.mysql_bulk.specs.ColumnTypes.{may_be_declared}
+use Rattle.mysql_bulk.specs.RequestWriter.{WriterState}
+use Rattle.mysql_bulk.specs.ValueRows.{writer_of}
+use Rattle.mysql_bulk.specs.ValuesRun.{CellsRunGives}
 use Rattle.mysql_bulk.specs.WholeRun.{OfRows, RunGives}
 use Rattle.mysql_packets.specs.Lines.{line}
 use Rattle.mysql_packets.specs.Answer.{Answer, done, refused_by, usage}
 use Rattle.mysql_packets.specs.BulkCall.{BulkCall}
-use Rattle.mysql_packets.specs.RowText.{rows_of}
+use Rattle.mysql_packets.specs.RowText.{rows_of, value_rows}
 
--- the new builder that a call asks for, with these types
-abbrev pub builder_with : BulkCall → Option (List ParamType) → BuilderState
-builder_with call types = record {
+-- the new builder that a call asks for, before types are declared
+abbrev pub builder_of : BulkCall → BuilderState
+builder_of call = record {
   stmt_id = call.stmt_id;
   limit = call.max_allowed_packet - 4;
   results = false;
   rule = call.rule;
   names = None;
-  columns = types;
-  arity = option_map length types;
+  columns = None;
+  arity = None;
   types_due = true;
   waiting = [];
 }
 
-abbrev pub builder_of : BulkCall → BuilderState
-builder_of call = builder_with call call.columns
+-- a line for the bytes of a request
+abbrev pub bytes_line : List ℕ → List ℕ
+bytes_line bytes = line (codes "request") (encode_lower bytes)
 
--- the first type that may not be declared
-abbrev pub refused_type : Option (List ParamType) → Option ℕ
-refused_type None = None
-refused_type (Some types) = position (λ kind. not (may_be_declared kind)) types
-
--- the builder is made, or a type is refused
-abbrev pub Builds : BulkCall → Result BuilderState BulkColumnTypeError → Type 0
-Builds call (Ok builder) = (refused_type call.columns ≡ None) × (builder ≡ builder_of call)
-Builds call (Err e) = refused_type call.columns ≡ Some e.place
+abbrev pub bytes_lines : List (List ℕ) → List ℕ
+bytes_lines requests = flat_map bytes_line requests
 
 abbrev pub request_line : BulkRequest → List ℕ
-request_line request = line (codes "request") (encode_lower (request_bytes request))
+request_line request = bytes_line (request_bytes request)
 
 abbrev pub request_lines : List BulkRequest → List ℕ
 request_lines requests = flat_map request_line requests
@@ -83,15 +81,40 @@ pub record AnswersRows (call : BulkCall) (rows : List (List Content)) (answer : 
   pub of_rows : OfRows refusal
   pub shown : answer ≡ run_answer requests (length rows) refusal
 
--- a type that may not be declared is refused
-abbrev pub AnswersTypes : Option ℕ → BulkCall → List (List Content) → Answer → Type 0
-AnswersTypes None call rows answer = AnswersRows call rows answer
-AnswersTypes (Some place) call rows answer = answer ≡ refused_by [] (codes "ColumnType")
+-- without declared types a row holds values alone; another one is a bad call
+abbrev pub AnswersValues : BulkCall → Option (List (List Content)) → Answer → Type 0
+AnswersValues call None answer = answer ≡ usage
+AnswersValues call (Some rows) answer = AnswersRows call rows answer
+
+-- ---- rows under declared types
+
+abbrev pub row_refusal_name : BulkRowRefusal → List ℕ
+row_refusal_name refused.MixedArity = codes "MixedArity"
+row_refusal_name refused.MixedTypes = codes "MixedTypes"
+row_refusal_name refused.TooLarge = codes "RowTooLarge"
+row_refusal_name refused.Memory = codes "Memory"
+
+abbrev pub cells_answer : List (List ℕ) → ℕ → Option BulkRowRefusal → Answer
+cells_answer requests rows None = done (bytes_lines requests ++ last_lines (length requests) rows true)
+cells_answer requests rows (Some e) = refused_by (bytes_lines requests) (row_refusal_name e)
+
+-- the same of rows of values, DEFAULT and IGNORE: their sizes are those under the declared types
+pub record AnswersCells (call : BulkCall) (types : List ParamType) (rows : List (List Cell)) (answer : Answer) : Type 0 where
+  pub requests : List (List ℕ)
+  pub refusal : Option BulkRowRefusal
+  pub capacity : ℕ
+  pub left : WriterState
+  pub gives : CellsRunGives (writer_of (builder_of call) types capacity) [] rows requests refusal left
+  pub shown : answer ≡ cells_answer requests (length rows) refusal
+
+abbrev pub AnswersCall : Option (List ParamType) → BulkCall → List (List Cell) → Answer → Type 0
+AnswersCall None call rows answer = AnswersValues call (value_rows rows) answer
+AnswersCall (Some types) call rows answer = AnswersCells call types rows answer
 
 -- a text that spells no rows is a bad call
-abbrev pub AnswersText : BulkCall → Option (List (List Content)) → Answer → Type 0
+abbrev pub AnswersText : BulkCall → Option (List (List Cell)) → Answer → Type 0
 AnswersText call None answer = answer ≡ usage
-AnswersText call (Some rows) answer = AnswersTypes (refused_type call.columns) call rows answer
+AnswersText call (Some rows) answer = AnswersCall call.columns call rows answer
 
 abbrev pub IsBulkAnswer : BulkCall → List ℕ → Answer → Type 0
 IsBulkAnswer call input answer = AnswersText call (rows_of input) answer

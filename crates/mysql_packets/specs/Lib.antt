@@ -1,6 +1,7 @@
 pub mod Digits
 pub mod Decimal
 pub mod Parts
+pub mod TimeText
 pub mod RowText
 pub mod Input
 pub mod Capabilities
@@ -215,6 +216,7 @@ pub use Rattle.mysql_commands.specs.Command as CommandForm
 pub use Rattle.mysql_commands.specs.FieldList
 pub use Rattle.mysql_commands.specs.Query
 pub use Rattle.mysql_commands.specs.QueryAttributes
+pub use Rattle.mysql_commands.specs.SentQuery
 pub use Rattle.mysql_commands.specs.SetOption
 pub use Rattle.mysql_commands.specs.StmtExecute
 pub use Rattle.mysql_commands.specs.StmtFetch

@@ -1,12 +1,12 @@
 //! What `bulk` is called with.
 
 ghost use Rattle.std.specs.Prelude.{◌≡◌, ◌-◌, ◌≤◌, IfOk, IfSome, Some, None, option_map};
-ghost use Rattle.mysql_packets.specs.Bulk.{Builds, builder_with};
+ghost use Rattle.mysql_packets.specs.Bulk.{builder_of};
 ghost use Rattle.mysql_packets.specs.BulkCall as spec;
 
 use crate::decimal::{u32_of, u64_of};
 use crate::type_words::TypeWords;
-use mysql_bulk::{BulkColumnTypeError, ComStmtBulkExecuteRequestBuilder};
+use mysql_bulk::ComStmtBulkExecuteRequestBuilder;
 use mysql_cuts::BulkRule;
 use mysql_values::ParamType;
 use std::alloc::{AllocError, Global};
@@ -131,26 +131,9 @@ impl<'a> BulkCall<'a> {
         }
     }
 
-    /// The builder that is asked for, which declares these types, if there are any.
-    #[tactic(auto, using(crate::proofs::BulkTypes::builders))]
-    pub fn builder<'t>(
-        &self,
-        alloc: Global,
-        types: Option<&'t [ParamType]>,
-    ) -> Result<ComStmtBulkExecuteRequestBuilder<'t>, BulkColumnTypeError>
-        requires { option_map (λ types. types.now) types ≡ self.now.columns }
-        ensures value { Builds self.now result }
-    {
-        let builder = self.plain_builder(alloc);
-        match types {
-            Some(types) => builder.with_column_types(types),
-            None => Ok(builder),
-        }
-    }
-
-    /// The same, before types are declared.
-    fn plain_builder(&self, alloc: Global) -> ComStmtBulkExecuteRequestBuilder<'static>
-        ensures value { result ≡ builder_with self.now None }
+    /// The builder that is asked for, before types are declared.
+    pub fn builder(&self, alloc: Global) -> ComStmtBulkExecuteRequestBuilder<'static>
+        ensures value { result ≡ builder_of self.now }
     {
         let mut builder = ComStmtBulkExecuteRequestBuilder::new(
             alloc,

@@ -42,6 +42,14 @@ pub fn u32_of(word: &[u8]) -> Option<u32>
     u32::try_from(u64_of(word)?).ok()
 }
 
+/// The same of a number of 16 bits.
+#[tactic(auto, using(crate::proofs::Decimals::narrower))]
+pub fn u16_of(word: &[u8]) -> Option<u16>
+    ensures value { result ≡ spec.number_below (2 ^ 16) word.now }
+{
+    u16::try_from(u64_of(word)?).ok()
+}
+
 /// The same of a number of 8 bits.
 #[tactic(auto, using(crate::proofs::Decimals::narrower))]
 pub fn u8_of(word: &[u8]) -> Option<u8>

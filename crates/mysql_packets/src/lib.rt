@@ -28,6 +28,7 @@ pub mod proto;
 pub mod row;
 mod row_text;
 pub mod statements;
+mod time_text;
 mod type_words;
 pub mod value;
 mod word;

@@ -33,7 +33,7 @@ use Rattle.mysql_prepared.proofs.BitmapAgain.{null_bitmap-again}
 
 -- ---- types
 
-type-fits : (v : Content) (rest : List ℕ) → param_type.fits tt (type_of v) rest
+pub type-fits : (v : Content) (rest : List ℕ) → param_type.fits tt (type_of v) rest
 unfolding param_type
 type-fits NULL rest = (tt, (omega arith, tt))
 type-fits (Bytes bytes) rest = (tt, (omega arith, tt))
@@ -46,7 +46,7 @@ type-fits (Time time) rest = (tt, (omega arith, tt))
 
 -- ---- values
 
-abbrev under_type : Content → Form Content
+abbrev pub under_type : Content → Form Content
 under_type v = bin_value (type_of v).column_type (has (type_of v).flags.0 UNSIGNED)
 
 sent-again : (v : Content) → IsInRange v → IsSpelling (under_type v) v (bin v)
@@ -60,29 +60,32 @@ sent-again (Date date) h rest = value-again column.MYSQL_TYPE_DATETIME false (Da
 sent-again (Time time) h rest = value-again column.MYSQL_TYPE_TIME false (Time time) rest (refl, h)
 
 -- a value whose bit in the bitmap is this number
-one-again : (v : Content) (bit : ℕ) → bit ≡ null_bit v → IsInRange v → IsSpelling (map_form Sent (either (bit == 1) (give NULL) (under_type v))) (Sent v) (bin v)
-one-again NULL bit e h rest = rw e (NULL, refl, (refl, refl))
-one-again (Bytes bytes) bit e h rest = rw e (Bytes bytes, refl, sent-again (Bytes bytes) h rest)
-one-again (Int n) bit e h rest = rw e (Int n, refl, sent-again (Int n) h rest)
-one-again (UInt n) bit e h rest = rw e (UInt n, refl, sent-again (UInt n) h rest)
-one-again (Float bits) bit e h rest = rw e (Float bits, refl, sent-again (Float bits) h rest)
-one-again (Double bits) bit e h rest = rw e (Double bits, refl, sent-again (Double bits) h rest)
-one-again (Date date) bit e h rest = rw e (Date date, refl, sent-again (Date date) h rest)
-one-again (Time time) bit e h rest = rw e (Time time, refl, sent-again (Time time) h rest)
+pub one-again : (v : Content) (bit : ℕ) → bit ≡ null_bit v → IsInRange v → IsSpelling (either (bit == 1) (give NULL) (under_type v)) v (bin v)
+one-again NULL bit e h rest = rw e (refl, refl)
+one-again (Bytes bytes) bit e h rest = rw e (sent-again (Bytes bytes) h rest)
+one-again (Int n) bit e h rest = rw e (sent-again (Int n) h rest)
+one-again (UInt n) bit e h rest = rw e (sent-again (UInt n) h rest)
+one-again (Float bits) bit e h rest = rw e (sent-again (Float bits) h rest)
+one-again (Double bits) bit e h rest = rw e (sent-again (Double bits) h rest)
+one-again (Date date) bit e h rest = rw e (sent-again (Date date) h rest)
+one-again (Time time) bit e h rest = rw e (sent-again (Time time) h rest)
+
+param-one : (v : Content) (bit : ℕ) → bit ≡ null_bit v → IsInRange v → IsSpelling (map_form Sent (either (bit == 1) (give NULL) (under_type v))) (Sent v) (bin v)
+param-one v bit e h rest = (v, refl, one-again v bit e h rest)
 
 param-again : (l : Bool) (p : Param) (bit : ℕ) → bit ≡ null_bit (value_of p) → ParamFits p
     → IsSpelling (param_value (was_sent_ahead (as_read l p)) (bit == 1) (type_of (value_of p))) (as_read l p) (param_bytes l p)
 param-again true SentAhead bit e h rest = (refl, refl)
 param-again false SentAhead bit e h rest = (refl, refl)
 param-again true (Sent (Bytes bytes)) bit e h rest = (refl, refl)
-param-again true (Sent NULL) bit e h rest = one-again NULL bit e h rest
-param-again true (Sent (Int n)) bit e h rest = one-again (Int n) bit e h rest
-param-again true (Sent (UInt n)) bit e h rest = one-again (UInt n) bit e h rest
-param-again true (Sent (Float bits)) bit e h rest = one-again (Float bits) bit e h rest
-param-again true (Sent (Double bits)) bit e h rest = one-again (Double bits) bit e h rest
-param-again true (Sent (Date date)) bit e h rest = one-again (Date date) bit e h rest
-param-again true (Sent (Time time)) bit e h rest = one-again (Time time) bit e h rest
-param-again false (Sent v) bit e h rest = one-again v bit e h rest
+param-again true (Sent NULL) bit e h rest = param-one NULL bit e h rest
+param-again true (Sent (Int n)) bit e h rest = param-one (Int n) bit e h rest
+param-again true (Sent (UInt n)) bit e h rest = param-one (UInt n) bit e h rest
+param-again true (Sent (Float bits)) bit e h rest = param-one (Float bits) bit e h rest
+param-again true (Sent (Double bits)) bit e h rest = param-one (Double bits) bit e h rest
+param-again true (Sent (Date date)) bit e h rest = param-one (Date date) bit e h rest
+param-again true (Sent (Time time)) bit e h rest = param-one (Time time) bit e h rest
+param-again false (Sent v) bit e h rest = param-one v bit e h rest
 
 -- ---- all parameters
 

@@ -6,7 +6,10 @@ ghost use Rattle.mysql_prepared.specs.LongData as spec;
 
 use crate::long_data::{ComStmtSendLongData, ComStmtSendLongDataHeader};
 use mysql_wire::{AnyWidth, FaultOf, LeU16, LeU32, MyDeserialize, ParseBuf, RawInt};
+use std::alloc::AllocError;
 use std::borrow::CowSlice;
+use std::fmt;
+use std::fmt::Debug;
 use std::marker::Model;
 
 /// The data of one parameter, which stays in the packet: a [`ComStmtSendLongData`] for as long as the packet lives.
@@ -60,6 +63,42 @@ impl<'a> ComStmtSendLongDataRef<'a> {
     {
         let content = CowSlice::Borrowed(self.content);
         ComStmtSendLongData::new(self.stmt_id, self.param_index, content)
+    }
+}
+
+impl Clone for ComStmtSendLongDataRef<'_> {
+    ghost is_clone = { λ p copy. copy ≡ p };
+
+    fn clone(&self) -> Result<Self, AllocError> {
+        Ok(ComStmtSendLongDataRef {
+            stmt_id: self.stmt_id,
+            param_index: self.param_index,
+            content: self.content,
+        })
+    }
+}
+
+impl PartialEq for ComStmtSendLongDataRef<'_> {
+    ghost use Rattle.mysql_prepared.specs.contracts.long_data.ComStmtSendLongDataPartialEq.TheImpl.Laws.{laws-law};
+
+    ghost eq = { ⟦<ComStmtSendLongData<'static> as PartialEq>⟧.eq };
+
+    ghost laws = { laws-law };
+
+    fn eq(&self, other: &Self) -> bool {
+        self.to_packet() == other.to_packet()
+    }
+}
+
+impl Eq for ComStmtSendLongDataRef<'_> {
+    ghost use Rattle.mysql_prepared.specs.contracts.long_data.ComStmtSendLongDataEq.TheImpl.Laws.{laws-law};
+
+    ghost laws = { laws-law };
+}
+
+impl Debug for ComStmtSendLongDataRef<'_> {
+    fn fmt<W: fmt::Write>(&self, f: &mut fmt::Formatter<W>) -> fmt::Result {
+        self.to_packet().fmt(f)
     }
 }
 

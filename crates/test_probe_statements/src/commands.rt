@@ -2,6 +2,8 @@
 //! `com_set_option BYTES`, `com_reset BYTES`, `com_fetch BYTES`, `com_execute_ref BYTES`, `com_bulk_ref BYTES`, `com_unknown BYTES`, and
 //! `to_end BYTES`. `new_query TEXT` is a query that is made, `set_option on` and `set_option off` the choice of an option.
 //!
+//! `debug_command CAPABILITIES BYTES` is a command as a person looks at it.
+//!
 //! `make_query ATTRIBUTES TEXT` is one that is sent with attributes as `execute_with` has them, and read again.
 
 use crate::execute::attribute_of;
@@ -224,6 +226,14 @@ pub fn command(out: &mut Out, request: &Request<'_>) {
     let bytes = request.bytes.as_slice();
     if let Some(it) = read::<Statements, Command<'_>>(out, bytes, request.capabilities()) {
         let _ = write(out, &it, bytes);
+        out.or_other("copy", is_cloned(out.alloc(), &it, &it));
+    }
+}
+
+/// A command as a person looks at it.
+pub fn debug(out: &mut Out, request: &Request<'_>) {
+    if let Some(it) = record::<Command<'_>>(out, request, request.capabilities()) {
+        out.text("debug", &format_args!("{it:?}"))
     }
 }
 

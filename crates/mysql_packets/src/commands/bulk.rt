@@ -5,20 +5,22 @@ ghost use Rattle.mysql_values.specs.Value.{contents_of};
 ghost use Rattle.mysql_bulk.specs.Row.{contents_of_rows};
 ghost use Rattle.mysql_bulk.specs.Row.{first_length};
 ghost use Rattle.mysql_bulk.specs.Row.{row_size};
+ghost use Rattle.mysql_bulk.specs.ValuesRun.{bytes_of};
 ghost use Rattle.mysql_packets.specs.Answer.{done};
 ghost use Rattle.mysql_packets.specs.Bulk as spec;
+ghost use Rattle.mysql_packets.specs.RowText.{rows_read, value_rows};
 
 use crate::answer::Answer;
 use crate::bulk_call::BulkCall;
 use crate::lines::{Line, append_lines};
-use crate::row_text::read_rows;
+use crate::row_text::{RowCell, borrowed_rows, read_rows, rows_of_values};
 use mysql_bulk::laws::fewest_cut_is_named_by_its_ends;
 use mysql_bulk::{
-    BulkColumnTypeError, BulkExecuteRequestBuilderError, BulkExecuteRequestError, BulkRun,
-    ComStmtBulkExecuteRequest, ComStmtBulkExecuteRequestBuilder, bulk_row_size,
+    BulkExecuteRequestBuilderError, BulkExecuteRequestError, BulkRowRefusal, BulkRun,
+    BulkValuesRun, ComStmtBulkExecuteRequest, bulk_row_size,
 };
 use mysql_cuts::cut_is_fewest;
-use mysql_values::Value;
+use mysql_values::{ParamType, Value};
 use mysql_wire::MySerialize;
 use std::alloc::{AllocError, Global};
 
@@ -27,40 +29,92 @@ pub fn answer(alloc: Global, call: &BulkCall<'_>, input: &[u8]) -> Result<Answer
     ensures value { IfOk result (λ answer. spec.IsBulkAnswer call.now input.now answer) }
 {
     match read_rows(alloc, input)? {
-        Some(rows) => with_types(alloc, call, rows),
+        Some(rows) => with_rows(alloc, call, rows),
         None => Answer::usage(alloc),
     }
 }
 
-/// The requests of the rows, unless a type that may not be declared is refused.
-fn with_types(
+/// The requests of the rows, under the types that are declared, if there are any.
+fn with_rows(
     alloc: Global,
     call: &BulkCall<'_>,
-    rows: Vec<Vec<Value>>,
+    rows: Vec<Vec<RowCell>>,
 ) -> Result<Answer, AllocError>
-    ensures value { IfOk result (λ answer. spec.AnswersTypes (spec.refused_type call.now.columns) call.now (contents_of_rows rows.items) answer) }
+    ensures value { IfOk result (λ answer. spec.AnswersCall call.now.columns call.now (rows_read rows.items) answer) }
 {
-    let types = call.types(alloc)?;
-    match call.builder(alloc, types.as_deref()) {
-        Ok(builder) => send(alloc, call, builder, rows),
-        Err(BulkColumnTypeError { .. }) => {
-            Answer::refused_by(alloc, String::new(alloc), "ColumnType")
-        }
+    match call.types(alloc)? {
+        Some(types) => send_cells(alloc, call, types.as_slice(), rows.as_slice()),
+        None => send_values(alloc, call, rows.as_slice()),
+    }
+}
+
+/// The requests of rows of values alone.
+fn send_values(
+    alloc: Global,
+    call: &BulkCall<'_>,
+    rows: &[Vec<RowCell>],
+) -> Result<Answer, AllocError>
+    ensures value { IfOk result (λ answer. spec.AnswersValues call.now (value_rows (rows_read rows.now)) answer) }
+{
+    match rows_of_values(alloc, rows)? {
+        Some(rows) => send(alloc, call, rows),
+        None => Answer::usage(alloc),
+    }
+}
+
+/// The requests of rows of values, DEFAULT and IGNORE under these types: with all of them sent, they are the fewest.
+fn send_cells(
+    alloc: Global,
+    call: &BulkCall<'_>,
+    types: &[ParamType],
+    rows: &[Vec<RowCell>],
+) -> Result<Answer, AllocError>
+    ensures value { IfOk result (λ answer. spec.AnswersCells call.now types.now (rows_read rows.now) answer) }
+{
+    let cells = borrowed_rows(alloc, rows)?;
+    let mut writer = call.builder(alloc).with_types(types);
+    let BulkValuesRun { requests, refusal } = writer.build_all_values(alloc, cells.as_slice());
+    let text = bytes_lines(alloc, requests.as_slice())?;
+    match refusal {
+        Some(refusal) => Answer::refused_by(alloc, text, row_refusal_name(refusal)),
+        None => sent(alloc, text, requests.len(), rows.len(), true),
+    }
+}
+
+fn bytes_lines(alloc: Global, requests: &[Vec<u8>]) -> Result<String, AllocError>
+    ensures value { IfOk result (λ text. string_bytes text ≡ spec.bytes_lines (bytes_of requests.now)) }
+{
+    let mut text = String::new(alloc);
+    for request in requests {
+        append_bytes(alloc, &mut text, request.as_slice())?;
+    }
+    Ok(text)
+}
+
+fn append_bytes(alloc: Global, out: &mut String, request: &[u8]) -> Result<(), AllocError>
+    ensures ok { OnOk result (string_bytes out.new ≡ string_bytes out.old ++ spec.bytes_line request.now) }
+{
+    append_lines(alloc, out, &[Line::digits("request", request)])
+}
+
+fn row_refusal_name(refusal: BulkRowRefusal) -> &'static str
+    ensures value { result.now ≡ spec.row_refusal_name refusal }
+{
+    match refusal {
+        BulkRowRefusal::MixedArity => "MixedArity",
+        BulkRowRefusal::MixedTypes => "MixedTypes",
+        BulkRowRefusal::TooLarge => "RowTooLarge",
+        BulkRowRefusal::Memory => "Memory",
     }
 }
 
 /// The requests of the rows; with all of them sent, also that they are the fewest, which their sizes alone tell.
-fn send(
-    alloc: Global,
-    call: &BulkCall<'_>,
-    mut builder: ComStmtBulkExecuteRequestBuilder<'_>,
-    rows: Vec<Vec<Value>>,
-) -> Result<Answer, AllocError>
-    requires new { builder ≡ spec.builder_of call.now }
+fn send(alloc: Global, call: &BulkCall<'_>, rows: Vec<Vec<Value>>) -> Result<Answer, AllocError>
     ensures value { IfOk result (λ answer. spec.AnswersRows call.now (contents_of_rows rows.items) answer) }
 {
     let arity = first_length(rows.as_slice());
     let sizes = row_sizes(alloc, rows.as_slice())?;
+    let mut builder = call.builder(alloc);
     let BulkRun {
         requests,
         ends,
@@ -128,7 +182,7 @@ fn append_request(
 {
     let mut written = Vec::new(alloc);
     request.serialize(&mut written)?;
-    append_lines(alloc, out, &[Line::digits("request", written.as_slice())])
+    append_bytes(alloc, out, written.as_slice())
 }
 
 /// The lines so far, and the last ones.

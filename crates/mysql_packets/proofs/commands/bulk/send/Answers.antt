@@ -7,7 +7,7 @@ use Rattle.mysql_packets.proofs.commands.bulk.send.Goals as goal
 
 pub returns-in-Some : goal.returns-in-Some
 returns-in-Some c =
-    let gives = rw c.requires.new at c.build_all-requests.ensures.gives in record {
+    let gives = rw c.builder-builder.ensures.value at c.build_all-requests.ensures.gives in record {
       value =
           was_refused c.args.call.now _ _ _ c.in-Some.refusal _ _ _ c.refused_by.result
           (rw c.in-Some.is at gives)
@@ -19,7 +19,7 @@ returns-in-Some c =
 
 pub returns : goal.returns
 returns c =
-    let gives = rw c.requires.new at c.build_all-requests.ensures.gives in
+    let gives = rw c.builder-builder.ensures.value at c.build_all-requests.ensures.gives in
     let names = names_fewest c.fewest_cut_is_named_by_its_ends.ensures c.args.call.now _ _ _ _ _ gives c.in-None.is in
     let sizes = c.as_slice-sizes.ensures.value ∙ c.in_ok-sizes.ensures.value ∙ ap (λ rows. map row_size (contents_of_rows rows)) c.as_slice-2.ensures.value in
     let arity = c.first_length-arity.ensures.value ∙ ap (λ rows. first_length (contents_of_rows rows)) c.as_slice.ensures.value in
