@@ -386,7 +386,7 @@ uint32_t myp_write_long_data(uint32_t statement_id, uint16_t param_index, const 
 /* Writes COM_STMT_EXECUTE with the values, the types of their kinds (LONGLONG, FLOAT, DOUBLE, VAR_STRING of MYP_BYTES, DATETIME, TIME,
  * NULL), and no cursor; whether a date has its ranges is the server's to say. *as_long_data is 1 where byte strings are left out,
  * since the request with them is past 16,777,215 bytes: each is sent ahead by myp_write_long_data. MYP_INVALID_INPUT of a
- * value that is none, and *written is 0; MYP_BUFFER_TOO_SMALL, and *as_long_data is set; MYP_NO_MEMORY, and *written is 0. */
+ * value that is none, and *written is 0; MYP_BUFFER_TOO_SMALL, and *as_long_data is set. */
 uint32_t myp_write_execute(uint32_t statement_id, const myp_value *values, size_t n, uint8_t *out, size_t size, size_t *written,
                            uint8_t *as_long_data);
 
@@ -658,8 +658,8 @@ uint32_t myp_read_execution(const uint8_t *packet, size_t len, const myp_param *
 /* ---- what a server writes
  *
  * A struct that a reader filled can be written again: used is not looked at. Of each call: MYP_BUFFER_TOO_SMALL, and *written
- * is how many bytes it takes. After MYP_INVALID_INPUT *written is 0. The writers of rows alone take memory: MYP_NO_MEMORY, and *written
- * is 0. */
+ * is how many bytes it takes. After MYP_INVALID_INPUT *written is 0. None takes memory: MYP_NO_MEMORY is the answer to strings that no
+ * memory holds together, as where one is passed in many places, and *written is 0. */
 
 /* Writes OK_Packet or EOF_Packet of a kind of enum myp_ok_kind. An empty info or session state is absent, and what the kind or the
  * capabilities leave no place for is not written. MYP_INVALID_INPUT of a kind that is none. */

@@ -10,3 +10,4 @@ pub mod SidHeld
 pub mod SomeZero
 pub mod HandshakeFit
 pub mod RefusedRow
+pub mod WrittenRows

@@ -14,7 +14,7 @@ ghost use Rattle.mysql_packets_c.specs.Value.{Sets, value_content, is_value};
 
 use crate::code::{BUFFER_TOO_SMALL, INVALID_INPUT, NO_MEMORY, OK, code_of};
 use crate::input::read;
-use crate::output::put;
+use crate::output::answer_count;
 use crate::rows::CColumnType;
 use crate::value::{CValue, are_values, is_value, put_ref, to_ref};
 use mysql_stmt::{
@@ -283,12 +283,10 @@ impl AsExecuteParam for CValue<'_> {
     }
 }
 
-/// Writes `COM_STMT_EXECUTE` with the values: 0; 5, and how many bytes it takes; 3 where one of them is no value; or 4. But for 0
-/// and 5 `as_long_data` is as it was.
-#[tactic(auto, unfolding(crate::specs::Value::value_content))]
+/// Writes `COM_STMT_EXECUTE` with the values: 0; 5, and how many bytes it takes; 4; or 3 where one of them is no value, and then
+/// `as_long_data` is as it was.
 #[unsafe(no_mangle)]
 pub extern "C" fn myp_write_execute(
-    alloc: Global,
     statement_id: u32,
     values: &[CValue<'_>],
     out: &mut [u8],
@@ -296,19 +294,14 @@ pub extern "C" fn myp_write_execute(
     as_long_data: &mut u8,
 ) -> u32
     ensures refused { list_all is_value values.now ≡ false → (result ≡ 3) × (out.new ≡ out.old) × (written.new ≡ 0) × (as_long_data.new ≡ as_long_data.old) }
-    ensures memory { result ≡ 4 → (out.new ≡ out.old) × (written.new ≡ 0) × (as_long_data.new ≡ as_long_data.old) }
-    ensures value { list_all is_value values.now ≡ true → result ≢ 4 → Executes statement_id values.now result out.old out.new written.new as_long_data.new }
+    ensures value { list_all is_value values.now ≡ true → Executes statement_id values.now result out.old out.new written.new as_long_data.new }
 {
-    *written = 0;
     if !are_values(values) {
+        *written = 0;
         return INVALID_INPUT;
     }
-    let mut bytes = Vec::new(alloc);
-    match ComStmtExecuteRequestBuilder::new(statement_id).write_ref(values, &mut bytes) {
-        Ok(leaves_out) => {
-            *as_long_data = leaves_out as u8;
-            put(bytes.as_slice(), out, written)
-        }
-        Err(_) => NO_MEMORY,
-    }
+    let request = ComStmtExecuteRequestBuilder::new(statement_id);
+    let (len, leaves_out) = request.write_to_slice(values, out);
+    *as_long_data = leaves_out as u8;
+    answer_count(len, out.len(), written)
 }
