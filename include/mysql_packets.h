@@ -464,7 +464,8 @@ typedef struct myp_login {
 #define MYP_LOGIN_INIT { MYP_BYTES_INIT, MYP_BYTES_INIT, MYP_BYTES_INIT, MYP_BYTES_INIT, &myp_no_attribute, 0, 0, 0, 0, 0, 0, 0, 0 }
 
 /* Writes Protocol::HandshakeResponse41; of a name what stands before its first zero. MYP_INVALID_INPUT of attributes that are
- * not UTF-8, and *written is 0; MYP_BUFFER_TOO_SMALL; MYP_NO_MEMORY, and *written is 0. */
+ * not UTF-8, and *written is 0; MYP_BUFFER_TOO_SMALL; MYP_NO_MEMORY of strings that no memory holds together, and *written is 0. Each
+ * attribute is compared with those before it. */
 uint32_t myp_write_login(const myp_login *login, uint8_t *out, size_t size, size_t *written);
 
 /* Initializer: MYP_CHANGE_USER_INIT. */
@@ -481,7 +482,7 @@ typedef struct myp_change_user {
 #define MYP_CHANGE_USER_INIT { MYP_BYTES_INIT, MYP_BYTES_INIT, MYP_BYTES_INIT, MYP_BYTES_INIT, &myp_no_attribute, 0, 0, 0 }
 
 /* Writes COM_CHANGE_USER; of a name what stands before its first zero. MYP_INVALID_INPUT of attributes that are not UTF-8, and
- * *written is 0; MYP_BUFFER_TOO_SMALL; MYP_NO_MEMORY, and *written is 0. */
+ * *written is 0; MYP_BUFFER_TOO_SMALL; MYP_NO_MEMORY as of myp_write_login. */
 uint32_t myp_write_change_user(const myp_change_user *change, uint8_t *out, size_t size, size_t *written);
 
 /* Writes the request for the server's RSA key of caching_sha2_password, of one byte. MYP_BUFFER_TOO_SMALL. */

@@ -101,6 +101,11 @@ static void logins(void)
     a[0].value.data = (const uint8_t *)"w", a[1].value.data = (const uint8_t *)"v", a[0].value.len = a[1].value.len = 1;
     l.attributes = a, l.n_attributes = 2, l.has_attributes = 1;
     CHECK(myp_write_login(&l, out, sizeof out, &n) == MYP_OK && n == 70 && !memcmp(out + 65, "\x04\x01k\x01v", 5) && (out[2] & 0x10));
+    CHECK(myp_write_login(&l, NULL, 0, &n) == MYP_BUFFER_TOO_SMALL && n == 70);
+    const myp_attribute three[] = { { a[0].name, a[0].value }, { a[1].value, a[0].value }, { a[0].name, a[1].value } }; /* k w, v w, k v */
+    l.attributes = three, l.n_attributes = 3;
+    CHECK(myp_write_login(&l, out, sizeof out, &n) == MYP_OK && n == 74 && !memcmp(out + 65, "\x08\x01k\x01v\x01v\x01w", 9));
+    l.attributes = a, l.n_attributes = 2;
     a[1].value.data = (const uint8_t *)"\xff", out[0] = 7;
     CHECK(myp_write_login(&l, out, sizeof out, &n) == MYP_INVALID_INPUT && n == 0 && out[0] == 7);
     l.has_attributes = 0;

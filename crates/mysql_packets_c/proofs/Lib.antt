@@ -2,7 +2,7 @@ pub mod Codes
 pub mod FilledRows
 pub mod Answers
 pub mod Changes
-pub mod AttributeTexts
+pub mod MergedNames
 pub mod Mixed
 pub mod BulkRows
 pub mod Executions
@@ -11,3 +11,4 @@ pub mod SomeZero
 pub mod HandshakeFit
 pub mod RefusedRow
 pub mod WrittenRows
+pub mod Logins
