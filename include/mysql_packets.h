@@ -149,6 +149,11 @@ typedef struct myp_auth_switch {
  * byte; MYP_UNEXPECTED_EOF of no byte, or of a name without its zero. */
 uint32_t myp_read_auth_switch(const uint8_t *packet, size_t len, myp_auth_switch *out);
 
+/* Reads Protocol::OldAuthSwitchRequest, the byte fe: the switch to mysql_old_password, of a client without MYP_CLIENT_PLUGIN_AUTH. A
+ * switch to a named plugin begins with fe too: here *used is 1 and its packet is longer. MYP_INVALID_DATA of another byte;
+ * MYP_UNEXPECTED_EOF of no byte. */
+uint32_t myp_read_old_auth_switch(const uint8_t *packet, size_t len, size_t *used);
+
 /* Reads Protocol::AuthMoreData: 01, and the plugin's data to the end. MYP_INVALID_DATA of another first byte;
  * MYP_UNEXPECTED_EOF of no byte. */
 uint32_t myp_read_auth_more_data(const uint8_t *packet, size_t len, myp_bytes *plugin_data);
@@ -245,6 +250,23 @@ typedef struct myp_statement {
  * error). num_params definitions follow and then num_columns, each list that has any with an EOF_Packet after it without
  * MYP_CLIENT_DEPRECATE_EOF. */
 uint32_t myp_read_statement(const uint8_t *packet, size_t len, myp_statement *out);
+
+/* Initializer: MYP_STATEMENT_WITH_METADATA_INIT. */
+typedef struct myp_statement_with_metadata {
+    uint32_t statement_id;
+    uint16_t num_columns;
+    uint16_t num_params;
+    uint16_t warning_count;
+    uint8_t has_metadata; /* 1 where a byte says whether definitions follow, else 0: they follow */
+    uint8_t metadata;     /* that byte: 1 where they follow, 0 where they don't */
+    size_t used;
+} myp_statement_with_metadata;
+#define MYP_STATEMENT_WITH_METADATA_INIT { 0, 0, 0, 0, 0, 0, 0 }
+
+/* Reads COM_STMT_PREPARE_OK, and under MYP_CLIENT_OPTIONAL_RESULTSET_METADATA the byte after it. MYP_UNEXPECTED_EOF;
+ * MYP_INVALID_DATA of another status. */
+uint32_t myp_read_statement_with_metadata(const uint8_t *packet, size_t len, uint32_t capabilities,
+                                          myp_statement_with_metadata *out);
 
 /* Initializer: MYP_COLUMN_INIT. */
 typedef struct myp_column {
@@ -601,6 +623,10 @@ typedef struct myp_user_change {
 } myp_user_change;
 #define MYP_USER_CHANGE_INIT { MYP_BYTES_INIT, MYP_BYTES_INIT, MYP_BYTES_INIT, MYP_BYTES_INIT, MYP_BYTES_INIT, 0, 0, 0, 0, 0 }
 
+/* Reads the request for the server's RSA key of caching_sha2_password, the byte 02. MYP_INVALID_DATA of another byte;
+ * MYP_UNEXPECTED_EOF of no byte. */
+uint32_t myp_read_public_key_request(const uint8_t *packet, size_t len, size_t *used);
+
 /* Reads COM_CHANGE_USER, by what both sides can do: the plugin under MYP_CLIENT_PLUGIN_AUTH, the attributes under
  * MYP_CLIENT_CONNECT_ATTRS. MYP_UNEXPECTED_EOF where a field is cut; MYP_INVALID_DATA of another first byte than
  * MYP_COM_CHANGE_USER, or of a bad length. */
@@ -681,6 +707,9 @@ uint32_t myp_write_progress(const myp_error *report, uint8_t *out, size_t size, 
 /* Writes COM_STMT_PREPARE_OK, of 12 bytes. */
 uint32_t myp_write_statement(const myp_statement *statement, uint8_t *out, size_t size, size_t *written);
 
+/* Writes COM_STMT_PREPARE_OK, and the byte after it where has_metadata is not 0. */
+uint32_t myp_write_statement_with_metadata(const myp_statement_with_metadata *statement, uint8_t *out, size_t size, size_t *written);
+
 /* Writes the count of columns, and under MYP_MARIADB_CLIENT_CACHE_METADATA a byte that says whether definitions follow.
  * MYP_INVALID_INPUT where metadata_follows is 0 and no byte says so. */
 uint32_t myp_write_column_count(const myp_column_count *columns, uint32_t mariadb_capabilities, uint8_t *out, size_t size,
@@ -703,6 +732,9 @@ uint32_t myp_write_handshake(const myp_handshake *handshake, uint8_t *out, size_
 
 /* Writes Protocol::AuthSwitchRequest. MYP_INVALID_INPUT of a name with a zero. */
 uint32_t myp_write_auth_switch(const myp_auth_switch *request, uint8_t *out, size_t size, size_t *written);
+
+/* Writes Protocol::OldAuthSwitchRequest, of one byte. */
+uint32_t myp_write_old_auth_switch(uint8_t *out, size_t size, size_t *written);
 
 /* Writes Protocol::AuthMoreData: 01, and the plugin's data. */
 uint32_t myp_write_auth_more_data(const uint8_t *plugin_data, size_t len, uint8_t *out, size_t size, size_t *written);

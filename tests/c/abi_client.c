@@ -136,6 +136,9 @@ static void keys(void)
     myp_bytes pem = MYP_BYTES_INIT, salt = MYP_BYTES_INIT;
     CHECK(myp_read_public_key((const uint8_t *)"\x01-----BEGIN", 11, &pem) == MYP_OK && IS(pem, "-----BEGIN"));
     CHECK(myp_read_public_key((const uint8_t *)"\x02-", 2, &pem) == MYP_INVALID_DATA && myp_read_public_key((const uint8_t *)"", 0, &pem) == MYP_UNEXPECTED_EOF && pem.len == 10);
+    size_t used = 9;
+    CHECK(myp_read_old_auth_switch((const uint8_t *)"\xfe", 1, &used) == MYP_OK && used == 1);
+    CHECK(myp_read_old_auth_switch((const uint8_t *)"\x00", 1, &used) == MYP_INVALID_DATA && myp_read_old_auth_switch(NULL, 0, &used) == MYP_UNEXPECTED_EOF && used == 1);
     uint32_t iterations = 7;
     static const uint8_t parsec[] = "P\x02" "abcdefghijklmnopqr";
     CHECK(myp_read_parsec_salt(parsec, 20, &iterations, &salt) == MYP_OK && iterations == 4096 && IS(salt, "abcdefghijklmnopqr"));
