@@ -28,15 +28,16 @@ pub(crate) fn put(bytes: &[u8], out: &mut [u8], written: &mut usize) -> u32
 pub(crate) fn put_packet<P: MySerialize>(packet: &P, out: &mut [u8], written: &mut usize) -> u32
     ensures { PutsUnlessTooLong (P.bytes packet.now) result out.old out.new written.new }
 {
-    let len = packet.defined_len();
-    if len == usize::MAX {
-        *written = 0;
-        return NO_MEMORY;
+    // (the bytes are counted once where they fit, and where their count is asked for)
+    if out.is_empty() {
+        return answer_count(packet.defined_len(), 0, written);
     }
-    *written = len;
     match packet.write_to_slice(out) {
-        Some(_) => OK,
-        None => BUFFER_TOO_SMALL,
+        Some(len) => {
+            *written = len;
+            OK
+        }
+        None => answer_count(packet.defined_len(), out.len(), written),
     }
 }
 
