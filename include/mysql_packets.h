@@ -571,7 +571,7 @@ uint32_t myp_sid_from_text(const uint8_t *text, size_t len, myp_sid *out, myp_in
 
 /* Writes COM_BINLOG_DUMP_GTID: the replica has the transactions of these sids. MYP_DUMP_THROUGH_GTID is written where there is
  * a sid, and else not, whatever flags has. MYP_INVALID_INPUT of a tag that is none, and *written is 0; MYP_BUFFER_TOO_SMALL;
- * MYP_NO_MEMORY, and *written is 0. */
+ * MYP_NO_MEMORY of names and intervals that no memory holds together, and *written is 0. */
 uint32_t myp_write_gtid_dump(uint32_t server_id, uint16_t flags, const uint8_t *file_name, size_t file_name_len,
                              uint64_t position, const myp_sid *sids, size_t n, uint8_t *out, size_t size, size_t *written);
 

@@ -137,7 +137,7 @@ static void requests(void)
     EACH(0, myp_write_dump(1, 0, text.data, text.len, 4, out, sizeof out, &n));
     EACH(0, myp_write_table_dump(text.data, text.len, text.data, text.len, out, sizeof out, &n));
     EACH(0, myp_write_semi_sync_ack(4, text.data, text.len, out, sizeof out, &n));
-    SOME(myp_write_gtid_dump(1, 0, text.data, text.len, 4, &sid, 1, out, sizeof out, &n));
+    EACH(0, myp_write_gtid_dump(1, 0, text.data, text.len, 4, &sid, 1, out, sizeof out, &n));
     myp_interval places[4] = { MYP_INTERVAL_INIT, MYP_INTERVAL_INIT, MYP_INTERVAL_INIT, MYP_INTERVAL_INIT };
     SOME(myp_sid_from_text((const uint8_t *)"3e11fa47-71ca-11e1-9e33-c80aa9429562:1-5:7", 42, &sid, places, 4, &n));
     /* (a refused execution that is read leaves the struct: `used` in the place of what is written) */

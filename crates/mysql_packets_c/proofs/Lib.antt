@@ -7,6 +7,7 @@ pub mod Mixed
 pub mod BulkRows
 pub mod Executions
 pub mod SidHeld
+pub mod WrittenSids
 pub mod SomeZero
 pub mod HandshakeFit
 pub mod RefusedRow
