@@ -2,9 +2,10 @@
 #![tactic(auto, using(crate::proofs::Codes::codes, crate::proofs::Executions::executions))]
 
 ghost use Rattle.std.specs.List.{list_all};
-ghost use Rattle.std.specs.Prelude.{◌≡◌, ◌≢◌, ◌<◌, ◌≤◌, ◌⊎◌, Ok, Err, IfErr, IfOk, IsOk, OnOk, drop, length, take, false, true};
+ghost use Rattle.std.specs.Prelude.{◌≡◌, ◌≢◌, ◌<◌, ◌≤◌, ◌⊎◌, ◌+◌, ◌++◌, Ok, Err, IfErr, IfOk, IsOk, OnOk, drop, length, take, false, true};
 ghost use Rattle.mysql_prepared.specs.ExecuteHead.{execute_head};
-ghost use Rattle.mysql_prepared.specs.ExecuteParam.{param_of};
+ghost use Rattle.mysql_prepared.specs.ExecuteParam.{Sent, param_bytes, param_of};
+ghost use Rattle.mysql_values.specs.ValueRef.{ref_content};
 ghost use Rattle.mysql_prepared.specs.ExecuteRead.{HasNoParam, RefusesParam};
 ghost use Rattle.mysql_packets_c.specs.Code.{ReadsInto};
 ghost use Rattle.mysql_packets_c.specs.Execution as spec;
@@ -226,6 +227,20 @@ pub extern "C" fn myp_read_execution<'a>(
     execution_into(&mut buf, bound.as_slice(), values, types, out)
 }
 
+/// Writes a number with the buffer in a variable of its own, so that its bytes are one store.
+#[inline(always)]
+fn append_number<O: Buffer>(number: ValueRef<'_>, as_long_data: bool, out: &mut O)
+    requires { length (O.held out.old) + length (param_bytes as_long_data (Sent (ref_content number))) ≤ O.capacity out.old }
+    ensures items { O.held out.new ≡ O.held out.old ++ param_bytes as_long_data (Sent (ref_content number.entry)) }
+    ensures after { O.after out.new ≡ drop (length (param_bytes as_long_data (Sent (ref_content number.entry)))) (O.after out.old) }
+    ensures capacity { O.capacity out.old ≤ O.capacity out.new }
+    ensures kept { O.kept out.new ≡ O.kept out.old }
+{
+    let mut taken = out.taken();
+    number.append_sent(as_long_data, &mut taken);
+    *out = taken;
+}
+
 /// The kind alone says the rest, so that a value is made once, where its bytes are written.
 #[tactic(auto, unfolding(crate::specs::Value::value_content))]
 impl AsExecuteParam for CValue<'_> {
@@ -275,9 +290,9 @@ impl AsExecuteParam for CValue<'_> {
     fn append_sent<O: Buffer>(&self, as_long_data: bool, out: &mut O) {
         match self.kind {
             1 => ValueRef::Bytes(self.bytes).append_sent(as_long_data, out),
-            2 => ValueRef::Int(self.number.cast_signed()).append_sent(as_long_data, out),
-            3 => ValueRef::UInt(self.number).append_sent(as_long_data, out),
-            5 => ValueRef::Double(self.number).append_sent(as_long_data, out),
+            2 => append_number(ValueRef::Int(self.number.cast_signed()), as_long_data, out),
+            3 => append_number(ValueRef::UInt(self.number), as_long_data, out),
+            5 => append_number(ValueRef::Double(self.number), as_long_data, out),
             _ => self.as_execute_param().append_sent(as_long_data, out),
         }
     }
