@@ -232,6 +232,11 @@ typedef struct myp_auth_switch {
  * byte; MYP_UNEXPECTED_EOF of no byte, or of a name without its zero. */
 uint32_t myp_read_auth_switch(const uint8_t *packet, size_t len, myp_auth_switch *out);
 
+/* Reads Protocol::OldAuthSwitchRequest, the byte fe: the switch to mysql_old_password, of a client without MYP_CLIENT_PLUGIN_AUTH. A
+ * switch to a named plugin begins with fe too: here *used is 1 and its packet is longer. MYP_INVALID_DATA of another byte;
+ * MYP_UNEXPECTED_EOF of no byte. */
+uint32_t myp_read_old_auth_switch(const uint8_t *packet, size_t len, size_t *used);
+
 /* Reads Protocol::AuthMoreData: 01, and the plugin's data to the end. MYP_INVALID_DATA of another first byte;
  * MYP_UNEXPECTED_EOF of no byte. */
 uint32_t myp_read_auth_more_data(const uint8_t *packet, size_t len, myp_bytes *plugin_data);
@@ -328,6 +333,23 @@ typedef struct myp_statement {
  * error). num_params definitions follow and then num_columns, each list that has any with an EOF_Packet after it without
  * MYP_CLIENT_DEPRECATE_EOF. */
 uint32_t myp_read_statement(const uint8_t *packet, size_t len, myp_statement *out);
+
+/* Initializer: MYP_STATEMENT_WITH_METADATA_INIT. */
+typedef struct myp_statement_with_metadata {
+    uint32_t statement_id;
+    uint16_t num_columns;
+    uint16_t num_params;
+    uint16_t warning_count;
+    uint8_t has_metadata; /* 1 where a byte says whether definitions follow, else 0: they follow */
+    uint8_t metadata;     /* that byte: 1 where they follow, 0 where they don't */
+    size_t used;
+} myp_statement_with_metadata;
+#define MYP_STATEMENT_WITH_METADATA_INIT { 0, 0, 0, 0, 0, 0, 0 }
+
+/* Reads COM_STMT_PREPARE_OK, and under MYP_CLIENT_OPTIONAL_RESULTSET_METADATA the byte after it. MYP_UNEXPECTED_EOF;
+ * MYP_INVALID_DATA of another status. */
+uint32_t myp_read_statement_with_metadata(const uint8_t *packet, size_t len, uint32_t capabilities,
+                                          myp_statement_with_metadata *out);
 
 /* Initializer: MYP_COLUMN_INIT. */
 typedef struct myp_column {
@@ -469,7 +491,7 @@ uint32_t myp_write_long_data(uint32_t statement_id, uint16_t param_index, const 
 /* Writes COM_STMT_EXECUTE with the values, the types of their kinds (LONGLONG, FLOAT, DOUBLE, VAR_STRING of MYP_BYTES, DATETIME, TIME,
  * NULL), and no cursor; whether a date has its ranges is the server's to say. *as_long_data is 1 where byte strings are left out,
  * since the request with them is past 16,777,215 bytes: each is sent ahead by myp_write_long_data. MYP_INVALID_INPUT of a
- * value that is none, and *written is 0; MYP_BUFFER_TOO_SMALL, and *as_long_data is set; MYP_NO_MEMORY, and *written is 0. */
+ * value that is none, and *written is 0; MYP_BUFFER_TOO_SMALL, and *as_long_data is set. */
 uint32_t myp_write_execute(uint32_t statement_id, const myp_value *values, size_t n, uint8_t *out, size_t size, size_t *written,
                            uint8_t *as_long_data);
 
@@ -547,7 +569,8 @@ typedef struct myp_login {
 #define MYP_LOGIN_INIT { MYP_BYTES_INIT, MYP_BYTES_INIT, MYP_BYTES_INIT, MYP_BYTES_INIT, &myp_no_attribute, 0, 0, 0, 0, 0, 0, 0, 0 }
 
 /* Writes Protocol::HandshakeResponse41; of a name what stands before its first zero. MYP_INVALID_INPUT of attributes that are
- * not UTF-8, and *written is 0; MYP_BUFFER_TOO_SMALL; MYP_NO_MEMORY, and *written is 0. */
+ * not UTF-8, and *written is 0; MYP_BUFFER_TOO_SMALL; MYP_NO_MEMORY of strings that no memory holds together, and *written is 0. Each
+ * attribute is compared with those before it. */
 uint32_t myp_write_login(const myp_login *login, uint8_t *out, size_t size, size_t *written);
 
 /* Initializer: MYP_CHANGE_USER_INIT. */
@@ -564,7 +587,7 @@ typedef struct myp_change_user {
 #define MYP_CHANGE_USER_INIT { MYP_BYTES_INIT, MYP_BYTES_INIT, MYP_BYTES_INIT, MYP_BYTES_INIT, &myp_no_attribute, 0, 0, 0 }
 
 /* Writes COM_CHANGE_USER; of a name what stands before its first zero. MYP_INVALID_INPUT of attributes that are not UTF-8, and
- * *written is 0; MYP_BUFFER_TOO_SMALL; MYP_NO_MEMORY, and *written is 0. */
+ * *written is 0; MYP_BUFFER_TOO_SMALL; MYP_NO_MEMORY as of myp_write_login. */
 uint32_t myp_write_change_user(const myp_change_user *change, uint8_t *out, size_t size, size_t *written);
 
 /* Writes the request for the server's RSA key of caching_sha2_password, of one byte. MYP_BUFFER_TOO_SMALL. */
@@ -631,7 +654,7 @@ uint32_t myp_sid_from_text(const uint8_t *text, size_t len, myp_sid *out, myp_in
 
 /* Writes COM_BINLOG_DUMP_GTID: the replica has the transactions of these sids. MYP_DUMP_THROUGH_GTID is written where there is
  * a sid, and else not, whatever flags has. MYP_INVALID_INPUT of a tag that is none, and *written is 0; MYP_BUFFER_TOO_SMALL;
- * MYP_NO_MEMORY, and *written is 0. */
+ * MYP_NO_MEMORY of names and intervals that no memory holds together, and *written is 0. */
 uint32_t myp_write_gtid_dump(uint32_t server_id, uint16_t flags, const uint8_t *file_name, size_t file_name_len,
                              uint64_t position, const myp_sid *sids, size_t n, uint8_t *out, size_t size, size_t *written);
 
@@ -682,6 +705,10 @@ typedef struct myp_user_change {
     uint8_t has_attributes;
 } myp_user_change;
 #define MYP_USER_CHANGE_INIT { MYP_BYTES_INIT, MYP_BYTES_INIT, MYP_BYTES_INIT, MYP_BYTES_INIT, MYP_BYTES_INIT, 0, 0, 0, 0, 0 }
+
+/* Reads the request for the server's RSA key of caching_sha2_password, the byte 02. MYP_INVALID_DATA of another byte;
+ * MYP_UNEXPECTED_EOF of no byte. */
+uint32_t myp_read_public_key_request(const uint8_t *packet, size_t len, size_t *used);
 
 /* Reads COM_CHANGE_USER, by what both sides can do: the plugin under MYP_CLIENT_PLUGIN_AUTH, the attributes under
  * MYP_CLIENT_CONNECT_ATTRS. MYP_UNEXPECTED_EOF where a field is cut; MYP_INVALID_DATA of another first byte than
@@ -741,8 +768,8 @@ uint32_t myp_read_execution(const uint8_t *packet, size_t len, const myp_param *
 /* ---- what a server writes
  *
  * A struct that a reader filled can be written again: used is not looked at. Of each call: MYP_BUFFER_TOO_SMALL, and *written
- * is how many bytes it takes. After MYP_INVALID_INPUT *written is 0. The writers of rows alone take memory: MYP_NO_MEMORY, and *written
- * is 0. */
+ * is how many bytes it takes. After MYP_INVALID_INPUT *written is 0. None takes memory: MYP_NO_MEMORY is the answer to strings that no
+ * memory holds together, as where one is passed in many places, and *written is 0. */
 
 /* Writes OK_Packet or EOF_Packet of a kind of enum myp_ok_kind. An empty info or session state is absent, and what the kind or the
  * capabilities leave no place for is not written. MYP_INVALID_INPUT of a kind that is none. */
@@ -762,6 +789,9 @@ uint32_t myp_write_progress(const myp_error *report, uint8_t *out, size_t size, 
 
 /* Writes COM_STMT_PREPARE_OK, of 12 bytes. */
 uint32_t myp_write_statement(const myp_statement *statement, uint8_t *out, size_t size, size_t *written);
+
+/* Writes COM_STMT_PREPARE_OK, and the byte after it where has_metadata is not 0. */
+uint32_t myp_write_statement_with_metadata(const myp_statement_with_metadata *statement, uint8_t *out, size_t size, size_t *written);
 
 /* Writes the count of columns, and under MYP_MARIADB_CLIENT_CACHE_METADATA a byte that says whether definitions follow.
  * MYP_INVALID_INPUT where metadata_follows is 0 and no byte says so. */
@@ -785,6 +815,9 @@ uint32_t myp_write_handshake(const myp_handshake *handshake, uint8_t *out, size_
 
 /* Writes Protocol::AuthSwitchRequest. MYP_INVALID_INPUT of a name with a zero. */
 uint32_t myp_write_auth_switch(const myp_auth_switch *request, uint8_t *out, size_t size, size_t *written);
+
+/* Writes Protocol::OldAuthSwitchRequest, of one byte. */
+uint32_t myp_write_old_auth_switch(uint8_t *out, size_t size, size_t *written);
 
 /* Writes Protocol::AuthMoreData: 01, and the plugin's data. */
 uint32_t myp_write_auth_more_data(const uint8_t *plugin_data, size_t len, uint8_t *out, size_t size, size_t *written);

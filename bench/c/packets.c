@@ -206,6 +206,47 @@ static uint64_t execution(const uint8_t *p, size_t n)
     return myp_write_execute(1, row, COLUMNS, out, sizeof out, &written, &as_long_data) ? 0 : written;
 }
 
+/* ---- what is written */
+
+static uint64_t header_written(const uint8_t *p, size_t n)
+{
+    static uint8_t out[4];
+    size_t written = 0;
+    return myp_write_header((uint32_t)n, *p, out, sizeof out, &written) ? 0 : written;
+}
+
+static uint64_t close_written(const uint8_t *p, size_t n)
+{
+    static uint8_t out[5];
+    size_t written = 0;
+    return myp_write_close((uint32_t)n + *p, out, sizeof out, &written) ? 0 : written;
+}
+
+static uint64_t error_written(const uint8_t *p, size_t n)
+{
+    static const uint8_t state[] = "HY000";
+    static uint8_t out[256];
+    static myp_error e = MYP_ERROR_INIT;
+    size_t written = 0;
+    e.code = (uint16_t)n, e.sql_state.data = state, e.sql_state.len = 5, e.message.data = p, e.message.len = n;
+    return myp_write_error(&e, out, sizeof out, &written) ? 0 : written;
+}
+
+/* five numbers and five strings, as they were read */
+static uint64_t binary_row_written(const uint8_t *p, size_t n)
+{
+    static uint8_t out[512];
+    size_t written = 0;
+    return binary_row(p, n) && !myp_write_binary_row(types, COLUMNS, row, COLUMNS, out, sizeof out, &written) ? written : 0;
+}
+
+static uint64_t text_row_written(const uint8_t *p, size_t n)
+{
+    static uint8_t out[512];
+    size_t written = 0;
+    return text_row(p, n) && !myp_write_text_row(row, COLUMNS, out, sizeof out, &written) ? written : 0;
+}
+
 static const struct operation {
     const char *name;
     void (*put)(struct batch *);
@@ -214,6 +255,8 @@ static const struct operation {
     { "statement", put_statement, statement }, { "column", put_column, column }, { "ok", put_ok, ok },
     { "ok_changes", put_ok_changes, ok_changes }, { "error", put_error, error }, { "handshake", put_handshake, handshake },
     { "binary_row", put_binary_row, binary_row }, { "text_row", put_text_row, text_row }, { "execution", put_ten_numbers, execution },
+    { "header_written", put_statement, header_written }, { "close_written", put_statement, close_written }, { "error_written", put_error, error_written },
+    { "binary_row_written", put_binary_row, binary_row_written }, { "text_row_written", put_text_row, text_row_written },
 };
 
 __attribute__((noinline)) uint64_t measured(uint64_t (*run)(const uint8_t *, size_t), const struct batch *b)

@@ -119,6 +119,15 @@ static void results(void)
     myp_statement s = MYP_STATEMENT_INIT;
     CHECK(myp_read_statement(stmt, sizeof stmt, &s) == MYP_OK && s.statement_id == 1 && s.num_columns == 1 && s.num_params == 2 && s.used == 12);
     CHECK(myp_read_statement(stmt, 11, &s) == MYP_UNEXPECTED_EOF && myp_read_statement(stmt + 1, 11, &s) != MYP_OK);
+    static const uint8_t without[] = { 0, 1, 0, 0, 0, 1, 0, 2, 0, 0, 0, 0, 0 };
+    uint8_t back[13] = { 0 };
+    size_t n = 0;
+    myp_statement_with_metadata m = MYP_STATEMENT_WITH_METADATA_INIT;
+    CHECK(myp_read_statement_with_metadata(without, 13, MYP_CLIENT_OPTIONAL_RESULTSET_METADATA, &m) == MYP_OK && m.statement_id == 1 && m.num_columns == 1 && m.num_params == 2 && m.has_metadata == 1 && m.metadata == 0 && m.used == 13);
+    CHECK(myp_write_statement_with_metadata(&m, back, sizeof back, &n) == MYP_OK && n == 13 && !memcmp(back, without, 13));
+    CHECK(myp_read_statement_with_metadata(without, 12, MYP_CLIENT_OPTIONAL_RESULTSET_METADATA, &m) == MYP_UNEXPECTED_EOF && m.used == 13);
+    CHECK(myp_read_statement_with_metadata(without, 12, 0, &m) == MYP_OK && m.has_metadata == 0 && m.used == 12);
+    CHECK(myp_write_statement_with_metadata(&m, back, 11, &n) == MYP_BUFFER_TOO_SMALL && n == 12);
     static const uint8_t column[] = "\003def\004test\003tbl\003org\001a\001b\x0c\x3f\0\x0b\0\0\0\x08\x21\0\0\0\0";
     myp_column c = MYP_COLUMN_INIT;
     CHECK(myp_read_column(column, sizeof column - 1, &c) == MYP_OK && IS(c.schema, "test") && IS(c.table, "tbl") && IS(c.org_table, "org") && IS(c.name, "a") && IS(c.org_name, "b"));

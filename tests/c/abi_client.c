@@ -101,6 +101,11 @@ static void logins(void)
     a[0].value.data = (const uint8_t *)"w", a[1].value.data = (const uint8_t *)"v", a[0].value.len = a[1].value.len = 1;
     l.attributes = a, l.n_attributes = 2, l.has_attributes = 1;
     CHECK(myp_write_login(&l, out, sizeof out, &n) == MYP_OK && n == 70 && !memcmp(out + 65, "\x04\x01k\x01v", 5) && (out[2] & 0x10));
+    CHECK(myp_write_login(&l, NULL, 0, &n) == MYP_BUFFER_TOO_SMALL && n == 70);
+    const myp_attribute three[] = { { a[0].name, a[0].value }, { a[1].value, a[0].value }, { a[0].name, a[1].value } }; /* k w, v w, k v */
+    l.attributes = three, l.n_attributes = 3;
+    CHECK(myp_write_login(&l, out, sizeof out, &n) == MYP_OK && n == 74 && !memcmp(out + 65, "\x08\x01k\x01v\x01v\x01w", 9));
+    l.attributes = a, l.n_attributes = 2;
     a[1].value.data = (const uint8_t *)"\xff", out[0] = 7;
     CHECK(myp_write_login(&l, out, sizeof out, &n) == MYP_INVALID_INPUT && n == 0 && out[0] == 7);
     l.has_attributes = 0;
@@ -131,6 +136,9 @@ static void keys(void)
     myp_bytes pem = MYP_BYTES_INIT, salt = MYP_BYTES_INIT;
     CHECK(myp_read_public_key((const uint8_t *)"\x01-----BEGIN", 11, &pem) == MYP_OK && IS(pem, "-----BEGIN"));
     CHECK(myp_read_public_key((const uint8_t *)"\x02-", 2, &pem) == MYP_INVALID_DATA && myp_read_public_key((const uint8_t *)"", 0, &pem) == MYP_UNEXPECTED_EOF && pem.len == 10);
+    size_t used = 9;
+    CHECK(myp_read_old_auth_switch((const uint8_t *)"\xfe", 1, &used) == MYP_OK && used == 1);
+    CHECK(myp_read_old_auth_switch((const uint8_t *)"\x00", 1, &used) == MYP_INVALID_DATA && myp_read_old_auth_switch(NULL, 0, &used) == MYP_UNEXPECTED_EOF && used == 1);
     uint32_t iterations = 7;
     static const uint8_t parsec[] = "P\x02" "abcdefghijklmnopqr";
     CHECK(myp_read_parsec_salt(parsec, 20, &iterations, &salt) == MYP_OK && iterations == 4096 && IS(salt, "abcdefghijklmnopqr"));

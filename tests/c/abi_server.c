@@ -151,6 +151,10 @@ static void written_connection(void)
     WRITES("\x01\x04", 2, myp_write_auth_more_data((const uint8_t *)"\x04", 1, out, size, &n));
     CHECK(myp_read_auth_more_data(sent, 2, &more) == MYP_OK && IS(more, "\x04"));
     WRITES("\x01-----BEGIN PUBLIC KEY-----", 27, myp_write_public_key((const uint8_t *)"-----BEGIN PUBLIC KEY-----", 26, out, size, &n));
+    WRITES("\xfe", 1, myp_write_old_auth_switch(out, size, &n));
+    size_t used = 9;
+    CHECK(myp_read_public_key_request((const uint8_t *)"\x02", 1, &used) == MYP_OK && used == 1);
+    CHECK(myp_read_public_key_request((const uint8_t *)"\x01", 1, &used) == MYP_INVALID_DATA && myp_read_public_key_request(NULL, 0, &used) == MYP_UNEXPECTED_EOF && used == 1);
     WRITES("\xfb/tmp/x", 7, myp_write_local_infile((const uint8_t *)"/tmp/x", 6, out, size, &n));
     CHECK(myp_read_local_infile(sent, 7, &file) == MYP_OK && IS(file, "/tmp/x"));
 }

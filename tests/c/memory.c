@@ -87,8 +87,8 @@ static void results(void)
     EACH(0, myp_write_statement(&s, out, sizeof out, &n));
     EACH(0, myp_write_column_count(&c, MYP_MARIADB_CLIENT_CACHE_METADATA, out, sizeof out, &n));
     EACH(0, myp_write_column(&d, out, sizeof out, &n));
-    EACH(2, myp_write_text_row(v, 2, out, sizeof out, &n));
-    EACH(2, myp_write_binary_row(types, 2, v, 2, out, sizeof out, &n));
+    EACH(0, myp_write_text_row(v, 2, out, sizeof out, &n));
+    EACH(0, myp_write_binary_row(types, 2, v, 2, out, sizeof out, &n));
 }
 
 static void connection(void)
@@ -127,17 +127,17 @@ static void requests(void)
     sid.intervals = intervals, sid.n_intervals = 2, sid.tag[0] = 'a', sid.tag_length = 1;
     myp_ssl_request r = MYP_SSL_REQUEST_INIT;
     myp_replica replica = MYP_REPLICA_INIT;
-    SOME(myp_write_execute(1, v, 4, out, sizeof out, &n, &as_long_data));
+    EACH(0, myp_write_execute(1, v, 4, out, sizeof out, &n, &as_long_data));
     SOME(myp_write_bulk(1, 0, 1 << 20, types, 2, v, 4, out, sizeof out, &n, &rows));
-    SOME(myp_write_login(&l, out, sizeof out, &n));
-    SOME(myp_write_change_user(&c, out, sizeof out, &n));
+    EACH(0, myp_write_login(&l, out, sizeof out, &n));
+    EACH(0, myp_write_change_user(&c, out, sizeof out, &n));
     EACH(0, myp_write_ssl_request(&r, out, sizeof out, &n));
     EACH(0, myp_write_public_key_request(out, sizeof out, &n));
     EACH(0, myp_write_register_replica(&replica, out, sizeof out, &n));
     EACH(0, myp_write_dump(1, 0, text.data, text.len, 4, out, sizeof out, &n));
     EACH(0, myp_write_table_dump(text.data, text.len, text.data, text.len, out, sizeof out, &n));
     EACH(0, myp_write_semi_sync_ack(4, text.data, text.len, out, sizeof out, &n));
-    SOME(myp_write_gtid_dump(1, 0, text.data, text.len, 4, &sid, 1, out, sizeof out, &n));
+    EACH(0, myp_write_gtid_dump(1, 0, text.data, text.len, 4, &sid, 1, out, sizeof out, &n));
     myp_interval places[4] = { MYP_INTERVAL_INIT, MYP_INTERVAL_INIT, MYP_INTERVAL_INIT, MYP_INTERVAL_INIT };
     SOME(myp_sid_from_text((const uint8_t *)"3e11fa47-71ca-11e1-9e33-c80aa9429562:1-5:7", 42, &sid, places, 4, &n));
     /* (a refused execution that is read leaves the struct: `used` in the place of what is written) */

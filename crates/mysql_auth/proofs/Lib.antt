@@ -14,7 +14,8 @@ mod ResponseRead
 mod ChangeRead
 pub mod PairsRead
 pub mod PairsPassed
-mod PairsWritten
+pub mod PairsWritten
+pub mod ResponseEnds
 mod WholePackets
 mod ValuesFit
 mod ReadParts

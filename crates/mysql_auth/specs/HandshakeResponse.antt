@@ -115,6 +115,10 @@ handshake_response_fields = do
 unfoldable pub handshake_response : Codec (Unit {0}) HandshakeResponse
 handshake_response = packet handshake_response_fields (λ p. refl)
 
+-- what is written before the attributes
+abbrev pub before_attributes : HandshakeResponse → List ℕ
+before_attributes p = handshake_response.bytes (record p { connect_attributes = None })
+
 pub size-handshake_response : (handshake_response.form tt).size ≡ None
 unfolding handshake_response
 size-handshake_response = refl

@@ -279,6 +279,13 @@ impl<'a> HandshakeResponse<'a> {
         }
     }
 
+    /// What is written of it before its attributes.
+    pub fn before_attributes(&self) -> ResponseBeforeAttributes<'_, 'a>
+        ensures { result.0.now ≡ self.now }
+    {
+        ResponseBeforeAttributes(self)
+    }
+
     /// Each number has its width.
     pub(crate) fn widths(&self)
         ensures value { SslRequestFits self.now.head }
@@ -366,6 +373,28 @@ impl Parts for HandshakeResponse<'_> {
             self.db_name,
             self.auth_plugin,
             self.connect_attributes
+        ));
+    }
+}
+
+/// What is written of a [`HandshakeResponse`] before its attributes: who writes attributes of its own writes them after it.
+#[derive(Drop)]
+pub struct ResponseBeforeAttributes<'b, 'a>(&'b HandshakeResponse<'a>);
+
+#[tactic(auto, using(mysql_wire::proofs::Packets::packets), unfolding(crate::specs::HandshakeResponse::handshake_response, crate::specs::HandshakeResponse::database, crate::specs::HandshakeResponse::plugin, crate::specs::HandshakeResponse::sent_attributes, crate::specs::PluginName::plugin_null_or_eof))]
+impl Parts for ResponseBeforeAttributes<'_, '_> {
+    ghost bytes = { λ r. spec.before_attributes r.0.now };
+
+    #[inline(always)]
+    fn put<S: Sink>(&self, sink: &mut S) {
+        let response = self.0;
+        let scramble = response.written_scramble();
+        sink.part(&parts!(
+            response.head,
+            response.user,
+            scramble,
+            response.db_name,
+            response.auth_plugin
         ));
     }
 }

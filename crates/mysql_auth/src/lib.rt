@@ -59,7 +59,7 @@ pub use faults::{
 };
 pub use handshake::HandshakePacket;
 pub use handshake_ref::HandshakePacketRef;
-pub use handshake_response::HandshakeResponse;
+pub use handshake_response::{HandshakeResponse, ResponseBeforeAttributes};
 pub use handshake_response_ref::HandshakeResponseRef;
 pub use old_auth_switch_request::OldAuthSwitchRequest;
 pub use parsec::parse_parsec_salt;

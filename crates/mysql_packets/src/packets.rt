@@ -36,6 +36,7 @@ pub use mysql_auth::OldAuthSwitchRequest;
 pub use mysql_auth::PublicKeyResponse;
 pub use mysql_auth::PublicKeyResponseHeader;
 pub use mysql_auth::PublicKeyResponseRef;
+pub use mysql_auth::ResponseBeforeAttributes;
 pub use mysql_auth::SslRequest;
 pub use mysql_auth::parse_parsec_salt;
 pub use mysql_bulk::BulkColumnTypeError;

@@ -1,5 +1,5 @@
 -- What filling places gives of a row.
-use Rattle.std.proofs.Common.{◌≡◌, ◌-◌, ◌++◌, ◌∷◌, ◌+◌, ◌<◌, ℕ, suc, List, [], get_or, refl, slice_set, Option, Result, Ok, Err, length, map, take, drop, false, sym, subst, ap, ◌∙◌, arith}
+use Rattle.std.proofs.Common.{◌≡◌, ◌-◌, ◌++◌, ◌∷◌, ◌+◌, ◌<◌, ℕ, List, [], get_or, refl, slice_set, Option, Result, Ok, Err, length, map, take, drop, false, sym, subst, ap, ◌∙◌, arith}
 use Rattle.std.proofs.lemmas.List.{append-nil, append_assoc, drop-drop, drop-set-lt, get_or-drop, length-set, map-append, take_more, take_more_set}
 use Rattle.std.proofs.lemmas.List.Elements.{AllZip-push}
 use Rattle.std.specs.List.{AllZip}

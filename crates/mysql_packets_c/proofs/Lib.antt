@@ -3,11 +3,14 @@ pub mod Conversations
 pub mod FilledRows
 pub mod Answers
 pub mod Changes
-pub mod AttributeTexts
+pub mod MergedNames
 pub mod Mixed
 pub mod BulkRows
 pub mod Executions
 pub mod SidHeld
+pub mod WrittenSids
 pub mod SomeZero
 pub mod HandshakeFit
 pub mod RefusedRow
+pub mod WrittenRows
+pub mod Logins

@@ -41,12 +41,6 @@ pub ruleset tag_places = (tag-place)
 
 -- ---- intervals one by one
 
-pub one-interval : (list : List CInterval) (i : ℕ) (x d : CInterval) (items : List GnoInterval) → i < length list → x ≡ get_or list i d → items ≡ intervals_of (take i list)
-    → items ++ interval_of x ∷ [] ≡ intervals_of (take (i + 1) list)
-one-interval list i x d items lt is so_far =
-    ap (λ (l : List GnoInterval). l ++ interval_of x ∷ []) so_far ∙ ap (λ (y : CInterval). intervals_of (take i list) ++ interval_of y ∷ []) is
-    ∙ sym (ap intervals_of (take_more list i d lt) ∙ map-append interval_of (take i list) (get_or list i d ∷ []))
-
 pub one-placed : (list : List GnoInterval) (places : List CInterval) (i : ℕ) (x : CInterval) (y d : GnoInterval) → i < length list → i < length places → y ≡ get_or list i d → interval_of x ≡ y → intervals_of (take i places) ≡ take i list
     → intervals_of (take (i + 1) (slice_set places i x)) ≡ take (i + 1) list
 one-placed list places i x y d lt fits is same so_far =
@@ -70,34 +64,3 @@ tag-fits tag h = tag-short tag h
 pub ruleset intervals_put = (one-placed)
 
 pub ruleset tags_put = (tag-put, no-tag-put, tag-fits)
-
--- ---- sids one by one
-
--- what is held, after these
-abbrev pub after_these : List Sid → Option (List Sid) → Option (List Sid)
-after_these front None = None
-after_these front (Some sids) = Some (front ++ sids)
-
-pub one-more : (front : List Sid) (s : Sid) (more : Option (List Sid)) → after_these front (with_first (Some s) more) ≡ after_these (front ++ s ∷ []) more
-one-more front s None = refl
-one-more front s (Some sids) = ap (λ (l : List Sid). Some l) (sym (append_assoc front (s ∷ []) sids))
-
-pub next-held : (front : List Sid) (sids : List CSid) (i : ℕ) (x d : CSid) (s : Sid) (total : Option (List Sid)) → i < length sids → x ≡ get_or sids i d → sid_held x ≡ Some s
-    → after_these front (sids_held (drop i sids)) ≡ total → after_these (front ++ s ∷ []) (sids_held (drop (i + 1) sids)) ≡ total
-next-held front sids i x d s total lt is held so_far =
-    let one : sids_held (drop i sids) ≡ with_first (Some s) (sids_held (drop (i + 1) sids)) =
-    ap sids_held (drop_more sids i d lt) ∙ ap (λ (t : Option Sid). with_first t (sids_held (drop (i + 1) sids))) (ap sid_held (sym is) ∙ held) in
-    sym (ap (after_these front) one ∙ one-more front s (sids_held (drop (i + 1) sids))) ∙ so_far
-
-pub none-held : (front : List Sid) (sids : List CSid) (i : ℕ) (x d : CSid) (total : Option (List Sid)) → i < length sids → x ≡ get_or sids i d → sid_held x ≡ None
-    → after_these front (sids_held (drop i sids)) ≡ total → total ≡ None
-none-held front sids i x d total lt is held so_far =
-    let one : sids_held (drop i sids) ≡ None =
-    ap sids_held (drop_more sids i d lt) ∙ ap (λ (t : Option Sid). with_first t (sids_held (drop (i + 1) sids))) (ap sid_held (sym is) ∙ held) in
-    sym so_far ∙ ap (after_these front) one
-
-pub all-held : (front : List Sid) (sids : List CSid) (i : ℕ) (total : Option (List Sid)) → length sids ≤ i
-    → after_these front (sids_held (drop i sids)) ≡ total → total ≡ Some front
-all-held front sids i total le so_far = sym so_far ∙ ap (λ (l : List CSid). after_these front (sids_held l)) (drop_all i sids le) ∙ ap (λ (l : List Sid). Some l) (append-nil front)
-
-pub ruleset sids_held_one = (one-interval, next-held, none-held, all-held)

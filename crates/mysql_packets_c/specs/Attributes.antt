@@ -1,6 +1,7 @@
 -- Attributes, as C has them.
-use Rattle.std.specs.List.{list_all}
-use Rattle.std.specs.Prelude.{List, ℕ, Bool, ◌&&◌, map, ◌≡◌, Ok, Err}
+use Rattle.std.specs.Cmp.Lexicographic.{pointwise}
+use Rattle.std.specs.List.{list_all, list_any}
+use Rattle.std.specs.Prelude.{List, [], ◌∷◌, ◌++◌, ℕ, Bool, ◌&&◌, drop, if◌then◌else◌, map, nat_eq, take, ◌≡◌, Ok, Err, Option, None, Some}
 use Rattle.std.specs.Str.{is_utf8}
 use Rattle.mysql_auth.specs.Attributes.{Attribute, merged}
 use Rattle.mysql_auth.specs.ConnectAttributesRef.{pairs_in}
@@ -23,6 +24,37 @@ are_texts attributes = list_all is_text attributes
 -- each name once, in the order of the first places; of two values of one name the later one counts
 abbrev pub merged_pairs : List CAttribute → List Attribute
 merged_pairs attributes = merged (map pair_of attributes)
+
+-- ---- the same, one after another
+
+abbrev pub pairs_of : List CAttribute → List Attribute
+pairs_of attributes = map pair_of attributes
+
+-- one of them has the name
+abbrev pub has_name : List ℕ → List CAttribute → Bool
+has_name name attributes = list_any (λ a. pointwise nat_eq name a.name.now) attributes
+
+-- a pair of the name is among them
+abbrev pub is_named : List ℕ → List Attribute → Bool
+is_named name pairs = list_any (λ e. pointwise nat_eq name e.0) pairs
+
+-- the value that a name has in the end, where it has one before them
+abbrev pub last_of : (name value : List ℕ) → List Attribute → List ℕ
+last_of name value [] = value
+last_of name value (p ∷ pairs) = last_of name (if pointwise nat_eq p.0 name then p.1 else value) pairs
+
+-- the pairs whose names did not come before, each with its last value
+abbrev pub firsts : (before pairs : List Attribute) → List Attribute
+firsts before [] = []
+firsts before (p ∷ pairs) = if is_named p.0 before then firsts (before ++ p ∷ []) pairs else (p.0, last_of p.0 p.1 pairs) ∷ firsts (before ++ p ∷ []) pairs
+
+-- those from a place on
+abbrev pub firsts_from : ℕ → List CAttribute → List Attribute
+firsts_from place attributes = firsts (pairs_of (take place attributes)) (pairs_of (drop place attributes))
+
+abbrev pub with_pair : Option Attribute → List Attribute → List Attribute
+with_pair None pairs = pairs
+with_pair (Some p) pairs = p ∷ pairs
 
 -- the attributes that stand in these bytes
 abbrev pub attributes_in : List ℕ → List Attribute

@@ -14,6 +14,10 @@ use Rattle.mysql_packets_c.specs.declared.change_user.CUserChange.{CUserChange}
 abbrev pub more_of : CChangeUser → ComChangeUserMoreData
 more_of c = change.more_data_of c.character_set (if_set c.has_auth_plugin (plugin_of c.auth_plugin_name.now)) (Some (merged_pairs c.attributes.now))
 
+-- the packet of these without the attributes, which are written after it
+abbrev pub change_before : CChangeUser → ComChangeUser
+change_before c = change.change_of c.user.now c.auth_plugin_data.now c.database.now (Some (change.more_data_of c.character_set (if_set c.has_auth_plugin (plugin_of c.auth_plugin_name.now)) None))
+
 -- the packet of these
 abbrev pub change_of : CChangeUser → ComChangeUser
 change_of c = change.change_of c.user.now c.auth_plugin_data.now c.database.now (Some (more_of c))

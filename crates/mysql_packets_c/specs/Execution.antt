@@ -20,7 +20,7 @@ use Rattle.mysql_wire.specs.declared.codes.column_type.ColumnType.TheVariants as
 use Rattle.mysql_wire.specs.declared.fault.FaultOf.{FaultOf}
 use Rattle.mysql_packets_c.specs.Code.{kind_code}
 use Rattle.mysql_packets_c.specs.Input.{used_of}
-use Rattle.mysql_packets_c.specs.Output.{Puts}
+use Rattle.mysql_packets_c.specs.Output.{PutsSuch}
 use Rattle.mysql_packets_c.specs.Value.{IsSet, value_content, is_value}
 use Rattle.mysql_packets_c.specs.declared.execution.CExecution.{CExecution}
 use Rattle.mysql_packets_c.specs.declared.execution.CExecutionHead.{CExecutionHead}
@@ -114,10 +114,8 @@ param v = Sent (if is_value v then value_content v else NULL)
 
 -- an execution of the statement with these values is written, and whether it leaves byte strings out is answered
 pub record Executes (statement_id : ℕ) (values : List CValue) (code : ℕ) (old new : List ℕ) (written as_long_data : ℕ) : Type 0 where
-  pub bytes : List ℕ
   pub is_long : Bool
-  pub is_theirs : IsExecutionBytes param statement_id values is_long bytes
   -- byte strings are left out where the request with them is past one packet
   pub where_long : IsTrue is_long ↔ (max_payload < execution_size param values false)
-  pub puts : Puts bytes code old new written
+  pub puts : PutsSuch (IsExecutionBytes param statement_id values is_long) (execution_size param values is_long) code old new written
   pub leaves_out : as_long_data ≡ (if is_long then 1 else 0)

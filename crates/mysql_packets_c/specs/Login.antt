@@ -31,6 +31,10 @@ pub record IsLogin (c : CLogin) (p : HandshakeResponse) : Type 0 where
   pub attributes_flag : has (response.capabilities p).0 CLIENT_CONNECT_ATTRS ≡ is_set c.has_attributes
   pub other_flags : (i : ℕ) → i < 32 → i ≢ 3 → i ≢ 19 → i ≢ 20 → bit_at (response.capabilities p).0 i ≡ bit_at c.capabilities i
 
+-- the response with the attributes of the login
+abbrev pub with_attributes : CLogin → HandshakeResponse → HandshakeResponse
+with_attributes c p = record p { connect_attributes = if_set c.has_attributes (merged_pairs c.attributes.now) }
+
 -- what was not sent is empty
 pub record IsLoginRequest (packet : List ℕ) (p : HandshakeResponse) (rest : List ℕ) (out : CLoginRequest) : Type 0 where
   pub user : out.user.now ≡ response.user p

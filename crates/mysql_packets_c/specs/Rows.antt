@@ -1,7 +1,7 @@
 -- Rows, as C has them.
 use Rattle.std.specs.List.{AllZip, list_all}
 use Rattle.std.specs.Prelude.{◌≡◌, ◌≤◌, ◌-◌, ◌++◌, ℕ, List, length, take, drop, map, Option, Some, Result, Ok, Err, false, None, Bool, if◌then◌else◌, ◌==◌, ◌&&◌, nat_lt}
-use Rattle.mysql_prepared.specs.BinaryRow.{IsRowBytes, takes_row}
+use Rattle.mysql_prepared.specs.BinaryRow.{IsRowBytes, row_len, takes_row}
 use Rattle.mysql_prepared.specs.RowView.{RowLeft}
 use Rattle.mysql_values.specs.Value.{Content}
 use Rattle.mysql_wire.specs.Reading.{Reading, Faults}
@@ -9,7 +9,7 @@ use Rattle.mysql_wire.specs.declared.fault.FaultOf.{FaultOf}
 use Rattle.mysql_packets_c.specs.Code.{kind_code}
 use Rattle.mysql_packets_c.specs.ColumnType.{type_of, unsigned_of}
 use Rattle.mysql_packets_c.specs.Input.{used_of}
-use Rattle.mysql_packets_c.specs.Output.{Puts}
+use Rattle.mysql_packets_c.specs.Output.{PutsSuchUnlessTooLong}
 use Rattle.mysql_packets_c.specs.Value.{IsSet, SetsFirst, value_content, is_value, values_contents}
 use Rattle.mysql_packets_c.specs.declared.rows.CColumnType.{CColumnType}
 use Rattle.mysql_packets_c.specs.declared.value.CValue.{CValue}
@@ -61,4 +61,4 @@ row_fits columns values = list_all is_value values && takes_row type_of unsigned
 -- the bytes of the row are put
 abbrev pub PutsRow : List CColumnType → List CValue → ℕ → (old new : List ℕ) → ℕ → Type 0
 PutsRow columns values code old new written =
-    (bytes : List ℕ) × IsRowBytes type_of unsigned_of columns (values_contents values) bytes × Puts bytes code old new written
+    PutsSuchUnlessTooLong (IsRowBytes type_of unsigned_of columns (values_contents values)) (row_len type_of unsigned_of columns (values_contents values)) code old new written

@@ -1,5 +1,6 @@
 -- A server's transactions, as C has them.
 use Rattle.std.specs.Prelude.{◌≡◌, ℕ, ◌<◌, ◌≤◌, List, [], ◌∷◌, length, map, take, Option, Some, None, Result, Ok, Err, ◌⊎◌, if◌then◌else◌, nat_le}
+use Rattle.std.specs.Option.{unwrap_or}
 use Rattle.mysql_repl.specs.GnoInterval as gno
 use Rattle.mysql_repl.specs.GnoInterval.{interval}
 use Rattle.mysql_repl.specs.InPlace.{StandIn}
@@ -37,6 +38,16 @@ abbrev pub with_first : Option Sid → Option (List Sid) → Option (List Sid)
 with_first None more = None
 with_first (Some s) None = None
 with_first (Some s) (Some sids) = Some (s ∷ sids)
+
+-- the tag, none where its bytes are none
+abbrev pub tag_or : CSid → Option (List ℕ)
+tag_or s = unwrap_or (tag_held s) None
+
+abbrev pub sid_or : CSid → Sid
+sid_or s = record { uuid = s.uuid; tag = tag_or s; intervals = intervals_of s.intervals.now }
+
+abbrev pub sids_or : List CSid → List Sid
+sids_or sids = map sid_or sids
 
 -- all of them, unless one has a tag that is none
 abbrev pub sids_held : List CSid → Option (List Sid)

@@ -1,18 +1,19 @@
 //! The attributes of a connection.
-#![tactic(auto, using(crate::proofs::Codes::codes, crate::proofs::AttributeTexts::attributes))]
+#![tactic(auto, using(crate::proofs::Codes::codes))]
 
-ghost use Rattle.std.specs.Prelude.{[], ◌≡◌, ◌≢◌, map, IfOk, string_bytes};
+ghost use Rattle.std.specs.Prelude.{[], ◌≡◌, ◌≢◌, ◌+◌, ◌++◌, ◌<◌, ◌≤◌, drop, length, option_map};
 ghost use Rattle.std.specs.Str.{is_utf8};
-ghost use Rattle.mysql_auth.specs.Attributes.{text_pair, attribute};
+ghost use Rattle.mysql_auth.specs.Attributes.{attribute, pairs_bytes};
+ghost use Rattle.mysql_wire.specs.Writing.{saturated};
 ghost use Rattle.mysql_packets_c.specs.Attributes as given;
 ghost use Rattle.mysql_packets_c.specs.Attributes.{NextInto};
 
 use crate::code::{END, OK, code_of};
 use crate::text::CBytes;
-use indexmap::IndexMap;
 use mysql_auth::ConnectAttributeRef;
-use mysql_wire::ParseBuf;
-use std::alloc::{AllocError, Global};
+use mysql_wire::{Buffer, IntRepr, LenEnc, MySerialize, ParseBuf, Parts, RawBytes, Sink, parts};
+use std::alloc::Global;
+use std::borrow::CowSlice;
 
 /// Takes the next attribute off the front: 0; 7 where no byte is left; or 1 or 2. After another code than 0 all is as it was.
 #[unsafe(no_mangle)]
@@ -47,6 +48,7 @@ pub struct CAttribute<'a> {
     pub value: &'a [u8],
 }
 
+#[tactic(auto, using(crate::proofs::MergedNames::texts))]
 fn is_text(bytes: &[u8]) -> bool
     ensures { result ≡ is_utf8 bytes.now }
 {
@@ -60,29 +62,110 @@ pub(crate) fn are_texts(attributes: &[CAttribute<'_>]) -> bool
     attributes.iter().all(|attribute| is_text(attribute.name) && is_text(attribute.value))
 }
 
-/// A text. What is not UTF-8 is given up, as where memory is refused.
-fn text(alloc: Global, bytes: &[u8]) -> Result<String, AllocError>
-    ensures { IfOk result (λ text. string_bytes text ≡ bytes.now) }
-{
-    match str::from_utf8(bytes) {
-        Ok(text) => String::from_str(alloc, text),
-        Err(_) => Err(AllocError),
+/// An attribute, as it is written: the name and the value, each length-encoded.
+#[derive(Drop)]
+struct WrittenPair<'a>(CAttribute<'a>);
+
+#[tactic(auto, using(mysql_wire::proofs::Packets::packets), unfolding(mysql_auth::specs::Attributes::attribute))]
+impl Parts for WrittenPair<'_> {
+    ghost use Rattle.mysql_auth.specs.Attributes.{attribute};
+    ghost use Rattle.mysql_packets_c.specs.Attributes.{pair_of};
+
+    ghost bytes = { λ p. attribute.bytes (pair_of p.0) };
+
+    #[inline(always)]
+    fn put<S: Sink>(&self, sink: &mut S) {
+        let name = RawBytes::<LenEnc>::new(CowSlice::Borrowed(self.0.name));
+        let value = RawBytes::<LenEnc>::new(CowSlice::Borrowed(self.0.value));
+        sink.part(&parts!(name, value));
     }
 }
 
-/// The attributes as texts. Of two with one name the later one counts, at the place of the first.
-#[tactic(auto, using(crate::proofs::AttributeTexts::attributes, crate::proofs::AttributeTexts::inserted))]
-pub(crate) fn texts_of(
-    alloc: Global,
-    attributes: &[CAttribute<'_>],
-) -> Result<IndexMap<String, String>, AllocError>
-    ensures { IfOk result (λ texts. map text_pair texts.entries ≡ given.merged_pairs attributes.now) }
+/// Whether one of the attributes has the name.
+fn has_name(attributes: &[CAttribute<'_>], name: &[u8]) -> bool
+    ensures { result ≡ given.has_name name.now attributes.now }
 {
-    let mut texts = IndexMap::with_capacity(alloc, attributes.len())?;
-    for attribute in attributes.iter() {
-        let name = text(alloc, attribute.name)?;
-        let value = text(alloc, attribute.value)?;
-        texts.insert(name, value)?;
+    attributes.iter().any(|attribute| name == attribute.name)
+}
+
+/// The value that the name of an attribute has in the end, where these stand after it.
+#[tactic(auto, using(crate::proofs::MergedNames::last_values))]
+fn last_of<'a>(attributes: &[CAttribute<'a>], first: &CAttribute<'a>) -> &'a [u8]
+    ensures { result.now ≡ given.last_of first.now.name.now first.now.value.now (given.pairs_of attributes.now) }
+{
+    let mut value = first.value;
+    for attribute in attributes {
+        if attribute.name == first.name {
+            value = attribute.value;
+        }
     }
-    Ok(texts)
+    value
+}
+
+/// The attribute at a place with its last value, unless its name came before.
+fn first_at<'a>(attributes: &[CAttribute<'a>], place: usize) -> Option<CAttribute<'a>>
+    requires { place < length attributes.now }
+    ensures { given.firsts_from place attributes.now ≡ given.with_pair (option_map given.pair_of result) (given.firsts_from (place + 1) attributes.now) }
+{
+    let attribute = &attributes[place];
+    if has_name(&attributes[..place], attribute.name) {
+        return None;
+    }
+    let value = last_of(&attributes[place + 1..], attribute);
+    Some(CAttribute {
+        name: attribute.name,
+        value,
+    })
+}
+
+/// How many bytes the pairs are written as, or `usize::MAX` where that is less. Of two with one name the later value counts, at the
+/// place of the first.
+fn pairs_len(attributes: &[CAttribute<'_>]) -> usize
+    ensures { result ≡ saturated (length (pairs_bytes (given.merged_pairs attributes.now))) }
+{
+    let mut total: usize = 0;
+    for place in 0..attributes.len() {
+        if let Some(pair) = first_at(attributes, place) {
+            total = total.saturating_add(WrittenPair(pair).defined_len());
+        }
+    }
+    total
+}
+
+/// Writes the pairs to the end of a buffer that has capacity for them.
+fn append_pairs<O: Buffer>(attributes: &[CAttribute<'_>], out: &mut O)
+    requires { length (O.held out.old) + length (pairs_bytes (given.merged_pairs attributes.now)) ≤ O.capacity out.old }
+    ensures items { O.held out.new ≡ O.held out.old ++ pairs_bytes (given.merged_pairs attributes.now) }
+    ensures after { O.after out.new ≡ drop (length (pairs_bytes (given.merged_pairs attributes.now))) (O.after out.old) }
+    ensures capacity { O.capacity out.old ≤ O.capacity out.new }
+    ensures kept { O.kept out.new ≡ O.kept out.old }
+{
+    for place in 0..attributes.len() {
+        if let Some(pair) = first_at(attributes, place) {
+            WrittenPair(pair).append(out);
+        }
+    }
+}
+
+/// The attributes, as they are written: the length of all pairs, length-encoded, and the pairs.
+#[derive(Drop)]
+pub(crate) struct WrittenAttributes<'b, 'a>(pub(crate) &'b [CAttribute<'a>]);
+
+impl MySerialize for WrittenAttributes<'_, '_> {
+    ghost use Rattle.mysql_auth.specs.Attributes.{attributes};
+    ghost use Rattle.mysql_packets_c.specs.Attributes.{merged_pairs};
+
+    ghost bytes = { λ a. attributes.bytes (merged_pairs a.0.now) };
+
+    #[tactic(auto, using(mysql_auth::proofs::PairsWritten::counted_lengths), unfolding(mysql_auth::specs::Attributes::attributes))]
+    fn defined_len(&self) -> usize {
+        let inside = pairs_len(self.0);
+        <LenEnc as IntRepr>::written_len(inside as u64).saturating_add(inside)
+    }
+
+    fn append<O: Buffer>(&self, out: &mut O) {
+        out.is_in_memory();
+        <LenEnc as IntRepr>::append(pairs_len(self.0) as u64, out);
+        append_pairs(self.0, out);
+    }
 }

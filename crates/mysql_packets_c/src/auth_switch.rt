@@ -3,16 +3,18 @@
 
 ghost use Rattle.std.specs.Prelude.{◌≡◌, ◌≢◌, IsFalse, IsTrue};
 ghost use Rattle.mysql_auth.specs.AuthSwitchRequest.{auth_switch_request, switch_to};
+ghost use Rattle.mysql_auth.specs.OldAuthSwitchRequest.{old_auth_switch_request, the_request};
 ghost use Rattle.mysql_auth.specs.PluginName.{has_zero};
 ghost use Rattle.mysql_packets_c.specs.AuthSwitch.{IsSwitch};
 ghost use Rattle.mysql_packets_c.specs.Code.{ReadsInto};
-ghost use Rattle.mysql_packets_c.specs.Output.{PutsUnlessTooLong};
+ghost use Rattle.mysql_packets_c.specs.Input.{IsUsed};
+ghost use Rattle.mysql_packets_c.specs.Output.{Puts, PutsUnlessTooLong};
 
 use crate::code::{INVALID_INPUT, OK, code_of};
 use crate::handshake::has_zero;
 use crate::input::read;
 use crate::output::put_packet;
-use mysql_auth::{AuthSwitchRequest, AuthSwitchRequestRef};
+use mysql_auth::{AuthSwitchRequest, AuthSwitchRequestRef, OldAuthSwitchRequest};
 use std::alloc::Global;
 use std::borrow::CowSlice;
 
@@ -62,4 +64,27 @@ pub extern "C" fn myp_write_auth_switch(
         CowSlice::Borrowed(request.plugin_data),
     );
     put_packet(&packet, out, written)
+}
+
+/// Reads `Protocol::OldAuthSwitchRequest`: 0, and how many bytes it takes; or 1 or 2, and the count is as it was.
+#[unsafe(no_mangle)]
+pub extern "C" fn myp_read_old_auth_switch(alloc: Global, packet: &[u8], used: &mut usize) -> u32
+    ensures value { ReadsInto (IsUsed packet.now) ((old_auth_switch_request.form tt).reads packet.now) result used.old used.new }
+{
+    match read::<OldAuthSwitchRequest>(alloc, packet, ()) {
+        Ok((_request, taken)) => {
+            *used = taken;
+            OK
+        }
+        Err(fault) => code_of(&fault),
+    }
+}
+
+/// Writes `Protocol::OldAuthSwitchRequest`, of one byte: 0; 5, and how many bytes it takes.
+#[tactic(auto, using(crate::proofs::Codes::codes), unfolding(mysql_auth::specs::OldAuthSwitchRequest::old_auth_switch_request, mysql_wire::specs::Writing::le_bytes))]
+#[unsafe(no_mangle)]
+pub extern "C" fn myp_write_old_auth_switch(out: &mut [u8], written: &mut usize) -> u32
+    ensures { Puts (old_auth_switch_request.bytes the_request) result out.old out.new written.new }
+{
+    put_packet(&OldAuthSwitchRequest::new(), out, written)
 }

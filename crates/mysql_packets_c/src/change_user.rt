@@ -1,17 +1,17 @@
 //! The change of a session's user.
 #![tactic(auto, using(crate::proofs::Codes::codes))]
 
-ghost use Rattle.std.specs.Prelude.{false, ◌≡◌, ◌≢◌, true, IfOk, option_map};
+ghost use Rattle.std.specs.Prelude.{false, ◌≡◌, true, option_map};
 ghost use Rattle.mysql_auth.specs.ComChangeUser as change;
 ghost use Rattle.mysql_auth.specs.ComChangeUser.{change_user};
 ghost use Rattle.mysql_packets_c.specs.Attributes.{are_texts};
 ghost use Rattle.mysql_packets_c.specs.ChangeUser as spec;
-ghost use Rattle.mysql_packets_c.specs.ChangeUser.{change_of, more_of};
+ghost use Rattle.mysql_packets_c.specs.ChangeUser.{change_of};
 ghost use Rattle.mysql_packets_c.specs.Code.{ReadsInto};
-ghost use Rattle.mysql_packets_c.specs.Output.{Puts};
+ghost use Rattle.mysql_packets_c.specs.Output.{PutsUnlessTooLong};
 
-use crate::attributes::{CAttribute, are_texts, texts_of};
-use crate::code::{INVALID_INPUT, NO_MEMORY, OK, code_of};
+use crate::attributes::{CAttribute, WrittenAttributes, are_texts};
+use crate::code::{INVALID_INPUT, OK, code_of};
 use crate::input::read;
 use crate::login::{plugin_named, sent, sent_attributes};
 use crate::output::put_packet;
@@ -19,8 +19,8 @@ use bitflags::Flags;
 use mysql_auth::{
     ComChangeUser, ComChangeUserMoreData, ComChangeUserMoreDataRef, ComChangeUserRef,
 };
-use mysql_wire::CapabilityFlags;
-use std::alloc::{AllocError, Global};
+use mysql_wire::{CapabilityFlags, parts};
+use std::alloc::Global;
 use std::borrow::CowSlice;
 
 /// `myp_user_change`.
@@ -101,24 +101,14 @@ pub struct CChangeUser<'a> {
     pub has_auth_plugin: u8,
 }
 
-/// What stands after the database.
-fn more_data<'a>(
-    alloc: Global,
-    change: &CChangeUser<'a>,
-) -> Result<ComChangeUserMoreData<'a>, AllocError>
-    ensures { IfOk result (λ more. more ≡ more_of change.now) }
+/// The packet of a change, without attributes.
+fn packet_of<'a>(change: &CChangeUser<'a>) -> ComChangeUser<'a>
+    ensures { result ≡ spec.change_before change.now }
 {
-    let texts = texts_of(alloc, change.attributes)?;
-    ComChangeUserMoreData::new(change.character_set)
-        .with_auth_plugin(plugin_named(change.has_auth_plugin, change.auth_plugin_name))
-        .with_connect_attributes(alloc, Some(texts))
-}
-
-/// The packet of a change.
-fn packet_of<'a>(change: &CChangeUser<'a>, more: ComChangeUserMoreData<'a>) -> ComChangeUser<'a>
-    requires { more ≡ more_of change.now }
-    ensures { result ≡ change_of change.now }
-{
+    let more = ComChangeUserMoreData::new(change.character_set).with_auth_plugin(plugin_named(
+        change.has_auth_plugin,
+        change.auth_plugin_name,
+    ));
     ComChangeUser::new()
         .with_user(Some(CowSlice::Borrowed(change.user)))
         .with_auth_plugin_data(Some(CowSlice::Borrowed(change.auth_plugin_data)))
@@ -126,24 +116,22 @@ fn packet_of<'a>(change: &CChangeUser<'a>, more: ComChangeUserMoreData<'a>) -> C
         .with_more_data(Some(more))
 }
 
-/// Writes `COM_CHANGE_USER`: 0; 5, and how many bytes it takes; 3 where attributes are not UTF-8; or 4.
+/// Writes `COM_CHANGE_USER`: 0; 5, and how many bytes it takes; 4; or 3 where attributes are not UTF-8.
+#[tactic(auto, using(crate::proofs::Codes::codes, crate::proofs::Logins::changes))]
 #[unsafe(no_mangle)]
 pub extern "C" fn myp_write_change_user(
-    alloc: Global,
     change: &CChangeUser<'_>,
     out: &mut [u8],
     written: &mut usize,
 ) -> u32
     ensures refused { are_texts change.now.attributes.now ≡ false → (result ≡ 3) × (out.new ≡ out.old) × (written.new ≡ 0) }
-    ensures memory { result ≡ 4 → (out.new ≡ out.old) × (written.new ≡ 0) }
-    ensures value { are_texts change.now.attributes.now ≡ true → result ≢ 4 → Puts (change_user.bytes (change_of change.now)) result out.old out.new written.new }
+    ensures value { are_texts change.now.attributes.now ≡ true → PutsUnlessTooLong (change_user.bytes (change_of change.now)) result out.old out.new written.new }
 {
-    *written = 0;
     if !are_texts(change.attributes) {
+        *written = 0;
         return INVALID_INPUT;
     }
-    match more_data(alloc, change) {
-        Ok(more) => put_packet(&packet_of(change, more), out, written),
-        Err(_) => NO_MEMORY,
-    }
+    let before = packet_of(change);
+    let attributes = WrittenAttributes(change.attributes);
+    put_packet(&parts!(before, attributes), out, written)
 }

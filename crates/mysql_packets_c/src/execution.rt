@@ -2,9 +2,10 @@
 #![tactic(auto, using(crate::proofs::Codes::codes, crate::proofs::Executions::executions))]
 
 ghost use Rattle.std.specs.List.{list_all};
-ghost use Rattle.std.specs.Prelude.{◌≡◌, ◌≢◌, ◌<◌, ◌≤◌, ◌⊎◌, Ok, Err, IfErr, IfOk, IsOk, OnOk, drop, length, take, false, true};
+ghost use Rattle.std.specs.Prelude.{◌≡◌, ◌≢◌, ◌<◌, ◌≤◌, ◌⊎◌, ◌+◌, ◌++◌, Ok, Err, IfErr, IfOk, IsOk, OnOk, drop, length, take, false, true};
 ghost use Rattle.mysql_prepared.specs.ExecuteHead.{execute_head};
-ghost use Rattle.mysql_prepared.specs.ExecuteParam.{param_of};
+ghost use Rattle.mysql_prepared.specs.ExecuteParam.{Sent, param_bytes, param_of};
+ghost use Rattle.mysql_values.specs.ValueRef.{ref_content};
 ghost use Rattle.mysql_prepared.specs.ExecuteRead.{HasNoParam, RefusesParam};
 ghost use Rattle.mysql_packets_c.specs.Code.{ReadsInto};
 ghost use Rattle.mysql_packets_c.specs.Execution as spec;
@@ -14,7 +15,7 @@ ghost use Rattle.mysql_packets_c.specs.Value.{Sets, value_content, is_value};
 
 use crate::code::{BUFFER_TOO_SMALL, INVALID_INPUT, NO_MEMORY, OK, code_of};
 use crate::input::read;
-use crate::output::put;
+use crate::output::answer_count;
 use crate::rows::CColumnType;
 use crate::value::{CValue, are_values, is_value, put_ref, to_ref};
 use mysql_stmt::{
@@ -226,6 +227,20 @@ pub extern "C" fn myp_read_execution<'a>(
     execution_into(&mut buf, bound.as_slice(), values, types, out)
 }
 
+/// Writes a number with the buffer in a variable of its own, so that its bytes are one store.
+#[inline(always)]
+fn append_number<O: Buffer>(number: ValueRef<'_>, as_long_data: bool, out: &mut O)
+    requires { length (O.held out.old) + length (param_bytes as_long_data (Sent (ref_content number))) ≤ O.capacity out.old }
+    ensures items { O.held out.new ≡ O.held out.old ++ param_bytes as_long_data (Sent (ref_content number.entry)) }
+    ensures after { O.after out.new ≡ drop (length (param_bytes as_long_data (Sent (ref_content number.entry)))) (O.after out.old) }
+    ensures capacity { O.capacity out.old ≤ O.capacity out.new }
+    ensures kept { O.kept out.new ≡ O.kept out.old }
+{
+    let mut taken = out.taken();
+    number.append_sent(as_long_data, &mut taken);
+    *out = taken;
+}
+
 /// The kind alone says the rest, so that a value is made once, where its bytes are written.
 #[tactic(auto, unfolding(crate::specs::Value::value_content))]
 impl AsExecuteParam for CValue<'_> {
@@ -275,20 +290,18 @@ impl AsExecuteParam for CValue<'_> {
     fn append_sent<O: Buffer>(&self, as_long_data: bool, out: &mut O) {
         match self.kind {
             1 => ValueRef::Bytes(self.bytes).append_sent(as_long_data, out),
-            2 => ValueRef::Int(self.number.cast_signed()).append_sent(as_long_data, out),
-            3 => ValueRef::UInt(self.number).append_sent(as_long_data, out),
-            5 => ValueRef::Double(self.number).append_sent(as_long_data, out),
+            2 => append_number(ValueRef::Int(self.number.cast_signed()), as_long_data, out),
+            3 => append_number(ValueRef::UInt(self.number), as_long_data, out),
+            5 => append_number(ValueRef::Double(self.number), as_long_data, out),
             _ => self.as_execute_param().append_sent(as_long_data, out),
         }
     }
 }
 
-/// Writes `COM_STMT_EXECUTE` with the values: 0; 5, and how many bytes it takes; 3 where one of them is no value; or 4. But for 0
-/// and 5 `as_long_data` is as it was.
-#[tactic(auto, unfolding(crate::specs::Value::value_content))]
+/// Writes `COM_STMT_EXECUTE` with the values: 0; 5, and how many bytes it takes; 4; or 3 where one of them is no value, and then
+/// `as_long_data` is as it was.
 #[unsafe(no_mangle)]
 pub extern "C" fn myp_write_execute(
-    alloc: Global,
     statement_id: u32,
     values: &[CValue<'_>],
     out: &mut [u8],
@@ -296,19 +309,14 @@ pub extern "C" fn myp_write_execute(
     as_long_data: &mut u8,
 ) -> u32
     ensures refused { list_all is_value values.now ≡ false → (result ≡ 3) × (out.new ≡ out.old) × (written.new ≡ 0) × (as_long_data.new ≡ as_long_data.old) }
-    ensures memory { result ≡ 4 → (out.new ≡ out.old) × (written.new ≡ 0) × (as_long_data.new ≡ as_long_data.old) }
-    ensures value { list_all is_value values.now ≡ true → result ≢ 4 → Executes statement_id values.now result out.old out.new written.new as_long_data.new }
+    ensures value { list_all is_value values.now ≡ true → Executes statement_id values.now result out.old out.new written.new as_long_data.new }
 {
-    *written = 0;
     if !are_values(values) {
+        *written = 0;
         return INVALID_INPUT;
     }
-    let mut bytes = Vec::new(alloc);
-    match ComStmtExecuteRequestBuilder::new(statement_id).write_ref(values, &mut bytes) {
-        Ok(leaves_out) => {
-            *as_long_data = leaves_out as u8;
-            put(bytes.as_slice(), out, written)
-        }
-        Err(_) => NO_MEMORY,
-    }
+    let request = ComStmtExecuteRequestBuilder::new(statement_id);
+    let (len, leaves_out) = request.write_to_slice(values, out);
+    *as_long_data = leaves_out as u8;
+    answer_count(len, out.len(), written)
 }

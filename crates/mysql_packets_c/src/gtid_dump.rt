@@ -1,23 +1,25 @@
 //! The request for a binary log without the transactions of a GTID set.
 #![tactic(auto, using(crate::proofs::Codes::codes))]
 
-ghost use Rattle.std.specs.Prelude.{false, ◌≡◌, ◌≢◌, ◌<◌, IfOk};
+ghost use Rattle.std.specs.List.{list_all};
+ghost use Rattle.std.specs.Prelude.{false, ◌≡◌, ◌<◌, [], is_some};
 ghost use Rattle.mysql_repl.specs.BinlogDumpGtid as dump;
 ghost use Rattle.mysql_repl.specs.TagString.{tag_of};
 ghost use Rattle.mysql_packets_c.specs.Code.{ReadsInto};
 ghost use Rattle.mysql_packets_c.specs.Given.{is_set};
-ghost use Rattle.mysql_packets_c.specs.GtidDump.{Made, PutsDump, dump_with, items_made, KeepsOthers, IsGtidDump, SidsStand};
+ghost use Rattle.mysql_packets_c.specs.GtidDump.{PutsDump, dump_with, KeepsOthers, IsGtidDump, SidsStand};
 ghost use Rattle.mysql_packets_c.specs.Sid as spec;
 
-use crate::code::{INVALID_INPUT, NO_MEMORY, OK, code_of};
+use crate::code::{INVALID_INPUT, OK, code_of};
 use crate::input::read;
 use crate::output::put_packet;
-use crate::sid::{CInterval, CSid};
-use mysql_repl::{
-    BinlogDumpFlags, ComBinlogDumpGtid, ComBinlogDumpGtidRef, GnoInterval, Sid, SidsRef, Tag,
+use crate::sid::CSid;
+use crate::sid_block::WrittenSids;
+use mysql_repl::{BinlogDumpFlags, ComBinlogDumpGtidHeader, ComBinlogDumpGtidRef, SidsRef, Tag};
+use mysql_wire::{
+    Const, Flags, LeU16, LeU32, LeU64, Parts, RawBytes, RawInt, Sink, U32Bytes, parts,
 };
-use mysql_wire::Flags;
-use std::alloc::{AllocError, Global};
+use std::alloc::Global;
 use std::borrow::{CowSlice, CowStr};
 use std::str;
 
@@ -94,8 +96,9 @@ pub(crate) fn tag_in(bytes: &[u8]) -> Option<Option<Tag<'_>>>
     }
 }
 
+/// The tag of a sid; nothing of bytes that are no tag.
 #[tactic(auto, unfolding(crate::specs::Sid::tag_held))]
-fn tag_held<'b>(sid: &'b CSid<'_>) -> Option<Option<Tag<'b>>>
+pub(crate) fn tag_held<'b>(sid: &'b CSid<'_>) -> Option<Option<Tag<'b>>>
     ensures value { result ≡ spec.tag_held sid.now }
 {
     let n = usize::from(sid.tag_length);
@@ -105,52 +108,59 @@ fn tag_held<'b>(sid: &'b CSid<'_>) -> Option<Option<Tag<'b>>>
     tag_in(&sid.tag[..n])
 }
 
-#[tactic(auto, using(crate::proofs::SidHeld::sids_held_one))]
-fn intervals_of(alloc: Global, intervals: &[CInterval]) -> Result<Vec<GnoInterval>, AllocError>
-    ensures value { IfOk result (λ v. v.items ≡ spec.intervals_of intervals.now) }
+/// Whether each tag is one, or none.
+fn are_tagged(sids: &[CSid<'_>]) -> bool
+    ensures { result ≡ list_all (λ s. is_some (spec.tag_held s)) sids.now }
 {
-    let mut items = Vec::with_capacity(alloc, intervals.len())?;
-    for interval in intervals {
-        items.push(GnoInterval::new(interval.start, interval.end))?;
-    }
-    Ok(items)
+    sids.iter().all(|sid| tag_held(sid).is_some())
 }
 
-#[tactic(auto, unfolding(crate::specs::Sid::sid_held))]
-fn sid_held<'b>(alloc: Global, sid: &'b CSid<'_>) -> Result<Sid<'b>, u32>
-    ensures value { Made result (spec.sid_held sid.now) }
+/// The flags, with BINLOG_THROUGH_GTID exactly if there is a sid.
+#[tactic(auto, using(crate::proofs::WrittenSids::written_sids))]
+fn flags_of(bits: u16, sids: &[CSid<'_>]) -> BinlogDumpFlags
+    ensures { result.0 ≡ dump.through_gtid (spec.sids_or sids.now) (dump.through_gtid [] bits) }
 {
-    let Some(tag) = tag_held(sid) else {
-        return Err(INVALID_INPUT);
-    };
-    let Ok(intervals) = intervals_of(alloc, sid.intervals) else {
-        return Err(NO_MEMORY);
-    };
-    let held = Sid::new(sid.uuid).with_intervals(intervals);
-    match tag {
-        Some(tag) => Ok(held.with_tag(tag)),
-        None => Ok(held),
+    let mut flags = BinlogDumpFlags::from_bits_retain(bits);
+    flags.set(BinlogDumpFlags::BINLOG_THROUGH_GTID, false);
+    flags.set(BinlogDumpFlags::BINLOG_THROUGH_GTID, !sids.is_empty());
+    flags
+}
+
+/// The request of these fields.
+#[derive(Drop)]
+struct WrittenDump<'b, 'a> {
+    server_id: u32,
+    flags: u16,
+    file_name: &'b [u8],
+    position: u64,
+    sids: &'b [CSid<'a>],
+}
+
+#[tactic(auto, using(mysql_wire::proofs::Packets::packets, crate::proofs::WrittenSids::written_sids), unfolding(mysql_repl::specs::BinlogDumpGtid::gtid_dump))]
+impl Parts for WrittenDump<'_, '_> {
+    ghost use Rattle.mysql_repl.specs.BinlogDumpGtid.{gtid_dump};
+    ghost use Rattle.mysql_packets_c.specs.GtidDump.{dump_with};
+    ghost use Rattle.mysql_packets_c.specs.Sid.{sids_or};
+
+    ghost bytes = { λ d. gtid_dump.bytes (dump_with d.server_id d.flags d.file_name.now d.position (sids_or d.sids.now)) };
+
+    #[inline(always)]
+    fn put<S: Sink>(&self, sink: &mut S) {
+        let header = ComBinlogDumpGtidHeader::new();
+        let flags = Const::<BinlogDumpFlags, LeU16>::new(flags_of(self.flags, self.sids));
+        let server_id = RawInt::<LeU32>::new(self.server_id);
+        let head = parts!(header, flags, server_id);
+        let file_name = RawBytes::<U32Bytes>::new(CowSlice::Borrowed(self.file_name));
+        let position = RawInt::<LeU64>::new(self.position);
+        let sids = WrittenSids(self.sids);
+        sink.part(&parts!(head, file_name, position, sids));
     }
 }
 
-#[tactic(auto, using(crate::proofs::SidHeld::sids_held_one))]
-fn sids_held<'b>(alloc: Global, sids: &'b [CSid<'_>]) -> Result<Vec<Sid<'b>>, u32>
-    ensures value { Made (items_made result) (spec.sids_held sids.now) }
-{
-    let mut held = Vec::new(alloc);
-    for sid in sids {
-        let sid = sid_held(alloc, sid)?;
-        if held.push(sid).is_err() {
-            return Err(NO_MEMORY);
-        }
-    }
-    Ok(held)
-}
-
-/// Writes `COM_BINLOG_DUMP_GTID`: 0; 3 of a tag that is none; 5, and how many bytes it takes; or 4.
+/// Writes `COM_BINLOG_DUMP_GTID`: 0; 5, and how many bytes it takes; 4; or 3 of a tag that is none.
+#[tactic(auto, using(crate::proofs::Codes::codes, crate::proofs::WrittenSids::held_sids))]
 #[unsafe(no_mangle)]
 pub extern "C" fn myp_write_gtid_dump(
-    alloc: Global,
     server_id: u32,
     flags: u16,
     file_name: &[u8],
@@ -159,21 +169,18 @@ pub extern "C" fn myp_write_gtid_dump(
     out: &mut [u8],
     written: &mut usize,
 ) -> u32
-    ensures memory { result ≡ 4 → (out.new ≡ out.old) × (written.new ≡ 0) }
-    ensures value { result ≢ 4 → PutsDump (spec.sids_held sids.now) (dump_with server_id flags file_name.now position) result out.old out.new written.new }
+    ensures value { PutsDump (spec.sids_held sids.now) (dump_with server_id flags file_name.now position) result out.old out.new written.new }
 {
-    match sids_held(alloc, sids) {
-        Ok(sids) => {
-            let packet = ComBinlogDumpGtid::new(server_id)
-                .with_flags(BinlogDumpFlags::from_bits_retain(flags))
-                .with_filename(CowSlice::Borrowed(file_name))
-                .with_pos(position)
-                .with_sids(CowSlice::Owned(sids));
-            put_packet(&packet, out, written)
-        }
-        Err(code) => {
-            *written = 0;
-            code
-        }
+    if !are_tagged(sids) {
+        *written = 0;
+        return INVALID_INPUT;
     }
+    let packet = WrittenDump {
+        server_id,
+        flags,
+        file_name,
+        position,
+        sids,
+    };
+    put_packet(&packet, out, written)
 }

@@ -38,6 +38,7 @@ mod scramble;
 mod semi_sync_ack;
 mod session_change;
 mod sid;
+mod sid_block;
 mod ssl_request;
 mod statement;
 mod text;

@@ -2,26 +2,27 @@
 #![tactic(auto, using(crate::proofs::Codes::codes))]
 
 ghost use Rattle.std.specs.Cow.{cow_slice_items};
-ghost use Rattle.std.specs.Prelude.{false, ◌≡◌, Ok, option_map, ◌≢◌, true, IfOk, map};
-ghost use Rattle.mysql_auth.specs.Attributes.{text_pair, merged};
+ghost use Rattle.std.specs.Option.{option_map_or};
+ghost use Rattle.std.specs.Prelude.{false, ◌≡◌, map, option_map, true, []};
+ghost use Rattle.mysql_auth.specs.Attributes.{merged, text_pair};
 ghost use Rattle.mysql_auth.specs.AuthPlugin.{plugin_of};
-ghost use Rattle.mysql_auth.specs.HandshakeResponse.{handshake_response};
+ghost use Rattle.mysql_auth.specs.HandshakeResponse.{connect_attributes, handshake_response};
 ghost use Rattle.mysql_auth.specs.declared.handshake_response.HandshakeResponse.{HandshakeResponse};
-ghost use Rattle.mysql_packets_c.specs.Attributes.{merged_pairs, attributes_in};
+ghost use Rattle.mysql_packets_c.specs.Attributes.{attributes_in};
 ghost use Rattle.mysql_packets_c.specs.Code.{ReadsInto};
 ghost use Rattle.mysql_packets_c.specs.Given.{SaysSent, if_set};
-ghost use Rattle.mysql_packets_c.specs.Login.{IsLogin, login_texts, IsLoginRequest};
-ghost use Rattle.mysql_packets_c.specs.Output.{Puts};
+ghost use Rattle.mysql_packets_c.specs.Login.{IsLogin, IsLoginRequest, login_texts, with_attributes};
+ghost use Rattle.mysql_packets_c.specs.Output.{PutsUnlessTooLong};
 
-use crate::attributes::{CAttribute, are_texts, texts_of};
-use crate::code::{INVALID_INPUT, NO_MEMORY, OK, code_of};
+use crate::attributes::{CAttribute, WrittenAttributes, are_texts};
+use crate::code::{INVALID_INPUT, OK, code_of};
 use crate::input::read;
 use crate::output::put_packet;
 use bitflags::Flags;
 use indexmap::IndexMap;
 use mysql_auth::{AuthPlugin, ConnectAttributesRef, HandshakeResponse, HandshakeResponseRef};
-use mysql_wire::{CapabilityFlags, MariadbCapabilities};
-use std::alloc::{AllocError, Global};
+use mysql_wire::{CapabilityFlags, MariadbCapabilities, parts};
+use std::alloc::Global;
 use std::borrow::CowSlice;
 
 /// `myp_login_request`.
@@ -138,24 +139,23 @@ pub(crate) fn plugin_named<'a>(is_there: u8, name: &'a [u8]) -> Option<AuthPlugi
     }
 }
 
-/// The attributes as texts, where some are there.
-fn texts_given(
-    alloc: Global,
-    is_there: u8,
-    attributes: &[CAttribute<'_>],
-) -> Result<Option<IndexMap<String, String>>, AllocError>
-    ensures { IfOk result (λ texts. option_map (λ texts. map text_pair texts.entries) texts ≡ if_set is_there (merged_pairs attributes.now)) }
+/// No attribute, where attributes are sent.
+fn empty_attributes(alloc: Global, is_there: u8) -> Option<IndexMap<String, String>>
+    ensures value { option_map (λ texts. map text_pair texts.entries) result ≡ if_set is_there [] }
+    ensures none { option_map_or (λ texts. texts.entries) result [] ≡ [] }
 {
     if is_there != 0 {
-        Ok(Some(texts_of(alloc, attributes)?))
+        Some(IndexMap::new(alloc))
     } else {
-        Ok(None)
+        None
     }
 }
 
-/// The packet of a login.
-fn response_of<'a>(alloc: Global, login: &CLogin<'a>) -> Result<HandshakeResponse<'a>, AllocError>
-    ensures { IfOk result (λ p. IsLogin login.now p) }
+/// The packet of a login, whose attributes are empty where some are sent.
+#[tactic(auto, using(crate::proofs::Codes::codes, crate::proofs::Logins::logins))]
+fn response_of<'a>(alloc: Global, login: &CLogin<'a>) -> HandshakeResponse<'a>
+    ensures value { IsLogin login.now (with_attributes login.now result) }
+    ensures attributes { connect_attributes result ≡ if_set login.now.has_attributes [] }
 {
     let response = HandshakeResponse::new(
         alloc,
@@ -165,16 +165,15 @@ fn response_of<'a>(alloc: Global, login: &CLogin<'a>) -> Result<HandshakeRespons
         database_of(login),
         plugin_named(login.has_auth_plugin, login.auth_plugin_name),
         CapabilityFlags::from_bits_retain(login.capabilities),
-        texts_given(alloc, login.has_attributes, login.attributes)?,
+        empty_attributes(alloc, login.has_attributes),
         login.max_packet_size,
-    )?;
-    Ok(
-        response
-            .with_mariadb_ext_capabilities(MariadbCapabilities::from_bits_retain(
-                login.mariadb_capabilities,
-            ))
-            .with_collation(login.collation),
     )
+    .unwrap();
+    response
+        .with_mariadb_ext_capabilities(MariadbCapabilities::from_bits_retain(
+            login.mariadb_capabilities,
+        ))
+        .with_collation(login.collation)
 }
 
 /// Whether the attributes that are sent are UTF-8.
@@ -184,7 +183,8 @@ fn login_texts(login: &CLogin<'_>) -> bool
     login.has_attributes == 0 || are_texts(login.attributes)
 }
 
-/// Writes `Protocol::HandshakeResponse41`: 0; 5, and how many bytes it takes; 3 where attributes are not UTF-8; or 4.
+/// Writes `Protocol::HandshakeResponse41`: 0; 5, and how many bytes it takes; 4; or 3 where attributes are not UTF-8.
+#[tactic(auto, using(crate::proofs::Codes::codes, crate::proofs::Logins::logins))]
 #[unsafe(no_mangle)]
 pub extern "C" fn myp_write_login(
     alloc: Global,
@@ -193,15 +193,17 @@ pub extern "C" fn myp_write_login(
     written: &mut usize,
 ) -> u32
     ensures refused { login_texts login.now ≡ false → (result ≡ 3) × (out.new ≡ out.old) × (written.new ≡ 0) }
-    ensures memory { result ≡ 4 → (out.new ≡ out.old) × (written.new ≡ 0) }
-    ensures value { login_texts login.now ≡ true → result ≢ 4 → (p : HandshakeResponse) × IsLogin login.now p × Puts (handshake_response.bytes p) result out.old out.new written.new }
+    ensures value { login_texts login.now ≡ true → (p : HandshakeResponse) × IsLogin login.now p × PutsUnlessTooLong (handshake_response.bytes p) result out.old out.new written.new }
 {
-    *written = 0;
     if !login_texts(login) {
+        *written = 0;
         return INVALID_INPUT;
     }
-    match response_of(alloc, login) {
-        Ok(response) => put_packet(&response, out, written),
-        Err(_) => NO_MEMORY,
+    let response = response_of(alloc, login);
+    if login.has_attributes == 0 {
+        return put_packet(&response, out, written);
     }
+    let before = response.before_attributes();
+    let attributes = WrittenAttributes(login.attributes);
+    put_packet(&parts!(before, attributes), out, written)
 }

@@ -1,5 +1,6 @@
 //! What is written to a buffer of the caller's.
 
+ghost use Rattle.std.specs.Prelude.{◌≡◌, ◌≢◌, ◌<◌, ◌≤◌, ◌-◌, ◌^◌};
 ghost use Rattle.mysql_packets_c.specs.Output.{Puts, PutsUnlessTooLong};
 
 use crate::code::{BUFFER_TOO_SMALL, NO_MEMORY, OK};
@@ -27,14 +28,36 @@ pub(crate) fn put(bytes: &[u8], out: &mut [u8], written: &mut usize) -> u32
 pub(crate) fn put_packet<P: MySerialize>(packet: &P, out: &mut [u8], written: &mut usize) -> u32
     ensures { PutsUnlessTooLong (P.bytes packet.now) result out.old out.new written.new }
 {
-    let len = packet.defined_len();
-    if len == usize::MAX {
+    // (the bytes are counted once where they fit, and where their count is asked for)
+    if out.is_empty() {
+        return answer_count(packet.defined_len(), 0, written);
+    }
+    match packet.write_to_slice(out) {
+        Some(len) => {
+            *written = len;
+            OK
+        }
+        None => answer_count(packet.defined_len(), out.len(), written),
+    }
+}
+
+/// Answers how many bytes something takes, which is written where a buffer of this length holds it. `usize::MAX` is the count of
+/// what no memory holds.
+#[inline(always)]
+pub(crate) fn answer_count(count: usize, capacity: usize, written: &mut usize) -> u32
+    ensures fits { count < 2 ^ 64 - 1 → count ≤ capacity → result ≡ 0 }
+    ensures small { count < 2 ^ 64 - 1 → capacity < count → result ≡ 5 }
+    ensures count { count < 2 ^ 64 - 1 → written.new ≡ count }
+    ensures too_long { count ≡ 2 ^ 64 - 1 → (result ≡ 4) × (written.new ≡ 0) }
+{
+    if count == usize::MAX {
         *written = 0;
         return NO_MEMORY;
     }
-    *written = len;
-    match packet.write_to_slice(out) {
-        Some(_) => OK,
-        None => BUFFER_TOO_SMALL,
+    *written = count;
+    if count <= capacity {
+        OK
+    } else {
+        BUFFER_TOO_SMALL
     }
 }

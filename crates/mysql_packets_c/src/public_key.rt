@@ -5,6 +5,7 @@ ghost use Rattle.std.specs.Prelude.{◌≡◌, ◌≢◌};
 ghost use Rattle.mysql_auth.specs.PublicKeyRequest.{public_key_request, the_request};
 ghost use Rattle.mysql_auth.specs.PublicKeyResponse.{public_key_response, response_of};
 ghost use Rattle.mysql_packets_c.specs.Code.{ReadsInto};
+ghost use Rattle.mysql_packets_c.specs.Input.{IsUsed};
 ghost use Rattle.mysql_packets_c.specs.Output.{Puts};
 ghost use Rattle.mysql_packets_c.specs.PublicKey.{IsKey};
 
@@ -42,6 +43,20 @@ pub extern "C" fn myp_write_public_key(rsa_key: &[u8], out: &mut [u8], written: 
 {
     let packet = PublicKeyResponse::new(CowSlice::Borrowed(rsa_key));
     put_packet(&packet, out, written)
+}
+
+/// Reads the request for a public key: 0, and how many bytes it takes; or 1 or 2, and the count is as it was.
+#[unsafe(no_mangle)]
+pub extern "C" fn myp_read_public_key_request(alloc: Global, packet: &[u8], used: &mut usize) -> u32
+    ensures value { ReadsInto (IsUsed packet.now) ((public_key_request.form tt).reads packet.now) result used.old used.new }
+{
+    match read::<PublicKeyRequest>(alloc, packet, ()) {
+        Ok((_request, taken)) => {
+            *used = taken;
+            OK
+        }
+        Err(fault) => code_of(&fault),
+    }
 }
 
 /// Writes the request for a public key, of one byte: 0; 5, and how many bytes it takes.

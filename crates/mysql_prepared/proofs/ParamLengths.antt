@@ -30,7 +30,7 @@ length-values (v ∷ values) =
     omega (arith, length-append (bin (content_of v)) (data_bytes false values), length-bin (content_of v), length-values values, sum_by-cons size_of v values)
 
 -- but for byte strings no value is longer than a time
-short_small : (value : Content) → length (short value) ≤ 13
+pub short_small : (value : Content) → length (short value) ≤ 13
 unfolding le_bytes
 short_small NULL = omega arith
 short_small (Bytes bytes) = omega arith

@@ -1,5 +1,5 @@
 -- The bytes of a binary row's values, one value after another.
-use Rattle.std.proofs.Common.{◌≡◌, ℕ, zero, suc, ◌+◌, ◌<◌, ◌≤◌, ◌&&◌, Bool, true, false, IsTrue, List, [], ◌∷◌, ◌++◌, length, take, drop, get_or, slice_get, Some, refl, sym, ap, ◌∙◌, arith}
+use Rattle.std.proofs.Common.{◌≡◌, ℕ, zero, suc, ◌+◌, ◌<◌, ◌≤◌, ◌&&◌, Bool, true, false, IsTrue, List, [], ◌∷◌, ◌++◌, length, map, take, drop, get_or, slice_get, Some, refl, sym, ap, ◌∙◌, arith}
 use Rattle.std.specs.Int.{w64, cast_unsigned}
 use Rattle.std.specs.Prelude.{ℤ}
 use Rattle.std.proofs.lemmas.List.{drop_more, length-append}
@@ -7,13 +7,10 @@ use Rattle.mysql_wire.specs.declared.codes.column_type.ColumnType.{ColumnType}
 pub use Rattle.mysql_wire.specs.LittleEndian.{length-le_bytes}
 pub use Rattle.mysql_wire.proofs.Varlens.{low_bytes}
 use Rattle.mysql_wire.specs.Writing.{saturated}
-use Rattle.mysql_values.specs.declared.value_ref.ValueRef.{ValueRef}
 use Rattle.mysql_values.specs.declared.value_kind.ValueKind.{ValueKind}
 use Rattle.mysql_values.specs.declared.value_kind.ValueKind.TheVariants as kind
 use Rattle.mysql_values.specs.Value.{Content, Int}
 use Rattle.mysql_values.specs.ValueKind.{kind_of}
-use Rattle.mysql_values.specs.ValueRef.{ref_content}
-use Rattle.mysql_prepared.specs.RowView.{refs_held}
 use Rattle.mysql_prepared.specs.BinaryRow.{integer_size, bin_in, takes, takes_row, values_bytes}
 
 -- ---- integers
@@ -36,21 +33,21 @@ pub ruleset row_bytes = (low_bytes, length-le_bytes, integer-small)
 
 -- ---- what is left of a row
 
-module _ {C : Type 0} (type_of : C → ColumnType) (unsigned : C → Bool) (columns : List C) (values : List ValueRef) (i : ℕ) (column : C) (d : ValueRef)
-    (same : length columns ≡ length values) (within : i < length values) (c_is : column ≡ get_or columns i column) where
+module _ {C V : Type 0} (type_of : C → ColumnType) (unsigned : C → Bool) (held : V → Content) (columns : List C) (values : List V) (i : ℕ) (column : C) (value : V)
+    (same : length columns ≡ length values) (within : i < length values) (c_is : column ≡ get_or columns i column) (v_is : value ≡ get_or values i value) where
   columns-left : drop i columns ≡ column ∷ drop (i + 1) columns
   columns-left = drop_more columns i column (omega (arith, same, within)) ∙ ap (λ (c : C). c ∷ drop (i + 1) columns) (sym c_is)
 
-  values-left : drop i values ≡ get_or values i d ∷ drop (i + 1) values
-  values-left = drop_more values i d within
+  values-left : drop i values ≡ value ∷ drop (i + 1) values
+  values-left = drop_more values i value within ∙ ap (λ (v : V). v ∷ drop (i + 1) values) (sym v_is)
 
-  pub bytes-next : values_bytes type_of unsigned (drop i columns) (refs_held (drop i values)) ≡ bin_in (type_of column) (ref_content (get_or values i d)) ++ values_bytes type_of unsigned (drop (i + 1) columns) (refs_held (drop (i + 1) values))
+  pub bytes-next : values_bytes type_of unsigned (drop i columns) (map held (drop i values)) ≡ bin_in (type_of column) (held value) ++ values_bytes type_of unsigned (drop (i + 1) columns) (map held (drop (i + 1) values))
   bytes-next = rw (columns-left, values-left) refl
 
-  pub length-next : length (values_bytes type_of unsigned (drop i columns) (refs_held (drop i values))) ≡ length (bin_in (type_of column) (ref_content (get_or values i d))) + length (values_bytes type_of unsigned (drop (i + 1) columns) (refs_held (drop (i + 1) values)))
-  length-next = ap length bytes-next ∙ length-append (bin_in (type_of column) (ref_content (get_or values i d))) (values_bytes type_of unsigned (drop (i + 1) columns) (refs_held (drop (i + 1) values)))
+  pub length-next : length (values_bytes type_of unsigned (drop i columns) (map held (drop i values))) ≡ length (bin_in (type_of column) (held value)) + length (values_bytes type_of unsigned (drop (i + 1) columns) (map held (drop (i + 1) values)))
+  length-next = ap length bytes-next ∙ length-append (bin_in (type_of column) (held value)) (values_bytes type_of unsigned (drop (i + 1) columns) (map held (drop (i + 1) values)))
 
-  pub taken-next : takes_row type_of unsigned (drop i columns) (refs_held (drop i values)) ≡ (takes (type_of column) (unsigned column) (ref_content (get_or values i d)) && takes_row type_of unsigned (drop (i + 1) columns) (refs_held (drop (i + 1) values)))
+  pub taken-next : takes_row type_of unsigned (drop i columns) (map held (drop i values)) ≡ (takes (type_of column) (unsigned column) (held value) && takes_row type_of unsigned (drop (i + 1) columns) (map held (drop (i + 1) values)))
   taken-next = rw (columns-left, values-left) refl
 
 both_parts : (a b : Bool) → IsTrue (a && b) → IsTrue a × IsTrue b
@@ -71,25 +68,26 @@ taken_more type_of unsigned (c ∷ cs) (v ∷ vs) (suc i) column value a b one b
     let both = both_parts (takes (type_of c) (unsigned c) v) (takes_row type_of unsigned (take i cs) (take i vs)) before in
     rw (both.0) (taken_more type_of unsigned cs vs i column value a b one both.1)
 
--- nothing is left of a row past its end
-pub bytes-end : {C : Type 0} (type_of : C → ColumnType) (unsigned : C → Bool) (columns : List C) (values : List ValueRef) (i : ℕ) → length columns ≡ length values → length values ≤ i → values_bytes type_of unsigned (drop i columns) (refs_held (drop i values)) ≡ []
-bytes-end type_of unsigned [] [] zero same past = refl
-bytes-end type_of unsigned [] [] (suc i) same past = refl
-bytes-end type_of unsigned [] (v ∷ vs) i same past = absurd (omega (arith, same))
-bytes-end type_of unsigned (c ∷ cs) [] i same past = absurd (omega (arith, same))
-bytes-end type_of unsigned (c ∷ cs) (v ∷ vs) zero same past = absurd (omega (arith, past))
-bytes-end type_of unsigned (c ∷ cs) (v ∷ vs) (suc i) same past = bytes-end type_of unsigned cs vs i (omega (arith, same)) (omega (arith, past))
+module _ {C V : Type 0} (type_of : C → ColumnType) (unsigned : C → Bool) (held : V → Content) where
+  -- nothing is left of a row past its end
+  pub bytes-end : (columns : List C) (values : List V) (i : ℕ) → length columns ≡ length values → length values ≤ i → values_bytes type_of unsigned (drop i columns) (map held (drop i values)) ≡ []
+  bytes-end [] [] zero same past = refl
+  bytes-end [] [] (suc i) same past = refl
+  bytes-end [] (v ∷ vs) i same past = absurd (omega (arith, same))
+  bytes-end (c ∷ cs) [] i same past = absurd (omega (arith, same))
+  bytes-end (c ∷ cs) (v ∷ vs) zero same past = absurd (omega (arith, past))
+  bytes-end (c ∷ cs) (v ∷ vs) (suc i) same past = bytes-end cs vs i (omega (arith, same)) (omega (arith, past))
 
-pub taken-end : {C : Type 0} (type_of : C → ColumnType) (unsigned : C → Bool) (columns : List C) (values : List ValueRef) (i : ℕ) → length columns ≡ length values → length values ≤ i → takes_row type_of unsigned (drop i columns) (refs_held (drop i values)) ≡ true
-taken-end type_of unsigned [] [] zero same past = refl
-taken-end type_of unsigned [] [] (suc i) same past = refl
-taken-end type_of unsigned [] (v ∷ vs) i same past = absurd (omega (arith, same))
-taken-end type_of unsigned (c ∷ cs) [] i same past = absurd (omega (arith, same))
-taken-end type_of unsigned (c ∷ cs) (v ∷ vs) zero same past = absurd (omega (arith, past))
-taken-end type_of unsigned (c ∷ cs) (v ∷ vs) (suc i) same past = taken-end type_of unsigned cs vs i (omega (arith, same)) (omega (arith, past))
+  pub taken-end : (columns : List C) (values : List V) (i : ℕ) → length columns ≡ length values → length values ≤ i → takes_row type_of unsigned (drop i columns) (map held (drop i values)) ≡ true
+  taken-end [] [] zero same past = refl
+  taken-end [] [] (suc i) same past = refl
+  taken-end [] (v ∷ vs) i same past = absurd (omega (arith, same))
+  taken-end (c ∷ cs) [] i same past = absurd (omega (arith, same))
+  taken-end (c ∷ cs) (v ∷ vs) zero same past = absurd (omega (arith, past))
+  taken-end (c ∷ cs) (v ∷ vs) (suc i) same past = taken-end cs vs i (omega (arith, same)) (omega (arith, past))
 
 -- what the value at a place holds
-pub held-at : (values : List ValueRef) (i : ℕ) (value : ValueRef) → slice_get values i ≡ Some value → slice_get (refs_held values) i ≡ Some (ref_content value)
-held-at [] i value e = absurd cc
-held-at (v ∷ vs) zero value e = let s : v ≡ value = cc in ap (λ (x : ValueRef). Some (ref_content x)) s
-held-at (v ∷ vs) (suc i) value e = held-at vs i value e
+pub held-at : {V : Type 0} (held : V → Content) (values : List V) (i : ℕ) (value : V) → slice_get values i ≡ Some value → slice_get (map held values) i ≡ Some (held value)
+held-at held [] i value e = absurd cc
+held-at held (v ∷ vs) zero value e = let s : v ≡ value = cc in ap (λ x. Some (held x)) s
+held-at held (v ∷ vs) (suc i) value e = held-at held vs i value e

@@ -1,19 +1,21 @@
 -- The bytes of an execution that is written at once, and how many they are.
-use Rattle.std.proofs.Common.{◌≡◌, ◌≢◌, ◌<◌, ◌≤◌, ◌↔◌, ℕ, ◌+◌, ◌*◌, Bool, true, false, nat_lt, IsTrue, None, List, [], ◌∷◌, ◌++◌, length, append_assoc, refl, sym, ◌∙◌, ap, arith, ltb-true}
-use Rattle.std.proofs.lemmas.Bool.{lt-ltb}
+use Rattle.std.proofs.Common.{◌≡◌, ◌≢◌, ◌<◌, ◌≤◌, ◌-◌, ◌^◌, inl, inr, ◌↔◌, ℕ, ◌+◌, ◌*◌, Bool, true, false, nat_lt, IsTrue, None, List, [], ◌∷◌, ◌++◌, length, append_assoc, refl, sym, ◌∙◌, ap, arith, ltb-true}
+use Rattle.std.proofs.lemmas.Bool.{cases_lt, lt-ltb}
 use Rattle.std.proofs.lemmas.List.{append-nil, length-append, length-map}
+use Rattle.mysql_wire.specs.LittleEndian.{length-le_bytes}
 use Rattle.mysql_wire.specs.Writing.{le_bytes}
 use Rattle.mysql_prepared.specs.Bitmap.{bytes_for}
 use Rattle.mysql_prepared.specs.ExecuteHead.{execute_head, head_without_cursor}
-use Rattle.mysql_prepared.specs.ExecuteParam.{Param, contents, param_types, param_values, type_bytes, value_of}
+use Rattle.mysql_prepared.specs.ExecuteParam.{Param, Sent, SentAhead, contents, param_bytes, param_types, param_values, type_bytes, value_of}
 use Rattle.mysql_prepared.specs.Execution.{params_bytes}
 use Rattle.mysql_prepared.specs.NullMarks.{AppendsNulls}
 use Rattle.mysql_prepared.specs.Payload.{max_payload}
-use Rattle.mysql_prepared.specs.WrittenExecution.{AppendsExecution, AppendsParams, execution_size, params_size, written_size}
+use Rattle.mysql_prepared.specs.WrittenExecution.{AppendsExecution, AppendsParams, after_nulls, execution_size, params_size, written_size}
 use Rattle.mysql_prepared.proofs.Nulls.{cell-zeros}
 use Rattle.mysql_prepared.proofs.OptionLengths.{length-type_bytes}
+use Rattle.mysql_prepared.proofs.ParamLengths.{short_small}
 
-regroup : (old nulls flag types values : List ℕ) → (old ++ nulls) ++ (flag ++ (types ++ (values ++ []))) ≡ old ++ (nulls ++ flag ++ types ++ [] ++ values ++ [])
+regroup : (old nulls flag types values : List ℕ) → (old ++ nulls) ++ (flag ++ (types ++ values)) ≡ old ++ (nulls ++ flag ++ types ++ [] ++ values ++ [])
 regroup old nulls flag types values = simp (append-nil, append_assoc)
 
 after-head : (old head params : List ℕ) → (old ++ head) ++ params ≡ old ++ (head ++ [] ++ params)
@@ -30,6 +32,10 @@ tested false m n h = decide (nat_lt m n) refl
 
 pub size-written : {V : Type 0} (param : V → Param) (params : List V) (long : Bool) → IsTrue long ↔ (max_payload < execution_size param params false) → execution_size param params long ≡ written_size param params
 size-written param params long h = ap (execution_size param params) (tested long max_payload (execution_size param params false) h)
+
+short-param : (p : Param) → length (param_bytes true p) ≤ 13
+short-param (Sent value) = short_small value
+short-param SentAhead = omega arith
 
 module _ {V : Type 0} (param : V → Param) (as_long_data : Bool) where
   -- ---- how many bytes
@@ -51,31 +57,56 @@ module _ {V : Type 0} (param : V → Param) (as_long_data : Bool) where
   length-types (p ∷ params) =
       omega (arith, length-append (type_bytes false [] (value_of (param p))) (param_types param false params), length-type_bytes false (value_of (param p)), length-types params)
 
+  pub length-after : (params : List V) → length (after_nulls param params as_long_data) ≡ 1 + 2 * length params + length (param_values param as_long_data params)
+  length-after params =
+      let flag : length (after_nulls param params as_long_data) ≡ length (le_bytes 1 1) + length (param_types param false params ++ param_values param as_long_data params) =
+      length-append (le_bytes 1 1) (param_types param false params ++ param_values param as_long_data params) in
+      let types = length-append (param_types param false params) (param_values param as_long_data params) in
+      omega (arith, flag, types, length-le_bytes 1 1, length-types params)
+
+  short-values : (params : List V) → length (param_values param true params) ≤ 13 * length params
+  short-values [] = omega arith
+  short-values (p ∷ params) =
+      omega (arith, length-append (param_bytes true (param p)) (param_values param true params), short-param (param p), short-values params)
+
+  size-long : (params : List V) → 16 * length params < 2 ^ 63 → execution_size param params true < 2 ^ 64 - 1
+  size-long [] few = omega arith
+  size-long (p ∷ params) few = omega (arith, short-values (p ∷ params))
+
+  size-short : (params : List V) (long : Bool) → IsTrue long ↔ (max_payload < execution_size param params false) → execution_size param params false ≤ max_payload → 16 * length params < 2 ^ 63
+      → execution_size param params long < 2 ^ 64 - 1
+  size-short params true h fits few = size-long params few
+  size-short params false h fits few = omega (arith, fits)
+
+  -- where byte strings are left out that make it long, no slice has so many parameters that their bytes are more than a machine counts
+  pub size-small : (params : List V) → IsTrue as_long_data ↔ (max_payload < execution_size param params false) → 16 * length params < 2 ^ 63 → execution_size param params as_long_data < 2 ^ 64 - 1
+  size-small params h few =
+      elim (cases_lt max_payload (execution_size param params false)) [
+        | inl past ↦ rw (h.1 past) (size-long params few)
+        | inr fits ↦ size-short params as_long_data h fits few
+      ]
+
   -- there is capacity for what stands after the bitmap
-  pub rest_fits : (params : List V) (old new : List ℕ) (flag capacity later : ℕ)
+  pub rest_fits : (params : List V) (old new : List ℕ) (capacity later : ℕ)
       → AppendsNulls 0 (contents param params) old new
       → length old + params_size param params as_long_data ≤ capacity
       → capacity ≤ later
-      → length new + length (le_bytes 1 flag ++ (param_types param false params ++ (param_values param as_long_data params ++ []))) ≤ later
-  unfolding le_bytes
-  rest_fits params old new flag capacity later (nulls, marks, is) fits more =
+      → length new + length (after_nulls param params as_long_data) ≤ later
+  rest_fits params old new capacity later (nulls, marks, is) fits more =
       let long = ap length is ∙ length-append old nulls in
       let same = ap (bytes_for 0) (length-map params (λ p. value_of (param p))) in
-      let rest = length-append (param_types param false params) (param_values param as_long_data params ++ []) in
-      let values = length-append (param_values param as_long_data params) [] in
-      omega (arith, long, marks.len, same, length-types params, rest, values, fits, more)
+      omega (arith, long, marks.len, same, length-after params, fits, more)
 
   -- ---- which bytes
 
-  pub params_appended : (params : List V) (old new last : List ℕ) (flag : ℕ)
+  pub params_appended : (params : List V) (old new last : List ℕ)
       → AppendsNulls 0 (contents param params) old new
-      → flag ≡ 1
-      → last ≡ new ++ (le_bytes 1 flag ++ (param_types param false params ++ (param_values param as_long_data params ++ [])))
+      → last ≡ new ++ after_nulls param params as_long_data
       → AppendsParams param params as_long_data old last
-  params_appended params old new last flag (nulls, marks, is) one ends = (
+  params_appended params old new last (nulls, marks, is) ends = (
     nulls,
     marks,
-    ends ∙ rw (is, one) (regroup old nulls (le_bytes 1 1) (param_types param false params) (param_values param as_long_data params)),
+    ends ∙ rw (is) (regroup old nulls (le_bytes 1 1) (param_types param false params) (param_values param as_long_data params)),
   )
 
   pub none_appended : (stmt_id : ℕ) (params : List V) (old new : List ℕ)

@@ -2,12 +2,17 @@
 use Rattle.std.specs.Prelude.{◌≡◌, ℕ, ◌+◌, ◌*◌, Bool, false, nat_lt, List, [], ◌∷◌, ◌++◌, length, None}
 use Rattle.mysql_prepared.specs.Bitmap.{bytes_for}
 use Rattle.mysql_prepared.specs.ExecuteHead.{head_without_cursor}
-use Rattle.mysql_prepared.specs.ExecuteParam.{Param, contents, param_values}
+use Rattle.mysql_wire.specs.Writing.{le_bytes}
+use Rattle.mysql_prepared.specs.ExecuteParam.{Param, contents, param_types, param_values}
 use Rattle.mysql_prepared.specs.Execution.{execution_bytes, params_bytes}
 use Rattle.mysql_prepared.specs.NullMarks.{MarksNulls}
 use Rattle.mysql_prepared.specs.Payload.{max_payload}
 
 module _ {V : Type 0} (param : V → Param) where
+  -- what stands after the bitmap: the byte that says that types follow, the types and the values
+  abbrev pub after_nulls : List V → (as_long_data : Bool) → List ℕ
+  after_nulls params as_long_data = le_bytes 1 1 ++ (param_types param false params ++ param_values param as_long_data params)
+
   -- the buffer ends in the parameters
   abbrev pub AppendsParams : List V → (as_long_data : Bool) → (old new : List ℕ) → Type 0
   AppendsParams params as_long_data old new = (nulls : List ℕ) × MarksNulls 0 (contents param params) nulls × (new ≡ old ++ params_bytes param nulls params None as_long_data)

@@ -1,18 +1,22 @@
 //! Binary rows, written from their values.
 
-ghost use Rattle.std.specs.Prelude.{◌≡◌, ◌≢◌, ◌+◌, ◌++◌, ◌≤◌, [], length, vec_len, vec_capacity, OnOk, OnErr, IfErr, IfNone, IfSome, IsTrue};
+ghost use Rattle.std.specs.Prelude.{◌≡◌, ◌≢◌, ◌+◌, ◌++◌, ◌<◌, ◌≤◌, ◌^◌, [], drop, length, vec_len, vec_capacity, OnOk, OnErr, IfErr, IfNone, IfOk, IfSome, IsTrue, List, ℕ};
 ghost use Rattle.mysql_wire.specs.Writing.{saturated};
 ghost use Rattle.mysql_values.specs.Value.{Int};
 ghost use Rattle.mysql_values.specs.ValueKind.{kind_of};
 ghost use Rattle.mysql_values.specs.ValueRef.{ref_content};
+ghost use Rattle.mysql_prepared.specs.ExecuteParam.{contents};
 ghost use Rattle.mysql_prepared.specs.RowView.{refs_held};
 ghost use Rattle.mysql_prepared.specs.BinaryRow as spec;
 
+use crate::execute_param::AsExecuteParam;
+use crate::items::put_over;
 use crate::null_bitmap::NullBitmap;
-use crate::null_marks::append_nulls;
+use crate::null_marks::{append_nulls, put_nulls};
+use crate::sent_params::typed_value;
 use crate::typed_column::TypedColumn;
 use mysql_values::{ServerSide, ValueKind, ValueRef, string_type};
-use mysql_wire::{ColumnType, MySerialize};
+use mysql_wire::{Buffer, ColumnType, MySerialize};
 use thiserror::Error;
 
 /// Why a binary row is not written.
@@ -76,14 +80,15 @@ fn takes(column_type: ColumnType, is_unsigned: bool, value: &ValueRef<'_>) -> bo
 }
 
 /// The first place whose column does not take its value. There is a value for each column.
-fn refused_at<C: TypedColumn>(columns: &[C], values: &[ValueRef<'_>]) -> Option<usize>
+fn refused_at<C: TypedColumn, V: AsExecuteParam>(columns: &[C], values: &[V]) -> Option<usize>
     requires { length columns.now ≡ length values.now }
-    ensures none { IfNone result (IsTrue (spec.takes_row C.type_of C.unsigned columns.now (refs_held values.now))) }
-    ensures some { IfSome result (λ place. spec.IsFirstRefused C.type_of C.unsigned columns.now (refs_held values.now) place) }
+    ensures none { IfNone result (IsTrue (spec.takes_row C.type_of C.unsigned columns.now (contents V.param values.now))) }
+    ensures some { IfSome result (λ place. spec.IsFirstRefused C.type_of C.unsigned columns.now (contents V.param values.now) place) }
 {
     for place in 0..values.len() {
         let column = &columns[place];
-        if !takes(column.value_type(), column.is_unsigned(), &values[place]) {
+        let value = typed_value(values[place].as_execute_param());
+        if !takes(column.value_type(), column.is_unsigned(), &value) {
             return Some(place);
         }
     }
@@ -117,13 +122,14 @@ fn cell_len(column_type: ColumnType, value: &ValueRef<'_>) -> usize
 }
 
 /// The same of all values of a row.
-fn values_len<C: TypedColumn>(columns: &[C], values: &[ValueRef<'_>]) -> usize
+fn values_len<C: TypedColumn, V: AsExecuteParam>(columns: &[C], values: &[V]) -> usize
     requires { length columns.now ≡ length values.now }
-    ensures { result ≡ saturated (length (spec.values_bytes C.type_of C.unsigned columns.now (refs_held values.now))) }
+    ensures { result ≡ saturated (length (spec.values_bytes C.type_of C.unsigned columns.now (contents V.param values.now))) }
 {
     let mut total: usize = 0;
     for place in 0..values.len() {
-        total = total.saturating_add(cell_len(columns[place].value_type(), &values[place]));
+        let value = typed_value(values[place].as_execute_param());
+        total = total.saturating_add(cell_len(columns[place].value_type(), &value));
     }
     total
 }
@@ -131,22 +137,26 @@ fn values_len<C: TypedColumn>(columns: &[C], values: &[ValueRef<'_>]) -> usize
 /// Writes the low bytes of an integer, as many as it takes in a column of the type.
 #[inline]
 #[tactic(auto, using(crate::proofs::RowBytes::row_bytes))]
-fn append_integer(column_type: ColumnType, n: i64, out: &mut Vec<u8>)
-    requires { vec_len out.old + length (spec.bin_in column_type (Int n)) ≤ vec_capacity out.old }
-    ensures items { out.new.items ≡ out.old.items ++ spec.bin_in column_type (Int n) }
-    ensures capacity { vec_capacity out.old ≤ vec_capacity out.new }
+fn append_integer<O: Buffer>(column_type: ColumnType, n: i64, out: &mut O)
+    requires { length (O.held out.old) + length (spec.bin_in column_type (Int n)) ≤ O.capacity out.old }
+    ensures items { O.held out.new ≡ O.held out.old ++ spec.bin_in column_type (Int n) }
+    ensures after { O.after out.new ≡ drop (length (spec.bin_in column_type (Int n))) (O.after out.old) }
+    ensures capacity { O.capacity out.old ≤ O.capacity out.new }
+    ensures kept { O.kept out.new ≡ O.kept out.old }
 {
     let bytes = n.cast_unsigned().to_le_bytes();
     let size = integer_size(column_type);
-    out.extend_from_slice(&bytes[..size]).unwrap();
+    out.push_bytes(&bytes[..size]);
 }
 
 /// Writes a value in a column of the type.
 #[inline]
-fn append_cell(column_type: ColumnType, value: &ValueRef<'_>, out: &mut Vec<u8>)
-    requires { vec_len out.old + length (spec.bin_in column_type (ref_content value.now)) ≤ vec_capacity out.old }
-    ensures items { out.new.items ≡ out.old.items ++ spec.bin_in column_type (ref_content value.now) }
-    ensures capacity { vec_capacity out.old ≤ vec_capacity out.new }
+fn append_cell<O: Buffer>(column_type: ColumnType, value: &ValueRef<'_>, out: &mut O)
+    requires { length (O.held out.old) + length (spec.bin_in column_type (ref_content value.now)) ≤ O.capacity out.old }
+    ensures items { O.held out.new ≡ O.held out.old ++ spec.bin_in column_type (ref_content value.now) }
+    ensures after { O.after out.new ≡ drop (length (spec.bin_in column_type (ref_content value.now))) (O.after out.old) }
+    ensures capacity { O.capacity out.old ≤ O.capacity out.new }
+    ensures kept { O.kept out.new ≡ O.kept out.old }
 {
     match value {
         ValueRef::Int(n) => append_integer(column_type, *n, out),
@@ -155,15 +165,59 @@ fn append_cell(column_type: ColumnType, value: &ValueRef<'_>, out: &mut Vec<u8>)
 }
 
 /// Writes the values of a row.
-fn append_values<C: TypedColumn>(columns: &[C], values: &[ValueRef<'_>], out: &mut Vec<u8>)
+fn append_values<C: TypedColumn, V: AsExecuteParam, O: Buffer>(
+    columns: &[C],
+    values: &[V],
+    out: &mut O,
+)
     requires same { length columns.now ≡ length values.now }
-    requires capacity { vec_len out.old + length (spec.values_bytes C.type_of C.unsigned columns.now (refs_held values.now)) ≤ vec_capacity out.old }
-    ensures items { out.new.items ≡ out.old.items ++ spec.values_bytes C.type_of C.unsigned columns.now (refs_held values.now) }
-    ensures capacity { vec_capacity out.old ≤ vec_capacity out.new }
+    requires capacity { length (O.held out.old) + length (spec.values_bytes C.type_of C.unsigned columns.now (contents V.param values.now)) ≤ O.capacity out.old }
+    ensures items { O.held out.new ≡ O.held out.old ++ spec.values_bytes C.type_of C.unsigned columns.now (contents V.param values.now) }
+    ensures after { O.after out.new ≡ drop (length (spec.values_bytes C.type_of C.unsigned columns.now (contents V.param values.now))) (O.after out.old) }
+    ensures capacity { O.capacity out.old ≤ O.capacity out.new }
+    ensures kept { O.kept out.new ≡ O.kept out.old }
 {
     for place in 0..values.len() {
-        append_cell(columns[place].value_type(), &values[place], out);
+        let value = typed_value(values[place].as_execute_param());
+        append_cell(columns[place].value_type(), &value, out);
     }
+}
+
+/// The values of a row, each in its column's width: one for each column.
+#[derive(Drop)]
+struct RowValues<'a, C, V> {
+    columns: &'a [C],
+    values: &'a [V],
+    ghost same: { length columns.now ≡ length values.now },
+}
+
+impl<C: TypedColumn, V: AsExecuteParam> MySerialize for RowValues<'_, C, V> {
+    ghost use Rattle.mysql_prepared.specs.BinaryRow.{values_bytes};
+    ghost use Rattle.mysql_prepared.specs.ExecuteParam.{contents};
+
+    ghost bytes = { λ r. values_bytes C.type_of C.unsigned r.columns.now (contents V.param r.values.now) };
+
+    fn defined_len(&self) -> usize {
+        values_len(self.columns, self.values)
+    }
+
+    fn append<O: Buffer>(&self, out: &mut O) {
+        append_values(self.columns, self.values, out);
+    }
+}
+
+/// Writes a row over as many bytes as it takes.
+fn put_row<C: TypedColumn, V: AsExecuteParam>(columns: &[C], values: &[V], out: &mut [u8])
+    requires same { length columns.now ≡ length values.now }
+    requires count { length values.now < 2 ^ 63 }
+    requires len { length out.old ≡ spec.row_len C.type_of C.unsigned columns.now (contents V.param values.now) }
+    ensures { spec.IsRowBytes C.type_of C.unsigned columns.now (contents V.param values.now) out.new }
+{
+    let (first, after) = out.split_at_mut(1);
+    first.fill(0);
+    let (nulls, rest) = after.split_at_mut(NullBitmap::<ServerSide>::bitmap_len(values.len()));
+    put_nulls::<ServerSide, V>(values, nulls);
+    put_over(&RowValues { columns, values }, rest);
 }
 
 /// Writes a binary row (`ProtocolBinary::ResultsetRow`) of a server to the end of a buffer, which grows once at the most.
@@ -216,4 +270,37 @@ pub fn write_binary_row<C: TypedColumn>(
     append_nulls::<ServerSide, ValueRef<'_>>(values, out);
     append_values(columns, values, out);
     Ok(())
+}
+
+/// Writes such a row of a server to the front of a slice, from values of any type that are parameters too. It takes no memory.
+///
+/// The answer is how many bytes it takes, or `usize::MAX` where that is less. A slice that is shorter is as it was, and so is one
+/// after a refusal, which is `Count` or `Value`.
+pub fn write_binary_row_to_slice<C: TypedColumn, V: AsExecuteParam>(
+    columns: &[C],
+    values: &[V],
+    out: &mut [u8],
+) -> Result<usize, BinaryRowError>
+    requires { length values.now < 2 ^ 63 }
+    ensures taken { OnOk result (IsTrue (spec.takes_row C.type_of C.unsigned columns.now (contents V.param values.now))) }
+    ensures len { IfOk result (λ len. len ≡ saturated (spec.row_len C.type_of C.unsigned columns.now (contents V.param values.now))) }
+    ensures written { IfOk result (λ len. len ≤ length out.old → (bytes : List ℕ) × spec.IsRowBytes C.type_of C.unsigned columns.now (contents V.param values.now) bytes × (out.new ≡ bytes ++ drop len out.old)) }
+    ensures small { IfOk result (λ len. length out.old < len → out.new ≡ out.old) }
+    ensures refused { IfErr result (λ e. spec.RefusesRow C.type_of C.unsigned columns.now (contents V.param values.now) e) }
+    ensures no_memory { result ≢ Err BinaryRowError.Memory }
+    ensures err { OnErr result (out.new ≡ out.old) }
+{
+    if columns.len() != values.len() {
+        return Err(BinaryRowError::Count);
+    }
+    if let Some(place) = refused_at(columns, values) {
+        return Err(BinaryRowError::Value(place));
+    }
+    let front = 1 + NullBitmap::<ServerSide>::bitmap_len(values.len());
+    let len = values_len(columns, values).saturating_add(front);
+    // (no slice has `usize::MAX` bytes)
+    if len <= out.len() {
+        put_row(columns, values, &mut out[..len]);
+    }
+    Ok(len)
 }

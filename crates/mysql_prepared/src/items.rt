@@ -5,8 +5,16 @@ ghost use Rattle.mysql_wire.specs.Writing.{saturated};
 
 use mysql_wire::{Buffer, MySerialize};
 
+/// Writes what takes as many bytes as there are over them.
+pub(crate) fn put_over<P: MySerialize>(value: &P, out: &mut [u8])
+    requires { length out.old ≡ length (P.bytes value.now) }
+    ensures { out.new ≡ P.bytes value.now }
+{
+    let _len = value.write_to_slice(out).unwrap();
+}
+
 /// The form in which the items of a list are written.
-pub(crate) trait ItemForm<T> {
+pub trait ItemForm<T> {
     ghost item_bytes: { Self → T → List ℕ };
 
     /// How many bytes an item takes, or `usize::MAX` where that is less.
@@ -24,9 +32,11 @@ pub(crate) trait ItemForm<T> {
 
 /// The items of a list, one after another, each in this form.
 #[derive(Drop)]
-pub(crate) struct Items<'a, T, F> {
-    pub(crate) items: &'a [T],
-    pub(crate) form: F,
+pub struct Items<'a, T, F> {
+    /// The list.
+    pub items: &'a [T],
+    /// The form.
+    pub form: F,
 }
 
 impl<T, F: ItemForm<T>> MySerialize for Items<'_, T, F> {

@@ -35,7 +35,7 @@ mod typed_execution;
 mod typed_param;
 mod write_execution;
 
-pub use binary_row::{BinaryRowError, write_binary_row};
+pub use binary_row::{BinaryRowError, write_binary_row, write_binary_row_to_slice};
 pub use binary_row_view::BinaryRowView;
 pub use close::{ComStmtClose, ComStmtCloseHeader, InvalidComStmtCloseHeader};
 pub use column_index::ColumnIndex;
@@ -48,6 +48,7 @@ pub use execute_head::ComStmtExecuteHead;
 pub use execute_param::{AsExecuteParam, ExecuteParam, QueryAttribute};
 pub use execute_view::{BoundParam, ExecuteParamsView, skip_param_types};
 pub use execute_with_options::{ComStmtExecuteOptionsBuilder, ComStmtExecuteWithOptions, Cursor};
+pub use items::{ItemForm, Items};
 pub use long_data::{
     ComStmtSendLongData, ComStmtSendLongDataHeader, InvalidComStmtSendLongDataHeader,
 };

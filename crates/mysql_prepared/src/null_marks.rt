@@ -72,6 +72,16 @@ pub(crate) fn append_nulls<S: SerializationSide, V: AsExecuteParam>(values: &[V]
     mark_side::<S, V>(nulls, values);
 }
 
+/// Writes the bitmap over bytes, as many as it has.
+pub(crate) fn put_nulls<S: SerializationSide, V: AsExecuteParam>(values: &[V], nulls: &mut [u8])
+    requires count { length values.now + 7 + S.BIT_OFFSET < 2 ^ 64 }
+    requires len { length nulls.old ≡ bytes_for S.BIT_OFFSET (length values.now) }
+    ensures { MarksNulls S.BIT_OFFSET (contents V.param values.now) nulls.new }
+{
+    nulls.fill(0);
+    mark_side::<S, V>(nulls, values);
+}
+
 /// The bitmap in which the bit of each parameter and each attribute that is NULL is set, the attributes after the parameters.
 pub(crate) fn nulls_of<V: AsExecuteParam>(
     alloc: Global,

@@ -17,8 +17,8 @@ pub use mysql_prepared::{
     ComStmtExecuteTypedBuilder, ComStmtExecuteWithOptions, ComStmtSendLongData,
     ComStmtSendLongDataHeader, ComStmtSendLongDataRef, Cursor, ExecuteParam, ExecuteParamsView,
     InvalidComStmtCloseHeader, InvalidComStmtExecuteHeader, InvalidComStmtSendLongDataHeader,
-    InvalidIterationCount, InvalidStmtPacketStatus, IterationCount, NullBitmap, QueryAttribute,
-    Row, RowDeserializer, RowProtocol, StmtPacket, StmtPacketWithMetadata, TextRowView,
-    TypedColumn, TypedExecuteParam, TypedExecutionError, laws, new_row, new_row_raw,
-    write_binary_row, write_text_row,
+    InvalidIterationCount, InvalidStmtPacketStatus, ItemForm, Items, IterationCount, NullBitmap,
+    QueryAttribute, Row, RowDeserializer, RowProtocol, StmtPacket, StmtPacketWithMetadata,
+    TextRowView, TypedColumn, TypedExecuteParam, TypedExecutionError, laws, new_row, new_row_raw,
+    write_binary_row, write_binary_row_to_slice, write_text_row,
 };

@@ -1,6 +1,5 @@
 use Rattle.std.proofs.Common.{◌∙◌, ◌<◌, length, arith, rules}
 use Rattle.mysql_prepared.specs.ExecuteParam.{param_of}
-use Rattle.mysql_prepared.specs.ExecuteRead.{GivesParam}
 use Rattle.mysql_packets_c.specs.Execution.{content_of}
 use Rattle.mysql_packets_c.proofs.Executions.{one-content, one-type}
 use Rattle.mysql_packets_c.proofs.FilledRows.{one-set, others-kept}

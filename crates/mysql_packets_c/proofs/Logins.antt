@@ -1,0 +1,38 @@
+-- A login and a change of user end in their attributes.
+use Rattle.std.proofs.Common.{◌≡◌, ◌≢◌, ℕ, Bool, true, not, List, [], ◌++◌, Option, Some, None, if◌then◌else◌, append_assoc, sym, ap, ◌∙◌}
+use Rattle.std.proofs.lemmas.Bool.{ne_eqb}
+use Rattle.std.proofs.lemmas.List.{append-nil}
+use Rattle.mysql_auth.proofs.ResponseEnds.{response-ends}
+use Rattle.mysql_auth.specs.Attributes.{Attribute, attributes}
+use Rattle.mysql_auth.specs.ComChangeUser.{change_user, last_part, more_data, sent_attributes}
+use Rattle.mysql_auth.specs.HandshakeResponse.{before_attributes, connect_attributes, handshake_response}
+use Rattle.mysql_auth.specs.declared.handshake_response.HandshakeResponse.{HandshakeResponse}
+use Rattle.mysql_packets_c.specs.Attributes.{merged_pairs}
+use Rattle.mysql_packets_c.specs.ChangeUser.{change_before, change_of}
+use Rattle.mysql_packets_c.specs.Given.{if_set, is_set}
+use Rattle.mysql_packets_c.specs.Login.{with_attributes}
+use Rattle.mysql_packets_c.specs.declared.change_user.CChangeUser.{CChangeUser}
+use Rattle.mysql_packets_c.specs.declared.login.CLogin.{CLogin}
+
+pub change-ends : (c : CChangeUser) → change_user.bytes (change_before c) ++ (attributes.bytes (merged_pairs c.attributes.now) ++ []) ≡ change_user.bytes (change_of c)
+unfolding change_user last_part more_data sent_attributes
+change-ends c = simp (append-nil, append_assoc)
+
+pub ruleset changes = (change-ends)
+
+-- a number that is set
+set-is : (n : ℕ) → n ≢ 0 → is_set n ≡ true
+set-is n some = ap not (ne_eqb n 0 some)
+
+pub login-ends : (c : CLogin) (p : HandshakeResponse) → c.has_attributes ≢ 0 → before_attributes p ++ (attributes.bytes (merged_pairs c.attributes.now) ++ []) ≡ handshake_response.bytes (with_attributes c p)
+login-ends c p some =
+    let pairs = merged_pairs c.attributes.now in
+    ap (λ (l : List ℕ). before_attributes p ++ l) (append-nil (attributes.bytes pairs)) ∙ sym (response-ends p pairs)
+    ∙ ap (λ (b : Bool). handshake_response.bytes (record p { connect_attributes = if b then Some pairs else None })) (sym (set-is c.has_attributes some))
+
+pub login-without : (c : CLogin) (p : HandshakeResponse) → c.has_attributes ≡ 0 → connect_attributes p ≡ if_set c.has_attributes [] → with_attributes c p ≡ p
+login-without c p none is =
+    let empty : connect_attributes p ≡ None = is ∙ ap (λ (n : ℕ). if_set n []) none in
+    ap (λ (a : Option (List Attribute)). record p { connect_attributes = a }) (ap (λ (n : ℕ). if_set n (merged_pairs c.attributes.now)) none ∙ sym empty)
+
+pub ruleset logins = (login-ends, login-without)

@@ -1,0 +1,91 @@
+-- What is written of the caller's values.
+use Rattle.std.proofs.Common.{if◌then◌else◌, ◌≡◌, ◌≢◌, ◌<◌, ◌≤◌, ◌-◌, ◌^◌, ◌++◌, ◌∷◌, ℕ, List, [], Bool, true, false, ◌&&◌, IsTrue, length, drop, refl, sym, subst, ap, ◌∙◌, arith}
+use Rattle.std.specs.List.{flat_map, list_all}
+use Rattle.std.proofs.lemmas.List.Folds.{flat_map-map}
+use Rattle.mysql_prepared.specs.BinaryRow.{RefusesRow, takes_row}
+use Rattle.mysql_prepared.specs.ExecuteParam.{contents}
+use Rattle.mysql_prepared.specs.declared.binary_row.BinaryRowError.{BinaryRowError}
+use Rattle.mysql_prepared.specs.declared.binary_row.BinaryRowError.TheVariants as error
+use Rattle.mysql_prepared.specs.TextRow.{text_cell_bytes, text_row_bytes}
+use Rattle.mysql_wire.specs.Writing.{saturated}
+use Rattle.mysql_values.specs.Value.{Content, NULL}
+use Rattle.mysql_packets_c.specs.Execution.{param}
+use Rattle.mysql_packets_c.specs.Output.{PutsSuch, PutsSuchUnlessTooLong}
+use Rattle.mysql_packets_c.proofs.RefusedRow.{count-refused, place-refused}
+use Rattle.mysql_packets_c.specs.ColumnType.{type_of, unsigned_of}
+use Rattle.mysql_packets_c.specs.Rows.{cell_of, cells_of, row_fits}
+use Rattle.mysql_packets_c.specs.Value.{is_value, value_content, values_contents}
+use Rattle.mysql_packets_c.specs.declared.rows.CColumnType.{CColumnType}
+use Rattle.mysql_packets_c.specs.declared.value.CValue.{CValue}
+
+-- the cells of a text row are those of its values
+pub text-cells : (values : List CValue) → flat_map (λ v. text_cell_bytes (cell_of v)) values ≡ text_row_bytes (cells_of values)
+text-cells values = sym (flat_map-map text_cell_bytes cell_of values)
+
+pub ruleset text_rows = (text-cells)
+
+both-parts : (a b : Bool) → IsTrue (a && b) → IsTrue a × IsTrue b
+both-parts true b h = (refl, h)
+both-parts false b h = let f : IsTrue false = h in absurd cc
+
+-- what is sent of a value is what it holds
+pub values-sent : (values : List CValue) → IsTrue (list_all is_value values) → contents param values ≡ values_contents values
+values-sent [] h = refl
+values-sent (v ∷ values) h =
+    let both = both-parts (is_value v) (list_all is_value values) h in
+    ap (λ (b : Bool). (if b then value_content v else NULL) ∷ contents param values) both.0 ∙ ap (λ (l : List Content). value_content v ∷ l) (values-sent values both.1)
+
+-- ---- a row that is taken or refused
+
+pub row-taken : (columns : List CColumnType) (values : List CValue) → list_all is_value values ≡ true → takes_row type_of unsigned_of columns (contents param values) ≡ true → row_fits columns values ≡ true
+row-taken columns values all taken =
+    ap (λ (b : Bool). b && takes_row type_of unsigned_of columns (values_contents values)) all
+    ∙ ap (takes_row type_of unsigned_of columns) (sym (values-sent values all)) ∙ taken
+
+not-taken : (columns : List CColumnType) (held : List Content) (e : BinaryRowError) → e ≢ error.Memory → RefusesRow type_of unsigned_of columns held e → takes_row type_of unsigned_of columns held ≡ false
+not-taken columns held error.Count other h = count-refused columns held h
+not-taken columns held (error.Value place) other h = place-refused columns held place h.1.refused
+not-taken columns held error.Memory other h = absurd (other refl)
+
+pub row-refused : (columns : List CColumnType) (values : List CValue) (e : BinaryRowError) → list_all is_value values ≡ true → e ≢ error.Memory → RefusesRow type_of unsigned_of columns (contents param values) e
+    → row_fits columns values ≡ false
+row-refused columns values e all other h =
+    ap (λ (b : Bool). b && takes_row type_of unsigned_of columns (values_contents values)) all
+    ∙ ap (takes_row type_of unsigned_of columns) (sym (values-sent values all)) ∙ not-taken columns (contents param values) e other h
+
+-- what a writer answers of a count
+pub answered : (Such : List ℕ → Type 0) (count code : ℕ) (old new : List ℕ) (written : ℕ)
+    → (count ≤ length old → (bytes : List ℕ) × Such bytes × (new ≡ bytes ++ drop count old))
+    → (length old < count → new ≡ old)
+    → (count ≤ length old → code ≡ 0)
+    → (length old < count → code ≡ 5)
+    → written ≡ count
+    → PutsSuch Such count code old new written
+answered Such count code old new written put kept fits small counted = record {
+  fits = λ h. (fits h, put h);
+  small = λ h. (small h, kept h);
+  is_count = counted;
+}
+
+-- the same of a count that is answered as 2^64 - 1 where it is that or more
+pub answered-unless : (Such : List ℕ → Type 0) (count len code : ℕ) (old new : List ℕ) (written : ℕ)
+    → len ≡ saturated count
+    → length old < 2 ^ 63
+    → (len ≤ length old → (bytes : List ℕ) × Such bytes × (new ≡ bytes ++ drop len old))
+    → (length old < len → new ≡ old)
+    → (len < 2 ^ 64 - 1 → len ≤ length old → code ≡ 0)
+    → (len < 2 ^ 64 - 1 → length old < len → code ≡ 5)
+    → (len < 2 ^ 64 - 1 → written ≡ len)
+    → (len ≡ 2 ^ 64 - 1 → (code ≡ 4) × (written ≡ 0))
+    → PutsSuchUnlessTooLong Such count code old new written
+unfolding saturated
+answered-unless Such count len code old new written is below put kept fits small counted long = record {
+  puts = λ few.
+      let whole : len ≡ count = omega (arith, is, few) in
+      let short : len < 2 ^ 64 - 1 = omega (arith, whole, few) in
+      subst (λ (n : ℕ). PutsSuch Such n code old new written) whole (answered Such len code old new written put kept (fits short) (small short) (counted short));
+  long = λ many.
+      let top : len ≡ 2 ^ 64 - 1 = omega (arith, is, many) in
+      let past : length old < len = omega (arith, top, below) in
+      ((long top).0, kept past, (long top).1);
+}

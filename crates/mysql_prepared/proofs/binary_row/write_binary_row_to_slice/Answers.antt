@@ -1,0 +1,24 @@
+use Rattle.std.proofs.Common.{◌≡◌, length, ap, arith}
+use Rattle.std.proofs.lemmas.List.{length-map, length-take-le}
+use Rattle.mysql_wire.specs.Writing.{saturated}
+use Rattle.mysql_prepared.specs.Bitmap.{bytes_for}
+use Rattle.mysql_prepared.specs.ExecuteParam.{value_of}
+use Rattle.mysql_prepared.proofs.binary_row.write_binary_row_to_slice.Goals as goal
+
+pub put_row-requires-clause-len : goal.put_row-requires-clause-len
+unfolding saturated
+put_row-requires-clause-len g c =
+    let same = ap (bytes_for 2) (length-map c.args.values.now (λ (v : g.row.V.Denot). value_of (g.V.AsExecuteParam.param v))) in
+    omega (arith, same, c.saturating_add-len.ensures, c.values_len.ensures, c.bitmap_len-front.ensures.value, length-take-le c.saturating_add-len.result c.args.out.now c.if-len-out.true)
+
+pub returns-then-len-out-clause-len : goal.returns-then-len-out-clause-len
+unfolding saturated
+returns-then-len-out-clause-len g c =
+    let same = ap (bytes_for 2) (length-map c.args.values.now (λ (v : g.row.V.Denot). value_of (g.V.AsExecuteParam.param v))) in
+    omega (arith, same, c.saturating_add-len.ensures, c.values_len.ensures, c.bitmap_len-front.ensures.value)
+
+pub returns-else-len-out-clause-len : goal.returns-else-len-out-clause-len
+unfolding saturated
+returns-else-len-out-clause-len g c =
+    let same = ap (bytes_for 2) (length-map c.args.values.now (λ (v : g.row.V.Denot). value_of (g.V.AsExecuteParam.param v))) in
+    omega (arith, same, c.saturating_add-len.ensures, c.values_len.ensures, c.bitmap_len-front.ensures.value)
