@@ -1,5 +1,5 @@
 -- The number that a payload was sent with.
-use Rattle.std.proofs.Common.{◌≡◌, ℕ, ◌≤◌, ◌<◌, ◌⊎◌, ◌&&◌, Bool, true, false, List, ◌++◌, length, nat_lt, nat_le, slice_index, if◌then◌else◌, refl, sym, ap, ◌∙◌, true≢false, rules, arith}
+use Rattle.std.proofs.Common.{◌≡◌, ℕ, ◌≤◌, ◌<◌, ◌⊎◌, Bool, true, false, List, ◌++◌, length, slice_index, refl, sym, arith}
 use Rattle.mysql_frames.specs.FrameReader.{ReaderState}
 use Rattle.mysql_recorder.specs.Streams.{as_sent, number_sent, header_comes}
 

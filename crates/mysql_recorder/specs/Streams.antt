@@ -1,5 +1,5 @@
 -- One side's stream, of which each payload begins with the number that it was sent with.
-use Rattle.std.specs.Prelude.{◌≡◌, ℕ, ◌≤◌, ◌<◌, ◌&&◌, Bool, List, ◌++◌, length, nat_lt, nat_le, slice_index, if◌then◌else◌}
+use Rattle.std.specs.Prelude.{ℕ, ◌&&◌, Bool, List, ◌++◌, length, nat_lt, nat_le, slice_index, if◌then◌else◌}
 use Rattle.mysql_frames.specs.FrameReader.{ReaderState}
 
 -- the number of the frame that comes: as it was sent where its header is there now, and before was not

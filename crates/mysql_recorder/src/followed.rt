@@ -1,5 +1,12 @@
 //! What is followed: a connection from its greeting on, or one that is taken up amid it.
 
+ghost use Rattle.std.specs.Prelude.{◌≡◌, ◌↔◌, ◌⊎◌, ℕ, List, [], ◌∷◌, ◌++◌, IfOk, IfErr, OnErr, IsTrue};
+ghost use Rattle.mysql_conversation.specs.Pipelined.{Numbered};
+ghost use Rattle.mysql_conversation.specs.Piped.{place};
+ghost use Rattle.mysql_conversation.specs.Session.{GoesOn, IsSessionBeginning};
+ghost use Rattle.mysql_conversation.specs.declared.kind.Kind as declared;
+ghost use Rattle.mysql_conversation.specs.declared.kind.Side.TheVariants as side_of;
+
 use mysql_conversation::{Kind, KindName, Opening, Pipeline, Refusal, Session, Side};
 use mysql_replies::SessionCapabilities;
 use std::alloc::Global;
@@ -9,6 +16,38 @@ use std::alloc::Global;
 enum Connection {
     Whole(Session),
     TakenUp(Pipeline, SessionCapabilities),
+}
+
+impl Connection {
+    ghost use Rattle.mysql_conversation.specs.declared.pipeline.Refusal.TheVariants as refusal;
+    ghost use Rattle.mysql_recorder.specs.Followed.{IsWhole};
+
+    /// Which packet it is, and the number of its exchange, counted from the first that is followed here.
+    fn next(&mut self, side: Side, payload: &[u8]) -> Result<(Kind, u64), Refusal>
+        ensures taken { IfOk result (λ x. (items : List Numbered) → IsWhole self.old items → IsWhole self.new (items ++ place side payload.now x.0 x.1 ∷ [])) }
+        ensures refused { IfErr result (λ why. (items : List Numbered) (kind : declared.Kind) (number : ℕ) → why ≡ refusal.Unexpected → IsWhole self.old items
+            → IsSessionBeginning (items ++ place side payload.now kind number ∷ []) → ⊥) }
+        ensures err { OnErr result ((items : List Numbered) → IsWhole self.old items → IsWhole self.new items) }
+    {
+        match self {
+            Connection::Whole(session) => session.next(side, payload),
+            Connection::TakenUp(pipeline, _) => pipeline.next(side, payload),
+        }
+    }
+
+    /// Whether a packet of this kind may come next, of one side or the other.
+    fn expects(&self, name: KindName) -> bool
+        ensures { (items : List Numbered) → IsWhole self.now items → IsTrue result ↔ (GoesOn side_of.Client name items ⊎ GoesOn side_of.Server name items) }
+    {
+        match self {
+            Connection::Whole(session) => {
+                session.expects(Side::Client, name) || session.expects(Side::Server, name)
+            }
+            Connection::TakenUp(pipeline, _) => {
+                pipeline.expects(Side::Client, name) || pipeline.expects(Side::Server, name)
+            }
+        }
+    }
 }
 
 /// A connection that is followed.
@@ -24,8 +63,13 @@ pub(crate) struct Followed {
 }
 
 impl Followed {
+    ghost use Rattle.mysql_conversation.specs.declared.pipeline.Refusal.TheVariants as refusal;
+    ghost use Rattle.mysql_recorder.specs.Followed.{IsFollowed};
+
     /// A connection from its greeting on, in which as many commands may wait.
-    pub(crate) fn whole(alloc: Global, waiting: usize) -> Self {
+    pub(crate) fn whole(alloc: Global, waiting: usize) -> Self
+        ensures { IsFollowed result [] }
+    {
         Followed {
             alloc,
             waiting,
@@ -52,26 +96,25 @@ impl Followed {
     }
 
     /// Which packet it is, and the number of its exchange.
-    pub(crate) fn next(&mut self, side: Side, payload: &[u8]) -> Result<(Kind, u64), Refusal> {
-        let (kind, number) = match &mut self.connection {
-            Connection::Whole(session) => session.next(side, payload)?,
-            Connection::TakenUp(pipeline, _) => pipeline.next(side, payload)?,
-        };
+    pub(crate) fn next(&mut self, side: Side, payload: &[u8]) -> Result<(Kind, u64), Refusal>
+        // What came has now this packet, of this kind and exchange, at its end.
+        ensures taken { IfOk result (λ x. (items : List Numbered) → IsFollowed self.old items → IsFollowed self.new (items ++ place side payload.now x.0 x.1 ∷ [])) }
+        // Of no kind and exchange does the packet go on with what came.
+        ensures refused { IfErr result (λ why. (items : List Numbered) (kind : declared.Kind) (number : ℕ) → why ≡ refusal.Unexpected → IsFollowed self.old items
+            → IsSessionBeginning (items ++ place side payload.now kind number ∷ []) → ⊥) }
+        ensures err { OnErr result ((items : List Numbered) → IsFollowed self.old items → IsFollowed self.new items) }
+    {
+        let (kind, number) = self.connection.next(side, payload)?;
         let exchange = self.before.saturating_add(number);
         self.last = self.last.max(exchange);
         Ok((kind, exchange))
     }
 
     /// Whether a packet of this kind may come next, of one side or the other.
-    pub(crate) fn expects(&self, name: KindName) -> bool {
-        match &self.connection {
-            Connection::Whole(session) => {
-                session.expects(Side::Client, name) || session.expects(Side::Server, name)
-            }
-            Connection::TakenUp(pipeline, _) => {
-                pipeline.expects(Side::Client, name) || pipeline.expects(Side::Server, name)
-            }
-        }
+    pub(crate) fn expects(&self, name: KindName) -> bool
+        ensures { (items : List Numbered) → IsFollowed self.now items → IsTrue result ↔ (GoesOn side_of.Client name items ⊎ GoesOn side_of.Server name items) }
+    {
+        self.connection.expects(name)
     }
 
     /// The highest number of an exchange that came.

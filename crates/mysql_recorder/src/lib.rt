@@ -4,19 +4,25 @@
 mod change_fields;
 mod client_fields;
 mod command_fields;
+mod error;
+mod fields;
 mod followed;
+pub mod laws;
 mod line;
 mod loss;
 mod mark;
+mod packets;
 mod prepared;
 mod program;
 mod recording;
 mod server_fields;
+mod sides;
 mod stream;
 mod sums;
 mod unheard;
 mod values;
 
+pub use error::RecordingError;
 pub use mysql_fields::{Field, Layout};
 pub use program::run;
-pub use recording::{Recording, RecordingError};
+pub use recording::Recording;

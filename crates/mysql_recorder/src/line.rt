@@ -4,6 +4,10 @@
 //! `tshark -z follow,tcp,raw` prints is read too: lower-case digits at the line's beginning are of the client, after a tab of the
 //! server, and its other lines (`===`, `Follow:`, `Filter:`, `Node`) say nothing. An empty line and one after `#` say nothing either.
 
+ghost use Rattle.std.specs.Prelude.{ℕ, ◌≤◌, List, [], ◌∷◌, ◌++◌, IfOk, IfSome, None};
+ghost use Rattle.mysql_recorder.specs.Lines as spec;
+ghost use Rattle.mysql_recorder.specs.declared.line.Place.TheVariants as variants;
+
 use mysql_conversation::Side;
 use thiserror::Error;
 
@@ -35,7 +39,9 @@ pub(crate) enum Said {
 }
 
 /// The value of a digit in lower case.
-fn lower_digit(byte: u8) -> Option<u8> {
+fn lower_digit(byte: u8) -> Option<u8>
+    ensures { IfSome result (λ value. spec.IsLowerDigit byte value × (value ≤ 15)) }
+{
     match byte {
         b'0'..=b'9' => Some(byte - b'0'),
         b'a'..=b'f' => Some(byte - b'a' + 10),
@@ -44,7 +50,9 @@ fn lower_digit(byte: u8) -> Option<u8> {
 }
 
 /// The value of a digit.
-fn digit(byte: u8) -> Option<u8> {
+fn digit(byte: u8) -> Option<u8>
+    ensures { IfSome result (λ value. spec.IsDigit byte value × (value ≤ 15)) }
+{
     match byte {
         b'A'..=b'F' => Some(byte - b'A' + 10),
         _ => lower_digit(byte),
@@ -53,7 +61,10 @@ fn digit(byte: u8) -> Option<u8> {
 
 impl Place {
     /// Goes past a byte of the input, and answers what it ends.
-    pub(crate) fn pass(&mut self, byte: u8) -> Result<Option<Said>, LineError> {
+    pub(crate) fn pass(&mut self, byte: u8) -> Result<Option<Said>, LineError>
+        ensures passes { IfOk result (λ said. (line : List ℕ) (before : List spec.Heard) → spec.Stands self.old line before → spec.Passes said byte line before self.new) }
+        ensures side { IfOk result (λ said. spec.StaysOf said self.old self.new) }
+    {
         match *self {
             Place::Start => {
                 *self = begun_by(byte)?;
@@ -72,7 +83,7 @@ impl Place {
                     return Err(LineError);
                 };
                 *self = Place::Between(side);
-                Ok(Some(Said::Byte(side, (high << 4) | low)))
+                Ok(Some(Said::Byte(side, high.wrapping_mul(16).wrapping_add(low))))
             }
             Place::Silent => {
                 if byte == b'\n' {
@@ -85,7 +96,9 @@ impl Place {
 }
 
 /// Where a line stands after its first byte.
-fn begun_by(byte: u8) -> Result<Place, LineError> {
+fn begun_by(byte: u8) -> Result<Place, LineError>
+    ensures begins { IfOk result (λ place. (line : List ℕ) (before : List spec.Heard) → spec.Stands variants.Start line before → spec.Passes None byte line before place) }
+{
     match byte {
         b'>' => Ok(Place::Between(Side::Client)),
         b'<' | b'\t' => Ok(Place::Between(Side::Server)),
@@ -99,7 +112,10 @@ fn begun_by(byte: u8) -> Result<Place, LineError> {
 }
 
 /// Where a side's line stands after one more byte. Spaces may stand between two bytes of a piece.
-fn after_byte(side: Side, byte: u8) -> Result<Place, LineError> {
+fn after_byte(side: Side, byte: u8) -> Result<Place, LineError>
+    ensures goes_on { IfOk result (λ place. (line : List ℕ) (before : List spec.Heard) → spec.Stands (variants.Between side) line before → spec.Stands place (line ++ byte ∷ []) before) }
+    ensures side { IfOk result (λ place. spec.IsOfSide side place) }
+{
     match byte {
         b' ' | b'\r' => Ok(Place::Between(side)),
         _ => match digit(byte) {

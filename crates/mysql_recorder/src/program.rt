@@ -1,6 +1,7 @@
 //! `mypackets conversation [MAX] [caps=CAPS] [mariadb=CAPS] [--json] [--sum]`.
 
-use crate::recording::{Recording, RecordingError};
+use crate::error::RecordingError;
+use crate::recording::Recording;
 use bitflags::Flags;
 use mysql_fields::Layout;
 use mysql_replies::SessionCapabilities;

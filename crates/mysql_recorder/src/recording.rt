@@ -1,20 +1,17 @@
 //! A recording: what both sides of a connection sent.
 
-mod error;
-mod packets;
+ghost use Rattle.std.specs.Prelude.{◌≡◌, ◌∷◌, [], IfErr, OnOk, true, string_bytes};
+ghost use Rattle.mysql_recorder.specs.Recorded as spec;
+ghost use Rattle.mysql_recorder.specs.Refusals.{IfRefused};
+ghost use Rattle.mysql_recorder.specs.Stops.{LineStops, Stops, TextStops};
 
-use crate::followed::Followed;
+use crate::error::RecordingError;
 use crate::line::{Place, Said};
-use crate::loss::{HEAD, Loss, begins_command, begins_with};
+use crate::loss::Loss;
 use crate::mark::{may_be_mark, missing_of};
-use crate::prepared::Prepared;
-use crate::stream::{Sent, Stream};
-use crate::sums::Sums;
-use crate::unheard::{Front, Unheard};
-pub use error::RecordingError;
-use mysql_conversation::Side;
-use mysql_fields::{Field, Layout, Remark};
-use mysql_frames::FrameError;
+use crate::sides::Sides;
+use mysql_conversation::{KindName, Side};
+use mysql_fields::Layout;
 use mysql_replies::SessionCapabilities;
 use std::alloc::{AllocError, Global};
 use std::mem;
@@ -29,24 +26,9 @@ use std::mem;
 #[derive(Drop)]
 pub struct Recording {
     alloc: Global,
-    layout: Layout,
-    longest: usize,
     place: Place,
     line: Line,
-    client: Stream,
-    server: Stream,
-    /// The number that the server's next frame has, where its stream is out of step and the client's isn't.
-    answer: Option<u8>,
-    /// The commands that came before the answers to earlier ones, and no packet of the server since.
-    unheard: Unheard,
-    /// Whether something was lost.
-    has_lost: bool,
-    followed: Followed,
-    prepared: Prepared,
-    /// How many columns a row of text has: the count that its result began with.
-    columns: usize,
-    /// What the packets come to, where that is asked for.
-    sums: Option<Sums>,
+    sides: Sides,
 }
 
 /// What came of a line, and is not taken yet.
@@ -60,26 +42,19 @@ struct Line {
 
 impl Recording {
     /// A recording of which nothing has come, for payloads of at most `longest` bytes, in which as many commands may wait.
-    pub fn new(alloc: Global, layout: Layout, longest: usize, waiting: usize) -> Self {
+    pub fn new(alloc: Global, layout: Layout, longest: usize, waiting: usize) -> Self
+        ensures recorded { spec.Recorded result [] [] }
+        ensures layout { spec.layout result ≡ layout }
+    {
         Recording {
             alloc,
-            layout,
-            longest,
             place: Place::Start,
             line: Line {
                 side: Side::Client,
                 bytes: Vec::new(alloc),
                 is_untaken: true,
             },
-            client: Stream::new(alloc, longest, true),
-            server: Stream::new(alloc, longest, true),
-            answer: None,
-            unheard: Unheard::none(),
-            has_lost: false,
-            followed: Followed::whole(alloc, waiting),
-            prepared: Prepared::new(alloc, waiting),
-            columns: 0,
-            sums: None,
+            sides: Sides::new(alloc, layout, longest, waiting),
         }
     }
 
@@ -87,248 +62,156 @@ impl Recording {
     /// streams are out of step up to there.
     pub fn taken_up(self, agreed: SessionCapabilities) -> Self {
         let mut recording = self;
-        recording.followed.take_up(agreed);
-        recording.client = Stream::new(recording.alloc, recording.longest, false);
-        recording.server = Stream::new(recording.alloc, recording.longest, false);
+        recording.sides.take_up_at(agreed);
         recording
     }
 
     /// Sums what comes from here on.
     pub fn with_sums(self) -> Self {
         let mut recording = self;
-        recording.sums = Some(Sums::new(recording.alloc));
+        recording.sides.sum();
         recording
     }
 
     /// Appends the sums, where they are asked for.
     pub fn append_sums(&self, out: &mut String) -> Result<(), AllocError> {
-        match &self.sums {
-            Some(sums) => sums.append(self.layout, out),
-            None => Ok(()),
-        }
+        self.sides.append_sums(out)
     }
 
     /// Whether all that was asked for is answered, and no packet is cut.
     pub fn is_whole(&self) -> bool {
-        self.client.is_between() && self.server.is_between() && self.followed.is_at_rest()
+        self.sides.is_whole()
     }
 
     /// Whether something was lost: a packet that doesn't come, bytes that are no frames, or bytes that are missing.
-    pub fn has_lost(&self) -> bool {
-        self.has_lost
+    pub fn has_lost(&self) -> bool
+        ensures { result ≡ spec.has_lost self.now }
+    {
+        self.sides.has_lost()
     }
 
     /// Takes a piece of the input, and appends what its packets say.
     ///
     /// After a refusal the recording has gone as far as the packet before it.
-    pub fn take(&mut self, input: &[u8], out: &mut String) -> Result<(), RecordingError> {
+    pub fn take(&mut self, input: &[u8], out: &mut String) -> Result<(), RecordingError>
+        ensures goes { OnOk result (spec.GoesOn input.now self.old self.new (string_bytes out.old) (string_bytes out.new)) }
+        ensures lost { spec.has_lost self.old ≡ true → spec.has_lost self.new ≡ true }
+        ensures layout { spec.layout self.new ≡ spec.layout self.old }
+        ensures refused { IfErr result (λ e. Stops KindName.ALL input.now self.old self.new e (string_bytes out.old) (string_bytes out.new)) }
+    {
         for byte in input {
-            match self.place.pass(*byte)? {
-                Some(Said::Byte(side, value)) => {
-                    self.line.side = side;
-                    self.line.bytes.extend_from_slice(&[value])?;
-                }
-                Some(Said::End) => self.end_line(out)?,
-                None => {}
-            }
+            self.take_byte(*byte, out)?;
         }
+        self.take_rest(out)
+    }
+
+    /// Takes what came of the line that is not at its end, where it is no mark.
+    fn take_rest(&mut self, out: &mut String) -> Result<(), RecordingError>
+        ensures goes { OnOk result (spec.GoesOn [] self.old self.new (string_bytes out.old) (string_bytes out.new)) }
+        ensures lost { spec.has_lost self.old ≡ true → spec.has_lost self.new ≡ true }
+        ensures layout { spec.layout self.new ≡ spec.layout self.old }
+        ensures refused { IfErr result (λ e. TextStops KindName.ALL self.old e (string_bytes out.old) (string_bytes out.new)) }
+    {
         if self.may_be_taken() {
-            self.take_line(out)?;
-            self.line.is_untaken = false;
-            self.line.bytes.clear();
+            self.take_line(out)
+        } else {
+            Ok(())
         }
-        Ok(())
+    }
+
+    /// Takes a byte of the input.
+    fn take_byte(&mut self, byte: u8, out: &mut String) -> Result<(), RecordingError>
+        ensures goes { OnOk result (spec.GoesOn (byte ∷ []) self.old self.new (string_bytes out.old) (string_bytes out.new)) }
+        ensures lost { spec.has_lost self.old ≡ true → spec.has_lost self.new ≡ true }
+        ensures layout { spec.layout self.new ≡ spec.layout self.old }
+        ensures refused { IfErr result (λ e. TextStops KindName.ALL self.old e (string_bytes out.old) (string_bytes out.new)) }
+    {
+        match self.place.pass(byte)? {
+            Some(Said::Byte(side, value)) => {
+                self.line.side = side;
+                Ok(self.line.bytes.extend_from_slice(&[value])?)
+            }
+            Some(Said::End) => self.end_line(out),
+            None => Ok(()),
+        }
     }
 
     /// Says that the input is at its end, and appends how much of each stream is passed over that is still out of step.
-    pub fn finish(&mut self, out: &mut String) -> Result<(), RecordingError> {
+    pub fn finish(&mut self, out: &mut String) -> Result<(), RecordingError>
+        ensures finishes { OnOk result (spec.Finishes self.old self.new (string_bytes out.old) (string_bytes out.new)) }
+    {
         self.end_line(out)?;
-        self.say_unheard(Side::Client, out)?;
-        self.say_unheard(Side::Server, out)
+        Ok(self.sides.say_unheard(out)?)
     }
 
     /// Whether what came of a line can be taken before its end: it is no mark, and it is known how a line begins.
     fn may_be_taken(&self) -> bool {
         let bytes = self.line.bytes.as_slice();
         !self.line.is_untaken
-            || !may_be_mark(bytes)
-                && (bytes.len() >= HEAD || self.stream_of(self.line.side).passed().is_none())
+            || !may_be_mark(bytes) && self.sides.may_be_begun(self.line.side, bytes)
     }
 
     /// Takes the line that ends.
-    fn end_line(&mut self, out: &mut String) -> Result<(), RecordingError> {
+    fn end_line(&mut self, out: &mut String) -> Result<(), RecordingError>
+        ensures goes { OnOk result (spec.Takes self.old self.new (string_bytes out.old) (string_bytes out.new)) }
+        ensures lost { spec.has_lost self.old ≡ true → spec.has_lost self.new ≡ true }
+        ensures layout { spec.layout self.new ≡ spec.layout self.old }
+        ensures place { self.new.place ≡ self.old.place }
+        ensures line { OnOk result (self.new.line.bytes.items ≡ []) }
+        ensures refused { IfErr result (λ e. LineStops KindName.ALL self.old e (string_bytes out.old) (string_bytes out.new)) }
+    {
+        let taken = self.take_last(out);
+        self.line.is_untaken = true;
+        taken
+    }
+
+    /// The same, before the next line begins.
+    fn take_last(&mut self, out: &mut String) -> Result<(), RecordingError>
+        ensures goes { OnOk result (spec.Takes self.old self.new (string_bytes out.old) (string_bytes out.new)) }
+        ensures lost { spec.has_lost self.old ≡ true → spec.has_lost self.new ≡ true }
+        ensures layout { spec.layout self.new ≡ spec.layout self.old }
+        ensures place { self.new.place ≡ self.old.place }
+        ensures line { OnOk result (self.new.line.bytes.items ≡ []) }
+        ensures refused { IfErr result (λ e. LineStops KindName.ALL self.old e (string_bytes out.old) (string_bytes out.new)) }
+    {
         let missing = missing_of(self.line.bytes.as_slice());
         match missing {
-            Some(count) if self.line.is_untaken => {
-                self.lose(self.line.side, Loss::Missing(count), out)?
-            }
-            _ => self.take_line(out)?,
+            Some(count) if self.line.is_untaken => self.lose_line(count, out),
+            _ => self.take_line(out),
         }
+    }
+
+    /// Takes a line that says how many bytes are missing.
+    fn lose_line(&mut self, count: u64, out: &mut String) -> Result<(), RecordingError>
+        ensures lost { OnOk result (spec.has_lost self.new ≡ true) }
+        ensures layout { spec.layout self.new ≡ spec.layout self.old }
+        ensures place { self.new.place ≡ self.old.place }
+        ensures line { OnOk result (self.new.line.bytes.items ≡ []) }
+        ensures stays { spec.has_lost self.old ≡ true → spec.has_lost self.new ≡ true }
+        ensures refused { IfErr result (λ e. IfRefused e (λ why. ⊥)) }
+    {
+        self.sides.lose(self.line.side, Loss::Missing(count), out)?;
         self.line.bytes.clear();
-        self.line.is_untaken = true;
         Ok(())
     }
 
     /// Takes what came of a line.
-    fn take_line(&mut self, out: &mut String) -> Result<(), RecordingError> {
+    fn take_line(&mut self, out: &mut String) -> Result<(), RecordingError>
+        ensures goes { OnOk result (spec.Takes self.old self.new (string_bytes out.old) (string_bytes out.new)) }
+        ensures lost { spec.has_lost self.old ≡ true → spec.has_lost self.new ≡ true }
+        ensures layout { spec.layout self.new ≡ spec.layout self.old }
+        ensures place { self.new.place ≡ self.old.place }
+        ensures line { OnOk result (self.new.line.bytes.items ≡ []) }
+        ensures refused { IfErr result (λ e. LineStops KindName.ALL self.old e (string_bytes out.old) (string_bytes out.new)) }
+    {
         let (side, is_untaken) = (self.line.side, self.line.is_untaken);
         let piece = mem::replace(&mut self.line.bytes, Vec::new(self.alloc));
-        if is_untaken {
-            self.take_up(side, piece.as_slice(), out)?;
-        }
-        self.take_piece(side, piece.as_slice(), out)?;
+        let taken = self
+            .sides
+            .take_line(side, is_untaken, piece.as_slice(), out);
         self.line.bytes = piece;
-        Ok(())
-    }
-
-    /// Has a stream in step again, where it is out of step and a line of it begins as it must.
-    fn take_up(&mut self, side: Side, line: &[u8], out: &mut String) -> Result<(), RecordingError> {
-        let Some(passed) = self.stream_of(side).passed() else {
-            return Ok(());
-        };
-        let begins = match (side, self.answer) {
-            (Side::Client, _) => begins_command(line),
-            (Side::Server, Some(number)) => begins_with(number, line),
-            (Side::Server, None) => false,
-        };
-        if !begins {
-            return Ok(());
-        }
-        self.stream(side).take_up();
-        if self.has_lost || passed > 0 {
-            self.say_passed("taken_up", side, passed, out)?;
-        }
-        Ok(())
-    }
-
-    /// Appends how much of a stream is passed over, where it is still out of step.
-    fn say_unheard(&mut self, side: Side, out: &mut String) -> Result<(), RecordingError> {
-        match self.stream_of(side).passed() {
-            Some(passed) if self.has_lost || passed > 0 => {
-                self.say_passed("not_taken_up", side, passed, out)
-            }
-            _ => Ok(()),
-        }
-    }
-
-    /// Appends how many bytes of a stream were passed over.
-    fn say_passed(
-        &self,
-        kind: &'static str,
-        side: Side,
-        passed: u64,
-        out: &mut String,
-    ) -> Result<(), RecordingError> {
-        let fields = [Field::number("passed_over", passed)];
-        Ok(
-            self.remark(kind, side)
-                .append(self.alloc, self.layout, &fields, out)?,
-        )
-    }
-
-    /// What is said of a side's stream here.
-    fn remark(&self, kind: &'static str, side: Side) -> Remark {
-        // (an exchange begins where the client's stream is taken up)
-        let is_next = kind == "taken_up" && side == Side::Client;
-        Remark {
-            side,
-            exchange: self.followed.last().saturating_add(u64::from(is_next)),
-            kind,
-        }
-    }
-
-    /// Appends what was lost, and has both streams out of step. Where it isn't known what both sides agreed on, that is a refusal.
-    fn lose(&mut self, side: Side, loss: Loss, out: &mut String) -> Result<(), RecordingError> {
-        let Some(agreed) = self.followed.agreed() else {
-            return Err(RecordingError::from(loss));
-        };
-        let fields = [loss.field()];
-        self.remark("lost", side)
-            .append(self.alloc, self.layout, &fields, out)?;
-        match self.unheard.only() {
-            Some(command) if loss.is_missing() && side == Side::Server => {
-                self.lose_answer(agreed, &command)?
-            }
-            _ => self.be_lost(agreed)?,
-        }
-        Ok(())
-    }
-
-    /// Has the server's stream out of step, up to the answer to this command, which has come: what is missing is the answer to the one
-    /// before it.
-    fn lose_answer(
-        &mut self,
-        agreed: SessionCapabilities,
-        command: &Front,
-    ) -> Result<(), RecordingError> {
-        self.has_lost = true;
-        self.server.lose();
-        self.answer = Some(self.client.number());
-        self.followed.take_up_after(agreed, command.as_slice());
-        self.unheard = Unheard::none();
-        Ok(self.prepared.serve_all(agreed)?)
-    }
-
-    /// Has both streams out of step, up to the next command.
-    fn be_lost(&mut self, agreed: SessionCapabilities) -> Result<(), RecordingError> {
-        self.has_lost = true;
-        self.client.lose();
-        self.server.lose();
-        self.answer = None;
-        self.followed.take_up(agreed);
-        self.unheard = Unheard::none();
-        Ok(self.prepared.serve_all(agreed)?)
-    }
-
-    /// Takes a piece of a side's stream, and appends what its packets say.
-    fn take_piece(
-        &mut self,
-        side: Side,
-        piece: &[u8],
-        out: &mut String,
-    ) -> Result<(), RecordingError> {
-        let mut input = piece;
-        for _ in 0..=piece.len() {
-            let stream = self.stream(side);
-            if stream.passed().is_some() {
-                stream.pass_over(input.len());
-                return Ok(());
-            }
-            match stream.next(&mut input) {
-                Ok(Some(sent)) => {
-                    let Sent { sequence, payload } = sent;
-                    self.await_answer(side);
-                    self.take_packet(side, sequence, payload.as_slice(), out)?;
-                    self.stream(side).give_back(payload);
-                }
-                Ok(None) => return Ok(()),
-                Err(FrameError::Memory) => return Err(RecordingError::Memory),
-                Err(error) => self.lose(side, Loss::Frame(error), out)?,
-            }
-        }
-        Ok(())
-    }
-
-    /// After the first packet of a client whose stream is in step again, the server's may be, from its answer on.
-    fn await_answer(&mut self, side: Side) {
-        if side == Side::Client && self.server.passed().is_some() && self.answer.is_none() {
-            self.answer = Some(self.client.number());
-        }
-    }
-
-    /// A side's stream.
-    fn stream(&mut self, side: Side) -> &mut Stream {
-        match side {
-            Side::Client => &mut self.client,
-            Side::Server => &mut self.server,
-        }
-    }
-
-    /// A side's stream, to be looked at.
-    fn stream_of(&self, side: Side) -> &Stream {
-        match side {
-            Side::Client => &self.client,
-            Side::Server => &self.server,
-        }
+        self.line.bytes.clear();
+        self.line.is_untaken = false;
+        taken
     }
 }

@@ -1,6 +1,6 @@
 //! One side's stream.
 
-ghost use Rattle.std.specs.Prelude.{◌≡◌, IfOk, IfSome, IfNone, OnErr, None};
+ghost use Rattle.std.specs.Prelude.{◌≡◌, [], IfOk, IfSome, IfNone, OnErr, None, true};
 ghost use Rattle.std.specs.Cow.{cow_slice_items};
 ghost use Rattle.mysql_frames.specs.FrameReader.{HandsOut, HoldsAll, Keeps};
 ghost use Rattle.mysql_recorder.specs.Streams.{as_sent};
@@ -35,7 +35,10 @@ pub(crate) struct Stream {
 
 impl Stream {
     /// One of which nothing came, for payloads of at most `longest` bytes: in step, or out of step.
-    pub(crate) fn new(alloc: Global, longest: usize, is_in_step: bool) -> Self {
+    pub(crate) fn new(alloc: Global, longest: usize, is_in_step: bool) -> Self
+        ensures held { result.reader.held ≡ [] }
+        ensures passed { is_in_step ≡ true → result.passed ≡ None }
+    {
         Stream {
             reader: FrameReader::new(alloc, longest),
             unfinished: 0,
@@ -44,7 +47,9 @@ impl Stream {
     }
 
     /// How many bytes are passed over, where it is out of step.
-    pub(crate) fn passed(&self) -> Option<u64> {
+    pub(crate) fn passed(&self) -> Option<u64>
+        ensures { result ≡ self.now.passed }
+    {
         self.passed
     }
 
@@ -82,7 +87,9 @@ impl Stream {
     }
 
     /// Takes back the memory of a payload.
-    pub(crate) fn give_back(&mut self, payload: CowSlice<'_, u8>) {
+    pub(crate) fn give_back(&mut self, payload: CowSlice<'_, u8>)
+        ensures { self.new ≡ self.old }
+    {
         self.reader.give_back(payload);
     }
 

@@ -32,7 +32,7 @@ pub enum RecordingError {
 
 impl From<AllocError> for RecordingError {
     ghost use Rattle.std.specs.Prelude.{◌≡◌};
-    ghost use Rattle.mysql_recorder.specs.declared.recording.error.RecordingError.TheVariants.{Memory};
+    ghost use Rattle.mysql_recorder.specs.declared.error.RecordingError.TheVariants.{Memory};
 
     ghost from_gives = { λ _ e. e ≡ Memory };
 
@@ -42,9 +42,9 @@ impl From<AllocError> for RecordingError {
 }
 
 impl From<FrameError> for RecordingError {
-    ghost use Rattle.std.specs.Prelude.{⊤};
+    ghost use Rattle.mysql_recorder.specs.Refusals.{IfRefused};
 
-    ghost from_gives = { λ _ _. ⊤ };
+    ghost from_gives = { λ _ e. IfRefused e (λ why. ⊥) };
 
     fn from(error: FrameError) -> Self {
         match error {
@@ -56,9 +56,9 @@ impl From<FrameError> for RecordingError {
 }
 
 impl From<Loss> for RecordingError {
-    ghost use Rattle.std.specs.Prelude.{⊤};
+    ghost use Rattle.mysql_recorder.specs.Refusals.{IfRefused};
 
-    ghost from_gives = { λ _ _. ⊤ };
+    ghost from_gives = { λ _ e. IfRefused e (λ why. ⊥) };
 
     fn from(loss: Loss) -> Self {
         match loss {
@@ -70,7 +70,7 @@ impl From<Loss> for RecordingError {
 
 impl From<LineError> for RecordingError {
     ghost use Rattle.std.specs.Prelude.{◌≡◌};
-    ghost use Rattle.mysql_recorder.specs.declared.recording.error.RecordingError.TheVariants.{Line};
+    ghost use Rattle.mysql_recorder.specs.declared.error.RecordingError.TheVariants.{Line};
 
     ghost from_gives = { λ _ e. e ≡ Line };
 

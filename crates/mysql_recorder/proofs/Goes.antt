@@ -1,0 +1,260 @@
+-- One step after another.
+use Rattle.std.proofs.Common.{◌≡◌, ◌⊎◌, inl, inr, ℕ, ◌+◌, ◌<◌, length, take, get_or, true, List, [], ◌∷◌, ◌++◌, Option, Some, None, Result, Ok, Err, IfOk, OnOk, refl, sym, ap, subst, ◌∙◌, append_assoc, append-nil}
+use Rattle.std.proofs.lemmas.List.{take_more}
+use Rattle.mysql_conversation.specs.declared.kind.Side.{Side}
+use Rattle.mysql_conversation.specs.declared.kind.Side.TheVariants as side
+use Rattle.mysql_recorder.specs.Followed.{IsFollowed}
+use Rattle.mysql_recorder.specs.Frames.{Piece, joined, AreFrames, NoneComes, IsNumbered, ComeIn}
+use Rattle.mysql_recorder.specs.Lines.{Heard, heard, IsRead, Stands, Passes}
+use Rattle.mysql_recorder.specs.Recorded as recorded
+use Rattle.mysql_recorder.specs.Recorded.{Recorded, Takes}
+use Rattle.mysql_recorder.specs.Shown.{Item, Writes, placed}
+use Rattle.mysql_recorder.specs.Sides.{Stand, has_lost, layout, piece, IsAt, Reads, passed_of}
+use Rattle.mysql_recorder.specs.Sides as sides
+use Rattle.mysql_recorder.specs.declared.error.RecordingError.{RecordingError}
+use Rattle.mysql_recorder.specs.declared.line.Said.TheVariants as says
+use Rattle.mysql_recorder.specs.declared.recording.Recording.{Recording}
+use Rattle.mysql_recorder.specs.declared.sides.Came.{Came}
+use Rattle.mysql_recorder.specs.declared.sides.Came.TheVariants as came_as
+use Rattle.mysql_recorder.specs.declared.sides.Sides.{Sides}
+use Rattle.mysql_recorder.proofs.Frames.{joined-append, writes_then, come_then}
+use Rattle.mysql_recorder.proofs.Texts.{read_byte}
+
+-- ---- sides
+
+pub stays : (old new : Sides) (text : List ℕ) → new ≡ old → sides.GoesOn [] old new text text
+stays old new text e pieces items h =
+    inr ([], subst (λ s. Stand s (pieces ++ []) (items ++ [])) (sym e) (subst (λ xs. Stand old (pieces ++ []) xs) (sym (append-nil items)) (subst (λ ps. Stand old ps items) (sym (append-nil pieces)) h)), refl)
+
+pub is_lost : (more : List Piece) (old new : Sides) (before after : List ℕ) → has_lost new ≡ true → sides.GoesOn more old new before after
+is_lost more old new before after e pieces items h = inl e
+
+pub sides_then : (a b : List Piece) (old mid new : Sides) (x y z : List ℕ) → sides.GoesOn a old mid x y → (has_lost mid ≡ true → has_lost new ≡ true) → layout mid ≡ layout old
+    → sides.GoesOn b mid new y z → sides.GoesOn (a ++ b) old new x z
+sides_then a b old mid new x y z first lost same second pieces items h =
+    elim (first pieces items h) as (λ _. (has_lost new ≡ true) ⊎ ((here : List Item) × Stand new (pieces ++ (a ++ b)) (items ++ here) × Writes (layout old) here x z)) [
+      | inl e ↦ inl (lost e)
+      | inr f ↦ elim (second (pieces ++ a) (items ++ f.0) f.1) as (λ _. (has_lost new ≡ true) ⊎ ((here : List Item) × Stand new (pieces ++ (a ++ b)) (items ++ here) × Writes (layout old) here x z)) [
+        | inl e ↦ inl e
+        | inr g ↦ inr (
+          f.0 ++ g.0,
+          subst (λ ps. Stand new ps (items ++ (f.0 ++ g.0))) (append_assoc pieces a b) (subst (λ xs. Stand new ((pieces ++ a) ++ b) xs) (append_assoc items f.0 g.0) g.1),
+          writes_then (layout old) f.0 g.0 x y z f.2 (subst (λ l. Writes l g.0 y z) same g.2),
+        )
+      ]
+    ]
+
+pub then_on_ok : (r : Result (Unit {0}) RecordingError) (b : List Piece) (old mid new : Sides) (x y z : List ℕ) → sides.GoesOn [] old mid x y → (has_lost mid ≡ true → has_lost new ≡ true) → layout mid ≡ layout old
+    → OnOk r (sides.GoesOn b mid new y z) → OnOk r (sides.GoesOn b old new x z)
+then_on_ok (Ok u) b old mid new x y z first lost same second = sides_then [] b old mid new x y z first lost same second
+then_on_ok (Err e) b old mid new x y z first lost same second = tt
+
+-- a stream that is out of step is no longer that of a connection of which nothing is lost
+passed_none : (s : Sides) (side : Side) (pieces : List Piece) (items : List Item) → Stand s pieces items → passed_of side s ≡ None
+passed_none s side.Client pieces items h = h.client_in_step
+passed_none s side.Server pieces items h = h.server_in_step
+
+some_none : {A : Type 0} (o : Option ℕ) (n : ℕ) → o ≡ Some n → o ≡ None → A
+some_none o n e f = absurd (let g : Some n ≡ None = sym e ∙ f in cc)
+
+pub out_of_step : (more : List Piece) (side : Side) (n : ℕ) (old new : Sides) (before after : List ℕ) → passed_of side old ≡ Some n → sides.GoesOn more old new before after
+out_of_step more side n old new before after e pieces items h = some_none (passed_of side old) n e (passed_none old side pieces items h)
+
+-- a piece of the client, and one of the server
+pub read_client : (old new : Sides) (bytes before after : List ℕ)
+    → ((items : List Item) → IsAt old.client old.packets items → (here : List Item) × Reads side.Client bytes [] items here old.client new.client old.packets new.packets before after)
+    → (IsNumbered old.client.reader → NoneComes new.client.reader.held)
+    → new.client.passed ≡ old.client.passed → new.server ≡ old.server → new.has_lost ≡ old.has_lost → sides.GoesOn (piece side.Client bytes ∷ []) old new before after
+read_client old new bytes before after reads none passed server lost pieces items h =
+    let r = reads items (h.client_numbered, h.followed) in
+    let last = none h.client_numbered in
+    inr (
+      r.0,
+      record {
+        come = subst (λ s. ComeIn [] [] (pieces ++ piece side.Client bytes ∷ []) (items ++ r.0) new.client.reader.held s.reader.held) (sym server)
+            (come_then [] [] pieces items old.client.reader.held old.server.reader.held (piece side.Client bytes) r.0 new.client.reader.held h.come r.1.from
+            (subst (λ left. AreFrames r.0 (old.client.reader.held ++ bytes) left) (append-nil new.client.reader.held) r.1.frames) last);
+        client_numbered = r.1.numbered;
+        server_numbered = subst (λ s. IsNumbered s.reader) (sym server) h.server_numbered;
+        client_none = last;
+        server_none = subst (λ s. NoneComes s.reader.held) (sym server) h.server_none;
+        followed = r.1.followed;
+        client_in_step = passed ∙ h.client_in_step;
+        server_in_step = ap (λ s. s.passed) server ∙ h.server_in_step;
+        nothing_lost = lost ∙ h.nothing_lost;
+      },
+      r.1.written,
+    )
+
+pub read_server : (old new : Sides) (bytes before after : List ℕ)
+    → ((items : List Item) → IsAt old.server old.packets items → (here : List Item) × Reads side.Server bytes [] items here old.server new.server old.packets new.packets before after)
+    → (IsNumbered old.server.reader → NoneComes new.server.reader.held)
+    → new.server.passed ≡ old.server.passed → new.client ≡ old.client → new.has_lost ≡ old.has_lost → sides.GoesOn (piece side.Server bytes ∷ []) old new before after
+read_server old new bytes before after reads none passed client lost pieces items h =
+    let r = reads items (h.server_numbered, h.followed) in
+    let last = none h.server_numbered in
+    inr (
+      r.0,
+      record {
+        come = subst (λ s. ComeIn [] [] (pieces ++ piece side.Server bytes ∷ []) (items ++ r.0) s.reader.held new.server.reader.held) (sym client)
+            (come_then [] [] pieces items old.client.reader.held old.server.reader.held (piece side.Server bytes) r.0 new.server.reader.held h.come r.1.from
+            (subst (λ left. AreFrames r.0 (old.server.reader.held ++ bytes) left) (append-nil new.server.reader.held) r.1.frames) last);
+        client_numbered = subst (λ s. IsNumbered s.reader) (sym client) h.client_numbered;
+        server_numbered = r.1.numbered;
+        client_none = subst (λ s. NoneComes s.reader.held) (sym client) h.client_none;
+        server_none = last;
+        followed = r.1.followed;
+        client_in_step = ap (λ s. s.passed) client ∙ h.client_in_step;
+        server_in_step = passed ∙ h.server_in_step;
+        nothing_lost = lost ∙ h.nothing_lost;
+      },
+      r.1.written,
+    )
+
+pub whole_client : (r : Result Came RecordingError) (old new : Sides) (bytes before after : List ℕ)
+    → IfOk r (λ came. came ≡ came_as.Whole → (items : List Item) → IsAt old.client old.packets items
+    → (here : List Item) × Reads side.Client bytes [] items here old.client new.client old.packets new.packets before after)
+    → IfOk r (λ came. came ≡ came_as.Whole → IsNumbered old.client.reader → NoneComes new.client.reader.held)
+    → new.client.passed ≡ old.client.passed → new.server ≡ old.server → new.has_lost ≡ old.has_lost
+    → IfOk r (λ came. came ≡ came_as.Whole → sides.GoesOn (piece side.Client bytes ∷ []) old new before after)
+whole_client (Err e) old new bytes before after reads none passed server lost = tt
+whole_client (Ok came) old new bytes before after reads none passed server lost = λ w. read_client old new bytes before after (reads w) (none w) passed server lost
+
+pub whole_server : (r : Result Came RecordingError) (old new : Sides) (bytes before after : List ℕ)
+    → IfOk r (λ came. came ≡ came_as.Whole → (items : List Item) → IsAt old.server old.packets items
+    → (here : List Item) × Reads side.Server bytes [] items here old.server new.server old.packets new.packets before after)
+    → IfOk r (λ came. came ≡ came_as.Whole → IsNumbered old.server.reader → NoneComes new.server.reader.held)
+    → new.server.passed ≡ old.server.passed → new.client ≡ old.client → new.has_lost ≡ old.has_lost
+    → IfOk r (λ came. came ≡ came_as.Whole → sides.GoesOn (piece side.Server bytes ∷ []) old new before after)
+whole_server (Err e) old new bytes before after reads none passed client lost = tt
+whole_server (Ok came) old new bytes before after reads none passed client lost = λ w. read_server old new bytes before after (reads w) (none w) passed client lost
+
+-- all but the answer that is awaited is the same
+same_stand : (old new : Sides) (pieces : List Piece) (items : List Item) → sides.IsSame old new → Stand old pieces items → Stand new pieces items
+same_stand old new pieces items e h = record {
+  come = subst (λ c. ComeIn [] [] pieces items c.reader.held new.server.reader.held) (sym e.client) (subst (λ s. ComeIn [] [] pieces items old.client.reader.held s.reader.held) (sym e.server) h.come);
+  client_numbered = subst (λ s. IsNumbered s.reader) (sym e.client) h.client_numbered;
+  server_numbered = subst (λ s. IsNumbered s.reader) (sym e.server) h.server_numbered;
+  client_none = subst (λ s. NoneComes s.reader.held) (sym e.client) h.client_none;
+  server_none = subst (λ s. NoneComes s.reader.held) (sym e.server) h.server_none;
+  followed = subst (λ p. IsFollowed p.followed (placed items)) (sym e.packets) h.followed;
+  client_in_step = ap (λ s. s.passed) e.client ∙ h.client_in_step;
+  server_in_step = ap (λ s. s.passed) e.server ∙ h.server_in_step;
+  nothing_lost = e.has_lost ∙ h.nothing_lost;
+}
+
+pub goes_same : (more : List Piece) (old mid new : Sides) (before after : List ℕ) → sides.GoesOn more old mid before after → sides.IsSame mid new → sides.GoesOn more old new before after
+goes_same more old mid new before after g e pieces items h =
+    elim (g pieces items h) as (λ _. (has_lost new ≡ true) ⊎ ((here : List Item) × Stand new (pieces ++ more) (items ++ here) × Writes (layout old) here before after)) [
+      | inl f ↦ inl (e.has_lost ∙ f)
+      | inr f ↦ inr (f.0, same_stand mid new (pieces ++ more) (items ++ f.0) e f.1, f.2)
+    ]
+
+-- ---- recordings
+
+taken : (mid new : Recording) (text : List ℕ) (said : List Heard) (pieces : List Piece) (items : List Item) (before after : List ℕ)
+    → IsRead text mid.place said → said ≡ joined pieces ++ heard mid.line.side mid.line.bytes.items → Stand mid.sides pieces items
+    → Takes mid new before after → new.place ≡ mid.place → new.line.bytes.items ≡ []
+    → (recorded.has_lost new ≡ true) ⊎ ((here : List Item) × Recorded new text (items ++ here) × Writes (recorded.layout mid) here before after)
+taken mid new text said pieces items before after read waits stand takes place bytes =
+    let p : Piece = piece mid.line.side mid.line.bytes.items in
+    elim (takes pieces items stand) as (λ _. (recorded.has_lost new ≡ true) ⊎ ((here : List Item) × Recorded new text (items ++ here) × Writes (recorded.layout mid) here before after)) [
+      | inl e ↦ inl e
+      | inr f ↦ inr (
+        f.0,
+        record {
+          said = said;
+          pieces = pieces ++ p ∷ [];
+          read = subst (λ at. IsRead text at said) (sym place) read;
+          waits = waits ∙ sym (joined-append pieces p) ∙ sym (append-nil (joined (pieces ++ p ∷ []))) ∙ ap (λ b. joined (pieces ++ p ∷ []) ++ heard new.line.side b) (sym bytes);
+          line = inl bytes;
+          stand = f.1;
+        },
+        f.2,
+      )
+    ]
+
+pub takes_goes : (mid new : Recording) (before after : List ℕ) → Takes mid new before after → new.place ≡ mid.place → new.line.bytes.items ≡ [] → recorded.GoesOn [] mid new before after
+takes_goes mid new before after takes place bytes text items h =
+    subst (λ t. (recorded.has_lost new ≡ true) ⊎ ((here : List Item) × Recorded new t (items ++ here) × Writes (recorded.layout mid) here before after)) (sym (append-nil text))
+    (taken mid new text h.said h.pieces items before after h.read h.waits h.stand takes place bytes)
+
+-- the byte that ends a line
+pub ends_goes : (old mid new : Recording) (c : ℕ) (before after : List ℕ)
+    → ((line : List ℕ) (said : List Heard) → Stands old.place line said → Passes (Some says.End) c line said mid.place) → mid.line ≡ old.line → mid.sides ≡ old.sides
+    → Takes mid new before after → new.place ≡ mid.place → new.line.bytes.items ≡ [] → recorded.GoesOn (c ∷ []) old new before after
+ends_goes old mid new c before after passes line same takes place bytes text items h =
+    subst (λ s. (recorded.has_lost new ≡ true) ⊎ ((here : List Item) × Recorded new (text ++ c ∷ []) (items ++ here) × Writes (layout s) here before after)) same
+    (taken mid new (text ++ c ∷ []) (h.said ++ []) h.pieces items before after
+    (read_byte text h.said old.place mid.place c (Some says.End) h.read passes)
+    (append-nil h.said ∙ h.waits ∙ ap (λ l. joined h.pieces ++ heard l.side l.bytes.items) (sym line))
+    (subst (λ s. Stand s h.pieces items) (sym same) h.stand)
+    takes place bytes)
+
+pub recorded_goes : (more : List ℕ) (old new : Recording) (text : List ℕ)
+    → ((read : List ℕ) (items : List Item) → Recorded old read items → Recorded new (read ++ more) (items ++ [])) → recorded.GoesOn more old new text text
+recorded_goes more old new text f read items h = inr ([], f read items h, refl)
+
+pub recorded_stays : (r : Recording) (text : List ℕ) → recorded.GoesOn [] r r text text
+recorded_stays r text read items h =
+    inr ([], subst (λ t. Recorded r t (items ++ [])) (sym (append-nil read)) (subst (λ xs. Recorded r read xs) (sym (append-nil items)) h), refl)
+
+pub recorded_then : (a b : List ℕ) (old mid new : Recording) (x y z : List ℕ) → recorded.GoesOn a old mid x y → (recorded.has_lost mid ≡ true → recorded.has_lost new ≡ true)
+    → recorded.layout mid ≡ recorded.layout old → recorded.GoesOn b mid new y z → recorded.GoesOn (a ++ b) old new x z
+recorded_then a b old mid new x y z first lost same second text items h =
+    elim (first text items h) as (λ _. (recorded.has_lost new ≡ true) ⊎ ((here : List Item) × Recorded new (text ++ (a ++ b)) (items ++ here) × Writes (recorded.layout old) here x z)) [
+      | inl e ↦ inl (lost e)
+      | inr f ↦ elim (second (text ++ a) (items ++ f.0) f.1) as (λ _. (recorded.has_lost new ≡ true) ⊎ ((here : List Item) × Recorded new (text ++ (a ++ b)) (items ++ here) × Writes (recorded.layout old) here x z)) [
+        | inl e ↦ inl e
+        | inr g ↦ inr (
+          f.0 ++ g.0,
+          subst (λ t. Recorded new t (items ++ (f.0 ++ g.0))) (append_assoc text a b) (subst (λ xs. Recorded new ((text ++ a) ++ b) xs) (append_assoc items f.0 g.0) g.1),
+          writes_then (recorded.layout old) f.0 g.0 x y z f.2 (subst (λ l. Writes l g.0 y z) same g.2),
+        )
+      ]
+    ]
+
+-- what waits of a line is one piece
+pub takes_piece : (old new : Recording) (bytes before after : List ℕ) → bytes ≡ old.line.bytes.items
+    → sides.GoesOn (piece old.line.side bytes ∷ []) old.sides new.sides before after → Takes old new before after
+takes_piece old new bytes before after e g pieces items h =
+    subst (λ b. (recorded.has_lost new ≡ true) ⊎ ((here : List Item) × Stand new.sides (pieces ++ piece old.line.side b ∷ []) (items ++ here) × Writes (recorded.layout old) here before after)) e
+    (g pieces items h)
+
+pub takes_piece_on_ok : (r : Result (Unit {0}) RecordingError) (old new : Recording) (bytes before after : List ℕ) → bytes ≡ old.line.bytes.items
+    → OnOk r (sides.GoesOn (piece old.line.side bytes ∷ []) old.sides new.sides before after) → OnOk r (Takes old new before after)
+takes_piece_on_ok (Ok u) old new bytes before after e g = takes_piece old new bytes before after e g
+takes_piece_on_ok (Err x) old new bytes before after e g = tt
+
+pub ends_on_ok : (r : Result (Unit {0}) RecordingError) (old mid new : Recording) (c : ℕ) (before after : List ℕ)
+    → ((line : List ℕ) (said : List Heard) → Stands old.place line said → Passes (Some says.End) c line said mid.place) → mid.line ≡ old.line → mid.sides ≡ old.sides
+    → OnOk r (Takes mid new before after) → new.place ≡ mid.place → OnOk r (new.line.bytes.items ≡ []) → OnOk r (recorded.GoesOn (c ∷ []) old new before after)
+ends_on_ok (Ok u) old mid new c before after passes line same takes place bytes = ends_goes old mid new c before after passes line same takes place bytes
+ends_on_ok (Err e) old mid new c before after passes line same takes place bytes = tt
+
+pub takes_on_ok : (r : Result (Unit {0}) RecordingError) (mid new : Recording) (before after : List ℕ)
+    → OnOk r (Takes mid new before after) → new.place ≡ mid.place → OnOk r (new.line.bytes.items ≡ []) → OnOk r (recorded.GoesOn [] mid new before after)
+takes_on_ok (Ok u) mid new before after takes place bytes = takes_goes mid new before after takes place bytes
+takes_on_ok (Err e) mid new before after takes place bytes = tt
+
+-- ---- the bytes of a text, one after another
+
+take_none : (xs : List ℕ) → take 0 xs ≡ []
+take_none [] = refl
+take_none (x ∷ xs) = refl
+
+pub loop_starts : (xs : List ℕ) (r : Recording) (text : List ℕ) → recorded.GoesOn (take 0 xs) r r text text
+loop_starts xs r text = subst (λ t. recorded.GoesOn t r r text text) (sym (take_none xs)) (recorded_stays r text)
+
+pub loop_goes : (xs : List ℕ) (i c : ℕ) (old mid new : Recording) (x y z : List ℕ) → i < length xs → c ≡ get_or xs i 0
+    → recorded.GoesOn (take i xs) old mid x y → (recorded.has_lost mid ≡ true → recorded.has_lost new ≡ true) → recorded.layout mid ≡ recorded.layout old
+    → recorded.GoesOn (c ∷ []) mid new y z → recorded.GoesOn (take (i + 1) xs) old new x z
+loop_goes xs i c old mid new x y z below is first lost same second =
+    subst (λ t. recorded.GoesOn t old new x z) (ap (λ b. take i xs ++ b ∷ []) is ∙ sym (take_more xs i 0 below)) (recorded_then (take i xs) (c ∷ []) old mid new x y z first lost same second)
+
+pub loop_ends : (r : Result (Unit {0}) RecordingError) (xs : List ℕ) (n : ℕ) (old mid new : Recording) (x y z : List ℕ) → take n xs ≡ xs
+    → recorded.GoesOn (take n xs) old mid x y → (recorded.has_lost mid ≡ true → recorded.has_lost new ≡ true) → recorded.layout mid ≡ recorded.layout old
+    → OnOk r (recorded.GoesOn [] mid new y z) → OnOk r (recorded.GoesOn xs old new x z)
+loop_ends (Ok u) xs n old mid new x y z all first lost same second =
+    subst (λ t. recorded.GoesOn t old new x z) (append-nil (take n xs) ∙ all) (recorded_then (take n xs) [] old mid new x y z first lost same second)
+loop_ends (Err e) xs n old mid new x y z all first lost same second = tt

@@ -1,0 +1,135 @@
+-- The packets of one side, and that they are one list.
+use Rattle.std.proofs.Common.{◌≡◌, ℕ, Bool, true, false, List, [], ◌∷◌, ◌++◌, if◌then◌else◌, refl, sym, ap, subst, ◌∙◌, append_assoc, append-nil}
+use Rattle.mysql_conversation.specs.declared.kind.Side.{Side}
+use Rattle.mysql_conversation.specs.declared.kind.Side.TheVariants.{Client, Server}
+use Rattle.mysql_frames.specs.Frames.{Framed, FramedIn, most}
+use Rattle.mysql_frames.proofs.Peel.{framed_once}
+use Rattle.mysql_frames.proofs.Streams.{framed_more}
+use Rattle.mysql_recorder.specs.Frames.{AreFrames, NoneComes, AreFrom, Piece, joined, ComeIn, is_side, packets_of, bytes_of, client_with, server_with, of_side, sent}
+use Rattle.mysql_recorder.specs.Lines.{Heard, heard}
+use Rattle.mysql_recorder.specs.Shown.{Item}
+use Rattle.mysql_recorder.proofs.Frames.{framed_number}
+
+-- ---- frames one after another
+
+pub frames_more : (xs : List Item) (bytes rest more : List ℕ) → AreFrames xs bytes rest → AreFrames xs (bytes ++ more) (rest ++ more)
+frames_more [] bytes rest more h = ap (λ b. b ++ more) h
+frames_more (x ∷ xs) bytes rest more h =
+    (h.0, h.1 ++ more, (h.2.0, framed_more most h.2.0 x.sequence x.placed.packet.payload h.0 bytes h.1 more h.2.1), frames_more xs h.1 rest more h.3)
+
+pub frames_append : (xs ys : List Item) (bytes mid rest : List ℕ) → AreFrames xs bytes mid → AreFrames ys mid rest → AreFrames (xs ++ ys) bytes rest
+frames_append [] ys bytes mid rest h g = subst (λ b. AreFrames ys b rest) (sym h) g
+frames_append (x ∷ xs) ys bytes mid rest h g = (h.0, h.1, h.2, frames_append xs ys h.1 mid rest h.3 g)
+
+-- up to a rest in which none comes, bytes are the frames of one list of payloads
+pub frames_once : (xs ys : List Item) (bytes r s : List ℕ) → AreFrames xs bytes r → AreFrames ys bytes s → NoneComes r → NoneComes s → (sent xs ≡ sent ys) × (r ≡ s)
+frames_once [] [] bytes r s g h x y = (refl, sym g ∙ h)
+frames_once [] (q ∷ ys) bytes r s g h x y =
+    absurd (x q.sequence q.placed.packet.payload h.0 h.1 (subst (λ b. Framed q.sequence q.placed.packet.payload h.0 b h.1) g h.2))
+frames_once (p ∷ xs) [] bytes r s g h x y =
+    absurd (y p.sequence p.placed.packet.payload g.0 g.1 (subst (λ b. Framed p.sequence p.placed.packet.payload g.0 b g.1) h g.2))
+frames_once (p ∷ xs) (q ∷ ys) bytes r s g h x y =
+    let number : p.sequence ≡ q.sequence =
+    sym (framed_number most g.2.0 p.sequence p.placed.packet.payload g.0 bytes g.1 g.2.1) ∙ framed_number most h.2.0 q.sequence q.placed.packet.payload h.0 bytes h.1 h.2.1 in
+    let o = framed_once most g.2.0 h.2.0 q.sequence p.placed.packet.payload q.placed.packet.payload g.0 h.0 bytes g.1 h.1
+    (subst (λ n. FramedIn most g.2.0 n p.placed.packet.payload g.0 bytes g.1) number g.2.1) h.2.1 in
+    let u = frames_once xs ys h.1 r s (subst (λ b. AreFrames xs b r) o.2 g.3) h.3 x y in (
+      ap (λ n. record { number = n; payload = p.placed.packet.payload } ∷ sent xs) number
+          ∙ ap (λ b. record { number = q.sequence; payload = b } ∷ sent xs) o.0
+          ∙ ap (λ zs. record { number = q.sequence; payload = q.placed.packet.payload } ∷ zs) u.0,
+      u.1,
+    )
+
+-- ---- one side
+
+byte_at : (is : Bool) (b : ℕ) (xs ys zs : List ℕ) → xs ≡ ys ++ zs → (if is then b ∷ xs else xs) ≡ (if is then b ∷ ys else ys) ++ zs
+byte_at true b xs ys zs e = ap (λ t. b ∷ t) e
+byte_at false b xs ys zs e = e
+
+byte_same : (is : Bool) (b : ℕ) {xs ys : List ℕ} → is ≡ true → xs ≡ ys → (if is then b ∷ xs else xs) ≡ b ∷ ys
+byte_same true b e h = ap (λ t. b ∷ t) h
+byte_same false b e h = cc
+
+byte_less : (is : Bool) (b : ℕ) {xs ys : List ℕ} → is ≡ false → xs ≡ ys → (if is then b ∷ xs else xs) ≡ ys
+byte_less true b e h = cc
+byte_less false b e h = h
+
+item_same : (is : Bool) (x : Item) {xs ys : List Item} → is ≡ true → xs ≡ ys → (if is then x ∷ xs else xs) ≡ x ∷ ys
+item_same true x e h = ap (λ t. x ∷ t) h
+item_same false x e h = cc
+
+item_less : (is : Bool) (x : Item) {xs ys : List Item} → is ≡ false → xs ≡ ys → (if is then x ∷ xs else xs) ≡ ys
+item_less true x e h = cc
+item_less false x e h = h
+
+bytes-append : (side : Side) (xs ys : List Heard) → bytes_of side (xs ++ ys) ≡ bytes_of side xs ++ bytes_of side ys
+bytes-append side [] ys = refl
+bytes-append side (x ∷ xs) ys = byte_at (is_side side x.from) x.byte (bytes_of side (xs ++ ys)) (bytes_of side xs) (bytes_of side ys) (bytes-append side xs ys)
+
+same_side : (side : Side) → is_side side side ≡ true
+same_side Client = refl
+same_side Server = refl
+
+pub bytes_heard : (side : Side) (bytes : List ℕ) → bytes_of side (heard side bytes) ≡ bytes
+bytes_heard side [] = refl
+bytes_heard side (b ∷ bytes) = byte_same (is_side side side) b (same_side side) (bytes_heard side bytes)
+
+bytes_other : (side other : Side) (bytes : List ℕ) → is_side side other ≡ false → bytes_of side (heard other bytes) ≡ []
+bytes_other side other [] e = refl
+bytes_other side other (b ∷ bytes) e = byte_less (is_side side other) b e (bytes_other side other bytes e)
+
+own : (side : Side) (here later : List Item) → AreFrom side here → packets_of side (here ++ later) ≡ here ++ packets_of side later
+own side [] later h = refl
+own side (x ∷ here) later h =
+    item_same (is_side side x.placed.packet.from) x (ap (is_side side) h.0 ∙ same_side side) (own side here later h.1)
+
+others : (side other : Side) (here later : List Item) → is_side side other ≡ false → AreFrom other here → packets_of side (here ++ later) ≡ packets_of side later
+others side other [] later e h = refl
+others side other (x ∷ here) later e h =
+    item_less (is_side side x.placed.packet.from) x (ap (is_side side) h.0 ∙ e) (others side other here later e h.1)
+
+step_own : (side : Side) (here later items : List Item) (bytes held left rest : List ℕ) (more : List Heard)
+    → items ≡ here ++ later → AreFrom side here → AreFrames here (held ++ bytes) left → AreFrames (packets_of side later) (left ++ bytes_of side more) rest
+    → AreFrames (packets_of side items) (held ++ bytes_of side (heard side bytes ++ more)) rest
+step_own side here later items bytes held left rest more e from h g =
+    let stream : held ++ bytes_of side (heard side bytes ++ more) ≡ (held ++ bytes) ++ bytes_of side more =
+    ap (λ b. held ++ b) (bytes-append side (heard side bytes) more ∙ ap (λ b. b ++ bytes_of side more) (bytes_heard side bytes)) ∙ sym (append_assoc held bytes (bytes_of side more)) in
+    subst (λ xs. AreFrames xs (held ++ bytes_of side (heard side bytes ++ more)) rest) (sym (ap (packets_of side) e ∙ own side here later from))
+    (subst (λ b. AreFrames (here ++ packets_of side later) b rest) (sym stream)
+    (frames_append here (packets_of side later) ((held ++ bytes) ++ bytes_of side more) (left ++ bytes_of side more) rest
+    (frames_more here (held ++ bytes) left (bytes_of side more) h) g))
+
+step_other : (side other : Side) (here later items : List Item) (bytes held rest : List ℕ) (more : List Heard)
+    → is_side side other ≡ false → items ≡ here ++ later → AreFrom other here → AreFrames (packets_of side later) (held ++ bytes_of side more) rest
+    → AreFrames (packets_of side items) (held ++ bytes_of side (heard other bytes ++ more)) rest
+step_other side other here later items bytes held rest more apart e from g =
+    let stream : bytes_of side (heard other bytes ++ more) ≡ bytes_of side more =
+    bytes-append side (heard other bytes) more ∙ ap (λ b. b ++ bytes_of side more) (bytes_other side other bytes apart) in
+    subst (λ xs. AreFrames xs (held ++ bytes_of side (heard other bytes ++ more)) rest) (sym (ap (packets_of side) e ∙ others side other here later apart from))
+    (subst (λ b. AreFrames (packets_of side later) (held ++ b) rest) (sym stream) g)
+
+client_by : (side : Side) (bytes client server : List ℕ) (pieces : List Piece) (items : List Item) (c s : List ℕ) (here later : List Item) (left : List ℕ)
+    → items ≡ here ++ later → AreFrom side here → AreFrames here (of_side side client server ++ bytes) left
+    → AreFrames (packets_of Client later) (client_with side left client ++ bytes_of Client (joined pieces)) c
+    → AreFrames (packets_of Client items) (client ++ bytes_of Client (heard side bytes ++ joined pieces)) c
+client_by Client bytes client server pieces items c s here later left e from h g = step_own Client here later items bytes client left c (joined pieces) e from h g
+client_by Server bytes client server pieces items c s here later left e from h g = step_other Client Server here later items bytes client c (joined pieces) refl e from g
+
+server_by : (side : Side) (bytes client server : List ℕ) (pieces : List Piece) (items : List Item) (c s : List ℕ) (here later : List Item) (left : List ℕ)
+    → items ≡ here ++ later → AreFrom side here → AreFrames here (of_side side client server ++ bytes) left
+    → AreFrames (packets_of Server later) (server_with side left server ++ bytes_of Server (joined pieces)) s
+    → AreFrames (packets_of Server items) (server ++ bytes_of Server (heard side bytes ++ joined pieces)) s
+server_by Server bytes client server pieces items c s here later left e from h g = step_own Server here later items bytes server left s (joined pieces) e from h g
+server_by Client bytes client server pieces items c s here later left e from h g = step_other Server Client here later items bytes server s (joined pieces) refl e from g
+
+pub of_client : (client server : List ℕ) (pieces : List Piece) (items : List Item) (c s : List ℕ) → ComeIn client server pieces items c s
+    → AreFrames (packets_of Client items) (client ++ bytes_of Client (joined pieces)) c
+of_client client server [] items c s h = subst (λ xs. AreFrames (packets_of Client xs) (client ++ []) c) (sym h.0) (append-nil client ∙ h.1)
+of_client client server (p ∷ pieces) items c s h = client_by p.side p.bytes client server pieces items c s h.0 h.1 h.2 h.3 h.4 h.5
+    (of_client (client_with p.side h.2 client) (server_with p.side h.2 server) pieces h.1 c s h.7)
+
+pub of_server : (client server : List ℕ) (pieces : List Piece) (items : List Item) (c s : List ℕ) → ComeIn client server pieces items c s
+    → AreFrames (packets_of Server items) (server ++ bytes_of Server (joined pieces)) s
+of_server client server [] items c s h = subst (λ xs. AreFrames (packets_of Server xs) (server ++ []) s) (sym h.0) (append-nil server ∙ h.2)
+of_server client server (p ∷ pieces) items c s h = server_by p.side p.bytes client server pieces items c s h.0 h.1 h.2 h.3 h.4 h.5
+    (of_server (client_with p.side h.2 client) (server_with p.side h.2 server) pieces h.1 c s h.7)

@@ -1,0 +1,42 @@
+-- Packets of a connection that don't come.
+use Rattle.std.proofs.Common.{◌≡◌, ◌≢◌, ℕ, List, [], ◌∷◌, ◌++◌, Result, Ok, Err, IfOk, IfErr, subst, sym}
+use Rattle.mysql_conversation.specs.Piped.{place}
+use Rattle.mysql_conversation.specs.Pipelined.{Numbered}
+use Rattle.mysql_conversation.specs.Session.{IsSessionBeginning}
+use Rattle.mysql_conversation.specs.declared.kind.Kind.{Kind}
+use Rattle.mysql_conversation.specs.declared.kind.Side.{Side}
+use Rattle.mysql_conversation.specs.declared.kind_name.KindName.{KindName}
+use Rattle.mysql_conversation.specs.declared.pipeline.Refusal.{Refusal}
+use Rattle.mysql_conversation.specs.declared.pipeline.Refusal.TheVariants as refusal
+use Rattle.mysql_fields.specs.declared.entry.Layout.{Layout}
+use Rattle.mysql_recorder.specs.Followed.{IsFollowed}
+use Rattle.mysql_recorder.specs.Refused.{ShowsRefused}
+use Rattle.mysql_recorder.specs.Refusals.{Refuses, IfRefused}
+use Rattle.mysql_recorder.specs.declared.error.RecordingError.{RecordingError}
+use Rattle.mysql_recorder.specs.declared.error.RecordingError.TheVariants as error
+use Rattle.mysql_recorder.specs.declared.followed.Followed.{Followed}
+use Rattle.mysql_recorder.specs.declared.packets.Taken.{Taken}
+use Rattle.mysql_recorder.specs.declared.packets.Taken.TheVariants as taken_as
+
+module _ (all : List KindName) (layout : Layout) (old new : Followed) (side : Side) (sequence : ℕ) (payload : List ℕ) (why : Refusal) (before after : List ℕ)
+    (stays : (items : List Numbered) → IsFollowed old items → IsFollowed new items)
+    (unasked : (items : List Numbered) (kind : Kind) (number : ℕ) → why ≡ refusal.Unexpected → IsFollowed old items → IsSessionBeginning (items ++ place side payload kind number ∷ []) → ⊥) where
+  shows : (items : List Numbered) → IsFollowed old items → Refuses all layout new side sequence payload why before after → ShowsRefused all layout side sequence payload items why before after
+  shows items h r = (r.0, r.1.0, r.1.1 items (stays items h), r.1.2, λ e kind number. unasked items kind number e h)
+
+  pub refused_ok : (r : Result Taken RecordingError)
+      → IfOk r (λ taken. (taken ≢ taken_as.Shown) × Refuses all layout new side sequence payload why before after)
+      → IfOk r (λ taken. taken ≢ taken_as.Shown → (items : List Numbered) → IsFollowed old items → (reason : Refusal) × ShowsRefused all layout side sequence payload items reason before after)
+  refused_ok (Ok taken) h = λ e items f. (why, shows items f h.1)
+  refused_ok (Err e) h = tt
+
+  pub refused_err : (r : Result Taken RecordingError)
+      → IfErr r (λ e. IfRefused e (λ shown. (shown ≡ why) × Refuses all layout new side sequence payload why before after))
+      → IfErr r (λ e. (items : List Numbered) → IsFollowed old items → IfRefused e (λ reason. ShowsRefused all layout side sequence payload items reason before after))
+  refused_err (Ok taken) h = tt
+  refused_err (Err (error.Refused shown)) h = λ items f. subst (λ reason. ShowsRefused all layout side sequence payload items reason before after) (sym h.0) (shows items f h.1)
+  refused_err (Err error.Memory) h = λ items f. tt
+  refused_err (Err error.Line) h = λ items f. tt
+  refused_err (Err error.OutOfOrder) h = λ items f. tt
+  refused_err (Err error.TooLong) h = λ items f. tt
+  refused_err (Err error.Missing) h = λ items f. tt

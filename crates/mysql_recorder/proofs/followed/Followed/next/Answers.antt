@@ -1,0 +1,23 @@
+use Rattle.std.proofs.Common.{◌≡◌, arith, ℕ, List, [], ◌∷◌, ◌++◌, IfErr, sym, subst}
+use Rattle.std.proofs.lemmas.Result.{err_from_is_err_and}
+use Rattle.mysql_conversation.specs.Piped.{place}
+use Rattle.mysql_conversation.specs.Pipelined.{Numbered}
+use Rattle.mysql_conversation.specs.Session.{IsSessionBeginning}
+use Rattle.mysql_conversation.specs.declared.kind.Kind.{Kind}
+use Rattle.mysql_conversation.specs.declared.pipeline.Refusal.{Refusal}
+use Rattle.mysql_conversation.specs.declared.pipeline.Refusal.TheVariants as refusal
+use Rattle.mysql_recorder.specs.Followed.{IsFollowed}
+use Rattle.mysql_recorder.proofs.followed.Followed.next.Goals as goal
+
+pub returns-clause-taken : goal.returns-clause-taken
+returns-clause-taken c = λ items h.
+    let e : c.saturating_add-exchange.result ≡ c.in_ok-kind.number = omega (arith, h.1, c.saturating_add-exchange.ensures) in
+    rw e (c.in_ok-kind.ensures.taken items h.0, h.1)
+
+pub returns-in_err-kind-clause-refused : goal.returns-in_err-kind-clause-refused
+returns-in_err-kind-clause-refused c =
+    let Q : Refusal → Type 0 = λ why. (items : List Numbered) (kind : Kind) (number : ℕ) → why ≡ refusal.Unexpected → IsFollowed c.args.self.now items
+    → IsSessionBeginning (items ++ place c.args.side c.args.payload.now kind number ∷ []) → ⊥ in
+    let p = err_from_is_err_and c.from_residual.result c.from_residual.ensures.1 in
+    let same : c.in_err-kind.field-0.0 ≡ p.0 = cc p.2 in
+    subst (λ r. IfErr r Q) (sym p.1) (subst Q same (λ items kind number e h b. c.in_err-kind.ensures.refused items kind number e h.0 b))

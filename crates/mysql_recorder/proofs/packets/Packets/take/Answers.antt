@@ -1,0 +1,28 @@
+use Rattle.std.proofs.Common.{[], ◌∷◌, ◌++◌, sym, ap, subst, ◌∙◌, string_bytes}
+use Rattle.mysql_conversation.specs.KindName.{text_of}
+use Rattle.mysql_conversation.specs.declared.kind_name.TheConstants.KindName.{ALL}
+use Rattle.mysql_conversation.specs.Piped.{place}
+use Rattle.mysql_recorder.specs.Followed.{IsFollowed}
+use Rattle.mysql_recorder.specs.Shown.{Appends}
+use Rattle.mysql_recorder.proofs.Refusals.{refused_ok, refused_err}
+use Rattle.mysql_recorder.proofs.packets.Packets.take.Goals as goal
+
+pub returns-in_ok-show-in-Ok-clause-shown : goal.returns-in_ok-show-in-Ok-clause-shown
+returns-in_ok-show-in-Ok-clause-shown c = λ e items h. (
+  c.in-Ok.kind,
+  c.in-Ok.exchange,
+  subst (λ f. IsFollowed f (items ++ place c.args.side c.args.payload.now c.in-Ok.kind c.in-Ok.exchange ∷ [])) (sym c.show.ensures.followed) (c.in-Ok.ensures.taken items h),
+  subst (λ w. Appends c.args.self.now.layout (record { side = c.args.side; sequence = c.args.sequence; exchange = c.in-Ok.exchange; kind = w; payload = c.args.payload.now })
+      (string_bytes c.args.out.now) (string_bytes c.show.new.out))
+      (c.as_str.ensures.value ∙ ap text_of c.name.ensures.value) c.in_ok-show-in-Ok.ensures.ok,
+)
+
+pub returns-in-Err-clause-lost : goal.returns-in-Err-clause-lost
+returns-in-Err-clause-lost c =
+    refused_ok ALL c.args.self.now.layout c.args.self.now.followed c.next.new.self c.args.side c.args.sequence c.args.payload.now c.in-Err.why (string_bytes c.args.out.now) (string_bytes c.refuse.new.out)
+    c.in-Err.ensures.err (λ items kind number. c.in-Err.ensures.refused items kind number) c.refuse.result c.refuse.ensures.ok
+
+pub returns-in-Err-clause-refused : goal.returns-in-Err-clause-refused
+returns-in-Err-clause-refused c =
+    refused_err ALL c.args.self.now.layout c.args.self.now.followed c.next.new.self c.args.side c.args.sequence c.args.payload.now c.in-Err.why (string_bytes c.args.out.now) (string_bytes c.refuse.new.out)
+    c.in-Err.ensures.err (λ items kind number. c.in-Err.ensures.refused items kind number) c.refuse.result c.refuse.ensures.err

@@ -1,0 +1,43 @@
+use Rattle.std.proofs.Common.{◌≡◌, IfErr, get_or, refl, sym, subst, ◌∙◌, string_bytes}
+use Rattle.mysql_conversation.specs.declared.kind_name.TheConstants.KindName.{ALL}
+use Rattle.std.proofs.lemmas.List.{take_all}
+use Rattle.std.proofs.lemmas.Result.{err_from_is_err_and}
+use Rattle.mysql_recorder.specs.Stops.{Stops}
+use Rattle.mysql_recorder.proofs.Goes.{loop_starts, loop_goes, loop_ends}
+use Rattle.mysql_recorder.proofs.Stopped.{stops_after, stops_on_err}
+use Rattle.mysql_recorder.proofs.recording.Recording.take.Goals as goal
+
+pub loop-byte-init : goal.loop-byte-init
+loop-byte-init c = record { goes = loop_starts c.args.input.now c.args.self.now (string_bytes c.args.out.now); lost = λ e. e; layout = refl }
+
+pub loop-byte-preserved : goal.loop-byte-preserved
+loop-byte-preserved c = record {
+  goes = loop_goes c.args.input.now c.loop-byte.byte-index (get_or c.args.input.now c.loop-byte.byte-index 0) c.args.self.now c.loop-byte.self c.take_byte.new.self
+      (string_bytes c.args.out.now) (string_bytes c.loop-byte.out) (string_bytes c.take_byte.new.out)
+      c.loop-byte-test.true refl c.loop-byte.invariant.goes c.in_ok-take_byte.ensures.lost c.loop-byte.invariant.layout c.in_ok-take_byte.ensures.goes;
+  lost = λ e. c.in_ok-take_byte.ensures.lost (c.loop-byte.invariant.lost e);
+  layout = c.in_ok-take_byte.ensures.layout ∙ c.loop-byte.invariant.layout;
+}
+
+pub returns-clause-goes : goal.returns-clause-goes
+returns-clause-goes c =
+    loop_ends c.take_rest.result c.args.input.now c.loop-byte.byte-index c.args.self.now c.loop-byte.self c.take_rest.new.self
+    (string_bytes c.args.out.now) (string_bytes c.loop-byte.out) (string_bytes c.take_rest.new.out)
+    (take_all c.loop-byte.byte-index c.args.input.now c.loop-byte-test.false)
+    c.loop-byte.invariant.goes c.take_rest.ensures.lost c.loop-byte.invariant.layout c.take_rest.ensures.goes
+
+pub returns-clause-refused : goal.returns-clause-refused
+returns-clause-refused c =
+    stops_on_err c.take_rest.result ALL c.args.input.now c.loop-byte.byte-index c.args.self.now c.loop-byte.self c.take_rest.new.self
+    (string_bytes c.args.out.now) (string_bytes c.loop-byte.out) (string_bytes c.take_rest.new.out)
+    c.loop-byte.invariant.goes c.take_rest.ensures.lost c.loop-byte.invariant.layout c.take_rest.ensures.refused
+
+pub returns-in_err-take_byte-clause-refused : goal.returns-in_err-take_byte-clause-refused
+returns-in_err-take_byte-clause-refused c =
+    let p = err_from_is_err_and c.from_residual.result c.from_residual.ensures.1 in
+    let same : c.in_err-take_byte.field-0.0 ≡ p.0 = cc p.2 in
+    subst (λ r. IfErr r (λ e. Stops ALL c.args.input.now c.args.self.now c.take_byte.new.self e (string_bytes c.args.out.now) (string_bytes c.take_byte.new.out))) (sym p.1)
+    (subst (λ e. Stops ALL c.args.input.now c.args.self.now c.take_byte.new.self e (string_bytes c.args.out.now) (string_bytes c.take_byte.new.out)) same
+    (stops_after ALL c.args.input.now c.loop-byte.byte-index c.args.self.now c.loop-byte.self c.take_byte.new.self
+    (string_bytes c.args.out.now) (string_bytes c.loop-byte.out) (string_bytes c.take_byte.new.out) c.in_err-take_byte.field-0.0
+    c.loop-byte.invariant.goes c.in_err-take_byte.ensures.lost c.loop-byte.invariant.layout c.in_err-take_byte.ensures.refused))

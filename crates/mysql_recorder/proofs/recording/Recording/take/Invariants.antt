@@ -1,0 +1,10 @@
+use Rattle.std.proofs.Common.{◌≡◌, true, take, string_bytes}
+use Rattle.mysql_recorder.specs.Recorded.{GoesOn, has_lost, layout}
+use Rattle.mysql_recorder.proofs.recording.Recording.take.Given as goal
+
+abbrev pub invariant-loop-byte : goal.invariant-loop-byte
+invariant-loop-byte l = record {
+  goes : GoesOn (take l.byte-index l.input) l.fn.self l.self (string_bytes l.fn.out) (string_bytes l.out);
+  lost : has_lost l.fn.self ≡ true → has_lost l.self ≡ true;
+  layout : layout l.self ≡ layout l.fn.self;
+}

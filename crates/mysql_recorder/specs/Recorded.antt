@@ -1,0 +1,56 @@
+-- What a recording has read, and shown.
+use Rattle.std.specs.Prelude.{◌≡◌, ◌⊎◌, ℕ, Bool, true, List, [], ◌∷◌, ◌++◌}
+use Rattle.mysql_fields.specs.declared.entry.Layout.{Layout}
+use Rattle.mysql_recorder.specs.Frames.{Piece, joined, ComeIn, NoneComes}
+use Rattle.mysql_recorder.specs.Lines.{Heard, heard, IsRead, IsOfSide}
+use Rattle.mysql_recorder.specs.Shown.{Item, Writes}
+use Rattle.mysql_recorder.specs.Sides.{Stand}
+use Rattle.mysql_recorder.specs.Sides as sides
+use Rattle.mysql_recorder.specs.declared.line.Place.{Place}
+use Rattle.mysql_recorder.specs.declared.recording.Recording.{Recording}
+
+abbrev pub layout : Recording → Layout
+layout r = sides.layout r.sides
+
+-- something is lost
+abbrev pub has_lost : Recording → Bool
+has_lost r = sides.has_lost r.sides
+
+-- This text was read, and these packets of it are shown: of a connection from its greeting on of which nothing is lost. What came of a
+-- line that may be a mark of missing bytes waits.
+pub record Recorded (r : Recording) (text : List ℕ) (items : List Item) : Type 0 where
+  pub said : List Heard
+  pub pieces : List Piece
+  pub read : IsRead text r.place said
+  pub waits : said ≡ joined pieces ++ heard r.line.side r.line.bytes.items
+  pub line : (r.line.bytes.items ≡ []) ⊎ IsOfSide r.line.side r.place
+  pub stand : Stand r.sides pieces items
+
+-- after this text something is lost, or it is read too, and an entry for each of its packets is appended
+abbrev pub GoesOn : List ℕ → Recording → Recording → List ℕ → List ℕ → Type 0
+GoesOn more old new before after = (text : List ℕ) (items : List Item) → Recorded old text items
+    → (has_lost new ≡ true) ⊎ ((here : List Item) × Recorded new (text ++ more) (items ++ here) × Writes (layout old) here before after)
+
+-- the same of what waits of a line, which is taken
+abbrev pub Takes : Recording → Recording → List ℕ → List ℕ → Type 0
+Takes old new before after = (pieces : List Piece) (items : List Item) → Stand old.sides pieces items
+    → (has_lost new ≡ true) ⊎ ((here : List Item) × Stand new.sides (pieces ++ sides.piece old.line.side old.line.bytes.items ∷ []) (items ++ here) × Writes (layout old) here before after)
+
+-- The text says bytes of both sides. They come in pieces of one side each, but for these last ones, and the packets are those that end in the
+-- pieces; in what is left of either stream there is none.
+pub record IsShown (text : List ℕ) (waits : List Heard) (items : List Item) : Type 0 where
+  pub at : Place
+  pub said : List Heard
+  pub pieces : List Piece
+  pub client_left : List ℕ
+  pub server_left : List ℕ
+  pub read : IsRead text at said
+  pub parts : said ≡ joined pieces ++ waits
+  pub packets : ComeIn [] [] pieces items client_left server_left
+  pub client_none : NoneComes client_left
+  pub server_none : NoneComes server_left
+
+-- at the end of the text something is lost, or an entry is appended for each packet that is left of it
+abbrev pub Finishes : Recording → Recording → List ℕ → List ℕ → Type 0
+Finishes old new before after = (text : List ℕ) (items : List Item) → Recorded old text items
+    → (has_lost new ≡ true) ⊎ ((here : List Item) × IsShown text [] (items ++ here) × Writes (layout old) here before after)

@@ -1,0 +1,64 @@
+-- What came of both sides of a connection, and is shown.
+use Rattle.std.specs.Prelude.{◌≡◌, ◌⊎◌, ℕ, Bool, true, false, List, [], ◌++◌, Option, None}
+use Rattle.mysql_conversation.specs.declared.kind.Side.{Side}
+use Rattle.mysql_conversation.specs.declared.kind.Side.TheVariants.{Client, Server}
+use Rattle.mysql_fields.specs.declared.entry.Layout.{Layout}
+use Rattle.mysql_recorder.specs.Followed.{IsFollowed}
+use Rattle.mysql_recorder.specs.Frames.{Piece, AreFrames, NoneComes, AreFrom, ComeIn, IsNumbered}
+use Rattle.mysql_recorder.specs.Shown.{Item, placed, Writes}
+use Rattle.mysql_recorder.specs.declared.packets.Packets.{Packets}
+use Rattle.mysql_recorder.specs.declared.sides.Sides.{Sides}
+use Rattle.mysql_recorder.specs.declared.stream.Stream.{Stream}
+
+-- a stream amid its packets, after these packets of the connection
+abbrev pub IsAt : Stream → Packets → List Item → Type 0
+IsAt stream packets items = IsNumbered stream.reader × IsFollowed packets.followed (placed items)
+
+-- These packets of a side come of a piece up to what is left of it, and an entry of each is appended.
+pub record Reads (side : Side) (piece left : List ℕ) (items here : List Item) (old new : Stream) (before after : Packets) (text_before text_after : List ℕ) : Type 0 where
+  pub from : AreFrom side here
+  pub frames : AreFrames here (old.reader.held ++ piece) (new.reader.held ++ left)
+  pub numbered : IsNumbered new.reader
+  pub followed : IsFollowed after.followed (placed (items ++ here))
+  pub written : Writes before.layout here text_before text_after
+
+abbrev pub layout : Sides → Layout
+layout s = s.packets.layout
+
+abbrev pub has_lost : Sides → Bool
+has_lost s = s.has_lost
+
+abbrev pub passed_of : Side → Sides → Option ℕ
+passed_of Client s = s.client.passed
+passed_of Server s = s.server.passed
+
+-- These pieces came and these packets of them, of a connection from its greeting on of which nothing is lost.
+pub record Stand (s : Sides) (pieces : List Piece) (items : List Item) : Type 0 where
+  pub come : ComeIn [] [] pieces items s.client.reader.held s.server.reader.held
+  pub client_numbered : IsNumbered s.client.reader
+  pub server_numbered : IsNumbered s.server.reader
+  pub client_none : NoneComes s.client.reader.held
+  pub server_none : NoneComes s.server.reader.held
+  pub followed : IsFollowed s.packets.followed (placed items)
+  pub client_in_step : s.client.passed ≡ None
+  pub server_in_step : s.server.passed ≡ None
+  pub nothing_lost : s.has_lost ≡ false
+
+-- after these pieces something is lost, or they came too, and an entry for each of their packets is appended
+abbrev pub GoesOn : List Piece → Sides → Sides → List ℕ → List ℕ → Type 0
+GoesOn more old new before after = (pieces : List Piece) (items : List Item) → Stand old pieces items
+    → (has_lost new ≡ true) ⊎ ((here : List Item) × Stand new (pieces ++ more) (items ++ here) × Writes (layout old) here before after)
+
+abbrev pub piece : Side → List ℕ → Piece
+piece side bytes = record { side = side; bytes = bytes }
+
+-- but for the answer that is awaited all is the same
+pub record IsSame (old new : Sides) : Type 0 where
+  pub client : new.client ≡ old.client
+  pub server : new.server ≡ old.server
+  pub has_lost : new.has_lost ≡ old.has_lost
+  pub packets : new.packets ≡ old.packets
+
+-- where nothing is lost, nothing is appended
+abbrev pub SaysNothing : Sides → List ℕ → List ℕ → Type 0
+SaysNothing s before after = (pieces : List Piece) (items : List Item) → Stand s pieces items → after ≡ before

@@ -1,0 +1,15 @@
+-- One packet that is shown.
+use Rattle.std.specs.Prelude.{ℕ, List, [], ◌∷◌, ◌++◌}
+use Rattle.mysql_conversation.specs.Pipelined.{Numbered}
+use Rattle.mysql_conversation.specs.declared.kind.Kind.{Kind}
+use Rattle.mysql_conversation.specs.declared.kind.Side.{Side}
+use Rattle.mysql_fields.specs.declared.entry.Layout.{Layout}
+use Rattle.mysql_recorder.specs.Followed.{IsFollowed}
+use Rattle.mysql_recorder.specs.Shown.{item, entry_of, Appends}
+use Rattle.mysql_recorder.specs.declared.followed.Followed.{Followed}
+
+-- of some kind and exchange the packet goes on with what came, and its entry is appended
+abbrev pub ShowsPacket : Layout → Side → ℕ → List ℕ → List Numbered → Followed → List ℕ → List ℕ → Type 0
+ShowsPacket layout side sequence payload items new before after =
+    (kind : Kind) × (exchange : ℕ) × IsFollowed new (items ++ (item sequence side payload kind exchange).placed ∷ [])
+    × Appends layout (entry_of (item sequence side payload kind exchange)) before after

@@ -1,0 +1,355 @@
+//! The packets of a recording, and what is shown of each.
+
+ghost use Rattle.std.specs.Prelude.{◌≡◌, ◌≢◌, [], ◌∷◌, ◌++◌, List, IfOk, IfErr, OnOk, string_bytes};
+ghost use Rattle.mysql_conversation.specs.Pipelined.{Numbered};
+ghost use Rattle.mysql_recorder.specs.Followed.{IsFollowed};
+ghost use Rattle.mysql_recorder.specs.Entries.{entry_as};
+ghost use Rattle.mysql_conversation.specs.declared.kind_name.KindName as names_of;
+ghost use Rattle.mysql_conversation.specs.declared.pipeline.Refusal as refusals;
+ghost use Rattle.mysql_recorder.specs.Refused.{ShowsRefused, expected_fields, refusal_text};
+ghost use Rattle.mysql_recorder.specs.Refusals.{AppendsRefused, Expects, IfRefused, Refuses};
+ghost use Rattle.mysql_recorder.specs.Shown.{Appends};
+ghost use Rattle.mysql_recorder.specs.Taken.{ShowsPacket};
+ghost use Rattle.mysql_recorder.specs.declared.packets.Taken.TheVariants as taken_as;
+
+use crate::error::RecordingError;
+use crate::fields::{append_client, append_server};
+use crate::followed::Followed;
+use crate::prepared::Prepared;
+use crate::sums::Sums;
+use crate::unheard::{Front, Unheard};
+use mysql_conversation::{Kind, KindName, Refusal, Side};
+use mysql_fields::{Field, Layout, Packet, Remark};
+use mysql_replies::SessionCapabilities;
+use std::alloc::{AllocError, Global};
+
+/// How many bytes of a packet that doesn't come are shown.
+const BEGINNING: usize = 64;
+
+/// What became of a packet.
+#[derive(Clone, Copy)]
+pub(crate) enum Taken {
+    /// It comes, and is shown.
+    Shown,
+    /// It doesn't come, and is shown as such. Both sides agreed on this.
+    Refused(SessionCapabilities),
+}
+
+/// The packets of a connection, each of which is shown as it comes.
+///
+/// It keeps the commands that wait, the statements that are prepared, and what the conversation stands at.
+#[derive(Drop)]
+pub(crate) struct Packets {
+    alloc: Global,
+    layout: Layout,
+    followed: Followed,
+    prepared: Prepared,
+    /// How many columns a row of text has: the count that its result began with.
+    columns: usize,
+    /// The commands that came before the answers to earlier ones, and no packet of the server since.
+    unheard: Unheard,
+    /// What the packets come to, where that is asked for.
+    sums: Option<Sums>,
+}
+
+/// The name of a refusal.
+fn refusal_name(why: Refusal) -> &'static str
+    ensures { result.now ≡ refusal_text why }
+{
+    match why {
+        Refusal::Unexpected => "Unexpected",
+        Refusal::Full => "Full",
+        Refusal::Memory => "Memory",
+        Refusal::Encrypted => "Encrypted",
+        Refusal::Compressed => "Compressed",
+    }
+}
+
+impl Packets {
+    /// None came of a connection from its greeting on, in which as many commands may wait.
+    pub(crate) fn new(alloc: Global, layout: Layout, waiting: usize) -> Self
+        ensures followed { IsFollowed result.followed [] }
+        ensures layout { result.layout ≡ layout }
+    {
+        Packets {
+            alloc,
+            layout,
+            followed: Followed::whole(alloc, waiting),
+            prepared: Prepared::new(alloc, waiting),
+            columns: 0,
+            unheard: Unheard::none(),
+            sums: None,
+        }
+    }
+
+    /// Sums what comes from here on.
+    pub(crate) fn sum(&mut self) {
+        self.sums = Some(Sums::new(self.alloc));
+    }
+
+    /// Appends the sums, where they are asked for.
+    pub(crate) fn append_sums(&self, out: &mut String) -> Result<(), AllocError> {
+        match &self.sums {
+            Some(sums) => sums.append(self.layout, out),
+            None => Ok(()),
+        }
+    }
+
+    /// What both sides agreed on, once the client has logged in.
+    pub(crate) fn agreed(&self) -> Option<SessionCapabilities> {
+        self.followed.agreed()
+    }
+
+    /// Whether all that was asked for is answered.
+    pub(crate) fn is_at_rest(&self) -> bool {
+        self.followed.is_at_rest()
+    }
+
+    /// The one command that came before the answer to an earlier one, with no packet of the server since.
+    pub(crate) fn unheard(&self) -> Option<Front> {
+        self.unheard.only()
+    }
+
+    /// Goes on at the next command, under what both sides agreed on.
+    pub(crate) fn take_up(&mut self, agreed: SessionCapabilities) {
+        self.followed.take_up(agreed);
+    }
+
+    /// The same after a loss: which answers the commands have that wait was not seen.
+    pub(crate) fn lose(&mut self, agreed: SessionCapabilities) -> Result<(), AllocError>
+        ensures { self.new.layout ≡ self.old.layout }
+    {
+        self.followed.take_up(agreed);
+        self.unheard = Unheard::none();
+        self.prepared.serve_all(agreed)
+    }
+
+    /// Goes on after a command, the last that came: what is lost is the answer to the one before it.
+    pub(crate) fn lose_answer(
+        &mut self,
+        agreed: SessionCapabilities,
+        command: &Front,
+    ) -> Result<(), AllocError>
+        ensures { self.new.layout ≡ self.old.layout }
+    {
+        self.followed.take_up_after(agreed, command.as_slice());
+        self.unheard = Unheard::none();
+        self.prepared.serve_all(agreed)
+    }
+
+    /// Appends a remark on a side's stream. Where the client's is taken up, an exchange begins.
+    pub(crate) fn append_remark(
+        &self,
+        kind: &'static str,
+        side: Side,
+        field: Field<'_>,
+        out: &mut String,
+    ) -> Result<(), AllocError> {
+        let is_next = kind == "taken_up" && side == Side::Client;
+        let remark = Remark {
+            side,
+            exchange: self.followed.last().saturating_add(u64::from(is_next)),
+            kind,
+        };
+        remark.append(self.alloc, self.layout, &[field], out)
+    }
+
+    /// Takes a packet, and appends what it says.
+    pub(crate) fn take(
+        &mut self,
+        side: Side,
+        sequence: u8,
+        payload: &[u8],
+        out: &mut String,
+    ) -> Result<Taken, RecordingError>
+        ensures shown { IfOk result (λ taken. taken ≡ taken_as.Shown → (items : List Numbered) → IsFollowed self.old.followed items
+            → ShowsPacket self.old.layout side sequence payload.now items self.new.followed (string_bytes out.old) (string_bytes out.new)) }
+        ensures lost { IfOk result (λ taken. taken ≢ taken_as.Shown → (items : List Numbered) → IsFollowed self.old.followed items
+            → (why : refusals.Refusal) × ShowsRefused KindName.ALL self.old.layout side sequence payload.now items why (string_bytes out.old) (string_bytes out.new)) }
+        ensures refused { IfErr result (λ e. (items : List Numbered) → IsFollowed self.old.followed items
+            → IfRefused e (λ why. ShowsRefused KindName.ALL self.old.layout side sequence payload.now items why (string_bytes out.old) (string_bytes out.new))) }
+        ensures layout { self.new.layout ≡ self.old.layout }
+    {
+        let is_between = self.followed.is_at_rest();
+        match self.followed.next(side, payload) {
+            Ok((kind, exchange)) => {
+                let packet = Packet {
+                    side,
+                    sequence,
+                    exchange,
+                    kind: kind.name().as_str(),
+                    payload,
+                };
+                self.show(&packet, kind, is_between, out)?;
+                Ok(Taken::Shown)
+            }
+            Err(why) => self.refuse(side, sequence, payload, why, out),
+        }
+    }
+
+    /// Appends a packet that doesn't come. Before a login is done, that is a refusal.
+    fn refuse(
+        &self,
+        side: Side,
+        sequence: u8,
+        payload: &[u8],
+        why: Refusal,
+        out: &mut String,
+    ) -> Result<Taken, RecordingError>
+        ensures ok { IfOk result (λ taken. (taken ≢ taken_as.Shown) × Refuses KindName.ALL self.now.layout self.now.followed side sequence payload.now why (string_bytes out.old) (string_bytes out.new)) }
+        ensures err { IfErr result (λ e. IfRefused e (λ shown. (shown ≡ why) × Refuses KindName.ALL self.now.layout self.now.followed side sequence payload.now why (string_bytes out.old) (string_bytes out.new))) }
+    {
+        let packet = Packet {
+            side,
+            sequence,
+            exchange: self.followed.last(),
+            kind: "refused",
+            payload,
+        };
+        self.show_refused(&packet, why, out)?;
+        match self.followed.agreed() {
+            Some(agreed) => Ok(Taken::Refused(agreed)),
+            None => Err(RecordingError::Refused(why)),
+        }
+    }
+
+    /// Appends a packet that comes, and keeps what it says of those after it.
+    fn show(
+        &mut self,
+        packet: &Packet<'_>,
+        kind: Kind,
+        is_between: bool,
+        out: &mut String,
+    ) -> Result<(), AllocError>
+        ensures ok { OnOk result (Appends self.old.layout (entry_as packet.now) (string_bytes out.old) (string_bytes out.new)) }
+        ensures followed { self.new.followed ≡ self.old.followed }
+        ensures layout { self.new.layout ≡ self.old.layout }
+    {
+        if let Some(sums) = &mut self.sums {
+            sums.add(packet, kind)?;
+        }
+        let is_early = !is_between && matches!(kind, Kind::Command(_));
+        self.unheard
+            .hear(packet.side, kind, is_early, packet.payload);
+        if let Kind::ColumnCount(count, _) = kind {
+            self.columns = usize::try_from(count).unwrap_or(usize::MAX);
+        }
+        match packet.side {
+            Side::Client => {
+                self.show_client(packet, kind, is_early, out)?;
+                self.keep(packet, kind, is_early)
+            }
+            Side::Server => {
+                self.keep(packet, kind, false)?;
+                self.show_server(packet, kind, out)
+            }
+        }
+    }
+
+    /// Keeps what a packet says of statements.
+    fn keep(&mut self, packet: &Packet<'_>, kind: Kind, is_early: bool) -> Result<(), AllocError>
+        ensures followed { self.new.followed ≡ self.old.followed }
+        ensures layout { self.new.layout ≡ self.old.layout }
+    {
+        let Some(agreed) = self.followed.agreed() else {
+            return Ok(());
+        };
+        if is_early {
+            self.prepared.hold(packet.exchange, packet.payload)
+        } else {
+            self.prepared
+                .take(agreed, kind, packet.exchange, packet.payload)
+        }
+    }
+
+    /// Appends a packet that doesn't come, with the bytes that it begins with, and the kinds that would come.
+    fn show_refused(
+        &self,
+        packet: &Packet<'_>,
+        why: Refusal,
+        out: &mut String,
+    ) -> Result<(), AllocError>
+        ensures ok { OnOk result (AppendsRefused KindName.ALL self.now.layout self.now.followed (entry_as packet.now) why (string_bytes out.old) (string_bytes out.new)) }
+    {
+        let payload = packet.payload;
+        let mut fields = Vec::new(self.alloc);
+        fields.push(Field::bytes("begins", &payload[..payload.len().min(BEGINNING)]))?;
+        fields.push(Field::word("refused", refusal_name(why)))?;
+        self.append_expected(&KindName::ALL, &mut fields)?;
+        packet.append(self.alloc, self.layout, fields.as_slice(), out)
+    }
+
+    /// Appends those of the names whose kinds would come.
+    fn append_expected(
+        &self,
+        all: &[KindName],
+        fields: &mut Vec<Field<'_>>,
+    ) -> Result<(), AllocError>
+        ensures ok { OnOk result ((names : List names_of.KindName) × (fields.new.items ≡ fields.old.items ++ expected_fields names) × Expects self.now.followed all.now names) }
+    {
+        for name in all {
+            self.append_name(*name, fields)?;
+        }
+        Ok(())
+    }
+
+    /// Appends a name, where its kind would come.
+    fn append_name(&self, name: KindName, fields: &mut Vec<Field<'_>>) -> Result<(), AllocError>
+        ensures ok { OnOk result ((names : List names_of.KindName) × (fields.new.items ≡ fields.old.items ++ expected_fields names) × Expects self.now.followed (name ∷ []) names) }
+    {
+        if self.followed.expects(name) {
+            fields.push(Field::word("expected", name.as_str()))?;
+        }
+        Ok(())
+    }
+
+    fn show_client(
+        &self,
+        packet: &Packet<'_>,
+        kind: Kind,
+        is_early: bool,
+        out: &mut String,
+    ) -> Result<(), AllocError>
+        ensures ok { OnOk result (Appends self.now.layout (entry_as packet.now) (string_bytes out.old) (string_bytes out.new)) }
+    {
+        let agreed = self.followed.agreed();
+        let statement = if is_early {
+            None
+        } else {
+            self.prepared.executed(kind, packet.payload)
+        };
+        let mut fields = Vec::new(self.alloc);
+        append_client(
+            self.alloc,
+            agreed,
+            statement,
+            kind,
+            packet.payload,
+            &mut fields,
+        )?;
+        packet.append(self.alloc, self.layout, fields.as_slice(), out)
+    }
+
+    fn show_server(
+        &self,
+        packet: &Packet<'_>,
+        kind: Kind,
+        out: &mut String,
+    ) -> Result<(), AllocError>
+        ensures ok { OnOk result (Appends self.now.layout (entry_as packet.now) (string_bytes out.old) (string_bytes out.new)) }
+    {
+        let agreed = self.followed.agreed();
+        let columns = self.prepared.columns();
+        let mut fields = Vec::new(self.alloc);
+        append_server(
+            self.alloc,
+            agreed,
+            self.columns,
+            columns,
+            kind,
+            packet.payload,
+            &mut fields,
+        )?;
+        packet.append(self.alloc, self.layout, fields.as_slice(), out)
+    }
+}

@@ -1,0 +1,416 @@
+//! Both sides of a connection: their streams, and what is shown of them.
+
+ghost use Rattle.std.specs.Prelude.{◌≡◌, ◌≢◌, ◌∷◌, [], ◌++◌, List, IfOk, IfErr, OnOk, None, true, string_bytes};
+ghost use Rattle.mysql_recorder.specs.Frames.{IsNumbered, NoneComes};
+ghost use Rattle.mysql_recorder.specs.Refusals.{IfRefused};
+ghost use Rattle.mysql_recorder.specs.Shown.{Item};
+ghost use Rattle.mysql_recorder.specs.Sides as spec;
+ghost use Rattle.mysql_recorder.specs.Stops.{PieceStops, StopsIn};
+ghost use Rattle.mysql_recorder.specs.declared.sides.Came.TheVariants as came_as;
+
+use crate::error::RecordingError;
+use crate::loss::{HEAD, Loss, begins_command, begins_with};
+use crate::packets::{Packets, Taken};
+use crate::stream::{Sent, Stream};
+use crate::unheard::Front;
+use mysql_conversation::{KindName, Side};
+use mysql_fields::{Field, Layout};
+use mysql_frames::FrameError;
+use mysql_replies::SessionCapabilities;
+use std::alloc::{AllocError, Global};
+
+/// What came of a piece of a stream, and how many of its bytes are left.
+#[derive(Clone, Copy)]
+enum Came {
+    /// Its packets, up to its end.
+    Whole,
+    /// A packet that doesn't come. Both sides agreed on this.
+    Refused(SessionCapabilities, usize),
+    /// Bytes that are no frames.
+    NoFrames(FrameError, usize),
+}
+
+/// Both sides of a connection.
+#[derive(Drop)]
+pub(crate) struct Sides {
+    alloc: Global,
+    longest: usize,
+    client: Stream,
+    server: Stream,
+    /// The number that the server's next frame has, where its stream is out of step and the client's isn't.
+    answer: Option<u8>,
+    /// Whether something was lost.
+    has_lost: bool,
+    packets: Packets,
+}
+
+/// Takes a piece of a stream, and appends what its packets say. The first of them is answered by a frame of the number `first`.
+fn read_packets(
+    stream: &mut Stream,
+    packets: &mut Packets,
+    side: Side,
+    piece: &[u8],
+    first: &mut Option<u8>,
+    out: &mut String,
+) -> Result<Came, RecordingError>
+    ensures whole { IfOk result (λ came. came ≡ came_as.Whole → (items : List Item)
+        → spec.IsAt stream.old packets.old items → (here : List Item) × spec.Reads side piece.now [] items here stream.old stream.new packets.old packets.new (string_bytes out.old) (string_bytes out.new)) }
+    ensures refused { IfErr result (λ e. (items : List Item) → spec.IsAt stream.old packets.old items
+        → IfRefused e (λ why. StopsIn KindName.ALL packets.old.layout side (stream.old.reader.held ++ piece.now) items why (string_bytes out.old) (string_bytes out.new))) }
+    ensures none { IfOk result (λ came. came ≡ came_as.Whole → IsNumbered stream.old.reader → NoneComes stream.new.reader.held) }
+    ensures passed { stream.new.passed ≡ stream.old.passed }
+    ensures layout { packets.new.layout ≡ packets.old.layout }
+{
+    let mut input = piece;
+    'packets: loop {
+        match stream.next(&mut input) {
+            Ok(Some(sent)) => {
+                let Sent { sequence, payload } = sent;
+                if first.is_none() {
+                    *first = Some(stream.number());
+                }
+                let taken = packets.take(side, sequence, payload.as_slice(), out);
+                stream.give_back(payload);
+                match taken {
+                    Ok(Taken::Shown) => {}
+                    Ok(Taken::Refused(agreed)) => return Ok(Came::Refused(agreed, input.len())),
+                    Err(error) => return Err(error),
+                }
+            }
+            Ok(None) => return Ok(Came::Whole),
+            Err(FrameError::Memory) => return Err(RecordingError::Memory),
+            Err(error) => return Ok(Came::NoFrames(error, input.len())),
+        }
+    }
+}
+
+impl Sides {
+    /// Of a connection from its greeting on, for payloads of at most `longest` bytes, in which as many commands may wait.
+    pub(crate) fn new(alloc: Global, layout: Layout, longest: usize, waiting: usize) -> Self
+        ensures stand { spec.Stand result [] [] }
+        ensures layout { spec.layout result ≡ layout }
+    {
+        Sides {
+            alloc,
+            longest,
+            client: Stream::new(alloc, longest, true),
+            server: Stream::new(alloc, longest, true),
+            answer: None,
+            has_lost: false,
+            packets: Packets::new(alloc, layout, waiting),
+        }
+    }
+
+    /// Takes up a connection at its next command, under what both sides agreed on. Both streams are out of step up to there.
+    pub(crate) fn take_up_at(&mut self, agreed: SessionCapabilities) {
+        self.client = Stream::new(self.alloc, self.longest, false);
+        self.server = Stream::new(self.alloc, self.longest, false);
+        self.packets.take_up(agreed);
+    }
+
+    /// Sums what comes from here on.
+    pub(crate) fn sum(&mut self) {
+        self.packets.sum();
+    }
+
+    /// Appends the sums, where they are asked for.
+    pub(crate) fn append_sums(&self, out: &mut String) -> Result<(), AllocError> {
+        self.packets.append_sums(out)
+    }
+
+    /// Whether all that was asked for is answered, and no packet is cut.
+    pub(crate) fn is_whole(&self) -> bool {
+        self.client.is_between() && self.server.is_between() && self.packets.is_at_rest()
+    }
+
+    /// Whether something was lost.
+    pub(crate) fn has_lost(&self) -> bool
+        ensures { result ≡ spec.has_lost self.now }
+    {
+        self.has_lost
+    }
+
+    /// Whether it is known how a line begins of which so much came.
+    pub(crate) fn may_be_begun(&self, side: Side, line: &[u8]) -> bool {
+        line.len() >= HEAD || self.passed(side).is_none()
+    }
+
+    /// How many bytes of a side's stream are passed over, where it is out of step.
+    fn passed(&self, side: Side) -> Option<u64>
+        ensures { result ≡ spec.passed_of side self.now }
+    {
+        match side {
+            Side::Client => self.client.passed(),
+            Side::Server => self.server.passed(),
+        }
+    }
+
+    /// Takes what came of a line, and appends what its packets say. Where it is the line's beginning, the stream may be in step again.
+    pub(crate) fn take_line(
+        &mut self,
+        side: Side,
+        is_beginning: bool,
+        piece: &[u8],
+        out: &mut String,
+    ) -> Result<(), RecordingError>
+        ensures goes { OnOk result (spec.GoesOn (spec.piece side piece.now ∷ []) self.old self.new (string_bytes out.old) (string_bytes out.new)) }
+        ensures refused { IfErr result (λ e. PieceStops KindName.ALL side piece.now self.old e (string_bytes out.old) (string_bytes out.new)) }
+        ensures lost { spec.has_lost self.old ≡ true → spec.has_lost self.new ≡ true }
+        ensures layout { spec.layout self.new ≡ spec.layout self.old }
+    {
+        if is_beginning && self.passed(side).is_some() {
+            self.begin_line(side, piece, out)
+        } else {
+            self.take_piece(side, piece, out)
+        }
+    }
+
+    /// Takes the beginning of a line.
+    fn begin_line(
+        &mut self,
+        side: Side,
+        piece: &[u8],
+        out: &mut String,
+    ) -> Result<(), RecordingError>
+        ensures goes { OnOk result (spec.GoesOn (spec.piece side piece.now ∷ []) self.old self.new (string_bytes out.old) (string_bytes out.new)) }
+        ensures lost { spec.has_lost self.old ≡ true → spec.has_lost self.new ≡ true }
+        ensures layout { spec.layout self.new ≡ spec.layout self.old }
+    {
+        self.take_up(side, piece, out)?;
+        self.take_piece(side, piece, out)
+    }
+
+    /// Has a stream in step again, where it is out of step and a line of it begins as it must.
+    fn take_up(&mut self, side: Side, line: &[u8], out: &mut String) -> Result<(), RecordingError>
+        ensures goes { OnOk result (spec.GoesOn [] self.old self.new (string_bytes out.old) (string_bytes out.new)) }
+        ensures lost { spec.has_lost self.old ≡ true → spec.has_lost self.new ≡ true }
+        ensures layout { spec.layout self.new ≡ spec.layout self.old }
+    {
+        let Some(passed) = self.passed(side) else {
+            return Ok(());
+        };
+        if self.begins(side, line) {
+            self.step_in(side);
+            if self.has_lost || passed > 0 {
+                self.say_passed("taken_up", side, passed, out)?;
+            }
+        }
+        Ok(())
+    }
+
+    /// Whether a line begins as the next exchange of its stream must.
+    fn begins(&self, side: Side, line: &[u8]) -> bool {
+        match (side, self.answer) {
+            (Side::Client, _) => begins_command(line),
+            (Side::Server, Some(number)) => begins_with(number, line),
+            (Side::Server, None) => false,
+        }
+    }
+
+    /// Has a stream in step.
+    fn step_in(&mut self, side: Side)
+        ensures lost { spec.has_lost self.new ≡ spec.has_lost self.old }
+        ensures layout { spec.layout self.new ≡ spec.layout self.old }
+    {
+        match side {
+            Side::Client => self.client.take_up(),
+            Side::Server => self.server.take_up(),
+        }
+    }
+
+    /// Passes over so many bytes of a stream, where it is out of step.
+    fn pass_over(&mut self, side: Side, count: usize)
+        ensures lost { spec.has_lost self.new ≡ spec.has_lost self.old }
+        ensures layout { spec.layout self.new ≡ spec.layout self.old }
+    {
+        match side {
+            Side::Client => self.client.pass_over(count),
+            Side::Server => self.server.pass_over(count),
+        }
+    }
+
+    /// Appends how much of each stream is passed over that is still out of step.
+    pub(crate) fn say_unheard(&self, out: &mut String) -> Result<(), AllocError>
+        ensures { OnOk result (spec.SaysNothing self.now (string_bytes out.old) (string_bytes out.new)) }
+    {
+        self.say_left(Side::Client, out)?;
+        self.say_left(Side::Server, out)
+    }
+
+    /// The same of one of them.
+    fn say_left(&self, side: Side, out: &mut String) -> Result<(), AllocError>
+        ensures { OnOk result (spec.passed_of side self.now ≡ None → string_bytes out.new ≡ string_bytes out.old) }
+    {
+        match self.passed(side) {
+            Some(passed) if self.has_lost || passed > 0 => {
+                self.say_passed("not_taken_up", side, passed, out)
+            }
+            _ => Ok(()),
+        }
+    }
+
+    /// Appends how many bytes of a stream were passed over.
+    fn say_passed(
+        &self,
+        kind: &'static str,
+        side: Side,
+        passed: u64,
+        out: &mut String,
+    ) -> Result<(), AllocError> {
+        let field = Field::number("passed_over", passed);
+        self.packets.append_remark(kind, side, field, out)
+    }
+
+    /// Appends what was lost, and has both streams out of step. Where it isn't known what both sides agreed on, that is a refusal.
+    pub(crate) fn lose(
+        &mut self,
+        side: Side,
+        loss: Loss,
+        out: &mut String,
+    ) -> Result<(), RecordingError>
+        ensures lost { OnOk result (spec.has_lost self.new ≡ true) }
+        ensures stays { spec.has_lost self.old ≡ true → spec.has_lost self.new ≡ true }
+        ensures refused { IfErr result (λ e. IfRefused e (λ why. ⊥)) }
+        ensures layout { spec.layout self.new ≡ spec.layout self.old }
+    {
+        let Some(agreed) = self.packets.agreed() else {
+            return Err(RecordingError::from(loss));
+        };
+        self.packets.append_remark("lost", side, loss.field(), out)?;
+        match self.packets.unheard() {
+            Some(command) if loss.is_missing() && side == Side::Server => {
+                self.lose_answer(agreed, &command)
+            }
+            _ => self.be_lost(agreed),
+        }
+    }
+
+    /// Has the server's stream out of step, up to the answer to this command, which has come: what is missing is the answer to the one
+    /// before it.
+    fn lose_answer(
+        &mut self,
+        agreed: SessionCapabilities,
+        command: &Front,
+    ) -> Result<(), RecordingError>
+        ensures lost { spec.has_lost self.new ≡ true }
+        ensures refused { IfErr result (λ e. IfRefused e (λ why. ⊥)) }
+        ensures layout { spec.layout self.new ≡ spec.layout self.old }
+    {
+        self.has_lost = true;
+        self.server.lose();
+        self.answer = Some(self.client.number());
+        Ok(self.packets.lose_answer(agreed, command)?)
+    }
+
+    /// Has both streams out of step, up to the next command.
+    fn be_lost(&mut self, agreed: SessionCapabilities) -> Result<(), RecordingError>
+        ensures lost { spec.has_lost self.new ≡ true }
+        ensures refused { IfErr result (λ e. IfRefused e (λ why. ⊥)) }
+        ensures layout { spec.layout self.new ≡ spec.layout self.old }
+    {
+        self.has_lost = true;
+        self.client.lose();
+        self.server.lose();
+        self.answer = None;
+        Ok(self.packets.lose(agreed)?)
+    }
+
+    /// Takes a piece of a side's stream, and appends what its packets say.
+    fn take_piece(
+        &mut self,
+        side: Side,
+        piece: &[u8],
+        out: &mut String,
+    ) -> Result<(), RecordingError>
+        ensures goes { OnOk result (spec.GoesOn (spec.piece side piece.now ∷ []) self.old self.new (string_bytes out.old) (string_bytes out.new)) }
+        ensures refused { IfErr result (λ e. PieceStops KindName.ALL side piece.now self.old e (string_bytes out.old) (string_bytes out.new)) }
+        ensures lost { spec.has_lost self.old ≡ true → spec.has_lost self.new ≡ true }
+        ensures layout { spec.layout self.new ≡ spec.layout self.old }
+    {
+        if self.passed(side).is_some() {
+            self.pass_over(side, piece.len());
+            return Ok(());
+        }
+        let mut first = None;
+        match self.read(side, piece, &mut first, out) {
+            Ok(came) => self.go_on(side, came, first, out),
+            Err(error) => Err(error),
+        }
+    }
+
+    /// Goes on after what came of a piece.
+    fn go_on(
+        &mut self,
+        side: Side,
+        came: Came,
+        first: Option<u8>,
+        out: &mut String,
+    ) -> Result<(), RecordingError>
+        ensures whole { came ≡ came_as.Whole → OnOk result (spec.IsSame self.old self.new × (string_bytes out.new ≡ string_bytes out.old)) }
+        ensures lost { came ≢ came_as.Whole → OnOk result (spec.has_lost self.new ≡ true) }
+        ensures stays { spec.has_lost self.old ≡ true → spec.has_lost self.new ≡ true }
+        ensures layout { spec.layout self.new ≡ spec.layout self.old }
+        ensures refused { IfErr result (λ e. IfRefused e (λ why. ⊥)) }
+    {
+        self.await_answer(side, first);
+        match came {
+            Came::Whole => Ok(()),
+            Came::Refused(agreed, left) => {
+                self.be_lost(agreed)?;
+                self.pass_over(side, left);
+                Ok(())
+            }
+            Came::NoFrames(error, left) => {
+                self.lose(side, Loss::Frame(error), out)?;
+                self.pass_over(side, left);
+                Ok(())
+            }
+        }
+    }
+
+    /// Takes a piece of a stream that is in step.
+    fn read(
+        &mut self,
+        side: Side,
+        piece: &[u8],
+        first: &mut Option<u8>,
+        out: &mut String,
+    ) -> Result<Came, RecordingError>
+        ensures goes { IfOk result (λ came. came ≡ came_as.Whole → spec.GoesOn (spec.piece side piece.now ∷ []) self.old self.new (string_bytes out.old) (string_bytes out.new)) }
+        ensures refused { IfErr result (λ e. PieceStops KindName.ALL side piece.now self.old e (string_bytes out.old) (string_bytes out.new)) }
+        ensures lost { spec.has_lost self.new ≡ spec.has_lost self.old }
+        ensures layout { spec.layout self.new ≡ spec.layout self.old }
+    {
+        match side {
+            Side::Client => {
+                read_packets(
+                    &mut self.client,
+                    &mut self.packets,
+                    Side::Client,
+                    piece,
+                    first,
+                    out,
+                )
+            }
+            Side::Server => {
+                read_packets(
+                    &mut self.server,
+                    &mut self.packets,
+                    Side::Server,
+                    piece,
+                    first,
+                    out,
+                )
+            }
+        }
+    }
+
+    /// After the first packet of a client whose stream is in step again, the server's may be, from its answer on.
+    fn await_answer(&mut self, side: Side, number: Option<u8>)
+        ensures { spec.IsSame self.old self.new }
+    {
+        if side == Side::Client && self.server.passed().is_some() && self.answer.is_none() {
+            self.answer = number;
+        }
+    }
+}
