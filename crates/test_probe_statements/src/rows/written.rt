@@ -46,6 +46,16 @@ pub fn text(out: &mut Out, request: &Request<'_>) {
     write_cells(out, &cells, None);
 }
 
+/// Whether the row at the front of a slice has the same bytes.
+fn is_in_slice(columns: &[Column], values: &[ValueRef<'_>], written: &[u8]) -> bool {
+    let mut places = [0xaa; 256];
+    match write_binary_row_to_slice(columns, values, &mut places) {
+        Ok(len) if len <= places.len() => &places[..len] == written,
+        Ok(len) => len == written.len(),
+        Err(_) => false,
+    }
+}
+
 /// What is written is read again as the same values.
 pub fn binary(out: &mut Out, request: &Request<'_>) -> Result {
     let columns = columns(request)?;
@@ -58,6 +68,7 @@ pub fn binary(out: &mut Out, request: &Request<'_>) -> Result {
         let (read, left) = parsed::<RowDeserializer<ServerSide, Binary>>(alloc, written, columns);
         let is_same = read.is_ok_and(|row| left == 0 && has_values(row, &values));
         out.same("again", Ok(is_same));
+        out.or_other("slice", Ok(is_in_slice(&columns, &values, written)));
     }
     Ok(())
 }
