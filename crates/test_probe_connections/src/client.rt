@@ -85,8 +85,10 @@ pub fn make_response(out: &mut Out, request: &Request<'_>) -> Result {
     let attributes = words::attributes(out.alloc(), request.word(9))?;
     if let Some(packet) = out.made(response_of(request, attributes)) {
         show_response(&packet, out);
-        let is_front = packet.before_attributes().defined_len() <= packet.defined_len();
-        out.or_other("before", Ok(is_front));
+        let (mut before, mut whole) = (Vec::new(request.alloc), Vec::new(request.alloc));
+        packet.before_attributes().serialize(&mut before)?;
+        packet.serialize(&mut whole)?;
+        out.or_other("before", Ok(whole.starts_with(&before)));
         write_and_read(out, &packet, request, ());
     }
     Ok(())

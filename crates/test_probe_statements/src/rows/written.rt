@@ -65,10 +65,11 @@ pub fn binary(out: &mut Out, request: &Request<'_>) -> Result {
     let written = after(&buffer);
     if !written.is_empty() {
         let alloc = out.alloc();
+        let in_slice = is_in_slice(&columns, &values, written);
         let (read, left) = parsed::<RowDeserializer<ServerSide, Binary>>(alloc, written, columns);
         let is_same = read.is_ok_and(|row| left == 0 && has_values(row, &values));
         out.same("again", Ok(is_same));
-        out.or_other("slice", Ok(is_in_slice(&columns, &values, written)));
+        out.or_other("slice", Ok(in_slice));
     }
     Ok(())
 }
