@@ -65,6 +65,8 @@ fn takes_integer(column_type: ColumnType, is_unsigned: bool, n: i64) -> bool
 }
 
 /// Whether the value is one that a column of the type is read as.
+// (in line, so that a value which is made for it is not put into memory; so are the next two)
+#[inline(always)]
 fn takes(column_type: ColumnType, is_unsigned: bool, value: &ValueRef<'_>) -> bool
     ensures { result ≡ spec.takes column_type is_unsigned (ref_content value.now) }
 {
@@ -110,7 +112,7 @@ fn integer_size(column_type: ColumnType) -> usize
 }
 
 /// How many bytes a value takes in a column of the type, or `usize::MAX` where that is less.
-#[inline]
+#[inline(always)]
 #[tactic(auto, unfolding(mysql_wire::specs::Writing::saturated))]
 fn cell_len(column_type: ColumnType, value: &ValueRef<'_>) -> usize
     ensures { result ≡ saturated (length (spec.bin_in column_type (ref_content value.now))) }
@@ -150,7 +152,7 @@ fn append_integer<O: Buffer>(column_type: ColumnType, n: i64, out: &mut O)
 }
 
 /// Writes a value in a column of the type.
-#[inline]
+#[inline(always)]
 fn append_cell<O: Buffer>(column_type: ColumnType, value: &ValueRef<'_>, out: &mut O)
     requires { length (O.held out.old) + length (spec.bin_in column_type (ref_content value.now)) ≤ O.capacity out.old }
     ensures items { O.held out.new ≡ O.held out.old ++ spec.bin_in column_type (ref_content value.now) }
