@@ -1,6 +1,6 @@
 -- Words that spell numbers.
 use Rattle.std.proofs.Common.{◌≡◌, ℕ, zero, suc, ◌<◌, ◌≤◌, ◌^◌, ◌==◌, ◌&&◌, true, List, [], ◌∷◌, length, nat_le, Result, Ok, Err, refl, ap, subst, ◌∙◌, lit≤, arith, IsUtf8}
-use Rattle.std.proofs.lemmas.Bool.{eqb-true}
+use Rattle.std.proofs.lemmas.Bool.{and_parts, eqb-true}
 use Rattle.std.proofs.lemmas.Str.{IsUtf8-from_ascii}
 use Rattle.std.specs.Str.{IsAscii}
 use Rattle.std.proofs.lemmas.Grind.{common_steps}
@@ -10,7 +10,6 @@ use Rattle.std.specs.Char.{is_ascii_hexdigit}
 use Rattle.std.specs.List.{list_all}
 use Rattle.std.specs.Result.{OkIff}
 use Rattle.std.specs.Str.Parse.{AllDigits, ParsesUnsigned, digits_value}
-use Rattle.std.proofs.lemmas.Bool.{and_parts}
 use Rattle.mysql_packets.proofs.Numerals.{AreDigits, numeral_of}
 use Rattle.mysql_packets.specs.Capabilities.{is_flag_word}
 use Rattle.mysql_packets.specs.TimeText.{is_bit_word}
@@ -47,15 +46,15 @@ pub ruleset flag_words = (flags_parse)
 bit_parts : (count : ℕ) (w : List ℕ) → is_bit_word count w ≡ true → (length w ≡ count) × (list_all is_ascii_hexdigit w ≡ true)
 unfolding is_bit_word
 bit_parts count w checked =
-    let b = both (length w == count) (list_all is_ascii_hexdigit w) checked in
+    let b = and_parts (length w == count) (list_all is_ascii_hexdigit w) checked in
     (eqb-true (length w) count b.0, b.1)
 
 are_ascii : (w : List ℕ) → list_all is_ascii_hexdigit w ≡ true → IsAscii w
 are_ascii [] all i = omega arith
 are_ascii (c ∷ cs) all zero =
-    let first = (both (is_ascii_hexdigit c) (list_all is_ascii_hexdigit cs) all).0 in
+    let first = (and_parts (is_ascii_hexdigit c) (list_all is_ascii_hexdigit cs) all).0 in
     grind (arith, common_steps, first)
-are_ascii (c ∷ cs) all (suc i) = are_ascii cs (both (is_ascii_hexdigit c) (list_all is_ascii_hexdigit cs) all).1 i
+are_ascii (c ∷ cs) all (suc i) = are_ascii cs (and_parts (is_ascii_hexdigit c) (list_all is_ascii_hexdigit cs) all).1 i
 
 -- such a word is a text
 pub bits_are_text : (count : ℕ) (w : List ℕ) → is_bit_word count w ≡ true → IsUtf8 w
