@@ -12,23 +12,22 @@ use Rattle.mysql_recorder.specs.declared.recording.Recording.{Recording}
 use Rattle.mysql_recorder.proofs.Frames.{joined-append}
 use Rattle.mysql_recorder.proofs.Once.{of_client, of_server, frames_once}
 
--- what came of a line that is not taken waits
-pub shown_so_far : (r : Recording) (text : List ℕ) (items : List Item) → Recorded r text items → IsShown text (heard r.line.side r.line.bytes.items) items
-shown_so_far r text items h = record {
-  at = r.place;
-  said = h.said;
-  pieces = h.pieces;
-  client_left = r.sides.client.reader.held;
-  server_left = r.sides.server.reader.held;
-  read = h.read;
-  parts = h.waits;
-  packets = h.stand.come;
-  client_none = h.stand.client_none;
-  server_none = h.stand.server_none;
-}
-
 pub recorded_shown : (r : Recording) (text : List ℕ) (items : List Item) → Recorded r text items → (waits : List Heard) × IsShown text waits items
-recorded_shown r text items h = (heard r.line.side r.line.bytes.items, shown_so_far r text items h)
+recorded_shown r text items h = (
+  heard r.line.side r.line.bytes.items,
+  record {
+    at = r.place;
+    said = h.said;
+    pieces = h.pieces;
+    client_left = r.sides.client.reader.held;
+    server_left = r.sides.server.reader.held;
+    read = h.read;
+    parts = h.waits;
+    packets = h.stand.come;
+    client_none = h.stand.client_none;
+    server_none = h.stand.server_none;
+  },
+)
 
 pub recorded_session : (r : Recording) (text : List ℕ) (items : List Item) → Recorded r text items → IsSessionBeginning (placed items)
 recorded_session r text items h = taken_is_beginning h.stand.followed.0.0.phase (placed items) h.stand.followed.0.2

@@ -9,7 +9,8 @@ use Rattle.mysql_frames.specs.FrameReader.{HandsOut}
 use Rattle.mysql_frames.specs.Frames.{Framed}
 use Rattle.mysql_recorder.specs.Followed.{IsFollowed}
 use Rattle.mysql_recorder.specs.Frames.{Piece}
-use Rattle.mysql_recorder.specs.Recorded.{Recorded}
+use Rattle.mysql_recorder.specs.Lines.{heard}
+use Rattle.mysql_recorder.specs.Recorded.{Recorded, IsShown}
 use Rattle.mysql_recorder.specs.Recorded as recorded
 use Rattle.mysql_recorder.specs.Refused.{ShowsRefused}
 use Rattle.mysql_recorder.specs.Refusals.{IfRefused}
@@ -30,7 +31,6 @@ use Rattle.mysql_recorder.specs.declared.sides.Sides.{Sides}
 use Rattle.mysql_recorder.specs.declared.stream.Stream.{Stream}
 use Rattle.mysql_recorder.proofs.Frames.{handed_out}
 use Rattle.mysql_recorder.proofs.Goes.{goes_same, is_lost}
-use Rattle.mysql_recorder.proofs.Seen.{shown_so_far}
 
 -- what is so of each reason
 pub if_refused : (e : RecordingError) (P Q : Refusal → Type 0) → ((why : Refusal) → P why → Q why) → IfRefused e P → IfRefused e Q
@@ -128,8 +128,20 @@ line_never (Err e) all old before after h = λ pieces items k. never e _ h
 after_text : (all : List KindName) (r : Recording) (text : List ℕ) (items : List Item) (e : RecordingError) (before after : List ℕ) → Recorded r text items → LineStops all r e before after
     → IfRefused e (λ why. StopsAfter all (recorded.layout r) text items why before after)
 after_text all r text items e before after h stops =
+    let shown : IsShown text (heard r.line.side r.line.bytes.items) items = record {
+      at = r.place;
+      said = h.said;
+      pieces = h.pieces;
+      client_left = r.sides.client.reader.held;
+      server_left = r.sides.server.reader.held;
+      read = h.read;
+      parts = h.waits;
+      packets = h.stand.come;
+      client_none = h.stand.client_none;
+      server_none = h.stand.server_none;
+    } in
     if_refused e _ (λ why. StopsAfter all (recorded.layout r) text items why before after)
-    (λ why s. record { side = r.line.side; bytes = r.line.bytes.items; shown = shown_so_far r text items h; stops = s }) (stops h.pieces items h.stand)
+    (λ why s. record { side = r.line.side; bytes = r.line.bytes.items; shown = shown; stops = s }) (stops h.pieces items h.stand)
 
 pub text_stops : (r : Result (Unit {0}) RecordingError) (all : List KindName) (old : Recording) (before after : List ℕ)
     → IfErr r (λ e. LineStops all old e before after) → IfErr r (λ e. TextStops all old e before after)
