@@ -1,5 +1,5 @@
 -- Packets as they were sent.
-use Rattle.std.specs.Prelude.{◌≡◌, List, [], ◌∷◌, Unit}
+use Rattle.std.specs.Prelude.{◌≡◌, List, [], ◌∷◌}
 use Rattle.mysql_packets.specs.Pipelined.{Numbered}
 use Rattle.examples_proved.specs.declared.audit.Sent.{Sent}
 
