@@ -3,7 +3,7 @@
 use crate::authenticate::{Answers, authenticate};
 use crate::connection::Connection;
 use crate::error::Result;
-use crate::errors::answer;
+use crate::errors::greeting;
 use mysql_packets::constants::{
     CapabilityFlags, Flags, MariadbCapabilities, supported_capabilities,
 };
@@ -58,7 +58,7 @@ fn response_to<'a>(
     Ok(response.with_mariadb_ext_capabilities(wanted & greeting.mariadb_ext_capabilities()))
 }
 
-/// Sends the response to a greeting.
+/// Keeps what both sides can do, and sends the response to a greeting.
 fn respond<R: Read, W: Write>(
     connection: &mut Connection<R, W>,
     greeting: &HandshakePacket<'_>,
@@ -67,6 +67,7 @@ fn respond<R: Read, W: Write>(
     database: &str,
 ) -> Result<()> {
     let response = response_to(connection.alloc, greeting, sent, user, database)?;
+    connection.capabilities = response.capabilities() | CapabilityFlags::CLIENT_PROGRESS_OBSOLETE;
     connection.is_mariadb = greeting.maria_db_server_version_parsed().is_some();
     connection.send_packet(&response)
 }
@@ -103,7 +104,7 @@ pub fn login<R: Read, W: Write, A: Answers>(
     database: &str,
     answers: &mut A,
 ) -> Result<()> {
-    let (_, payload) = answer(connection)?;
+    let payload = greeting(connection)?;
     let mut scramble = greeted(connection, &payload, user, database, answers)?;
     authenticate(connection, &mut scramble, answers)
 }

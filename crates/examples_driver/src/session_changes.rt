@@ -2,7 +2,7 @@
 
 use crate::connection::Connection;
 use crate::error::Result;
-use crate::errors::answer;
+use crate::query::send_query;
 use mysql_packets::constants::CapabilityFlags;
 use mysql_packets::io::ParseBuf;
 use mysql_packets::packets::session_state_change::SessionStateChange;
@@ -17,9 +17,8 @@ pub fn session_changes<R: Read, W: Write>(
     connection: &mut Connection<R, W>,
     sql: &str,
 ) -> Result<Vec<SessionStateChange<'static>>> {
-    connection.command_text(0x03, sql)?;
-    let (_, payload) = answer(connection)?;
-    changes_in(connection.alloc, &payload, connection.capabilities())
+    let payload = send_query(connection, sql)?;
+    changes_in(connection.alloc, &payload, connection.capabilities)
 }
 
 fn changes_in(
