@@ -3,11 +3,11 @@
 use crate::connection::Connection;
 use crate::error::{Error, Result};
 use crate::errors::answer;
-use mysql_packets::constants::CapabilityFlags;
+use mysql_packets::conversation::Kind;
 use mysql_packets::io::ParseBuf;
 use mysql_packets::packets::caching_sha2_password::PublicKeyRequest;
 use mysql_packets::packets::{
-    AuthMoreDataRef, AuthPlugin, AuthReply, AuthSwitchRequestRef, PublicKeyResponse,
+    AuthMoreDataRef, AuthPlugin, AuthSwitchRequestRef, PublicKeyResponse,
 };
 use std::alloc::Global;
 use std::io::{Read, Write};
@@ -28,45 +28,28 @@ pub fn authenticate<R: Read, W: Write, A: Answers>(
     answers: &mut A,
 ) -> Result<()> {
     for _ in 0..10 {
-        let payload = answer(connection)?;
+        let (kind, payload) = answer(connection)?;
         let buf = ParseBuf::new(connection.alloc, &payload);
-        let reply = reply_in(buf, connection.capabilities)?;
-        if go_on(connection, &reply, scramble, answers)? {
-            return Ok(());
+        match kind {
+            Kind::Ok => return Ok(()),
+            Kind::AuthSwitch => switch(connection, buf, scramble, answers)?,
+            Kind::AuthMoreData => more(connection, buf, scramble, answers)?,
+            _ => return Err(Error::Unknown("an answer to the login")),
         }
     }
     Err(Error::Unknown("a login without an end"))
 }
 
-fn reply_in<'a>(mut buf: ParseBuf<'a>, capabilities: CapabilityFlags) -> Result<AuthReply<'a>> {
-    Ok(buf.parse(capabilities)?)
-}
-
-/// Answers one reply. Whether it says that the login is done.
-fn go_on<R: Read, W: Write, A: Answers>(
-    connection: &mut Connection<R, W>,
-    reply: &AuthReply<'_>,
-    scramble: &mut Vec<u8>,
-    answers: &mut A,
-) -> Result<bool> {
-    match reply {
-        AuthReply::OkPacket(_) => Ok(true),
-        AuthReply::MoreData(data) => more(connection, data, scramble, answers),
-        AuthReply::Switch(request) => switch(connection, request, scramble, answers),
-        _ => Err(Error::Unknown("an answer to the login")),
-    }
-}
-
 /// Answers by another plugin, and keeps its scramble.
 fn switch<R: Read, W: Write, A: Answers>(
     connection: &mut Connection<R, W>,
-    request: &AuthSwitchRequestRef<'_>,
+    mut buf: ParseBuf<'_>,
     scramble: &mut Vec<u8>,
     answers: &mut A,
-) -> Result<bool> {
-    let sent = switched(request, scramble, answers)?;
-    connection.send(&sent)?;
-    Ok(false)
+) -> Result<()> {
+    let request: AuthSwitchRequestRef<'_> = buf.parse(())?;
+    let sent = switched(&request, scramble, answers)?;
+    connection.send(&sent)
 }
 
 /// The answer of another plugin to its scramble, which is kept. `client_ed25519` signs the whole of it.
@@ -88,18 +71,18 @@ fn switched<A: Answers>(
 /// which goes encrypted by the server's public key.
 fn more<R: Read, W: Write, A: Answers>(
     connection: &mut Connection<R, W>,
-    more: &AuthMoreDataRef<'_>,
+    mut buf: ParseBuf<'_>,
     scramble: &[u8],
     answers: &mut A,
-) -> Result<bool> {
+) -> Result<()> {
+    let more: AuthMoreDataRef<'_> = buf.parse(())?;
     if more.data() != [4].as_slice() {
-        return Ok(false);
+        return Ok(());
     }
     connection.send_packet(&PublicKeyRequest::new())?;
-    let payload = answer(connection)?;
+    let (_, payload) = answer(connection)?;
     let sent = encrypted(connection.alloc, &payload, scramble, answers)?;
-    connection.send(&sent)?;
-    Ok(false)
+    connection.send(&sent)
 }
 
 /// The password, encrypted by the key of the server's response.

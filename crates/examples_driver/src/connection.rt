@@ -1,15 +1,19 @@
-//! Packets over a reader and a writer of the caller's: the frames that they stand in.
+//! Packets over a reader and a writer of the caller's: the frames that they stand in, and which packet each is.
 
 use crate::error::{Error, Result};
 use mysql_packets::constants::{CapabilityFlags, Flags};
-use mysql_packets::frames::{FrameReader, write_frames, write_packet};
-use mysql_packets::packets::ProgressReport;
+use mysql_packets::conversation::{Kind, KindName, Session, Side};
+use mysql_packets::frames::{FrameReader, write_frames};
+use mysql_packets::packets::{ProgressReport, SessionCapabilities};
 use mysql_packets::proto::MySerialize;
 use std::alloc::Global;
 use std::io::{self, Read, Write};
 
 /// The longest payload that is received: the most that a server's `max_allowed_packet` can be.
 const LONGEST: usize = 1 << 30;
+
+/// How many commands may wait: each is answered before the next is sent.
+const WAITING: usize = 0;
 
 /// How many bytes are asked of the reader at once.
 const PIECE: usize = 1 << 14;
@@ -19,12 +23,11 @@ const PIECE: usize = 1 << 14;
 pub struct Connection<R, W> {
     /// What takes memory takes it here.
     pub alloc: Global,
-    /// What both sides can do: none before the handshake.
-    pub capabilities: CapabilityFlags,
     /// Whether the server calls itself a MariaDB.
     pub is_mariadb: bool,
     /// The reports of progress that came since the last command.
     pub reports: Vec<ProgressReport<'static>>,
+    session: Session,
     reader: R,
     writer: W,
     frames: FrameReader,
@@ -39,9 +42,9 @@ impl<R: Read, W: Write> Connection<R, W> {
     pub fn new(alloc: Global, reader: R, writer: W) -> Self {
         Connection {
             alloc,
-            capabilities: CapabilityFlags::from_bits_retain(0),
             is_mariadb: false,
             reports: Vec::new(alloc),
+            session: Session::new(alloc, WAITING),
             reader,
             writer,
             frames: FrameReader::new(alloc, LONGEST),
@@ -51,16 +54,40 @@ impl<R: Read, W: Write> Connection<R, W> {
         }
     }
 
-    /// The payload of the next packet.
-    pub fn receive(&mut self) -> Result<Vec<u8>> {
+    /// What both sides agreed on: none before the login.
+    pub fn agreed(&self) -> Option<SessionCapabilities> {
+        self.session.agreed()
+    }
+
+    /// Those of them that MySQL has too.
+    pub fn capabilities(&self) -> CapabilityFlags {
+        match self.agreed() {
+            Some(agreed) => agreed.mysql,
+            None => CapabilityFlags::from_bits_retain(0),
+        }
+    }
+
+    /// Whether the last command is answered.
+    pub fn is_at_rest(&self) -> bool {
+        self.session.is_at_rest()
+    }
+
+    /// Whether the server's next packet may be of this kind.
+    pub fn expects(&self, name: KindName) -> bool {
+        self.session.expects(Side::Server, name)
+    }
+
+    /// The next packet: of which kind it is, and its payload.
+    pub fn receive(&mut self) -> Result<(Kind, Vec<u8>)> {
         for _ in 0..u64::MAX {
             let mut rest = self.input.get(self.passed..self.filled).unwrap_or(&[]);
             let found = self.frames.read(&mut rest)?;
             self.passed = self.filled.saturating_sub(rest.len());
             if let Some(payload) = found {
+                let (kind, _command) = self.session.next(Side::Server, payload.as_slice())?;
                 let packet = payload.as_slice().to_vec(self.alloc)?;
                 self.frames.give_back(payload);
-                return Ok(packet);
+                return Ok((kind, packet));
             }
             self.fill()?;
         }
@@ -82,6 +109,7 @@ impl<R: Read, W: Write> Connection<R, W> {
 
     /// Sends a packet of this payload, which goes on with what was received.
     pub fn send(&mut self, payload: &[u8]) -> Result<()> {
+        self.session.next(Side::Client, payload)?;
         let mut frames = Vec::new(self.alloc);
         let number = write_frames(&mut frames, self.frames.number(), payload)?;
         self.put(&frames, number)
@@ -89,9 +117,9 @@ impl<R: Read, W: Write> Connection<R, W> {
 
     /// Sends a packet of the library's, which goes on with what was received.
     pub fn send_packet<P: MySerialize>(&mut self, packet: &P) -> Result<()> {
-        let mut frames = Vec::new(self.alloc);
-        let number = write_packet(&mut frames, self.frames.number(), packet)?;
-        self.put(&frames, number)
+        let mut payload = Vec::new(self.alloc);
+        packet.serialize(&mut payload)?;
+        self.send(&payload)
     }
 
     /// Sends a command: the number of its first frame is 0.

@@ -2,52 +2,68 @@
 
 use crate::connection::Connection;
 use crate::error::{Error, Result};
-use mysql_packets::io::ParseBuf;
-use mysql_packets::packets::{ErrPacket, GreetingErrorRef, ServerError};
+use mysql_packets::conversation::Kind;
+use mysql_packets::observer::{ReadContext, ServerPacket, server_packet};
+use mysql_packets::packets::{Column, ErrPacket, ErrPacketRef, ServerError};
 use std::alloc::Global;
 use std::io::{Read, Write};
 
-/// The server's greeting. An error may stand in its place, as where there are too many connections.
-pub fn greeting<R: Read, W: Write>(connection: &mut Connection<R, W>) -> Result<Vec<u8>> {
-    let payload = connection.receive()?;
-    if payload.first().copied() != Some(0xff) {
-        return Ok(payload);
-    }
-    Err(Error::Server(greeting_error(connection.alloc, &payload)?))
-}
-
-/// What stands in place of the greeting. Nothing is agreed on yet, so that its own bytes say whether there is an SQL state.
-fn greeting_error(alloc: Global, payload: &[u8]) -> Result<ServerError<'static>> {
-    let packet: GreetingErrorRef<'_> = ParseBuf::new(alloc, payload).parse(())?;
-    let error = packet.server_error().to_error();
-    Ok(error.into_owned(alloc)?)
-}
-
-/// The next packet that is neither an error nor a report of progress. Reports are kept, an error ends the wait.
-pub fn answer<R: Read, W: Write>(connection: &mut Connection<R, W>) -> Result<Vec<u8>> {
+/// The next packet that is neither an error nor a report of progress: of which kind it is, and its payload. Reports are kept, an error
+/// ends the wait.
+pub fn answer<R: Read, W: Write>(connection: &mut Connection<R, W>) -> Result<(Kind, Vec<u8>)> {
     for _ in 0..u64::MAX {
-        let payload = connection.receive()?;
-        if payload.first().copied() != Some(0xff) {
-            return Ok(payload);
+        let (kind, payload) = connection.receive()?;
+        match kind {
+            Kind::Error | Kind::UnaskedError | Kind::ProgressReport => {
+                keep(connection, kind, &payload)?;
+            }
+            _ => return Ok((kind, payload)),
         }
-        report(connection, &payload)?;
     }
     Err(Error::Unknown("reports without an end"))
 }
 
-/// Keeps a report of progress, or fails with the server's error.
-fn report<R: Read, W: Write>(connection: &mut Connection<R, W>, payload: &[u8]) -> Result<()> {
+/// Keeps a report of progress, or fails with the server's error: one in place of the greeting may have no SQL state.
+fn keep<R: Read, W: Write>(
+    connection: &mut Connection<R, W>,
+    kind: Kind,
+    payload: &[u8],
+) -> Result<()> {
     let alloc = connection.alloc;
-    let mut buf = ParseBuf::new(alloc, payload);
-    let packet: ErrPacket<'_> = buf.parse(connection.capabilities)?;
+    let context = ReadContext::<Column> {
+        agreed: connection.agreed(),
+        column_count: 0,
+        columns: &[],
+        semi_sync: false,
+    };
+    let packet = server_packet(alloc, &context, kind, payload)?;
+    keep_packet(connection, &packet)
+}
+
+fn keep_packet<R: Read, W: Write>(
+    connection: &mut Connection<R, W>,
+    packet: &ServerPacket<'_, '_, Column>,
+) -> Result<()> {
+    let alloc = connection.alloc;
     match packet {
-        ErrPacket::Error(error) => {
-            let error = error.into_owned(alloc);
-            Err(error.map_or(Error::Memory, Error::Server))
-        }
-        ErrPacket::Progress(report) => {
-            let report = report.into_owned(alloc)?;
+        ServerPacket::ProgressReport(report) => {
+            let report = report.to_report().into_owned(alloc)?;
             Ok(connection.reports.push(report)?)
         }
+        ServerPacket::GreetingError(packet) => {
+            let error = packet.server_error().to_error();
+            Err(Error::Server(error.into_owned(alloc)?))
+        }
+        ServerPacket::Error(packet) | ServerPacket::UnaskedError(packet) => {
+            Err(Error::Server(error_of(alloc, packet)?))
+        }
+        _ => Err(Error::Unknown("an error of another kind")),
+    }
+}
+
+fn error_of(alloc: Global, packet: &ErrPacketRef<'_>) -> Result<ServerError<'static>> {
+    match packet.to_packet() {
+        ErrPacket::Error(error) => Ok(error.into_owned(alloc)?),
+        ErrPacket::Progress(_) => Err(Error::Unknown("a report in place of an error")),
     }
 }

@@ -3,7 +3,7 @@
 use crate::connection::Connection;
 use crate::error::Result;
 use crate::errors::answer;
-use crate::rows::{columns, rows};
+use crate::rows::rows;
 use mysql_packets::io::ParseBuf;
 use mysql_packets::packets::{
     ComStmtClose, ComStmtExecuteRequestBuilder, ComStmtSendLongData, StmtPacket,
@@ -20,11 +20,14 @@ pub fn prepare<R: Read, W: Write>(
     sql: &str,
 ) -> Result<StmtPacket> {
     connection.command_text(0x16, sql)?;
-    let payload = answer(connection)?;
-    let statement: StmtPacket = ParseBuf::new(connection.alloc, &payload).parse(())?;
-    columns(connection, u64::from(statement.num_params()))?;
-    columns(connection, u64::from(statement.num_columns()))?;
-    Ok(statement)
+    let (_, payload) = answer(connection)?;
+    for _ in 0..u64::MAX {
+        if connection.is_at_rest() {
+            break;
+        }
+        answer(connection)?;
+    }
+    Ok(ParseBuf::new(connection.alloc, &payload).parse(())?)
 }
 
 /// Executes a statement with a value for each parameter, and hands out its rows.
@@ -34,8 +37,7 @@ pub fn execute<R: Read, W: Write>(
     values: &[Value],
 ) -> Result<Vec<Row>> {
     send_execution(connection, statement, values)?;
-    let payload = answer(connection)?;
-    rows::<Binary, R, W>(connection, &payload)
+    rows::<Binary, R, W>(connection)
 }
 
 fn send_execution<R: Read, W: Write>(

@@ -3,8 +3,8 @@
 use crate::connection::Connection;
 use crate::error::{Error, Result};
 use crate::errors::answer;
-use crate::query::send_query;
 use mysql_packets::constants::CapabilityFlags;
+use mysql_packets::conversation::Kind;
 use mysql_packets::io::ParseBuf;
 use mysql_packets::packets::{CommonOkPacket, LocalInfilePacket, OkPacketRefDeserializer};
 use std::alloc::Global;
@@ -20,17 +20,20 @@ pub fn load<R: Read, W: Write, F: Read>(
     name: &str,
     content: &mut F,
 ) -> Result<u64> {
-    let payload = send_query(connection, sql)?;
+    connection.command_text(0x03, sql)?;
+    let (Kind::LocalInfile, payload) = answer(connection)? else {
+        return Err(Error::Unknown("an answer without a file"));
+    };
     let is_meant = asks_for(connection.alloc, &payload, name)?;
     if is_meant {
         send_content(connection, content)?;
     }
     connection.send(&[])?;
-    let payload = answer(connection)?;
+    let (_, payload) = answer(connection)?;
     if !is_meant {
         return Err(Error::Unknown("a file that was not meant"));
     }
-    affected_rows(connection.alloc, &payload, connection.capabilities)
+    affected_rows(connection.alloc, &payload, connection.capabilities())
 }
 
 /// Whether the server asks for the file of this name.

@@ -3,7 +3,7 @@
 use crate::authenticate::{Answers, authenticate};
 use crate::connection::Connection;
 use crate::error::Result;
-use crate::errors::greeting;
+use crate::errors::answer;
 use mysql_packets::constants::{
     CapabilityFlags, Flags, MariadbCapabilities, supported_capabilities,
 };
@@ -58,7 +58,7 @@ fn response_to<'a>(
     Ok(response.with_mariadb_ext_capabilities(wanted & greeting.mariadb_ext_capabilities()))
 }
 
-/// Keeps what both sides can do, and sends the response to a greeting.
+/// Sends the response to a greeting.
 fn respond<R: Read, W: Write>(
     connection: &mut Connection<R, W>,
     greeting: &HandshakePacket<'_>,
@@ -67,7 +67,6 @@ fn respond<R: Read, W: Write>(
     database: &str,
 ) -> Result<()> {
     let response = response_to(connection.alloc, greeting, sent, user, database)?;
-    connection.capabilities = response.capabilities() | CapabilityFlags::CLIENT_PROGRESS_OBSOLETE;
     connection.is_mariadb = greeting.maria_db_server_version_parsed().is_some();
     connection.send_packet(&response)
 }
@@ -104,7 +103,7 @@ pub fn login<R: Read, W: Write, A: Answers>(
     database: &str,
     answers: &mut A,
 ) -> Result<()> {
-    let payload = greeting(connection)?;
+    let (_, payload) = answer(connection)?;
     let mut scramble = greeted(connection, &payload, user, database, answers)?;
     authenticate(connection, &mut scramble, answers)
 }

@@ -1,10 +1,11 @@
 //! A replica: its registration, and the dump of a binary log by the text of a GTID set.
 
 use crate::connection::Connection;
-use crate::error::{Error, Result};
+use crate::error::Result;
 use crate::errors::answer;
 use crate::query::query;
 use mysql_packets::constants::BinlogDumpFlags;
+use mysql_packets::conversation::Kind;
 use mysql_packets::packets::{ComBinlogDump, ComBinlogDumpGtid, ComRegisterSlave};
 use std::io::{Read, Write};
 
@@ -63,10 +64,12 @@ fn dump_mariadb<R: Read, W: Write>(
 
 /// The next event's bytes, and none where the dump ends.
 pub fn next_event<R: Read, W: Write>(connection: &mut Connection<R, W>) -> Result<Option<Vec<u8>>> {
-    let payload = answer(connection)?;
-    match payload.split_first() {
-        Some((0, event)) => Ok(Some(Vec::from_slice(connection.alloc, event)?)),
-        Some((0xfe, _)) => Ok(None),
-        _ => Err(Error::Unknown("a packet of a dump")),
+    let (kind, payload) = answer(connection)?;
+    match (kind, payload.split_first()) {
+        (Kind::BinlogEvent, Some((_, event))) => Ok(Some(Vec::from_slice(
+            connection.alloc,
+            event,
+        )?)),
+        _ => Ok(None),
     }
 }

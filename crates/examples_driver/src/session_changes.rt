@@ -2,7 +2,7 @@
 
 use crate::connection::Connection;
 use crate::error::Result;
-use crate::query::send_query;
+use crate::errors::answer;
 use mysql_packets::constants::CapabilityFlags;
 use mysql_packets::io::ParseBuf;
 use mysql_packets::packets::session_state_change::SessionStateChange;
@@ -17,8 +17,9 @@ pub fn session_changes<R: Read, W: Write>(
     connection: &mut Connection<R, W>,
     sql: &str,
 ) -> Result<Vec<SessionStateChange<'static>>> {
-    let payload = send_query(connection, sql)?;
-    changes_in(connection.alloc, &payload, connection.capabilities)
+    connection.command_text(0x03, sql)?;
+    let (_, payload) = answer(connection)?;
+    changes_in(connection.alloc, &payload, connection.capabilities())
 }
 
 fn changes_in(
