@@ -235,7 +235,7 @@ class Sessions(Recipes):
         it.close()
 
     def replica(self):
-        """a registration, and a dump whose first events are read off"""
+        """a registration, and a dump whose first events are read off; one that does not block, to its end"""
         it = self.connect("root", b"")
         it.query("set @master_binlog_checksum='none'")
         registration = bytes.fromhex("15" + "07000000" + "00" * 3 + "ea0c" + "00" * 8)
@@ -247,6 +247,18 @@ class Sessions(Recipes):
         event = it.receive()
         it.known("binlog_event")
         self.check("a dump", event[0] == 0 and event[5] == 4, event[:20])
+        it.socket.close()
+        # all events so far, and the end, which is an EOF packet though it is deprecated in results
+        it = self.connect("root", b"")
+        it.query("set @master_binlog_checksum='none'")
+        it.command(self.probes[0].written("request position 8 1 4 bin.000001 none"))
+        packet = it.receive()
+        while packet[0] == 0:
+            it.known("binlog_event")
+            packet = it.receive()
+        it.known("eof")
+        self.check("the end of a dump", len(packet) == 5 and packet[0] == 0xFE, packet[:20])
+        # (the server closes the connection)
         it.socket.close()
 
 

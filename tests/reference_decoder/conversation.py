@@ -183,7 +183,7 @@ class Session:
     def rows(self, is_binary, after):
         return self.until_end(("binary_row" if is_binary else "text_row"), is_binary, after)
 
-    def until_end(self, kind, is_binary, after, client=None):
+    def until_end(self, kind, is_binary, after):
         """Packets of a kind, and an end."""
         def server(payload):
             if self.is_end(payload):
@@ -193,7 +193,7 @@ class Session:
                 raise Refused
             return kind, place
 
-        place = Place(server, client and (lambda payload: client(payload, place)))
+        place = Place(server)
         return place
 
     def prepared(self):
@@ -219,12 +219,20 @@ class Session:
         return Place(server)
 
     def stream(self):
-        def client(payload, place):
+        """Events, and acknowledgements. The end is an EOF packet, also where it is deprecated."""
+        def server(payload):
+            if payload[:1] == b"\0":
+                return "binlog_event", place
+            self.eof_status(payload)
+            return "eof", self.rest()
+
+        def client(payload):
             if payload[:1] != b"\xef":
                 raise Refused
             return "semi_sync_ack", place
 
-        return self.until_end("binlog_event", True, lambda _: self.rest(), client)
+        place = Place(server, client)
+        return place
 
     def refusal(self):
         def server(_payload):

@@ -9,7 +9,7 @@ use Rattle.mysql_conversation.specs.Parts.{◌followed_by◌, ◌or◌}
 use Rattle.mysql_conversation.specs.Payloads.{begins_ok, definitions_follow, has_more, opens_cursor, first_is, IsOk, IsEnd, IsOldEnd, IsInfileRequest, IsCount, IsRow, IsPrepared, asks_cursor}
 use Rattle.mysql_conversation.specs.Conversation as c
 use Rattle.mysql_conversation.specs.Conversation.{Packet, sent, served, answering, answered, ending, format_of, authentication_kind}
-use Rattle.mysql_conversation.specs.Machine.{serve, answers, reply_step, infile_step, infile_reply_step, line_step, last_step, prepared_by, prepared_step, command_step, begun, acknowledgement_step, logged_in, authentication_step, answer_step, ack_step, definitions_end_step, columns_step, counted, less, define, ended, line_of, reply_of, old_end_of, statement_at, ok_status}
+use Rattle.mysql_conversation.specs.Machine.{serve, answers, reply_step, infile_step, infile_reply_step, line_step, last_step, prepared_by, prepared_step, command_step, begun, acknowledgement_step, logged_in, authentication_step, answer_step, ack_step, definitions_end_step, event_step, columns_step, counted, less, define, ended, line_of, reply_of, old_end_of, statement_at, ok_status}
 use Rattle.mysql_conversation.specs.Taken.{packet}
 use Rattle.mysql_conversation.proofs.Classes.{reply_means, line_means, old_end_means, statement_at_is, ok_status_is, chosen, some_is, eqb_refl}
 use Rattle.mysql_conversation.specs.declared.state.After.{After}
@@ -149,13 +149,13 @@ back_fields a p (Some line.Row) k m items rest e w h t = back a state.Fields Ser
 back_fields a p (Some (line.End more)) k m items rest e w h t = back a state.Fields Server p _ k _ m items rest h
     (λ t. (_, many_none (c.field a) _, any_end_of a more p items rest t e (line_means a Text p _ w))) t
 
-back_events : (a : Agreed) (p : List ℕ) (r : Option Line) (k : Kind) (m : State) (items rest : List Packet)
-    → first_is 0xff p ≡ false → line_of a Binary p ≡ r → last_step (deprecates_eof a) kind.BinlogEvent state.Events r ≡ Some (k, m) → tail_of a m items rest → tail_of a state.Events (packet Server p k ∷ items) rest
-back_events a p None k m items rest e w h t = absurd cc
-back_events a p (Some line.Row) k m items rest e w h t = back a state.Events Server p _ k _ m items rest h
-    (λ t. (t.0, many_more (c.event or c.ack) _ items t.0 (inl (serving kind.BinlogEvent _ p items items refl e (line_means a Binary p _ w))) t.1, t.2)) t
-back_events a p (Some (line.End more)) k m items rest e w h t = back a state.Events Server p _ k _ m items rest h
-    (λ t. (_, many_none (c.event or c.ack) _, any_end_of a more p items rest t e (line_means a Binary p _ w))) t
+back_events : (a : Agreed) (p : List ℕ) (b : Bool) (o : Option StatusFlags) (k : Kind) (m : State) (items rest : List Packet)
+    → first_is 0xff p ≡ false → first_is 0 p ≡ b → old_end_of a p ≡ o → event_step b o ≡ Some (k, m) → tail_of a m items rest → tail_of a state.Events (packet Server p k ∷ items) rest
+back_events a p true o k m items rest e f w h t = back a state.Events Server p _ k _ m items rest h
+    (λ t. (t.0, many_more (c.event or c.ack) _ items t.0 (inl (serving kind.BinlogEvent _ p items items refl e f)) t.1, t.2)) t
+back_events a p false None k m items rest e f w h t = absurd cc
+back_events a p false (Some status) k m items rest e f w h t = back a state.Events Server p _ k _ m items rest h
+    (λ t. (_, many_none (c.event or c.ack) _, serving kind.Eof _ p items rest t e (status, old_end_means a status p w))) t
 
 -- ---- authentication
 
@@ -242,7 +242,7 @@ back_serve a state.Fetch p k m items rest e h t = back_fetch a p (line_of a Bina
 back_serve a state.Acknowledgement p k m items rest e h t = back_acknowledgement a p (line_of a Text p) (reply_of a p) k m items rest e refl refl h t
 back_serve a state.Text p k m items rest e h t = back a state.Text Server p _ k _ m items rest h (λ t. serving kind.Statistics _ p items rest t e tt) t
 back_serve a state.Fields p k m items rest e h t = back_fields a p (line_of a Text p) k m items rest e refl h t
-back_serve a state.Events p k m items rest e h t = back_events a p (line_of a Binary p) k m items rest e refl h t
+back_serve a state.Events p k m items rest e h t = back_events a p (first_is 0 p) (old_end_of a p) k m items rest e refl refl h t
 back_serve a state.Refusal p k m items rest e h t = absurd cc
 
 -- where an answer begins, all of it comes

@@ -146,6 +146,12 @@ ok_is_zero a p h = (and_parts (first_is 0 p) _ h).0
 pub zero_is_no_end : (deprecates : Bool) (p : List ℕ) → first_is 0 p ≡ true → looks_like_end deprecates p ≡ false
 zero_is_no_end deprecates p h = rw (first_unlike 0 0xfe p h refl) refl
 
+pub end_is_no_zero : (p : List ℕ) → looks_like_end false p ≡ true → first_is 0 p ≡ false
+end_is_no_zero p h = elim (chosen (first_is 0xfe p) _ _ _ h) [
+  | inl e ↦ first_unlike 0xfe 0 p e.0 refl
+  | inr e ↦ absurd cc
+]
+
 pub line_row : (a : Agreed) (format : Format) (p : List ℕ) → IsRow a format p → line_of a format p ≡ Some line.Row
 line_row a Text p h = rw h refl
 line_row a Binary p h = rw (zero_is_no_end (deprecates_eof a) p h, h) refl

@@ -208,5 +208,5 @@ to_come a state.Fetch h = let e = end_then a [] in (e.0, [], e.1, (_, many_none 
 to_come a state.Acknowledgement h = (packet Server ok_bytes kind.Ok, [], refl, inl (inr (ok_then a [])))
 to_come a state.Text h = (packet Server [] kind.Statistics, [], refl, serving kind.Statistics _ [] [] [] refl refl tt)
 to_come a state.Fields h = let e = end_then a [] in (e.0, [], e.1, (_, many_none (c.field a) _, inr e.2))
-to_come a state.Events h = let e = end_then a [] in (e.0, [], e.1, (_, many_none (c.event or c.ack) _, inr e.2))
+to_come a state.Events h = let e = old_end_comes a after.Rest in (e.0, e.1, e.2, (_, many_none (c.event or c.ack) _, e.3))
 to_come a state.Refusal h = (packet Server (0xff ∷ []) kind.Error, [], refl, (packet Server (0xff ∷ []) kind.Error, (refl, refl, (refl, short_report a)), refl))

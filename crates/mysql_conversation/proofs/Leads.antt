@@ -8,8 +8,8 @@ use Rattle.mysql_conversation.specs.Payloads.{has_more, opens_cursor, first_is, 
 use Rattle.mysql_conversation.specs.Agreements.{Agreed, deprecates_eof}
 use Rattle.mysql_conversation.specs.Conversation as c
 use Rattle.mysql_conversation.specs.Conversation.{Packet, sent, served, answering, answered, ending, format_of, authentication_kind, commands, inside}
-use Rattle.mysql_conversation.specs.Machine.{entrance, step, client_step, serve, rests, Run, StepsTo, answers, reply_step, infile_step, infile_reply_step, line_step, last_step, prepared_by, prepared_step, command_step, begun, acknowledgement_step, definitions_end_step, enter, defined, counted, less, define, ended, reply_of}
-use Rattle.mysql_conversation.proofs.Classes.{ok_status_of, reply_ok, reply_infile, reply_count, line_row, line_end, old_end_of_is, statement_at_of, eqb_is, zero_is_no_end, ok_is_zero}
+use Rattle.mysql_conversation.specs.Machine.{entrance, step, client_step, serve, rests, Run, StepsTo, answers, reply_step, infile_step, infile_reply_step, line_step, last_step, prepared_by, prepared_step, command_step, begun, acknowledgement_step, definitions_end_step, event_step, old_end_of, enter, defined, counted, less, define, ended, reply_of}
+use Rattle.mysql_conversation.proofs.Classes.{ok_status_of, reply_ok, reply_infile, reply_count, line_row, line_end, old_end_of_is, statement_at_of, eqb_is, zero_is_no_end, end_is_no_zero, ok_is_zero}
 use Rattle.mysql_conversation.proofs.States.{step_listens}
 use Rattle.mysql_conversation.specs.declared.state.After.{After}
 use Rattle.mysql_conversation.specs.declared.state.After.TheVariants as after
@@ -219,12 +219,9 @@ lead_events : (a : Agreed) → Leads a state.Events (c.events a) state.Rest
 lead_events a =
     lead_then a _ _ _ state.Events _
     (lead_many a state.Events (c.event or c.ack) (lead_or a _ _ _ _
-    (lead_served a state.Events kind.BinlogEvent _ state.Events (λ p h. ap (last_step (deprecates_eof a) kind.BinlogEvent state.Events) (line_row a Binary p h)))
+    (lead_served a state.Events kind.BinlogEvent _ state.Events (λ p h. ap (λ b. event_step b (old_end_of a p)) h))
     (lead_sent a state.Events kind.SemiSyncAck _ state.Events (λ p h. rw h refl))))
-    (lead_or a _ _ _ _ (at_end true) (at_end false))
-  where
-    at_end : (more : Bool) → Leads a state.Events (c.end a more) state.Rest
-    at_end more = lead_served a state.Events (ending (deprecates_eof a)) (IsEnd a more) state.Rest (λ p h. ap (last_step (deprecates_eof a) kind.BinlogEvent state.Events) (line_end a Binary more p h))
+    (lead_served a state.Events kind.Eof _ state.Rest (λ p h. rw (end_is_no_zero p h.1.0, old_end_of_is a h.0 p h.1) refl))
 
 -- ---- authentication
 

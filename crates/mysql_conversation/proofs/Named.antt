@@ -9,7 +9,7 @@ use Rattle.mysql_conversation.proofs.States.{by_cond}
 use Rattle.mysql_conversation.specs.Agreements.{Agreed, deprecates_eof, asks_factors, reports_progress}
 use Rattle.mysql_conversation.specs.Payloads.{first_is, begins_ok, is_report, begins_with_ff, is_one_byte, asks_cursor, opens_cursor}
 use Rattle.mysql_conversation.specs.Conversation.{answering, ending, format_of}
-use Rattle.mysql_conversation.specs.Machine.{step, take_step, client_step, serve, rests, is_due, error_kind, begun, command_step, infile_step, logged_in, authentication_step, reply_step, infile_reply_step, columns_step, definitions_end_step, line_step, last_step, prepared_step, acknowledgement_step, reply_of, line_of, old_end_of, statement_at, ok_status}
+use Rattle.mysql_conversation.specs.Machine.{step, take_step, client_step, serve, rests, is_due, error_kind, begun, command_step, infile_step, logged_in, authentication_step, reply_step, infile_reply_step, columns_step, definitions_end_step, event_step, line_step, last_step, prepared_step, acknowledgement_step, reply_of, line_of, old_end_of, statement_at, ok_status}
 use Rattle.mysql_conversation.specs.KindName.{name_of, index, is_in}
 use Rattle.mysql_conversation.specs.Expected.{sent_names, end_name, row_name, asked_names, served_names, error_name, reported, names, expects}
 use Rattle.mysql_conversation.proofs.Classes.{chosen, some_is}
@@ -165,6 +165,11 @@ named_columns status Query = refl
 named_columns status Execution = refl
 named_columns status Cursor = named_cond (name.Eof ∷ []) (opens_cursor status) _ _ refl refl
 
+named_event : (b : Bool) (o : Option StatusFlags) → Named (name.BinlogEvent ∷ name.Eof ∷ []) (event_step b o)
+named_event true o = refl
+named_event false None = tt
+named_event false (Some status) = refl
+
 named_definitions_end : (b : After) (o : Option StatusFlags) → Named (name.Eof ∷ []) (definitions_end_step b o)
 named_definitions_end (after.Rows r) None = tt
 named_definitions_end (after.Columns n) None = tt
@@ -209,7 +214,7 @@ named_serve a state.Fetch p = named_last (deprecates_eof a) name.BinaryRow (kind
 named_serve a state.Acknowledgement p = named_acknowledgement (deprecates_eof a) (line_of a Text p) (reply_of a p)
 named_serve a state.Text p = refl
 named_serve a state.Fields p = named_last (deprecates_eof a) name.Column kind.Column state.Fields (line_of a Text p) refl
-named_serve a state.Events p = named_last (deprecates_eof a) name.BinlogEvent kind.BinlogEvent state.Events (line_of a Binary p) refl
+named_serve a state.Events p = named_event (first_is 0 p) (old_end_of a p)
 named_serve a state.Refusal p = tt
 
 named_begun : (code : ℕ) (r : Option Answer) → Named (name.Command ∷ []) (begun code r)

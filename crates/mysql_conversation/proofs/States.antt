@@ -9,7 +9,7 @@ use Rattle.mysql_prepared.specs.declared.stmt_with_metadata.StmtPacketWithMetada
 use Rattle.mysql_conversation.specs.Agreements.{Agreed, deprecates_eof, asks_factors}
 use Rattle.mysql_conversation.specs.Payloads.{first_is, begins_ok, definitions_follow, is_one_byte, is_report, asks_cursor, opens_cursor, has_more}
 use Rattle.mysql_conversation.specs.Conversation.{answering, asks, commands, inside, ending, format_of, authentication_kind}
-use Rattle.mysql_conversation.specs.Machine.{entrance, step, take_step, client_step, serve, rests, listens, is_due, error_kind, answers, begun, command_step, infile_step, answer_step, logged_in, authentication_step, reply_step, infile_reply_step, columns_step, definitions_end_step, line_step, last_step, prepared_by, prepared_step, acknowledgement_step, enter, defined, less, define, counted, ended, reply_of, line_of, old_end_of, statement_at, ok_status}
+use Rattle.mysql_conversation.specs.Machine.{entrance, step, take_step, client_step, serve, rests, listens, is_due, error_kind, answers, begun, command_step, infile_step, answer_step, logged_in, authentication_step, reply_step, infile_reply_step, columns_step, definitions_end_step, event_step, line_step, last_step, prepared_by, prepared_step, acknowledgement_step, enter, defined, less, define, counted, ended, reply_of, line_of, old_end_of, statement_at, ok_status}
 use Rattle.mysql_conversation.proofs.Classes.{chosen, some_is}
 use Rattle.mysql_conversation.specs.declared.kind.Format.TheVariants.{Text, Binary}
 use Rattle.mysql_conversation.specs.declared.kind.Kind.{Kind}
@@ -183,6 +183,11 @@ fits_definitions_end (after.Rows r) (Some status) = fits_columns status r
 fits_definitions_end (after.Columns n) (Some status) = (enter_listens (after.Columns n), refl)
 fits_definitions_end after.Rest (Some status) = (refl, refl)
 
+fits_event : (b : Bool) (o : Option StatusFlags) → Fits (event_step b o)
+fits_event true o = (refl, refl)
+fits_event false None = tt
+fits_event false (Some status) = (refl, refl)
+
 fits_line : (d : Bool) (r : Request) (l : Option Line) → Fits (line_step d r l)
 fits_line d r None = tt
 fits_line d r (Some line.Row) = (refl, refl)
@@ -223,7 +228,7 @@ fits_serve a state.Fetch p = fits_last (deprecates_eof a) (kind.Row Binary) stat
 fits_serve a state.Acknowledgement p = fits_acknowledgement (deprecates_eof a) (line_of a Text p) (reply_of a p)
 fits_serve a state.Text p = (refl, refl)
 fits_serve a state.Fields p = fits_last (deprecates_eof a) kind.Column state.Fields (line_of a Text p) refl refl
-fits_serve a state.Events p = fits_last (deprecates_eof a) kind.BinlogEvent state.Events (line_of a Binary p) refl refl
+fits_serve a state.Events p = fits_event (first_is 0 p) (old_end_of a p)
 fits_serve a state.Refusal p = tt
 
 fits_infile : (r : Request) (p : List ℕ) → Fits (infile_step r p)

@@ -11,7 +11,7 @@ use Rattle.mysql_prepared.specs.StmtWithMetadata.{sends_metadata}
 use Rattle.mysql_conversation.specs.Agreements.{Agreed, deprecates_eof, asks_factors, reports_progress, has_optional_metadata}
 use Rattle.mysql_conversation.specs.Payloads.{first_is, begins_ok, is_report, IsOk, IsCount}
 use Rattle.mysql_conversation.specs.Conversation.{ending, format_of}
-use Rattle.mysql_conversation.specs.Machine.{take_step, serve, rests, is_due, error_kind, reply_step, infile_reply_step, definitions_end_step, line_step, last_step, prepared_step, acknowledgement_step, ended, counted, reply_of, line_of, old_end_of, ok_status}
+use Rattle.mysql_conversation.specs.Machine.{take_step, serve, rests, is_due, error_kind, reply_step, infile_reply_step, definitions_end_step, event_step, line_step, last_step, prepared_step, acknowledgement_step, ended, counted, reply_of, line_of, old_end_of, ok_status}
 use Rattle.mysql_conversation.specs.KindName.{name_of}
 use Rattle.mysql_conversation.specs.Expected.{sent_names, end_name, row_name, asked_names, served_names, error_name, reported, names, expects}
 use Rattle.mysql_conversation.proofs.Begun.{no_report}
@@ -198,8 +198,8 @@ each_served a state.Fields =
     (also (comes_end a state.Fields state.Rest (λ p t b. ap (last_step (deprecates_eof a) kind.Column state.Fields) t))
     tt)
 each_served a state.Events =
-    also (comes_served a state.Events name.BinlogEvent row_bytes kind.BinlogEvent state.Events refl refl (ap (last_step (deprecates_eof a) kind.BinlogEvent state.Events) (is_row a Binary)))
-    (also (comes_end a state.Events state.Rest (λ p t b. ap (last_step (deprecates_eof a) kind.BinlogEvent state.Events) b))
+    also (comes_served a state.Events name.BinlogEvent row_bytes kind.BinlogEvent state.Events refl refl refl)
+    (also (comes_served a state.Events name.Eof old_end_bytes kind.Eof state.Rest refl refl (ap (event_step false) (old_end_at a)))
     tt)
 each_served a state.Refusal = tt
 

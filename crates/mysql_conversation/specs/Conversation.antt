@@ -87,10 +87,13 @@ format_of Query = Text
 format_of Execution = Binary
 format_of Cursor = Binary
 
+abbrev pub eof : Agreed → Part
+eof a = served kind.Eof (λ p. (status : StatusFlags) × IsOldEnd a status p)
+
 -- the EOF packet after definitions, where it isn't deprecated
 abbrev pub definitions_end : Agreed → Bool → Part
 definitions_end a true = nothing
-definitions_end a false = served kind.Eof (λ p. (status : StatusFlags) × IsOldEnd a status p)
+definitions_end a false = eof a
 
 -- the same of a result whose rows follow: no cursor is open, or none was asked for
 abbrev pub columns_end : Agreed → Request → Bool → Part
@@ -179,8 +182,9 @@ event = served kind.BinlogEvent (λ p. first_is 0 p ≡ true)
 abbrev pub ack : Part
 ack = sent kind.SemiSyncAck (λ p. first_is 0xef p ≡ true)
 
+-- The last is an EOF packet under any capabilities: CLIENT_DEPRECATE_EOF doesn't change a stream of events.
 abbrev pub events : Agreed → Part
-events a = many (event or ack) followed_by any_end a
+events a = many (event or ack) followed_by eof a
 
 -- ---- commands
 

@@ -184,6 +184,12 @@ client_step state.Fields p = None
 client_step state.Events p = ack_step p
 client_step state.Refusal p = None
 
+-- an event, or the EOF packet after the last
+abbrev pub event_step : Bool → Option StatusFlags → Option (Kind × State)
+event_step true status = Some (kind.BinlogEvent, state.Events)
+event_step false None = None
+event_step false (Some status) = Some (kind.Eof, state.Rest)
+
 -- after a count
 abbrev pub counted : Bool → ℕ → Bool → After → State
 counted deprecates n true b = define n b
@@ -270,7 +276,7 @@ serve a state.Fetch p = last_step (deprecates_eof a) (kind.Row Binary) state.Fet
 serve a state.Acknowledgement p = acknowledgement_step (deprecates_eof a) (line_of a Text p) (reply_of a p)
 serve a state.Text p = Some (kind.Statistics, state.Rest)
 serve a state.Fields p = last_step (deprecates_eof a) kind.Column state.Fields (line_of a Text p)
-serve a state.Events p = last_step (deprecates_eof a) kind.BinlogEvent state.Events (line_of a Binary p)
+serve a state.Events p = event_step (first_is 0 p) (old_end_of a p)
 serve a state.Refusal p = None
 
 -- ---- whose turn it is

@@ -82,7 +82,7 @@ fn is_served(agreed: SessionCapabilities, state: &State, name: KindName) -> bool
         State::Acknowledgement => matches!(name, KindName::Ok) || ends,
         State::Text => matches!(name, KindName::Statistics),
         State::Fields => matches!(name, KindName::Column) || ends,
-        State::Events => matches!(name, KindName::BinlogEvent) || ends,
+        State::Events => matches!(name, KindName::BinlogEvent | KindName::Eof),
     }
 }
 

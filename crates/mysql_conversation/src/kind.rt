@@ -59,9 +59,9 @@ pub enum Kind {
     ColumnCount(u64, bool),
     /// The definition of a column or a parameter.
     Column,
-    /// An EOF packet: the end of definitions, of rows or of a stream of events.
+    /// An EOF packet: the end of definitions and of rows, and of a stream of events under any capabilities.
     Eof,
-    /// The end of rows or of a stream of events as an OK packet, under `CLIENT_DEPRECATE_EOF`.
+    /// The end of rows as an OK packet, under `CLIENT_DEPRECATE_EOF`.
     OkTerminator,
     /// A row.
     Row(Format),

@@ -7,7 +7,7 @@ ghost use Rattle.mysql_conversation.specs.Payloads as payloads;
 ghost use Rattle.mysql_conversation.specs.declared.state.State.TheVariants as spec_state;
 
 use crate::kind::Kind;
-use crate::payload::{has_more, opens_cursor, statement_at};
+use crate::payload::{first_is, has_more, old_end_of, opens_cursor, statement_at};
 use crate::state::{After, Line, Reply, Request, State, format_of};
 use mysql_prepared::StmtPacketWithMetadata;
 use mysql_replies::SessionCapabilities;
@@ -212,6 +212,26 @@ pub(crate) fn last_step(
             Some(ending(deprecates))
         }
     }
+}
+
+/// An event, or the EOF packet after the last, which is no OK packet under any capabilities.
+#[inline(always)]
+pub(crate) fn event_step(
+    alloc: Global,
+    agreed: SessionCapabilities,
+    state: &mut State,
+    payload: &[u8],
+) -> Option<Kind>
+    requires { state.old ≡ spec_state.Events }
+    ensures some { IfSome result (λ kind. spec.event_step (payloads.first_is 0 payload.now) (spec.old_end_of agreed payload.now) ≡ Some (kind, state.new)) }
+    ensures none { IfNone result ((spec.event_step (payloads.first_is 0 payload.now) (spec.old_end_of agreed payload.now) ≡ None) × (state.new ≡ state.old)) }
+{
+    if first_is(0, payload) {
+        return Some(Kind::BinlogEvent);
+    }
+    old_end_of(alloc, agreed, payload)?;
+    *state = State::Rest;
+    Some(Kind::Eof)
 }
 
 /// Whether the definitions of a prepared statement follow: they do where no byte says so.

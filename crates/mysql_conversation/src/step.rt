@@ -12,8 +12,8 @@ use crate::payload::{
     ok_status, old_end_of, reply_of,
 };
 use crate::results::{
-    acknowledgement_step, definitions_end_step, infile_reply_step, last_step, less, line_step,
-    prepared_step, reply_step,
+    acknowledgement_step, definitions_end_step, event_step, infile_reply_step, last_step, less,
+    line_step, prepared_step, reply_step,
 };
 use crate::state::{Answer, Request, State, format_of};
 use mysql_replies::SessionCapabilities;
@@ -203,12 +203,7 @@ fn serve(
             Kind::Column,
             line_of(alloc, agreed, Format::Text, payload),
         ),
-        State::Events => last_step(
-            state,
-            deprecates,
-            Kind::BinlogEvent,
-            line_of(alloc, agreed, Format::Binary, payload),
-        ),
+        State::Events => event_step(alloc, agreed, state, payload),
     }
 }
 

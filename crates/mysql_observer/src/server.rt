@@ -46,7 +46,7 @@ pub enum ServerPacket<'a, 'c, C: TypedColumn> {
     Column(ExtendedColumnRef<'a>),
     /// An EOF packet: its status and its count of warnings.
     Eof(OkPacketRef<'a>),
-    /// The end of rows or of a stream of events as an OK packet.
+    /// The end of rows as an OK packet.
     OkTerminator(OkPacketRef<'a>),
     /// A row of text, whose values are read one by one.
     TextRow(TextRowView<'a>),

@@ -39,7 +39,7 @@ fn read_eof<'s, 'a>(
     Ok(packet.into_inner())
 }
 
-/// The OK packet at the end of rows or of a stream of events.
+/// The OK packet at the end of rows.
 fn read_ok_terminator<'s, 'a>(
     agreed: SessionCapabilities,
     buf: &mut ParseBuf<'a>,
