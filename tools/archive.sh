@@ -1,17 +1,31 @@
 #!/usr/bin/env bash
 # Prints the path of a static library's archive, which is proved and built first where it is not there, or a source is newer.
 #
-# tools/archive.sh CRATE
+# tools/archive.sh CRATE [MACHINE]: of this machine, or of one that `uname -m` calls so
 set -euo pipefail
 top=$(cd -- "$(dirname -- "${BASH_SOURCE[0]}")/.." && pwd)
 out=$top/crates/$1/out
+machine=${2:-$(uname -m)}
+# is_new ARCHIVE: it is there, and no source is newer
+is_new() { [[ -f $1 && ! $(find "$top/crates.txt" "$top"/crates/*/{src,specs,proofs} -newer "$1" -print -quit) ]]; }
+
 # (tools/gate.py leaves the first one, and rt lib makes the second)
-for archive in "$out/$1.a" "$out/lib$1.a"; do
-    if [[ -f $archive && ! $(find "$top/crates.txt" "$top"/crates/*/{src,specs,proofs} -newer "$archive" -print -quit) ]]; then
+archives=("$out/$1.a" "$out/lib$1.a")
+if [[ $machine != "$(uname -m)" ]]; then archives=("$out/$1-$machine.a"); fi
+for archive in "${archives[@]}"; do
+    if is_new "$archive"; then
         printf '%s\n' "$archive"
         exit
     fi
 done
+if [[ $machine != "$(uname -m)" ]]; then
+    # (what lies below it is proved for each machine)
+    "$top/tools/archive.sh" "$1" >/dev/null
+    printf '%s: proved and built for %s: some minutes\n' "$1" "$machine" >&2
+    "$top/tools/cross.py" "$1" "$machine" "$archive" >&2
+    printf '%s\n' "$archive"
+    exit
+fi
 # (a line as each crate's turn comes: from nothing it is most of an hour)
 log=$(mktemp)
 trap 'rm -f -- "$log"' EXIT

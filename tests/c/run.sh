@@ -9,6 +9,7 @@
 # conversations.py   which packet comes next, in recorded conversations and changed ones, compared with the second tracker
 # live.py      the examples against a MariaDB server, where one is installed
 # package.py   the Python package, installed in an environment of its own
+# aarch64.sh   abi.c, memory.c and hostile.c over the library for aarch64, as qemu runs them, where its compiler and qemu are installed
 # release.sh   what is handed out: made twice it is the same, and the driver is built with it in another folder
 #
 # The address and undefined behaviour sanitizers watch the programs in C, where the compiler has them. The last line is 'N passed, N
@@ -67,6 +68,7 @@ counted "$top/tests/c/rows.py" "$prefix/lib/libmysql_packets.so" "$count"
 counted "$top/tests/c/conversations.py" "$prefix/lib/libmysql_packets.so"
 counted "$top/tests/c/live.py" "$prefix"
 counted "$top/tests/c/package.py" "$prefix"
+counted "$top/tests/c/aarch64.sh"
 counted "$top/tests/c/release.sh"
 
 # C++ takes the header too
