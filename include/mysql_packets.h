@@ -155,7 +155,7 @@ enum myp_packet_kind {
     MYP_PACKET_COLUMN_COUNT, /* how many in `columns` */
     MYP_PACKET_COLUMN, /* the definition of a column or a parameter */
     MYP_PACKET_EOF, /* the end of definitions, of rows or of events */
-    MYP_PACKET_OK_TERMINATOR, /* the same as an OK packet */
+    MYP_PACKET_OK_TERMINATOR, /* the end of rows, as an OK packet */
     MYP_PACKET_TEXT_ROW,
     MYP_PACKET_BINARY_ROW,
     MYP_PACKET_PREPARE_OK, /* a prepared statement: `columns` and `params` */
