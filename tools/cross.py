@@ -19,15 +19,15 @@ def main(name, machine, archive):
     if lacking:
         print(f"cross.py: not built: {', '.join(lacking)}", file=sys.stderr)
         return 1
-    words = crate.words([], keeps=False) + ["--target", f"{machine}-unknown-linux-gnu"]
-    jobs = ["--jobs", str(min(4, rt.processors()))]
-    at = words.index("--logic-built")
+    words = crate.words(["--jobs", str(min(4, rt.processors()))], keeps=False) + ["--target", f"{machine}-unknown-linux-gnu"]
+    built = [*words]
+    for flag in ("--logic-built", "--jobs"):
+        at = built.index(flag)
+        built = [*built[:at], *built[at + 2 :]]
     with tempfile.TemporaryDirectory(prefix="cross-") as folder, open(f"{folder}/said", "w+") as said:
-        made = [[rt.rtlib.RATTLE, "check", *words, *jobs, "-o", f"{folder}/checked"],
-                [rt.rtlib.RATTLE, "build", *words[:at], *words[at + 2 :], "--crate-checked", f"{folder}/checked", "--toolchain", f"{rt.KIT}/toolchain",
-                 "--backend", "llvm", "-o", archive]]
-        for command in made:
-            if subprocess.run(command, cwd=crate.folder, stdin=subprocess.DEVNULL, stdout=said, stderr=said).returncode:
+        built += ["--crate-checked", f"{folder}/checked", "--toolchain", f"{rt.KIT}/toolchain", "--backend", "llvm"]
+        for command in (["check", *words, "-o", f"{folder}/checked"], ["build", *built, "-o", archive]):
+            if subprocess.run([rt.rtlib.RATTLE, *command], cwd=crate.folder, stdin=subprocess.DEVNULL, stdout=said, stderr=said).returncode:
                 said.seek(0)
                 sys.stderr.write(said.read())
                 return 1
