@@ -1,5 +1,5 @@
 -- One step after another.
-use Rattle.std.proofs.Common.{◌≡◌, ◌⊎◌, inl, inr, ℕ, ◌+◌, ◌<◌, length, take, get_or, true, List, [], ◌∷◌, ◌++◌, Option, Some, None, Result, Ok, Err, IfOk, OnOk, refl, sym, ap, subst, ◌∙◌, append_assoc, append-nil}
+use Rattle.std.proofs.Common.{◌≡◌, ◌⊎◌, inl, inr, ℕ, ◌+◌, ◌<◌, length, take, get_or, true, false, List, [], ◌∷◌, ◌++◌, Option, Some, None, Result, Ok, Err, IfOk, OnOk, refl, sym, ap, subst, ◌∙◌, append_assoc, append-nil}
 use Rattle.std.proofs.lemmas.List.{take_more}
 use Rattle.mysql_conversation.specs.declared.kind.Side.{Side}
 use Rattle.mysql_conversation.specs.declared.kind.Side.TheVariants as side
@@ -7,18 +7,18 @@ use Rattle.mysql_recorder.specs.Followed.{IsFollowed}
 use Rattle.mysql_recorder.specs.Frames.{Piece, joined, AreFrames, NoneComes, IsNumbered, ComeIn}
 use Rattle.mysql_recorder.specs.Lines.{Heard, heard, IsRead, Stands, Passes}
 use Rattle.mysql_recorder.specs.Recorded as recorded
-use Rattle.mysql_recorder.specs.Recorded.{Recorded, Takes}
+use Rattle.mysql_recorder.specs.Recorded.{IsReadTo, Recorded, Takes}
 use Rattle.mysql_recorder.specs.Shown.{Item, Writes, placed}
 use Rattle.mysql_recorder.specs.Sides.{Stand, has_lost, layout, piece, IsAt, Reads, passed_of}
 use Rattle.mysql_recorder.specs.Sides as sides
 use Rattle.mysql_recorder.specs.declared.error.RecordingError.{RecordingError}
 use Rattle.mysql_recorder.specs.declared.line.Said.TheVariants as says
 use Rattle.mysql_recorder.specs.declared.recording.Recording.{Recording}
-use Rattle.mysql_recorder.specs.declared.sides.Came.{Came}
-use Rattle.mysql_recorder.specs.declared.sides.Came.TheVariants as came_as
+use Rattle.mysql_recorder.specs.declared.piece.Came.{Came}
+use Rattle.mysql_recorder.specs.declared.piece.Came.TheVariants as came_as
 use Rattle.mysql_recorder.specs.declared.sides.Sides.{Sides}
 use Rattle.mysql_recorder.proofs.Frames.{joined-append, writes_then, come_then}
-use Rattle.mysql_recorder.proofs.Texts.{read_byte}
+use Rattle.mysql_recorder.proofs.Texts.{line_ends, read_byte}
 
 -- ---- sides
 
@@ -64,8 +64,8 @@ out_of_step more side n old new before after e pieces items h = some_none (passe
 pub read_client : (old new : Sides) (bytes before after : List ℕ)
     → ((items : List Item) → IsAt old.client old.packets items → (here : List Item) × Reads side.Client bytes [] items here old.client new.client old.packets new.packets before after)
     → (IsNumbered old.client.reader → NoneComes new.client.reader.held)
-    → new.client.passed ≡ old.client.passed → new.server ≡ old.server → new.has_lost ≡ old.has_lost → sides.GoesOn (piece side.Client bytes ∷ []) old new before after
-read_client old new bytes before after reads none passed server lost pieces items h =
+    → new.client.passed ≡ old.client.passed → new.server ≡ old.server → new.has_lost ≡ old.has_lost → new.longest ≡ old.longest → sides.GoesOn (piece side.Client bytes ∷ []) old new before after
+read_client old new bytes before after reads none passed server lost longest pieces items h =
     let r = reads items (h.client_numbered, h.followed) in
     let last = none h.client_numbered in
     inr (
@@ -76,6 +76,8 @@ read_client old new bytes before after reads none passed server lost pieces item
             (subst (λ left. AreFrames r.0 (old.client.reader.held ++ bytes) left) (append-nil new.client.reader.held) r.1.frames) last);
         client_numbered = r.1.numbered;
         server_numbered = subst (λ s. IsNumbered s.reader) (sym server) h.server_numbered;
+        client_limit = r.1.limit ∙ h.client_limit ∙ sym longest;
+        server_limit = ap (λ s. s.reader.limit) server ∙ h.server_limit ∙ sym longest;
         client_none = last;
         server_none = subst (λ s. NoneComes s.reader.held) (sym server) h.server_none;
         followed = r.1.followed;
@@ -89,8 +91,8 @@ read_client old new bytes before after reads none passed server lost pieces item
 pub read_server : (old new : Sides) (bytes before after : List ℕ)
     → ((items : List Item) → IsAt old.server old.packets items → (here : List Item) × Reads side.Server bytes [] items here old.server new.server old.packets new.packets before after)
     → (IsNumbered old.server.reader → NoneComes new.server.reader.held)
-    → new.server.passed ≡ old.server.passed → new.client ≡ old.client → new.has_lost ≡ old.has_lost → sides.GoesOn (piece side.Server bytes ∷ []) old new before after
-read_server old new bytes before after reads none passed client lost pieces items h =
+    → new.server.passed ≡ old.server.passed → new.client ≡ old.client → new.has_lost ≡ old.has_lost → new.longest ≡ old.longest → sides.GoesOn (piece side.Server bytes ∷ []) old new before after
+read_server old new bytes before after reads none passed client lost longest pieces items h =
     let r = reads items (h.server_numbered, h.followed) in
     let last = none h.server_numbered in
     inr (
@@ -101,6 +103,8 @@ read_server old new bytes before after reads none passed client lost pieces item
             (subst (λ left. AreFrames r.0 (old.server.reader.held ++ bytes) left) (append-nil new.server.reader.held) r.1.frames) last);
         client_numbered = subst (λ s. IsNumbered s.reader) (sym client) h.client_numbered;
         server_numbered = r.1.numbered;
+        client_limit = ap (λ s. s.reader.limit) client ∙ h.client_limit ∙ sym longest;
+        server_limit = r.1.limit ∙ h.server_limit ∙ sym longest;
         client_none = subst (λ s. NoneComes s.reader.held) (sym client) h.client_none;
         server_none = last;
         followed = r.1.followed;
@@ -115,19 +119,19 @@ pub whole_client : (r : Result Came RecordingError) (old new : Sides) (bytes bef
     → IfOk r (λ came. came ≡ came_as.Whole → (items : List Item) → IsAt old.client old.packets items
     → (here : List Item) × Reads side.Client bytes [] items here old.client new.client old.packets new.packets before after)
     → IfOk r (λ came. came ≡ came_as.Whole → IsNumbered old.client.reader → NoneComes new.client.reader.held)
-    → new.client.passed ≡ old.client.passed → new.server ≡ old.server → new.has_lost ≡ old.has_lost
+    → new.client.passed ≡ old.client.passed → new.server ≡ old.server → new.has_lost ≡ old.has_lost → new.longest ≡ old.longest
     → IfOk r (λ came. came ≡ came_as.Whole → sides.GoesOn (piece side.Client bytes ∷ []) old new before after)
-whole_client (Err e) old new bytes before after reads none passed server lost = tt
-whole_client (Ok came) old new bytes before after reads none passed server lost = λ w. read_client old new bytes before after (reads w) (none w) passed server lost
+whole_client (Err e) old new bytes before after reads none passed server lost longest = tt
+whole_client (Ok came) old new bytes before after reads none passed server lost longest = λ w. read_client old new bytes before after (reads w) (none w) passed server lost longest
 
 pub whole_server : (r : Result Came RecordingError) (old new : Sides) (bytes before after : List ℕ)
     → IfOk r (λ came. came ≡ came_as.Whole → (items : List Item) → IsAt old.server old.packets items
     → (here : List Item) × Reads side.Server bytes [] items here old.server new.server old.packets new.packets before after)
     → IfOk r (λ came. came ≡ came_as.Whole → IsNumbered old.server.reader → NoneComes new.server.reader.held)
-    → new.server.passed ≡ old.server.passed → new.client ≡ old.client → new.has_lost ≡ old.has_lost
+    → new.server.passed ≡ old.server.passed → new.client ≡ old.client → new.has_lost ≡ old.has_lost → new.longest ≡ old.longest
     → IfOk r (λ came. came ≡ came_as.Whole → sides.GoesOn (piece side.Server bytes ∷ []) old new before after)
-whole_server (Err e) old new bytes before after reads none passed client lost = tt
-whole_server (Ok came) old new bytes before after reads none passed client lost = λ w. read_server old new bytes before after (reads w) (none w) passed client lost
+whole_server (Err e) old new bytes before after reads none passed client lost longest = tt
+whole_server (Ok came) old new bytes before after reads none passed client lost longest = λ w. read_server old new bytes before after (reads w) (none w) passed client lost longest
 
 -- all but the answer that is awaited is the same
 same_stand : (old new : Sides) (pieces : List Piece) (items : List Item) → sides.IsSame old new → Stand old pieces items → Stand new pieces items
@@ -135,6 +139,8 @@ same_stand old new pieces items e h = record {
   come = subst (λ c. ComeIn [] [] pieces items c.reader.held new.server.reader.held) (sym e.client) (subst (λ s. ComeIn [] [] pieces items old.client.reader.held s.reader.held) (sym e.server) h.come);
   client_numbered = subst (λ s. IsNumbered s.reader) (sym e.client) h.client_numbered;
   server_numbered = subst (λ s. IsNumbered s.reader) (sym e.server) h.server_numbered;
+  client_limit = ap (λ s. s.reader.limit) e.client ∙ h.client_limit ∙ sym e.longest;
+  server_limit = ap (λ s. s.reader.limit) e.server ∙ h.server_limit ∙ sym e.longest;
   client_none = subst (λ s. NoneComes s.reader.held) (sym e.client) h.client_none;
   server_none = subst (λ s. NoneComes s.reader.held) (sym e.server) h.server_none;
   followed = subst (λ p. IsFollowed p.followed (placed items)) (sym e.packets) h.followed;
@@ -155,8 +161,9 @@ goes_same more old mid new before after g e pieces items h =
 taken : (mid new : Recording) (text : List ℕ) (said : List Heard) (pieces : List Piece) (items : List Item) (before after : List ℕ)
     → IsRead text mid.place said → said ≡ joined pieces ++ heard mid.line.side mid.line.bytes.items → Stand mid.sides pieces items
     → Takes mid new before after → new.place ≡ mid.place → new.line.bytes.items ≡ []
+    → (new.line.is_untaken ≡ true → IsReadTo text new.place (joined (pieces ++ piece mid.line.side mid.line.bytes.items ∷ [])) [])
     → (recorded.has_lost new ≡ true) ⊎ ((here : List Item) × Recorded new text (items ++ here) × Writes (recorded.layout mid) here before after)
-taken mid new text said pieces items before after read waits stand takes place bytes =
+taken mid new text said pieces items before after read waits stand takes place bytes untaken =
     let p : Piece = piece mid.line.side mid.line.bytes.items in
     elim (takes pieces items stand) as (λ _. (recorded.has_lost new ≡ true) ⊎ ((here : List Item) × Recorded new text (items ++ here) × Writes (recorded.layout mid) here before after)) [
       | inl e ↦ inl e
@@ -168,16 +175,17 @@ taken mid new text said pieces items before after read waits stand takes place b
           read = subst (λ at. IsRead text at said) (sym place) read;
           waits = waits ∙ sym (joined-append pieces p) ∙ sym (append-nil (joined (pieces ++ p ∷ []))) ∙ ap (λ b. joined (pieces ++ p ∷ []) ++ heard new.line.side b) (sym bytes);
           line = inl bytes;
+          untaken = λ e. subst (λ b. IsReadTo text new.place (joined (pieces ++ p ∷ [])) (heard new.line.side b)) (sym bytes) (untaken e);
           stand = f.1;
         },
         f.2,
       )
     ]
 
-pub takes_goes : (mid new : Recording) (before after : List ℕ) → Takes mid new before after → new.place ≡ mid.place → new.line.bytes.items ≡ [] → recorded.GoesOn [] mid new before after
-takes_goes mid new before after takes place bytes text items h =
+pub takes_goes : (mid new : Recording) (before after : List ℕ) → Takes mid new before after → new.place ≡ mid.place → new.line.bytes.items ≡ [] → new.line.is_untaken ≡ false → recorded.GoesOn [] mid new before after
+takes_goes mid new before after takes place bytes is_taken text items h =
     subst (λ t. (recorded.has_lost new ≡ true) ⊎ ((here : List Item) × Recorded new t (items ++ here) × Writes (recorded.layout mid) here before after)) (sym (append-nil text))
-    (taken mid new text h.said h.pieces items before after h.read h.waits h.stand takes place bytes)
+    (taken mid new text h.said h.pieces items before after h.read h.waits h.stand takes place bytes (λ e. absurd (let no : true ≡ false = sym e ∙ is_taken in cc)))
 
 -- the byte that ends a line
 pub ends_goes : (old mid new : Recording) (c : ℕ) (before after : List ℕ)
@@ -189,7 +197,10 @@ ends_goes old mid new c before after passes line same takes place bytes text ite
     (read_byte text h.said old.place mid.place c (Some says.End) h.read passes)
     (append-nil h.said ∙ h.waits ∙ ap (λ l. joined h.pieces ++ heard l.side l.bytes.items) (sym line))
     (subst (λ s. Stand s h.pieces items) (sym same) h.stand)
-    takes place bytes)
+    takes place bytes
+    (λ e. subst (λ said. IsReadTo (text ++ c ∷ []) new.place said [])
+    (h.waits ∙ ap (λ l. joined h.pieces ++ heard l.side l.bytes.items) (sym line) ∙ sym (joined-append h.pieces (piece mid.line.side mid.line.bytes.items)))
+    (subst (λ at. IsReadTo (text ++ c ∷ []) at h.said []) (sym place) (line_ends text h.said old.place mid.place c h.read passes))))
 
 pub recorded_goes : (more : List ℕ) (old new : Recording) (text : List ℕ)
     → ((read : List ℕ) (items : List Item) → Recorded old read items → Recorded new (read ++ more) (items ++ [])) → recorded.GoesOn more old new text text
@@ -233,9 +244,9 @@ ends_on_ok (Ok u) old mid new c before after passes line same takes place bytes 
 ends_on_ok (Err e) old mid new c before after passes line same takes place bytes = tt
 
 pub takes_on_ok : (r : Result (Unit {0}) RecordingError) (mid new : Recording) (before after : List ℕ)
-    → OnOk r (Takes mid new before after) → new.place ≡ mid.place → OnOk r (new.line.bytes.items ≡ []) → OnOk r (recorded.GoesOn [] mid new before after)
-takes_on_ok (Ok u) mid new before after takes place bytes = takes_goes mid new before after takes place bytes
-takes_on_ok (Err e) mid new before after takes place bytes = tt
+    → OnOk r (Takes mid new before after) → new.place ≡ mid.place → OnOk r (new.line.bytes.items ≡ []) → new.line.is_untaken ≡ false → OnOk r (recorded.GoesOn [] mid new before after)
+takes_on_ok (Ok u) mid new before after takes place bytes is_taken = takes_goes mid new before after takes place bytes is_taken
+takes_on_ok (Err e) mid new before after takes place bytes is_taken = tt
 
 -- ---- the bytes of a text, one after another
 

@@ -19,6 +19,7 @@ pub record Reads (side : Side) (piece left : List ℕ) (items here : List Item) 
   pub from : AreFrom side here
   pub frames : AreFrames here (old.reader.held ++ piece) (new.reader.held ++ left)
   pub numbered : IsNumbered new.reader
+  pub limit : new.reader.limit ≡ old.reader.limit
   pub followed : IsFollowed after.followed (placed (items ++ here))
   pub written : Writes before.layout here text_before text_after
 
@@ -27,6 +28,10 @@ layout s = s.packets.layout
 
 abbrev pub has_lost : Sides → Bool
 has_lost s = s.has_lost
+
+-- the longest payload
+abbrev pub longest : Sides → ℕ
+longest s = s.longest
 
 abbrev pub passed_of : Side → Sides → Option ℕ
 passed_of Client s = s.client.passed
@@ -37,6 +42,8 @@ pub record Stand (s : Sides) (pieces : List Piece) (items : List Item) : Type 0 
   pub come : ComeIn [] [] pieces items s.client.reader.held s.server.reader.held
   pub client_numbered : IsNumbered s.client.reader
   pub server_numbered : IsNumbered s.server.reader
+  pub client_limit : s.client.reader.limit ≡ s.longest
+  pub server_limit : s.server.reader.limit ≡ s.longest
   pub client_none : NoneComes s.client.reader.held
   pub server_none : NoneComes s.server.reader.held
   pub followed : IsFollowed s.packets.followed (placed items)
@@ -57,6 +64,7 @@ pub record IsSame (old new : Sides) : Type 0 where
   pub client : new.client ≡ old.client
   pub server : new.server ≡ old.server
   pub has_lost : new.has_lost ≡ old.has_lost
+  pub longest : new.longest ≡ old.longest
   pub packets : new.packets ≡ old.packets
 
 -- where nothing is lost, nothing is appended

@@ -2,6 +2,7 @@
 
 ghost use Rattle.std.specs.Prelude.{◌≡◌, ◌≢◌, [], ◌∷◌, ◌++◌, List, IfOk, IfErr, OnOk, string_bytes};
 ghost use Rattle.mysql_conversation.specs.Pipelined.{Numbered};
+ghost use Rattle.mysql_fields.specs.Entries.{Stays};
 ghost use Rattle.mysql_recorder.specs.Followed.{IsFollowed};
 ghost use Rattle.mysql_recorder.specs.Entries.{entry_as};
 ghost use Rattle.mysql_conversation.specs.declared.kind_name.KindName as names_of;
@@ -144,7 +145,9 @@ impl Packets {
         side: Side,
         field: Field<'_>,
         out: &mut String,
-    ) -> Result<(), AllocError> {
+    ) -> Result<(), AllocError>
+        ensures { OnOk result (Stays (string_bytes out.old) (string_bytes out.new)) }
+    {
         let is_next = kind == "taken_up" && side == Side::Client;
         let remark = Remark {
             side,
@@ -168,6 +171,7 @@ impl Packets {
             → (why : refusals.Refusal) × ShowsRefused KindName.ALL self.old.layout side sequence payload.now items why (string_bytes out.old) (string_bytes out.new)) }
         ensures refused { IfErr result (λ e. (items : List Numbered) → IsFollowed self.old.followed items
             → IfRefused e (λ why. ShowsRefused KindName.ALL self.old.layout side sequence payload.now items why (string_bytes out.old) (string_bytes out.new))) }
+        ensures stays { IfOk result (λ taken. Stays (string_bytes out.old) (string_bytes out.new)) }
         ensures layout { self.new.layout ≡ self.old.layout }
     {
         let is_between = self.followed.is_at_rest();
