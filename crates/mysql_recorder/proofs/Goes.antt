@@ -9,14 +9,16 @@ use Rattle.mysql_recorder.specs.Lines.{Heard, heard, IsRead, Stands, Passes}
 use Rattle.mysql_recorder.specs.Recorded as recorded
 use Rattle.mysql_recorder.specs.Recorded.{IsReadTo, Recorded, Takes}
 use Rattle.mysql_recorder.specs.Shown.{Item, Writes, placed}
-use Rattle.mysql_recorder.specs.Sides.{Stand, has_lost, layout, piece, IsAt, Reads, passed_of}
+use Rattle.mysql_recorder.specs.Sides.{InStep, IsSummed, Stand, has_lost, layout, piece, IsAt, Reads, passed_of}
 use Rattle.mysql_recorder.specs.Sides as sides
 use Rattle.mysql_recorder.specs.declared.error.RecordingError.{RecordingError}
 use Rattle.mysql_recorder.specs.declared.line.Said.TheVariants as says
 use Rattle.mysql_recorder.specs.declared.recording.Recording.{Recording}
+use Rattle.mysql_recorder.specs.declared.packets.Packets.{Packets}
 use Rattle.mysql_recorder.specs.declared.piece.Came.{Came}
 use Rattle.mysql_recorder.specs.declared.piece.Came.TheVariants as came_as
 use Rattle.mysql_recorder.specs.declared.sides.Sides.{Sides}
+use Rattle.mysql_recorder.specs.declared.stream.Stream.{Stream}
 use Rattle.mysql_recorder.proofs.Frames.{joined-append, writes_then, come_then}
 use Rattle.mysql_recorder.proofs.Texts.{line_ends, read_byte}
 
@@ -50,9 +52,9 @@ then_on_ok (Ok u) b old mid new x y z first lost same second = sides_then [] b o
 then_on_ok (Err e) b old mid new x y z first lost same second = tt
 
 -- a stream that is out of step is no longer that of a connection of which nothing is lost
-passed_none : (s : Sides) (side : Side) (pieces : List Piece) (items : List Item) → Stand s pieces items → passed_of side s ≡ None
-passed_none s side.Client pieces items h = h.client_in_step
-passed_none s side.Server pieces items h = h.server_in_step
+pub passed_none : (s : Sides) (side : Side) (pieces : List Piece) (items : List Item) → Stand s pieces items → passed_of side s ≡ None
+passed_none s side.Client pieces items h = h.client.none_passed
+passed_none s side.Server pieces items h = h.server.none_passed
 
 some_none : {A : Type 0} (o : Option ℕ) (n : ℕ) → o ≡ Some n → o ≡ None → A
 some_none o n e f = absurd (let g : Some n ≡ None = sym e ∙ f in cc)
@@ -60,29 +62,36 @@ some_none o n e f = absurd (let g : Some n ≡ None = sym e ∙ f in cc)
 pub out_of_step : (more : List Piece) (side : Side) (n : ℕ) (old new : Sides) (before after : List ℕ) → passed_of side old ≡ Some n → sides.GoesOn more old new before after
 out_of_step more side n old new before after e pieces items h = some_none (passed_of side old) n e (passed_none old side pieces items h)
 
+-- the stream of a piece, and the other one
+read_step : (side : Side) (bytes : List ℕ) (items here : List Item) (old new : Stream) (before after : Packets) (x y : List ℕ) (was longest : ℕ) → Reads side bytes [] items here old new before after x y
+    → NoneComes new.reader.held → new.passed ≡ old.passed → longest ≡ was → InStep old was → InStep new longest
+read_step side bytes items here old new before after x y was longest r none passed same h = record {
+  numbered = r.numbered;
+  limit = r.limit ∙ h.limit ∙ sym same;
+  none = none;
+  none_passed = passed ∙ h.none_passed;
+}
+
+other_step : (old new : Stream) (was longest : ℕ) → new ≡ old → longest ≡ was → InStep old was → InStep new longest
+other_step old new was longest e same h = subst (λ s. InStep s longest) (sym e) (subst (λ n. InStep old n) (sym same) h)
+
 -- a piece of the client, and one of the server
 pub read_client : (old new : Sides) (bytes before after : List ℕ)
     → ((items : List Item) → IsAt old.client old.packets items → (here : List Item) × Reads side.Client bytes [] items here old.client new.client old.packets new.packets before after)
     → (IsNumbered old.client.reader → NoneComes new.client.reader.held)
     → new.client.passed ≡ old.client.passed → new.server ≡ old.server → new.has_lost ≡ old.has_lost → new.longest ≡ old.longest → sides.GoesOn (piece side.Client bytes ∷ []) old new before after
 read_client old new bytes before after reads none passed server lost longest pieces items h =
-    let r = reads items (h.client_numbered, h.followed) in
-    let last = none h.client_numbered in
+    let r = reads items (h.client.numbered, h.followed) in
+    let last = none h.client.numbered in
     inr (
       r.0,
       record {
         come = subst (λ s. ComeIn [] [] (pieces ++ piece side.Client bytes ∷ []) (items ++ r.0) new.client.reader.held s.reader.held) (sym server)
             (come_then [] [] pieces items old.client.reader.held old.server.reader.held (piece side.Client bytes) r.0 new.client.reader.held h.come r.1.from
             (subst (λ left. AreFrames r.0 (old.client.reader.held ++ bytes) left) (append-nil new.client.reader.held) r.1.frames) last);
-        client_numbered = r.1.numbered;
-        server_numbered = subst (λ s. IsNumbered s.reader) (sym server) h.server_numbered;
-        client_limit = r.1.limit ∙ h.client_limit ∙ sym longest;
-        server_limit = ap (λ s. s.reader.limit) server ∙ h.server_limit ∙ sym longest;
-        client_none = last;
-        server_none = subst (λ s. NoneComes s.reader.held) (sym server) h.server_none;
+        client = read_step side.Client bytes items r.0 old.client new.client old.packets new.packets before after old.longest new.longest r.1 last passed longest h.client;
+        server = other_step old.server new.server old.longest new.longest server longest h.server;
         followed = r.1.followed;
-        client_in_step = passed ∙ h.client_in_step;
-        server_in_step = ap (λ s. s.passed) server ∙ h.server_in_step;
         nothing_lost = lost ∙ h.nothing_lost;
       },
       r.1.written,
@@ -93,23 +102,17 @@ pub read_server : (old new : Sides) (bytes before after : List ℕ)
     → (IsNumbered old.server.reader → NoneComes new.server.reader.held)
     → new.server.passed ≡ old.server.passed → new.client ≡ old.client → new.has_lost ≡ old.has_lost → new.longest ≡ old.longest → sides.GoesOn (piece side.Server bytes ∷ []) old new before after
 read_server old new bytes before after reads none passed client lost longest pieces items h =
-    let r = reads items (h.server_numbered, h.followed) in
-    let last = none h.server_numbered in
+    let r = reads items (h.server.numbered, h.followed) in
+    let last = none h.server.numbered in
     inr (
       r.0,
       record {
         come = subst (λ s. ComeIn [] [] (pieces ++ piece side.Server bytes ∷ []) (items ++ r.0) s.reader.held new.server.reader.held) (sym client)
             (come_then [] [] pieces items old.client.reader.held old.server.reader.held (piece side.Server bytes) r.0 new.server.reader.held h.come r.1.from
             (subst (λ left. AreFrames r.0 (old.server.reader.held ++ bytes) left) (append-nil new.server.reader.held) r.1.frames) last);
-        client_numbered = subst (λ s. IsNumbered s.reader) (sym client) h.client_numbered;
-        server_numbered = r.1.numbered;
-        client_limit = ap (λ s. s.reader.limit) client ∙ h.client_limit ∙ sym longest;
-        server_limit = r.1.limit ∙ h.server_limit ∙ sym longest;
-        client_none = subst (λ s. NoneComes s.reader.held) (sym client) h.client_none;
-        server_none = last;
+        client = other_step old.client new.client old.longest new.longest client longest h.client;
+        server = read_step side.Server bytes items r.0 old.server new.server old.packets new.packets before after old.longest new.longest r.1 last passed longest h.server;
         followed = r.1.followed;
-        client_in_step = ap (λ s. s.passed) client ∙ h.client_in_step;
-        server_in_step = passed ∙ h.server_in_step;
         nothing_lost = lost ∙ h.nothing_lost;
       },
       r.1.written,
@@ -133,21 +136,21 @@ pub whole_server : (r : Result Came RecordingError) (old new : Sides) (bytes bef
 whole_server (Err e) old new bytes before after reads none passed client lost longest = tt
 whole_server (Ok came) old new bytes before after reads none passed client lost longest = λ w. read_server old new bytes before after (reads w) (none w) passed client lost longest
 
--- all but the answer that is awaited is the same
-same_stand : (old new : Sides) (pieces : List Piece) (items : List Item) → sides.IsSame old new → Stand old pieces items → Stand new pieces items
-same_stand old new pieces items e h = record {
+-- all but the sums is the same
+pub summed_stand : (old new : Sides) (pieces : List Piece) (items : List Item) → IsSummed old new → Stand old pieces items → Stand new pieces items
+summed_stand old new pieces items e h = record {
   come = subst (λ c. ComeIn [] [] pieces items c.reader.held new.server.reader.held) (sym e.client) (subst (λ s. ComeIn [] [] pieces items old.client.reader.held s.reader.held) (sym e.server) h.come);
-  client_numbered = subst (λ s. IsNumbered s.reader) (sym e.client) h.client_numbered;
-  server_numbered = subst (λ s. IsNumbered s.reader) (sym e.server) h.server_numbered;
-  client_limit = ap (λ s. s.reader.limit) e.client ∙ h.client_limit ∙ sym e.longest;
-  server_limit = ap (λ s. s.reader.limit) e.server ∙ h.server_limit ∙ sym e.longest;
-  client_none = subst (λ s. NoneComes s.reader.held) (sym e.client) h.client_none;
-  server_none = subst (λ s. NoneComes s.reader.held) (sym e.server) h.server_none;
-  followed = subst (λ p. IsFollowed p.followed (placed items)) (sym e.packets) h.followed;
-  client_in_step = ap (λ s. s.passed) e.client ∙ h.client_in_step;
-  server_in_step = ap (λ s. s.passed) e.server ∙ h.server_in_step;
+  client = other_step old.client new.client old.longest new.longest e.client e.longest h.client;
+  server = other_step old.server new.server old.longest new.longest e.server e.longest h.server;
+  followed = subst (λ f. IsFollowed f (placed items)) (sym e.followed) h.followed;
   nothing_lost = e.has_lost ∙ h.nothing_lost;
 }
+
+-- all but the answer that is awaited is the same
+same_stand : (old new : Sides) (pieces : List Piece) (items : List Item) → sides.IsSame old new → Stand old pieces items → Stand new pieces items
+same_stand old new pieces items e h =
+    summed_stand old new pieces items
+    (record { client = e.client; server = e.server; has_lost = e.has_lost; longest = e.longest; followed = ap (λ p. p.followed) e.packets; layout = ap (λ p. p.layout) e.packets }) h
 
 pub goes_same : (more : List Piece) (old mid new : Sides) (before after : List ℕ) → sides.GoesOn more old mid before after → sides.IsSame mid new → sides.GoesOn more old new before after
 goes_same more old mid new before after g e pieces items h =

@@ -37,6 +37,7 @@ use Rattle.mysql_recorder.specs.declared.recording.Recording.{Recording}
 use Rattle.mysql_recorder.specs.declared.sides.Sides.{Sides}
 use Rattle.mysql_recorder.specs.declared.stream.Stream.{Stream}
 use Rattle.mysql_recorder.proofs.Frames.{numbered_sent, sent-held, sent-limit}
+use Rattle.mysql_recorder.proofs.Goes.{passed_none}
 use Rattle.mysql_recorder.proofs.Stays.{on_ok_then}
 use Rattle.mysql_recorder.proofs.Stopped.{stops_in}
 use Rattle.mysql_recorder.proofs.Texts.{shown_of}
@@ -94,7 +95,7 @@ pub client_loses : (r : Result Came RecordingError) (all : List KindName) (s : S
     → LosesIn all s.packets.layout s.client.reader.limit side.Client (s.client.reader.held ++ bytes) items before after)
     → IfOk r (λ came. came ≢ came_as.Whole → PieceLosesIn all side.Client bytes s before after)
 client_loses (Ok came) all s bytes before after h = λ w pieces items k.
-    subst (λ limit. LosesIn all s.packets.layout limit side.Client (s.client.reader.held ++ bytes) items before after) k.client_limit (h w items (k.client_numbered, k.followed))
+    subst (λ limit. LosesIn all s.packets.layout limit side.Client (s.client.reader.held ++ bytes) items before after) k.client.limit (h w items (k.client.numbered, k.followed))
 client_loses (Err e) all s bytes before after h = tt
 
 pub server_loses : (r : Result Came RecordingError) (all : List KindName) (s : Sides) (bytes before after : List ℕ)
@@ -102,17 +103,13 @@ pub server_loses : (r : Result Came RecordingError) (all : List KindName) (s : S
     → LosesIn all s.packets.layout s.server.reader.limit side.Server (s.server.reader.held ++ bytes) items before after)
     → IfOk r (λ came. came ≢ came_as.Whole → PieceLosesIn all side.Server bytes s before after)
 server_loses (Ok came) all s bytes before after h = λ w pieces items k.
-    subst (λ limit. LosesIn all s.packets.layout limit side.Server (s.server.reader.held ++ bytes) items before after) k.server_limit (h w items (k.server_numbered, k.followed))
+    subst (λ limit. LosesIn all s.packets.layout limit side.Server (s.server.reader.held ++ bytes) items before after) k.server.limit (h w items (k.server.numbered, k.followed))
 server_loses (Err e) all s bytes before after h = tt
 
 -- nothing more is lost
 pub piece_keeps : (r : Result (Unit {0}) RecordingError) (all : List KindName) (side : Side) (bytes : List ℕ) (old new : Sides) (before after : List ℕ)
     → has_lost new ≡ has_lost old → PieceLoses r all side bytes old new before after
 piece_keeps r all side bytes old new before after e lost pieces items h = absurd (let no : true ≡ false = sym lost ∙ e ∙ h.nothing_lost in cc)
-
-passed_none : (s : Sides) (side : Side) (pieces : List Piece) (items : List Item) → Stand s pieces items → passed_of side s ≡ None
-passed_none s side.Client pieces items h = h.client_in_step
-passed_none s side.Server pieces items h = h.server_in_step
 
 -- a stream that is out of step
 pub passed_loses : (r : Result (Unit {0}) RecordingError) (all : List KindName) (side : Side) (bytes : List ℕ) (old new : Sides) (before after : List ℕ)
@@ -170,8 +167,8 @@ mark_ends old text items h untaken mark =
         read = (to.0, [], [], to.2, sym (append-nil (text_of to.0)), sym (append-nil (said_by to.0)), (refl, refl));
         parts = sym to.4 ∙ sym (append-nil (joined h.pieces));
         packets = h.stand.come;
-        client_none = h.stand.client_none;
-        server_none = h.stand.server_none;
+        client_none = h.stand.client.none;
+        server_none = h.stand.server.none;
       };
       says = to.5;
       is_mark = mark;

@@ -43,8 +43,8 @@ finishes old new before mid after takes place nothing text items h =
           read = h.read;
           parts = h.waits ∙ sym (joined-append h.pieces p) ∙ sym (append-nil (joined (h.pieces ++ p ∷ [])));
           packets = f.1.come;
-          client_none = f.1.client_none;
-          server_none = f.1.server_none;
+          client_none = f.1.client.none;
+          server_none = f.1.server.none;
         },
         subst (λ t. Writes (layout old) f.0 before t) (sym (nothing (h.pieces ++ p ∷ []) (items ++ f.0) f.1)) f.2,
       )

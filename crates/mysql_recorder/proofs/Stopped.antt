@@ -30,7 +30,7 @@ use Rattle.mysql_recorder.specs.declared.piece.Came.TheVariants as came_as
 use Rattle.mysql_recorder.specs.declared.sides.Sides.{Sides}
 use Rattle.mysql_recorder.specs.declared.stream.Stream.{Stream}
 use Rattle.mysql_recorder.proofs.Frames.{handed_out}
-use Rattle.mysql_recorder.proofs.Goes.{goes_same, is_lost}
+use Rattle.mysql_recorder.proofs.Goes.{goes_same, is_lost, passed_none}
 use Rattle.mysql_recorder.proofs.Texts.{shown_of}
 use Rattle.mysql_recorder.proofs.Wholes.{followed_session}
 
@@ -104,23 +104,19 @@ pub client_stops : (r : Result Came RecordingError) (all : List KindName) (s : S
     → IfErr r (λ e. (items : List Item) → IsAt s.client s.packets items → IfRefused e (λ why. StopsIn all s.packets.layout side.Client (s.client.reader.held ++ bytes) items why before after))
     → IfErr r (λ e. PieceStops all side.Client bytes s e before after)
 client_stops (Ok came) all s bytes before after h = tt
-client_stops (Err e) all s bytes before after h = λ pieces items k. h items (k.client_numbered, k.followed)
+client_stops (Err e) all s bytes before after h = λ pieces items k. h items (k.client.numbered, k.followed)
 
 pub server_stops : (r : Result Came RecordingError) (all : List KindName) (s : Sides) (bytes before after : List ℕ)
     → IfErr r (λ e. (items : List Item) → IsAt s.server s.packets items → IfRefused e (λ why. StopsIn all s.packets.layout side.Server (s.server.reader.held ++ bytes) items why before after))
     → IfErr r (λ e. PieceStops all side.Server bytes s e before after)
 server_stops (Ok came) all s bytes before after h = tt
-server_stops (Err e) all s bytes before after h = λ pieces items k. h items (k.server_numbered, k.followed)
+server_stops (Err e) all s bytes before after h = λ pieces items k. h items (k.server.numbered, k.followed)
 
 -- what is refused in no case
 pub piece_never : (r : Result (Unit {0}) RecordingError) (all : List KindName) (side : Side) (bytes : List ℕ) (s : Sides) (before after : List ℕ)
     → IfErr r (λ e. IfRefused e (λ why. ⊥)) → IfErr r (λ e. PieceStops all side bytes s e before after)
 piece_never (Ok u) all side bytes s before after h = tt
 piece_never (Err e) all side bytes s before after h = λ pieces items k. never e _ h
-
-passed_none : (s : Sides) (side : Side) (pieces : List Piece) (items : List Item) → Stand s pieces items → passed_of side s ≡ None
-passed_none s side.Client pieces items h = h.client_in_step
-passed_none s side.Server pieces items h = h.server_in_step
 
 -- a stream that is out of step
 pub piece_passed : (r : Result (Unit {0}) RecordingError) (all : List KindName) (side : Side) (bytes : List ℕ) (s : Sides) (before after : List ℕ)

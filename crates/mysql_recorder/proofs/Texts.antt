@@ -121,8 +121,8 @@ shown_of r text items h = record {
   read = h.read;
   parts = h.waits;
   packets = h.stand.come;
-  client_none = h.stand.client_none;
-  server_none = h.stand.server_none;
+  client_none = h.stand.client.none;
+  server_none = h.stand.server.none;
 }
 
 -- a byte that says nothing

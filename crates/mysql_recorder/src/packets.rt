@@ -84,7 +84,10 @@ impl Packets {
     }
 
     /// Sums what comes from here on.
-    pub(crate) fn sum(&mut self) {
+    pub(crate) fn sum(&mut self)
+        ensures followed { self.new.followed ≡ self.old.followed }
+        ensures layout { self.new.layout ≡ self.old.layout }
+    {
         self.sums = Some(Sums::new(self.alloc));
     }
 
@@ -112,7 +115,9 @@ impl Packets {
     }
 
     /// Goes on at the next command, under what both sides agreed on.
-    pub(crate) fn take_up(&mut self, agreed: SessionCapabilities) {
+    pub(crate) fn take_up(&mut self, agreed: SessionCapabilities)
+        ensures { self.new.layout ≡ self.old.layout }
+    {
         self.followed.take_up(agreed);
     }
 

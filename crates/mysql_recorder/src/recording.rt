@@ -1,10 +1,11 @@
 //! A recording: what both sides of a connection sent.
 
-ghost use Rattle.std.specs.Prelude.{◌≡◌, ◌∷◌, [], IfErr, OnOk, false, true, string_bytes};
+ghost use Rattle.std.specs.Prelude.{◌≡◌, ◌∷◌, [], ℕ, List, IfErr, OnOk, false, true, string_bytes};
 ghost use Rattle.mysql_fields.specs.Entries.{Stays};
 ghost use Rattle.mysql_recorder.specs.Losses.{LineEndLoses, LineLoses, Loses, TextLoses};
 ghost use Rattle.mysql_recorder.specs.Recorded as spec;
 ghost use Rattle.mysql_recorder.specs.Refusals.{IfRefused};
+ghost use Rattle.mysql_recorder.specs.Shown.{Item};
 ghost use Rattle.mysql_recorder.specs.Stops.{LineStops, Stops, TextStops};
 
 use crate::error::RecordingError;
@@ -63,14 +64,23 @@ impl Recording {
 
     /// Takes up a connection at its next command, under what both sides agreed on: its greeting and its login were not seen. Both
     /// streams are out of step up to there.
-    pub fn taken_up(self, agreed: SessionCapabilities) -> Self {
+    pub fn taken_up(self, agreed: SessionCapabilities) -> Self
+        ensures lost { spec.has_lost result ≡ spec.has_lost self }
+        ensures layout { spec.layout result ≡ spec.layout self }
+        ensures longest { spec.longest result ≡ spec.longest self }
+    {
         let mut recording = self;
         recording.sides.take_up_at(agreed);
         recording
     }
 
     /// Sums what comes from here on.
-    pub fn with_sums(self) -> Self {
+    pub fn with_sums(self) -> Self
+        ensures recorded { (text : List ℕ) (items : List Item) → spec.Recorded self text items → spec.Recorded result text items }
+        ensures lost { spec.has_lost result ≡ spec.has_lost self }
+        ensures layout { spec.layout result ≡ spec.layout self }
+        ensures longest { spec.longest result ≡ spec.longest self }
+    {
         let mut recording = self;
         recording.sides.sum();
         recording

@@ -52,14 +52,20 @@ impl Sides {
     }
 
     /// Takes up a connection at its next command, under what both sides agreed on. Both streams are out of step up to there.
-    pub(crate) fn take_up_at(&mut self, agreed: SessionCapabilities) {
+    pub(crate) fn take_up_at(&mut self, agreed: SessionCapabilities)
+        ensures lost { spec.has_lost self.new ≡ spec.has_lost self.old }
+        ensures layout { spec.layout self.new ≡ spec.layout self.old }
+        ensures longest { spec.longest self.new ≡ spec.longest self.old }
+    {
         self.client = Stream::new(self.alloc, self.longest, false);
         self.server = Stream::new(self.alloc, self.longest, false);
         self.packets.take_up(agreed);
     }
 
     /// Sums what comes from here on.
-    pub(crate) fn sum(&mut self) {
+    pub(crate) fn sum(&mut self)
+        ensures { spec.IsSummed self.old self.new }
+    {
         self.packets.sum();
     }
 
