@@ -1,8 +1,8 @@
 -- What an object begins with.
-use Rattle.std.proofs.Common.{◌≡◌, ℕ, List, [], ◌∷◌, ◌++◌, false, length, codes, refl, sym, ap, ◌∙◌, OnOk, Result, Ok, Err}
+use Rattle.std.proofs.Common.{◌≡◌, ℕ, List, [], ◌∷◌, ◌++◌, false, length, codes, refl, sym, ap, ◌∙◌, append_assoc, OnOk, Result, Ok, Err}
 use Rattle.mysql_fields.specs.Fields.{Said, said, Number, Word, Digits, have_float}
 use Rattle.mysql_fields.specs.FieldObject.{object_line}
-use Rattle.mysql_fields.specs.Entries.{packet_head, packet_text, remark_head, remark_text, name_of_side}
+use Rattle.mysql_fields.specs.Entries.{Begins, Stays, packet_head, packet_text, remark_head, remark_text, name_of_side}
 use Rattle.mysql_fields.specs.declared.entry.Layout.{Layout}
 use Rattle.mysql_fields.specs.declared.entry.Layout.TheVariants as layout
 use Rattle.mysql_fields.specs.declared.entry.Packet.{Packet}
@@ -12,6 +12,15 @@ use Rattle.mysql_fields.specs.declared.entry.Remark.{Remark}
 pub on-ok : {T E : Type 0} {P Q : Type 0} (r : Result T E) → OnOk r P → (P → Q) → OnOk r Q
 on-ok (Ok x) p f = f p
 on-ok (Err e) p f = tt
+
+-- what is appended after a front, or where there is none
+pub front-begins : {T E : Type 0} (r : Result T E) (front line old mid new : List ℕ) → front ≡ line → mid ≡ old ++ line → OnOk r (Stays mid new) → OnOk r (Begins front old new)
+front-begins (Ok x) front line old mid new is e h = (h.0, h.1 ∙ ap (λ t. t ++ h.0) e ∙ append_assoc old line h.0 ∙ ap (λ f. old ++ (f ++ h.0)) (sym is))
+front-begins (Err e) front line old mid new is f h = tt
+
+pub stays-begins : {T E : Type 0} (r : Result T E) (front old new : List ℕ) → front ≡ [] → OnOk r (Stays old new) → OnOk r (Begins front old new)
+stays-begins (Ok x) front old new is h = (h.0, h.1 ∙ ap (λ f. old ++ (f ++ h.0)) (sym is))
+stays-begins (Err e) front old new is h = tt
 
 abbrev pub Wrote : List Said → List Said → (old new : List ℕ) → Type 0
 Wrote head fields old new = have_float head ≡ false → have_float fields ≡ false → new ≡ old ++ object_line head fields

@@ -1,5 +1,5 @@
 -- Packets and remarks as they are shown.
-use Rattle.std.specs.Prelude.{ℕ, List, [], ◌∷◌, ◌++◌, length, codes, decimal}
+use Rattle.std.specs.Prelude.{◌≡◌, ℕ, List, [], ◌∷◌, ◌++◌, length, codes, decimal}
 use Rattle.mysql_conversation.specs.declared.kind.Side.{Side}
 use Rattle.mysql_conversation.specs.declared.kind.Side.TheVariants as side
 use Rattle.mysql_fields.specs.Fields.{Said, said, Number, Word, Digits}
@@ -17,6 +17,14 @@ sign_of side.Server = codes "<"
 abbrev pub name_of_side : Side → List ℕ
 name_of_side side.Client = codes "client"
 name_of_side side.Server = codes "server"
+
+-- what stood before stays
+abbrev pub Stays : List ℕ → List ℕ → Type 0
+Stays old new = (more : List ℕ) × (new ≡ old ++ more)
+
+-- what stood before stays, and then comes this front of what is appended
+abbrev pub Begins : List ℕ → List ℕ → List ℕ → Type 0
+Begins front old new = (rest : List ℕ) × (new ≡ old ++ (front ++ rest))
 
 -- the line that a packet begins with
 abbrev pub packet_line : Packet → List ℕ
@@ -37,6 +45,11 @@ abbrev pub packet_text : Layout → Packet → List Said → List ℕ
 packet_text layout.Lines p fields = packet_line p ++ lines_of fields
 packet_text layout.Json p fields = object_line (packet_head p) fields
 
+-- the front of what is shown, whatever the fields hold: the line; in an object the members stand in the order of their names
+abbrev pub packet_front : Layout → Packet → List ℕ
+packet_front layout.Lines p = packet_line p
+packet_front layout.Json p = []
+
 abbrev pub remark_line : Remark → List ℕ
 remark_line r = sign_of r.side ++ (codes " " ++ (r.kind.now ++ codes "\n"))
 
@@ -50,3 +63,7 @@ remark_head r =
 abbrev pub remark_text : Layout → Remark → List Said → List ℕ
 remark_text layout.Lines r fields = remark_line r ++ lines_of fields
 remark_text layout.Json r fields = object_line (remark_head r) fields
+
+abbrev pub remark_front : Layout → Remark → List ℕ
+remark_front layout.Lines r = remark_line r
+remark_front layout.Json r = []

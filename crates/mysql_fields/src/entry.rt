@@ -77,6 +77,8 @@ impl<'a> Packet<'a> {
         out: &mut String,
     ) -> Result<(), AllocError>
         ensures ok { OnOk result (have_float fields.now ≡ false → string_bytes out.new ≡ string_bytes out.old ++ spec.packet_text layout self.now fields.now) }
+        // Also where one of the fields is a float:
+        ensures begins { OnOk result (spec.Begins (spec.packet_front layout self.now) (string_bytes out.old) (string_bytes out.new)) }
     {
         match layout {
             Layout::Lines => {
@@ -111,6 +113,8 @@ impl Remark {
         out: &mut String,
     ) -> Result<(), AllocError>
         ensures ok { OnOk result (have_float fields.now ≡ false → string_bytes out.new ≡ string_bytes out.old ++ spec.remark_text layout self.now fields.now) }
+        // Also where one of the fields is a float:
+        ensures begins { OnOk result (spec.Begins (spec.remark_front layout self.now) (string_bytes out.old) (string_bytes out.new)) }
     {
         match layout {
             Layout::Lines => {

@@ -6,6 +6,7 @@ ghost use Rattle.serde_json.specs.Data.{object, no_members};
 ghost use Rattle.serde_json.specs.View.{view, members_view};
 ghost use Rattle.serde_json.specs.Written.{compact_text};
 ghost use Rattle.mysql_values.specs.ValueRef.{ref_content};
+ghost use Rattle.mysql_fields.specs.Entries.{Stays};
 ghost use Rattle.mysql_fields.specs.FieldObject as spec;
 ghost use Rattle.mysql_fields.specs.Fields.{have_float, held_of, is_float, value_is_float};
 
@@ -29,6 +30,7 @@ pub fn append_object(
     fields: &[Field<'_>],
 ) -> Result<(), AllocError>
     ensures ok { OnOk result (have_float head.now ≡ false → have_float fields.now ≡ false → string_bytes out.new ≡ string_bytes out.old ++ spec.object_line head.now fields.now) }
+    ensures stays { OnOk result (Stays (string_bytes out.old) (string_bytes out.new)) }
 {
     let object = object_of(alloc, head, fields)?;
     let text = object.to_string(alloc)?;

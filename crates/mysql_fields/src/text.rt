@@ -3,6 +3,7 @@
 ghost use Rattle.std.specs.Prelude.{◌≡◌, ◌++◌, IfOk, OnOk, string_bytes, true, false};
 ghost use Rattle.hex.specs.Hex.{encode_lower};
 ghost use Rattle.mysql_values.specs.ValueRef.{ref_content};
+ghost use Rattle.mysql_fields.specs.Entries.{Stays};
 ghost use Rattle.mysql_fields.specs.FieldText as spec;
 ghost use Rattle.mysql_fields.specs.Fields.{have_float, is_float, is_temporal, value_is_float};
 
@@ -16,6 +17,7 @@ use std::alloc::{AllocError, Global};
 /// A float stands by the digits that JSON has for it.
 pub fn append_lines(alloc: Global, out: &mut String, fields: &[Field<'_>]) -> Result<(), AllocError>
     ensures ok { OnOk result (have_float fields.now ≡ false → string_bytes out.new ≡ string_bytes out.old ++ spec.lines_of fields.now) }
+    ensures stays { OnOk result (Stays (string_bytes out.old) (string_bytes out.new)) }
 {
     for field in fields {
         append_line(alloc, out, field)?;
@@ -25,6 +27,7 @@ pub fn append_lines(alloc: Global, out: &mut String, fields: &[Field<'_>]) -> Re
 
 fn append_line(alloc: Global, out: &mut String, field: &Field<'_>) -> Result<(), AllocError>
     ensures ok { OnOk result (is_float field.now.held ≡ false → string_bytes out.new ≡ string_bytes out.old ++ spec.line_of field.now) }
+    ensures stays { OnOk result (Stays (string_bytes out.old) (string_bytes out.new)) }
 {
     let name = field.name;
     match field.shown {

@@ -69,9 +69,13 @@ pub numbered_sent : (reader : ReaderState) (input : List ℕ) → IsNumbered rea
 unfolding as_sent
 numbered_sent reader input h long = by_header (header_comes reader input) reader input refl h long
 
-sent-held : (reader : ReaderState) (input : List ℕ) → (as_sent reader input).held ≡ reader.held
+pub sent-held : (reader : ReaderState) (input : List ℕ) → (as_sent reader input).held ≡ reader.held
 unfolding as_sent
 sent-held reader input = refl
+
+pub sent-limit : (reader : ReaderState) (input : List ℕ) → (as_sent reader input).limit ≡ reader.limit
+unfolding as_sent
+sent-limit reader input = refl
 
 pub handed_out : (old new : ReaderState) (input payload rest : List ℕ) → HandsOut (as_sent old input) input payload new rest
     → Framed (as_sent old input).number payload new.number (old.held ++ input) rest

@@ -1,5 +1,5 @@
 -- One step after another.
-use Rattle.std.proofs.Common.{◌≡◌, ◌⊎◌, inl, inr, ℕ, ◌+◌, ◌<◌, length, take, get_or, true, List, [], ◌∷◌, ◌++◌, Option, Some, None, Result, Ok, Err, IfOk, OnOk, refl, sym, ap, subst, ◌∙◌, append_assoc, append-nil}
+use Rattle.std.proofs.Common.{◌≡◌, ◌⊎◌, inl, inr, ℕ, ◌+◌, ◌<◌, length, take, get_or, true, false, List, [], ◌∷◌, ◌++◌, Option, Some, None, Result, Ok, Err, IfOk, OnOk, refl, sym, ap, subst, ◌∙◌, append_assoc, append-nil}
 use Rattle.std.proofs.lemmas.List.{take_more}
 use Rattle.mysql_conversation.specs.declared.kind.Side.{Side}
 use Rattle.mysql_conversation.specs.declared.kind.Side.TheVariants as side
@@ -7,18 +7,20 @@ use Rattle.mysql_recorder.specs.Followed.{IsFollowed}
 use Rattle.mysql_recorder.specs.Frames.{Piece, joined, AreFrames, NoneComes, IsNumbered, ComeIn}
 use Rattle.mysql_recorder.specs.Lines.{Heard, heard, IsRead, Stands, Passes}
 use Rattle.mysql_recorder.specs.Recorded as recorded
-use Rattle.mysql_recorder.specs.Recorded.{Recorded, Takes}
+use Rattle.mysql_recorder.specs.Recorded.{IsReadTo, Recorded, Takes}
 use Rattle.mysql_recorder.specs.Shown.{Item, Writes, placed}
-use Rattle.mysql_recorder.specs.Sides.{Stand, has_lost, layout, piece, IsAt, Reads, passed_of}
+use Rattle.mysql_recorder.specs.Sides.{InStep, IsSummed, Stand, has_lost, layout, piece, IsAt, Reads, passed_of}
 use Rattle.mysql_recorder.specs.Sides as sides
 use Rattle.mysql_recorder.specs.declared.error.RecordingError.{RecordingError}
 use Rattle.mysql_recorder.specs.declared.line.Said.TheVariants as says
 use Rattle.mysql_recorder.specs.declared.recording.Recording.{Recording}
-use Rattle.mysql_recorder.specs.declared.sides.Came.{Came}
-use Rattle.mysql_recorder.specs.declared.sides.Came.TheVariants as came_as
+use Rattle.mysql_recorder.specs.declared.packets.Packets.{Packets}
+use Rattle.mysql_recorder.specs.declared.piece.Came.{Came}
+use Rattle.mysql_recorder.specs.declared.piece.Came.TheVariants as came_as
 use Rattle.mysql_recorder.specs.declared.sides.Sides.{Sides}
+use Rattle.mysql_recorder.specs.declared.stream.Stream.{Stream}
 use Rattle.mysql_recorder.proofs.Frames.{joined-append, writes_then, come_then}
-use Rattle.mysql_recorder.proofs.Texts.{read_byte}
+use Rattle.mysql_recorder.proofs.Texts.{line_ends, read_byte}
 
 -- ---- sides
 
@@ -50,9 +52,9 @@ then_on_ok (Ok u) b old mid new x y z first lost same second = sides_then [] b o
 then_on_ok (Err e) b old mid new x y z first lost same second = tt
 
 -- a stream that is out of step is no longer that of a connection of which nothing is lost
-passed_none : (s : Sides) (side : Side) (pieces : List Piece) (items : List Item) → Stand s pieces items → passed_of side s ≡ None
-passed_none s side.Client pieces items h = h.client_in_step
-passed_none s side.Server pieces items h = h.server_in_step
+pub passed_none : (s : Sides) (side : Side) (pieces : List Piece) (items : List Item) → Stand s pieces items → passed_of side s ≡ None
+passed_none s side.Client pieces items h = h.client.none_passed
+passed_none s side.Server pieces items h = h.server.none_passed
 
 some_none : {A : Type 0} (o : Option ℕ) (n : ℕ) → o ≡ Some n → o ≡ None → A
 some_none o n e f = absurd (let g : Some n ≡ None = sym e ∙ f in cc)
@@ -60,27 +62,36 @@ some_none o n e f = absurd (let g : Some n ≡ None = sym e ∙ f in cc)
 pub out_of_step : (more : List Piece) (side : Side) (n : ℕ) (old new : Sides) (before after : List ℕ) → passed_of side old ≡ Some n → sides.GoesOn more old new before after
 out_of_step more side n old new before after e pieces items h = some_none (passed_of side old) n e (passed_none old side pieces items h)
 
+-- the stream of a piece, and the other one
+read_step : (side : Side) (bytes : List ℕ) (items here : List Item) (old new : Stream) (before after : Packets) (x y : List ℕ) (was longest : ℕ) → Reads side bytes [] items here old new before after x y
+    → NoneComes new.reader.held → new.passed ≡ old.passed → longest ≡ was → InStep old was → InStep new longest
+read_step side bytes items here old new before after x y was longest r none passed same h = record {
+  numbered = r.numbered;
+  limit = r.limit ∙ h.limit ∙ sym same;
+  none = none;
+  none_passed = passed ∙ h.none_passed;
+}
+
+other_step : (old new : Stream) (was longest : ℕ) → new ≡ old → longest ≡ was → InStep old was → InStep new longest
+other_step old new was longest e same h = subst (λ s. InStep s longest) (sym e) (subst (λ n. InStep old n) (sym same) h)
+
 -- a piece of the client, and one of the server
 pub read_client : (old new : Sides) (bytes before after : List ℕ)
     → ((items : List Item) → IsAt old.client old.packets items → (here : List Item) × Reads side.Client bytes [] items here old.client new.client old.packets new.packets before after)
     → (IsNumbered old.client.reader → NoneComes new.client.reader.held)
-    → new.client.passed ≡ old.client.passed → new.server ≡ old.server → new.has_lost ≡ old.has_lost → sides.GoesOn (piece side.Client bytes ∷ []) old new before after
-read_client old new bytes before after reads none passed server lost pieces items h =
-    let r = reads items (h.client_numbered, h.followed) in
-    let last = none h.client_numbered in
+    → new.client.passed ≡ old.client.passed → new.server ≡ old.server → new.has_lost ≡ old.has_lost → new.longest ≡ old.longest → sides.GoesOn (piece side.Client bytes ∷ []) old new before after
+read_client old new bytes before after reads none passed server lost longest pieces items h =
+    let r = reads items (h.client.numbered, h.followed) in
+    let last = none h.client.numbered in
     inr (
       r.0,
       record {
         come = subst (λ s. ComeIn [] [] (pieces ++ piece side.Client bytes ∷ []) (items ++ r.0) new.client.reader.held s.reader.held) (sym server)
             (come_then [] [] pieces items old.client.reader.held old.server.reader.held (piece side.Client bytes) r.0 new.client.reader.held h.come r.1.from
             (subst (λ left. AreFrames r.0 (old.client.reader.held ++ bytes) left) (append-nil new.client.reader.held) r.1.frames) last);
-        client_numbered = r.1.numbered;
-        server_numbered = subst (λ s. IsNumbered s.reader) (sym server) h.server_numbered;
-        client_none = last;
-        server_none = subst (λ s. NoneComes s.reader.held) (sym server) h.server_none;
+        client = read_step side.Client bytes items r.0 old.client new.client old.packets new.packets before after old.longest new.longest r.1 last passed longest h.client;
+        server = other_step old.server new.server old.longest new.longest server longest h.server;
         followed = r.1.followed;
-        client_in_step = passed ∙ h.client_in_step;
-        server_in_step = ap (λ s. s.passed) server ∙ h.server_in_step;
         nothing_lost = lost ∙ h.nothing_lost;
       },
       r.1.written,
@@ -89,23 +100,19 @@ read_client old new bytes before after reads none passed server lost pieces item
 pub read_server : (old new : Sides) (bytes before after : List ℕ)
     → ((items : List Item) → IsAt old.server old.packets items → (here : List Item) × Reads side.Server bytes [] items here old.server new.server old.packets new.packets before after)
     → (IsNumbered old.server.reader → NoneComes new.server.reader.held)
-    → new.server.passed ≡ old.server.passed → new.client ≡ old.client → new.has_lost ≡ old.has_lost → sides.GoesOn (piece side.Server bytes ∷ []) old new before after
-read_server old new bytes before after reads none passed client lost pieces items h =
-    let r = reads items (h.server_numbered, h.followed) in
-    let last = none h.server_numbered in
+    → new.server.passed ≡ old.server.passed → new.client ≡ old.client → new.has_lost ≡ old.has_lost → new.longest ≡ old.longest → sides.GoesOn (piece side.Server bytes ∷ []) old new before after
+read_server old new bytes before after reads none passed client lost longest pieces items h =
+    let r = reads items (h.server.numbered, h.followed) in
+    let last = none h.server.numbered in
     inr (
       r.0,
       record {
         come = subst (λ s. ComeIn [] [] (pieces ++ piece side.Server bytes ∷ []) (items ++ r.0) s.reader.held new.server.reader.held) (sym client)
             (come_then [] [] pieces items old.client.reader.held old.server.reader.held (piece side.Server bytes) r.0 new.server.reader.held h.come r.1.from
             (subst (λ left. AreFrames r.0 (old.server.reader.held ++ bytes) left) (append-nil new.server.reader.held) r.1.frames) last);
-        client_numbered = subst (λ s. IsNumbered s.reader) (sym client) h.client_numbered;
-        server_numbered = r.1.numbered;
-        client_none = subst (λ s. NoneComes s.reader.held) (sym client) h.client_none;
-        server_none = last;
+        client = other_step old.client new.client old.longest new.longest client longest h.client;
+        server = read_step side.Server bytes items r.0 old.server new.server old.packets new.packets before after old.longest new.longest r.1 last passed longest h.server;
         followed = r.1.followed;
-        client_in_step = ap (λ s. s.passed) client ∙ h.client_in_step;
-        server_in_step = passed ∙ h.server_in_step;
         nothing_lost = lost ∙ h.nothing_lost;
       },
       r.1.written,
@@ -115,33 +122,35 @@ pub whole_client : (r : Result Came RecordingError) (old new : Sides) (bytes bef
     → IfOk r (λ came. came ≡ came_as.Whole → (items : List Item) → IsAt old.client old.packets items
     → (here : List Item) × Reads side.Client bytes [] items here old.client new.client old.packets new.packets before after)
     → IfOk r (λ came. came ≡ came_as.Whole → IsNumbered old.client.reader → NoneComes new.client.reader.held)
-    → new.client.passed ≡ old.client.passed → new.server ≡ old.server → new.has_lost ≡ old.has_lost
+    → new.client.passed ≡ old.client.passed → new.server ≡ old.server → new.has_lost ≡ old.has_lost → new.longest ≡ old.longest
     → IfOk r (λ came. came ≡ came_as.Whole → sides.GoesOn (piece side.Client bytes ∷ []) old new before after)
-whole_client (Err e) old new bytes before after reads none passed server lost = tt
-whole_client (Ok came) old new bytes before after reads none passed server lost = λ w. read_client old new bytes before after (reads w) (none w) passed server lost
+whole_client (Err e) old new bytes before after reads none passed server lost longest = tt
+whole_client (Ok came) old new bytes before after reads none passed server lost longest = λ w. read_client old new bytes before after (reads w) (none w) passed server lost longest
 
 pub whole_server : (r : Result Came RecordingError) (old new : Sides) (bytes before after : List ℕ)
     → IfOk r (λ came. came ≡ came_as.Whole → (items : List Item) → IsAt old.server old.packets items
     → (here : List Item) × Reads side.Server bytes [] items here old.server new.server old.packets new.packets before after)
     → IfOk r (λ came. came ≡ came_as.Whole → IsNumbered old.server.reader → NoneComes new.server.reader.held)
-    → new.server.passed ≡ old.server.passed → new.client ≡ old.client → new.has_lost ≡ old.has_lost
+    → new.server.passed ≡ old.server.passed → new.client ≡ old.client → new.has_lost ≡ old.has_lost → new.longest ≡ old.longest
     → IfOk r (λ came. came ≡ came_as.Whole → sides.GoesOn (piece side.Server bytes ∷ []) old new before after)
-whole_server (Err e) old new bytes before after reads none passed client lost = tt
-whole_server (Ok came) old new bytes before after reads none passed client lost = λ w. read_server old new bytes before after (reads w) (none w) passed client lost
+whole_server (Err e) old new bytes before after reads none passed client lost longest = tt
+whole_server (Ok came) old new bytes before after reads none passed client lost longest = λ w. read_server old new bytes before after (reads w) (none w) passed client lost longest
+
+-- all but the sums is the same
+pub summed_stand : (old new : Sides) (pieces : List Piece) (items : List Item) → IsSummed old new → Stand old pieces items → Stand new pieces items
+summed_stand old new pieces items e h = record {
+  come = subst (λ c. ComeIn [] [] pieces items c.reader.held new.server.reader.held) (sym e.client) (subst (λ s. ComeIn [] [] pieces items old.client.reader.held s.reader.held) (sym e.server) h.come);
+  client = other_step old.client new.client old.longest new.longest e.client e.longest h.client;
+  server = other_step old.server new.server old.longest new.longest e.server e.longest h.server;
+  followed = subst (λ f. IsFollowed f (placed items)) (sym e.followed) h.followed;
+  nothing_lost = e.has_lost ∙ h.nothing_lost;
+}
 
 -- all but the answer that is awaited is the same
 same_stand : (old new : Sides) (pieces : List Piece) (items : List Item) → sides.IsSame old new → Stand old pieces items → Stand new pieces items
-same_stand old new pieces items e h = record {
-  come = subst (λ c. ComeIn [] [] pieces items c.reader.held new.server.reader.held) (sym e.client) (subst (λ s. ComeIn [] [] pieces items old.client.reader.held s.reader.held) (sym e.server) h.come);
-  client_numbered = subst (λ s. IsNumbered s.reader) (sym e.client) h.client_numbered;
-  server_numbered = subst (λ s. IsNumbered s.reader) (sym e.server) h.server_numbered;
-  client_none = subst (λ s. NoneComes s.reader.held) (sym e.client) h.client_none;
-  server_none = subst (λ s. NoneComes s.reader.held) (sym e.server) h.server_none;
-  followed = subst (λ p. IsFollowed p.followed (placed items)) (sym e.packets) h.followed;
-  client_in_step = ap (λ s. s.passed) e.client ∙ h.client_in_step;
-  server_in_step = ap (λ s. s.passed) e.server ∙ h.server_in_step;
-  nothing_lost = e.has_lost ∙ h.nothing_lost;
-}
+same_stand old new pieces items e h =
+    summed_stand old new pieces items
+    (record { client = e.client; server = e.server; has_lost = e.has_lost; longest = e.longest; followed = ap (λ p. p.followed) e.packets; layout = ap (λ p. p.layout) e.packets }) h
 
 pub goes_same : (more : List Piece) (old mid new : Sides) (before after : List ℕ) → sides.GoesOn more old mid before after → sides.IsSame mid new → sides.GoesOn more old new before after
 goes_same more old mid new before after g e pieces items h =
@@ -155,8 +164,9 @@ goes_same more old mid new before after g e pieces items h =
 taken : (mid new : Recording) (text : List ℕ) (said : List Heard) (pieces : List Piece) (items : List Item) (before after : List ℕ)
     → IsRead text mid.place said → said ≡ joined pieces ++ heard mid.line.side mid.line.bytes.items → Stand mid.sides pieces items
     → Takes mid new before after → new.place ≡ mid.place → new.line.bytes.items ≡ []
+    → (new.line.is_untaken ≡ true → IsReadTo text new.place (joined (pieces ++ piece mid.line.side mid.line.bytes.items ∷ [])) [])
     → (recorded.has_lost new ≡ true) ⊎ ((here : List Item) × Recorded new text (items ++ here) × Writes (recorded.layout mid) here before after)
-taken mid new text said pieces items before after read waits stand takes place bytes =
+taken mid new text said pieces items before after read waits stand takes place bytes untaken =
     let p : Piece = piece mid.line.side mid.line.bytes.items in
     elim (takes pieces items stand) as (λ _. (recorded.has_lost new ≡ true) ⊎ ((here : List Item) × Recorded new text (items ++ here) × Writes (recorded.layout mid) here before after)) [
       | inl e ↦ inl e
@@ -168,16 +178,17 @@ taken mid new text said pieces items before after read waits stand takes place b
           read = subst (λ at. IsRead text at said) (sym place) read;
           waits = waits ∙ sym (joined-append pieces p) ∙ sym (append-nil (joined (pieces ++ p ∷ []))) ∙ ap (λ b. joined (pieces ++ p ∷ []) ++ heard new.line.side b) (sym bytes);
           line = inl bytes;
+          untaken = λ e. subst (λ b. IsReadTo text new.place (joined (pieces ++ p ∷ [])) (heard new.line.side b)) (sym bytes) (untaken e);
           stand = f.1;
         },
         f.2,
       )
     ]
 
-pub takes_goes : (mid new : Recording) (before after : List ℕ) → Takes mid new before after → new.place ≡ mid.place → new.line.bytes.items ≡ [] → recorded.GoesOn [] mid new before after
-takes_goes mid new before after takes place bytes text items h =
+pub takes_goes : (mid new : Recording) (before after : List ℕ) → Takes mid new before after → new.place ≡ mid.place → new.line.bytes.items ≡ [] → new.line.is_untaken ≡ false → recorded.GoesOn [] mid new before after
+takes_goes mid new before after takes place bytes is_taken text items h =
     subst (λ t. (recorded.has_lost new ≡ true) ⊎ ((here : List Item) × Recorded new t (items ++ here) × Writes (recorded.layout mid) here before after)) (sym (append-nil text))
-    (taken mid new text h.said h.pieces items before after h.read h.waits h.stand takes place bytes)
+    (taken mid new text h.said h.pieces items before after h.read h.waits h.stand takes place bytes (λ e. absurd (let no : true ≡ false = sym e ∙ is_taken in cc)))
 
 -- the byte that ends a line
 pub ends_goes : (old mid new : Recording) (c : ℕ) (before after : List ℕ)
@@ -189,7 +200,10 @@ ends_goes old mid new c before after passes line same takes place bytes text ite
     (read_byte text h.said old.place mid.place c (Some says.End) h.read passes)
     (append-nil h.said ∙ h.waits ∙ ap (λ l. joined h.pieces ++ heard l.side l.bytes.items) (sym line))
     (subst (λ s. Stand s h.pieces items) (sym same) h.stand)
-    takes place bytes)
+    takes place bytes
+    (λ e. subst (λ said. IsReadTo (text ++ c ∷ []) new.place said [])
+    (h.waits ∙ ap (λ l. joined h.pieces ++ heard l.side l.bytes.items) (sym line) ∙ sym (joined-append h.pieces (piece mid.line.side mid.line.bytes.items)))
+    (subst (λ at. IsReadTo (text ++ c ∷ []) at h.said []) (sym place) (line_ends text h.said old.place mid.place c h.read passes))))
 
 pub recorded_goes : (more : List ℕ) (old new : Recording) (text : List ℕ)
     → ((read : List ℕ) (items : List Item) → Recorded old read items → Recorded new (read ++ more) (items ++ [])) → recorded.GoesOn more old new text text
@@ -233,9 +247,9 @@ ends_on_ok (Ok u) old mid new c before after passes line same takes place bytes 
 ends_on_ok (Err e) old mid new c before after passes line same takes place bytes = tt
 
 pub takes_on_ok : (r : Result (Unit {0}) RecordingError) (mid new : Recording) (before after : List ℕ)
-    → OnOk r (Takes mid new before after) → new.place ≡ mid.place → OnOk r (new.line.bytes.items ≡ []) → OnOk r (recorded.GoesOn [] mid new before after)
-takes_on_ok (Ok u) mid new before after takes place bytes = takes_goes mid new before after takes place bytes
-takes_on_ok (Err e) mid new before after takes place bytes = tt
+    → OnOk r (Takes mid new before after) → new.place ≡ mid.place → OnOk r (new.line.bytes.items ≡ []) → new.line.is_untaken ≡ false → OnOk r (recorded.GoesOn [] mid new before after)
+takes_on_ok (Ok u) mid new before after takes place bytes is_taken = takes_goes mid new before after takes place bytes is_taken
+takes_on_ok (Err e) mid new before after takes place bytes is_taken = tt
 
 -- ---- the bytes of a text, one after another
 

@@ -12,13 +12,14 @@ use Rattle.mysql_recorder.specs.Streams.{as_sent}
 use Rattle.mysql_recorder.specs.Taken.{ShowsPacket}
 use Rattle.mysql_recorder.specs.declared.packets.Packets.{Packets}
 use Rattle.mysql_recorder.specs.declared.stream.Stream.{Stream}
-use Rattle.mysql_recorder.proofs.Frames.{placed-append, writes_one, from_then, frames_then, handed_out, handed_numbered, held_all, held_numbered, none_comes}
+use Rattle.mysql_recorder.proofs.Frames.{placed-append, writes_one, from_then, frames_then, handed_out, handed_numbered, held_all, held_numbered, none_comes, sent-limit}
 
 pub reads_none : (side : Side) (bytes : List ℕ) (items : List Item) (s : Stream) (p : Packets) (text : List ℕ) → IsAt s p items → Reads side bytes bytes items [] s s p p text text
 reads_none side bytes items s p text h = record {
   from = tt;
   frames = refl;
   numbered = h.0;
+  limit = refl;
   followed = subst (λ xs. IsFollowed p.followed (placed xs)) (sym (append-nil items)) h.1;
   written = refl;
 }
@@ -43,6 +44,7 @@ reads_packet side bytes input rest items here s old new p po pn a b c sequence p
             (frames_then here x (s.reader.held ++ bytes) (old.reader.held ++ input) new.reader.number rest r.frames
             (subst (λ n. Framed n payload new.reader.number (old.reader.held ++ input) rest) (sym e) out));
         numbered = handed_numbered old.reader new.reader input payload rest h;
+        limit = h.limit ∙ sent-limit old.reader input ∙ r.limit;
         followed = subst (λ xs. IsFollowed pn.followed xs) (sym whole) shown.2;
         written = writes_one p.layout here x a b c r.written (subst (λ y. Appends y (entry_of x) b c) l shown.3);
       },
@@ -55,6 +57,7 @@ reads_all side bytes input rest items here s old new p q a b r h = record {
   from = r.from;
   frames = subst (λ held. AreFrames here (s.reader.held ++ bytes) held) (sym (held_all old.reader new.reader input rest h) ∙ sym (append-nil new.reader.held)) r.frames;
   numbered = held_numbered old.reader new.reader input rest r.numbered h;
+  limit = h.limit ∙ sent-limit old.reader input ∙ r.limit;
   followed = r.followed;
   written = r.written;
 }

@@ -8,10 +8,12 @@ use Rattle.mysql_conversation.specs.declared.kind.Side.{Side}
 use Rattle.mysql_conversation.specs.declared.kind_name.KindName.{KindName}
 use Rattle.mysql_conversation.specs.declared.pipeline.Refusal.{Refusal}
 use Rattle.mysql_conversation.specs.declared.pipeline.Refusal.TheVariants as refusal
+use Rattle.mysql_fields.specs.Entries.{Stays}
 use Rattle.mysql_fields.specs.declared.entry.Layout.{Layout}
 use Rattle.mysql_recorder.specs.Followed.{IsFollowed}
-use Rattle.mysql_recorder.specs.Refused.{ShowsRefused}
+use Rattle.mysql_recorder.specs.Refused.{ShowsRefused, refused_entry, refused_fields}
 use Rattle.mysql_recorder.specs.Refusals.{Refuses, IfRefused}
+use Rattle.mysql_recorder.specs.Shown.{entry_text}
 use Rattle.mysql_recorder.specs.declared.error.RecordingError.{RecordingError}
 use Rattle.mysql_recorder.specs.declared.error.RecordingError.TheVariants as error
 use Rattle.mysql_recorder.specs.declared.followed.Followed.{Followed}
@@ -40,3 +42,10 @@ module _ (all : List KindName) (layout : Layout) (old new : Followed) (side : Si
   refused_err (Err error.OutOfOrder) h = λ items f. tt
   refused_err (Err error.TooLong) h = λ items f. tt
   refused_err (Err error.Missing) h = λ items f. tt
+
+-- what is shown of it stands after what stood before
+pub refused_stays : {E : Type 0} (r : Result Taken E) (all : List KindName) (layout : Layout) (f : Followed) (side : Side) (sequence : ℕ) (payload : List ℕ) (why : Refusal) (before after : List ℕ)
+    → IfOk r (λ taken. (taken ≢ taken_as.Shown) × Refuses all layout f side sequence payload why before after) → IfOk r (λ taken. Stays before after)
+refused_stays (Ok taken) all layout f side sequence payload why before after h =
+    (entry_text layout (refused_entry side sequence h.1.0 payload) (refused_fields payload why h.1.1.0), h.1.1.2)
+refused_stays (Err e) all layout f side sequence payload why before after h = tt

@@ -2,7 +2,6 @@
 use Rattle.std.proofs.Common.{◌≡◌, ◌⊎◌, inl, inr, ℕ, true, List, [], ◌∷◌, ◌++◌, sym, subst, ◌∙◌, append-nil}
 use Rattle.mysql_conversation.specs.Session.{IsSessionBeginning}
 use Rattle.mysql_conversation.specs.declared.kind.Side.TheVariants as side
-use Rattle.mysql_conversation.proofs.SessionEnds.{taken_is_beginning}
 use Rattle.mysql_recorder.specs.Frames.{AreFrames, Piece, joined, ComeIn, packets_of, bytes_of}
 use Rattle.mysql_recorder.specs.Lines.{Heard, heard}
 use Rattle.mysql_recorder.specs.Recorded.{Recorded, IsShown, Takes, Finishes, has_lost, layout}
@@ -11,26 +10,14 @@ use Rattle.mysql_recorder.specs.Sides.{SaysNothing, piece}
 use Rattle.mysql_recorder.specs.declared.recording.Recording.{Recording}
 use Rattle.mysql_recorder.proofs.Frames.{joined-append}
 use Rattle.mysql_recorder.proofs.Once.{of_client, of_server, frames_once}
+use Rattle.mysql_recorder.proofs.Texts.{shown_of}
+use Rattle.mysql_recorder.proofs.Wholes.{followed_session}
 
 pub recorded_shown : (r : Recording) (text : List ℕ) (items : List Item) → Recorded r text items → (waits : List Heard) × IsShown text waits items
-recorded_shown r text items h = (
-  heard r.line.side r.line.bytes.items,
-  record {
-    at = r.place;
-    said = h.said;
-    pieces = h.pieces;
-    client_left = r.sides.client.reader.held;
-    server_left = r.sides.server.reader.held;
-    read = h.read;
-    parts = h.waits;
-    packets = h.stand.come;
-    client_none = h.stand.client_none;
-    server_none = h.stand.server_none;
-  },
-)
+recorded_shown r text items h = (heard r.line.side r.line.bytes.items, shown_of r text items h)
 
 pub recorded_session : (r : Recording) (text : List ℕ) (items : List Item) → Recorded r text items → IsSessionBeginning (placed items)
-recorded_session r text items h = taken_is_beginning h.stand.followed.0.0.phase (placed items) h.stand.followed.0.2
+recorded_session r text items h = followed_session r.sides.packets.followed (placed items) h.stand.followed
 
 pub client_packets : (pieces : List Piece) (items : List Item) (client server : List ℕ) → ComeIn [] [] pieces items client server
     → AreFrames (packets_of side.Client items) (bytes_of side.Client (joined pieces)) client
@@ -56,8 +43,8 @@ finishes old new before mid after takes place nothing text items h =
           read = h.read;
           parts = h.waits ∙ sym (joined-append h.pieces p) ∙ sym (append-nil (joined (h.pieces ++ p ∷ [])));
           packets = f.1.come;
-          client_none = f.1.client_none;
-          server_none = f.1.server_none;
+          client_none = f.1.client.none;
+          server_none = f.1.server.none;
         },
         subst (λ t. Writes (layout old) f.0 before t) (sym (nothing (h.pieces ++ p ∷ []) (items ++ f.0) f.1)) f.2,
       )

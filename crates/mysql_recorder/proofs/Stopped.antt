@@ -1,5 +1,6 @@
 -- A packet that doesn't come, step by step.
-use Rattle.std.proofs.Common.{◌≡◌, ◌≢◌, ◌⊎◌, inl, inr, ℕ, true, List, ◌++◌, None, Result, Ok, Err, IfOk, IfErr, OnOk, refl, sym, subst, take, drop, take-append-drop}
+use Rattle.std.proofs.Common.{◌≡◌, ◌≢◌, ◌⊎◌, inl, inr, ℕ, true, List, ◌++◌, None, Result, Ok, Err, IfOk, IfErr, OnOk, refl, sym, subst, ◌∙◌, take, drop, take-append-drop}
+use Rattle.mysql_conversation.specs.Agreements.{Agreed}
 use Rattle.mysql_conversation.specs.declared.kind.Side.{Side}
 use Rattle.mysql_conversation.specs.declared.kind.Side.TheVariants as side
 use Rattle.mysql_conversation.specs.declared.kind_name.KindName.{KindName}
@@ -9,8 +10,7 @@ use Rattle.mysql_frames.specs.FrameReader.{HandsOut}
 use Rattle.mysql_frames.specs.Frames.{Framed}
 use Rattle.mysql_recorder.specs.Followed.{IsFollowed}
 use Rattle.mysql_recorder.specs.Frames.{Piece}
-use Rattle.mysql_recorder.specs.Lines.{heard}
-use Rattle.mysql_recorder.specs.Recorded.{Recorded, IsShown}
+use Rattle.mysql_recorder.specs.Recorded.{Recorded}
 use Rattle.mysql_recorder.specs.Recorded as recorded
 use Rattle.mysql_recorder.specs.Refused.{ShowsRefused}
 use Rattle.mysql_recorder.specs.Refusals.{IfRefused}
@@ -25,12 +25,14 @@ use Rattle.mysql_recorder.specs.declared.packets.Packets.{Packets}
 use Rattle.mysql_recorder.specs.declared.packets.Taken.{Taken}
 use Rattle.mysql_recorder.specs.declared.packets.Taken.TheVariants as taken_as
 use Rattle.mysql_recorder.specs.declared.recording.Recording.{Recording}
-use Rattle.mysql_recorder.specs.declared.sides.Came.{Came}
-use Rattle.mysql_recorder.specs.declared.sides.Came.TheVariants as came_as
+use Rattle.mysql_recorder.specs.declared.piece.Came.{Came}
+use Rattle.mysql_recorder.specs.declared.piece.Came.TheVariants as came_as
 use Rattle.mysql_recorder.specs.declared.sides.Sides.{Sides}
 use Rattle.mysql_recorder.specs.declared.stream.Stream.{Stream}
 use Rattle.mysql_recorder.proofs.Frames.{handed_out}
-use Rattle.mysql_recorder.proofs.Goes.{goes_same, is_lost}
+use Rattle.mysql_recorder.proofs.Goes.{goes_same, is_lost, passed_none}
+use Rattle.mysql_recorder.proofs.Texts.{shown_of}
+use Rattle.mysql_recorder.proofs.Wholes.{followed_session}
 
 -- what is so of each reason
 pub if_refused : (e : RecordingError) (P Q : Refusal → Type 0) → ((why : Refusal) → P why → Q why) → IfRefused e P → IfRefused e Q
@@ -48,9 +50,15 @@ pub at_shown : {P : Type 0} (r : Result Taken RecordingError) → r ≡ Ok taken
 at_shown (Ok t) e h = let shown : t ≡ taken_as.Shown = cc in h shown
 at_shown (Err x) e h = cc
 
+pub at_refused : {P : Type 0} (r : Result Taken RecordingError) (a : Agreed) → r ≡ Ok (taken_as.Refused a) → IfOk r (λ t. t ≢ taken_as.Shown → P) → P
+at_refused (Ok t) a e h =
+    let refused : t ≡ taken_as.Refused a = cc in
+    h (λ shown. let no : taken_as.Refused a ≡ taken_as.Shown = sym refused ∙ shown in cc)
+at_refused (Err x) a e h = cc
+
 -- what came of a piece is whole, or something is lost
 pub goes_on_came : (came : Came) (r : Result (Unit {0}) RecordingError) (more : List Piece) (old mid new : Sides) (before m after : List ℕ)
-    → (came ≡ came_as.Whole → sides.GoesOn more old mid before m) → (came ≡ came_as.Whole → OnOk r (sides.IsSame mid new × (after ≡ m)))
+    → (came ≡ came_as.Whole → sides.GoesOn more old mid before m) → (came ≡ came_as.Whole → sides.IsSame mid new × (after ≡ m))
     → (came ≢ came_as.Whole → OnOk r (has_lost new ≡ true)) → OnOk r (sides.GoesOn more old new before after)
 goes_on_came came (Err e) more old mid new before m after goes same lost = tt
 goes_on_came came_as.Whole (Ok u) more old mid new before m after goes same lost =
@@ -60,6 +68,27 @@ goes_on_came (came_as.Refused a n) (Ok u) more old mid new before m after goes s
 goes_on_came (came_as.NoFrames x n) (Ok u) more old mid new before m after goes same lost = is_lost more old new before after (lost (λ e. cc))
 
 -- a packet is handed out that doesn't come
+pub stops_in : (all : List KindName) (side : Side) (bytes input rest : List ℕ) (items here : List Item) (s old new : Stream) (p po : Packets) (a b c : List ℕ) (sequence : ℕ) (payload : List ℕ) (why : Refusal)
+    → Reads side bytes input items here s old p po a b
+    → HandsOut (as_sent old.reader input) input payload new.reader rest → sequence ≡ (as_sent old.reader input).number
+    → po.layout ≡ p.layout → ShowsRefused all po.layout side sequence payload (placed (items ++ here)) why b c
+    → StopsIn all p.layout side (s.reader.held ++ bytes) items why a c
+stops_in all side bytes input rest items here s old new p po a b c sequence payload why r h n l shown = (
+  here,
+  sequence,
+  payload,
+  new.reader.number,
+  old.reader.held ++ input,
+  rest,
+  b,
+  r.from,
+  r.frames,
+  subst (λ m. Framed m payload new.reader.number (old.reader.held ++ input) rest) (sym n) (handed_out old.reader new.reader input payload rest h),
+  r.written,
+  followed_session po.followed (placed (items ++ here)) r.followed,
+  subst (λ y. ShowsRefused all y side sequence payload (placed (items ++ here)) why b c) l shown,
+)
+
 pub reads_refused : (all : List KindName) (side : Side) (bytes input rest : List ℕ) (items here : List Item) (s old new : Stream) (p po : Packets) (a b c : List ℕ) (sequence : ℕ) (payload : List ℕ) (e : RecordingError)
     → Reads side bytes input items here s old p po a b
     → HandsOut (as_sent old.reader input) input payload new.reader rest → sequence ≡ (as_sent old.reader input).number
@@ -67,45 +96,27 @@ pub reads_refused : (all : List KindName) (side : Side) (bytes input rest : List
     → ((xs : List Numbered) → IsFollowed po.followed xs → IfRefused e (λ why. ShowsRefused all po.layout side sequence payload xs why b c))
     → IfRefused e (λ why. StopsIn all p.layout side (s.reader.held ++ bytes) items why a c)
 reads_refused all side bytes input rest items here s old new p po a b c sequence payload e r h n l shows =
-    let out = handed_out old.reader new.reader input payload rest h in
     if_refused e (λ why. ShowsRefused all po.layout side sequence payload (placed (items ++ here)) why b c) (λ why. StopsIn all p.layout side (s.reader.held ++ bytes) items why a c)
-    (λ why shown. (
-      here,
-      sequence,
-      payload,
-      new.reader.number,
-      old.reader.held ++ input,
-      rest,
-      b,
-      r.from,
-      r.frames,
-      subst (λ m. Framed m payload new.reader.number (old.reader.held ++ input) rest) (sym n) out,
-      r.written,
-      subst (λ y. ShowsRefused all y side sequence payload (placed (items ++ here)) why b c) l shown,
-    ))
+    (λ why shown. stops_in all side bytes input rest items here s old new p po a b c sequence payload why r h n l shown)
     (shows (placed (items ++ here)) r.followed)
 
 pub client_stops : (r : Result Came RecordingError) (all : List KindName) (s : Sides) (bytes before after : List ℕ)
     → IfErr r (λ e. (items : List Item) → IsAt s.client s.packets items → IfRefused e (λ why. StopsIn all s.packets.layout side.Client (s.client.reader.held ++ bytes) items why before after))
     → IfErr r (λ e. PieceStops all side.Client bytes s e before after)
 client_stops (Ok came) all s bytes before after h = tt
-client_stops (Err e) all s bytes before after h = λ pieces items k. h items (k.client_numbered, k.followed)
+client_stops (Err e) all s bytes before after h = λ pieces items k. h items (k.client.numbered, k.followed)
 
 pub server_stops : (r : Result Came RecordingError) (all : List KindName) (s : Sides) (bytes before after : List ℕ)
     → IfErr r (λ e. (items : List Item) → IsAt s.server s.packets items → IfRefused e (λ why. StopsIn all s.packets.layout side.Server (s.server.reader.held ++ bytes) items why before after))
     → IfErr r (λ e. PieceStops all side.Server bytes s e before after)
 server_stops (Ok came) all s bytes before after h = tt
-server_stops (Err e) all s bytes before after h = λ pieces items k. h items (k.server_numbered, k.followed)
+server_stops (Err e) all s bytes before after h = λ pieces items k. h items (k.server.numbered, k.followed)
 
 -- what is refused in no case
 pub piece_never : (r : Result (Unit {0}) RecordingError) (all : List KindName) (side : Side) (bytes : List ℕ) (s : Sides) (before after : List ℕ)
     → IfErr r (λ e. IfRefused e (λ why. ⊥)) → IfErr r (λ e. PieceStops all side bytes s e before after)
 piece_never (Ok u) all side bytes s before after h = tt
 piece_never (Err e) all side bytes s before after h = λ pieces items k. never e _ h
-
-passed_none : (s : Sides) (side : Side) (pieces : List Piece) (items : List Item) → Stand s pieces items → passed_of side s ≡ None
-passed_none s side.Client pieces items h = h.client_in_step
-passed_none s side.Server pieces items h = h.server_in_step
 
 -- a stream that is out of step
 pub piece_passed : (r : Result (Unit {0}) RecordingError) (all : List KindName) (side : Side) (bytes : List ℕ) (s : Sides) (before after : List ℕ)
@@ -128,20 +139,8 @@ line_never (Err e) all old before after h = λ pieces items k. never e _ h
 after_text : (all : List KindName) (r : Recording) (text : List ℕ) (items : List Item) (e : RecordingError) (before after : List ℕ) → Recorded r text items → LineStops all r e before after
     → IfRefused e (λ why. StopsAfter all (recorded.layout r) text items why before after)
 after_text all r text items e before after h stops =
-    let shown : IsShown text (heard r.line.side r.line.bytes.items) items = record {
-      at = r.place;
-      said = h.said;
-      pieces = h.pieces;
-      client_left = r.sides.client.reader.held;
-      server_left = r.sides.server.reader.held;
-      read = h.read;
-      parts = h.waits;
-      packets = h.stand.come;
-      client_none = h.stand.client_none;
-      server_none = h.stand.server_none;
-    } in
     if_refused e _ (λ why. StopsAfter all (recorded.layout r) text items why before after)
-    (λ why s. record { side = r.line.side; bytes = r.line.bytes.items; shown = shown; stops = s }) (stops h.pieces items h.stand)
+    (λ why s. record { side = r.line.side; bytes = r.line.bytes.items; shown = shown_of r text items h; stops = s }) (stops h.pieces items h.stand)
 
 pub text_stops : (r : Result (Unit {0}) RecordingError) (all : List KindName) (old : Recording) (before after : List ℕ)
     → IfErr r (λ e. LineStops all old e before after) → IfErr r (λ e. TextStops all old e before after)

@@ -3,7 +3,7 @@ use Rattle.std.proofs.Common.{◌≡◌, ◌⊎◌, inl, inr, ℕ, List, [], ◌
 use Rattle.mysql_conversation.specs.declared.kind.Side.{Side}
 use Rattle.mysql_recorder.specs.Frames.{joined}
 use Rattle.mysql_recorder.specs.Lines.{Heard, heard, Line, IsLine, AreLines, text_of, said_by, Stands, Passes, says_of, IsOfSide, StaysOf, IsRead}
-use Rattle.mysql_recorder.specs.Recorded.{Recorded}
+use Rattle.mysql_recorder.specs.Recorded.{IsReadTo, IsShown, Recorded}
 use Rattle.mysql_recorder.specs.Shown.{Item}
 use Rattle.mysql_recorder.specs.Sides.{Stand}
 use Rattle.mysql_recorder.specs.declared.line.Place.{Place}
@@ -38,6 +38,11 @@ goes_on text said c new lines line more next all text_is said_is h = (
   h,
 )
 
+text_ends : (text : List ℕ) (c : ℕ) (lines : List Line) (l : Line) → text ≡ text_of lines ++ l.text → c ≡ 10 → text ++ c ∷ [] ≡ text_of (lines ++ l ∷ []) ++ []
+text_ends text c lines l text_is feed =
+    ap (λ t. t ++ c ∷ []) text_is ∙ append_assoc (text_of lines) l.text (c ∷ []) ∙ ap (λ x. text_of lines ++ (l.text ++ x ∷ [])) feed ∙ sym (text_of-append lines l)
+    ∙ sym (append-nil (text_of (lines ++ l ∷ [])))
+
 ends : (text : List ℕ) (said : List Heard) (c : ℕ) (new : Place) (lines : List Line) (line : List ℕ) (more : List Heard)
     → AreLines lines → text ≡ text_of lines ++ line → said ≡ said_by lines ++ more → c ≡ 10 → new ≡ place.Start → IsLine (record { text = line; says = more })
     → IsRead (text ++ c ∷ []) new (said ++ [])
@@ -47,7 +52,7 @@ ends text said c new lines line more all text_is said_is feed start h =
       [],
       [],
       all_line lines l all h,
-      ap (λ t. t ++ c ∷ []) text_is ∙ append_assoc (text_of lines) line (c ∷ []) ∙ ap (λ x. text_of lines ++ (line ++ x ∷ [])) feed ∙ sym (text_of-append lines l) ∙ sym (append-nil (text_of (lines ++ l ∷ []))),
+      text_ends text c lines l text_is feed,
       append-nil said ∙ said_is ∙ sym (said_by-append lines l) ∙ sym (append-nil (said_by (lines ++ l ∷ []))),
       subst (λ p. Stands p [] []) (sym start) (refl, refl),
     )
@@ -58,7 +63,7 @@ pub read_byte : (text : List ℕ) (said : List Heard) (old new : Place) (c : ℕ
 read_byte text said old new c None (lines, line, more, all, text_is, said_is, stands) passes =
     elim (passes line more stands) as (λ _. IsRead (text ++ c ∷ []) new (said ++ [])) [
       | inl h ↦ goes_on text said c new lines line more [] all text_is said_is (subst (λ m. Stands new (line ++ c ∷ []) m) (sym (append-nil more)) h)
-      | inr h ↦ ends text said c new lines line more all text_is said_is h.0 h.1 h.2
+      | inr h ↦ ends text said c new lines line more all text_is said_is h.0 h.1 h.3
     ]
 read_byte text said old new c (Some (says.Byte side value)) (lines, line, more, all, text_is, said_is, stands) passes =
     goes_on text said c new lines line more (record { from = side; byte = value } ∷ []) all text_is said_is (passes line more stands)
@@ -66,7 +71,59 @@ read_byte text said old new c (Some says.End) (lines, line, more, all, text_is, 
     let h = passes line more stands in
     ends text said c new lines line more all text_is said_is h.0 h.1 h.2
 
+-- ---- the line apart
+
+-- the byte that ends a line
+pub line_ends : (text : List ℕ) (said : List Heard) (old new : Place) (c : ℕ) → IsRead text old said
+    → ((line : List ℕ) (before : List Heard) → Stands old line before → Passes (Some says.End) c line before new) → IsReadTo (text ++ c ∷ []) new said []
+line_ends text said old new c (lines, line, more, all, text_is, said_is, stands) passes =
+    let h = passes line more stands in
+    let l : Line = record { text = line; says = more } in (
+      lines ++ l ∷ [],
+      [],
+      all_line lines l all h.2,
+      text_ends text c lines l text_is h.0,
+      said_is ∙ sym (said_by-append lines l),
+      subst (λ p. Stands p [] []) (sym h.1) (refl, refl),
+    )
+
+read_to_none : (text : List ℕ) (said more : List Heard) (old new : Place) (c : ℕ) → IsReadTo text old said more
+    → ((line : List ℕ) (before : List Heard) → Stands old line before → Passes None c line before new) → IsReadTo (text ++ c ∷ []) new said more
+read_to_none text said more old new c (lines, line, all, text_is, said_is, stands) passes =
+    elim (passes line more stands) as (λ _. IsReadTo (text ++ c ∷ []) new said more) [
+      | inl h ↦ (lines, line ++ c ∷ [], all, ap (λ t. t ++ c ∷ []) text_is ∙ append_assoc (text_of lines) line (c ∷ []), said_is, h)
+      | inr h ↦ (let l : Line = record { text = line; says = more } in (
+        lines ++ l ∷ [],
+        [],
+        all_line lines l all h.3,
+        text_ends text c lines l text_is h.0,
+        said_is ∙ sym (append-nil (said_by lines)) ∙ ap (λ m. said_by lines ++ m) (sym h.2) ∙ sym (said_by-append lines l),
+        subst (λ p. Stands p [] more) (sym h.1) (refl, h.2),
+      ))
+    ]
+
+read_to_byte : (text : List ℕ) (said more : List Heard) (old new : Place) (c : ℕ) (side : Side) (value : ℕ) → IsReadTo text old said more
+    → ((line : List ℕ) (before : List Heard) → Stands old line before → Passes (Some (says.Byte side value)) c line before new)
+    → IsReadTo (text ++ c ∷ []) new said (more ++ record { from = side; byte = value } ∷ [])
+read_to_byte text said more old new c side value (lines, line, all, text_is, said_is, stands) passes =
+    (lines, line ++ c ∷ [], all, ap (λ t. t ++ c ∷ []) text_is ∙ append_assoc (text_of lines) line (c ∷ []), said_is, passes line more stands)
+
 -- ---- recordings
+
+-- what is shown of what was read
+abbrev pub shown_of : (r : Recording) (text : List ℕ) (items : List Item) → Recorded r text items → IsShown text (heard r.line.side r.line.bytes.items) items
+shown_of r text items h = record {
+  at = r.place;
+  said = h.said;
+  pieces = h.pieces;
+  client_left = r.sides.client.reader.held;
+  server_left = r.sides.server.reader.held;
+  read = h.read;
+  parts = h.waits;
+  packets = h.stand.come;
+  client_none = h.stand.client.none;
+  server_none = h.stand.server.none;
+}
 
 -- a byte that says nothing
 pub recorded_none : (old new : Recording) (text : List ℕ) (items : List Item) (c : ℕ) → Recorded old text items
@@ -81,6 +138,8 @@ recorded_none old new text items c h passes stays line sides = record {
     | inl e ↦ inl (ap (λ l. l.bytes.items) line ∙ e)
     | inr e ↦ inr (subst (λ l. IsOfSide l.side new.place) (sym line) (stays old.line.side e))
   ];
+  untaken = λ e. subst (λ l. IsReadTo (text ++ c ∷ []) new.place (joined h.pieces) (heard l.side l.bytes.items)) (sym line)
+      (read_to_none text (joined h.pieces) (heard old.line.side old.line.bytes.items) old.place new.place c (h.untaken (sym (ap (λ l. l.is_untaken) line) ∙ e)) passes);
   stand = subst (λ s. Stand s h.pieces (items ++ [])) (sym sides) (subst (λ xs. Stand old.sides h.pieces xs) (sym (append-nil items)) h.stand);
 }
 
@@ -94,8 +153,8 @@ waits_more t side bytes value (inr e) =
 pub recorded_byte : (old new : Recording) (text : List ℕ) (items : List Item) (c : ℕ) (side : Side) (value : ℕ) → Recorded old text items
     → ((line : List ℕ) (before : List Heard) → Stands old.place line before → Passes (Some (says.Byte side value)) c line before new.place)
     → StaysOf (Some (says.Byte side value)) old.place new.place
-    → new.line.side ≡ side → new.line.bytes.items ≡ old.line.bytes.items ++ value ∷ [] → new.sides ≡ old.sides → Recorded new (text ++ c ∷ []) (items ++ [])
-recorded_byte old new text items c side value h passes stays side_is bytes sides =
+    → new.line.side ≡ side → new.line.bytes.items ≡ old.line.bytes.items ++ value ∷ [] → new.line.is_untaken ≡ old.line.is_untaken → new.sides ≡ old.sides → Recorded new (text ++ c ∷ []) (items ++ [])
+recorded_byte old new text items c side value h passes stays side_is bytes untaken sides =
     let same : (old.line.bytes.items ≡ []) ⊎ (side ≡ old.line.side) =
     elim h.line as (λ _. (old.line.bytes.items ≡ []) ⊎ (side ≡ old.line.side)) [ inl e ↦ inl e | inr e ↦ inr (stays.0 old.line.side e) ] in
     record {
@@ -107,5 +166,9 @@ recorded_byte old new text items c side value h passes stays side_is bytes sides
           ∙ ap (λ t. joined h.pieces ++ t) (waits_more old.line.side side old.line.bytes.items value same)
           ∙ ap (λ b. joined h.pieces ++ heard side b) (sym bytes) ∙ ap (λ s. joined h.pieces ++ heard s new.line.bytes.items) (sym side_is);
       line = inr (subst (λ s. IsOfSide s new.place) (sym side_is) stays.1);
+      untaken = λ e. subst (λ s. IsReadTo (text ++ c ∷ []) new.place (joined h.pieces) (heard s new.line.bytes.items)) (sym side_is)
+          (subst (λ b. IsReadTo (text ++ c ∷ []) new.place (joined h.pieces) (heard side b)) (sym bytes)
+          (subst (λ m. IsReadTo (text ++ c ∷ []) new.place (joined h.pieces) m) (waits_more old.line.side side old.line.bytes.items value same)
+          (read_to_byte text (joined h.pieces) (heard old.line.side old.line.bytes.items) old.place new.place c side value (h.untaken (sym untaken ∙ e)) passes)));
       stand = subst (λ s. Stand s h.pieces (items ++ [])) (sym sides) (subst (λ xs. Stand old.sides h.pieces xs) (sym (append-nil items)) h.stand);
     }

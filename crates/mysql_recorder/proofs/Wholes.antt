@@ -10,9 +10,15 @@ use Rattle.mysql_conversation.specs.declared.pipeline.Refusal.{Refusal}
 use Rattle.mysql_conversation.specs.declared.pipeline.Refusal.TheVariants as refusal
 use Rattle.mysql_conversation.specs.declared.pipeline.Pipeline.{Pipeline}
 use Rattle.mysql_conversation.specs.declared.session.Session.{Session}
-use Rattle.mysql_recorder.specs.Followed.{IsWhole}
+use Rattle.mysql_conversation.proofs.SessionEnds.{taken_is_beginning}
+use Rattle.mysql_recorder.specs.Followed.{IsFollowed, IsWhole}
 use Rattle.mysql_recorder.specs.declared.followed.Connection.{Connection}
 use Rattle.mysql_recorder.specs.declared.followed.Connection.TheVariants as connection
+use Rattle.mysql_recorder.specs.declared.followed.Followed.{Followed}
+
+-- what came is the beginning of a session
+pub followed_session : (f : Followed) (items : List Numbered) → IsFollowed f items → IsSessionBeginning items
+followed_session f items h = taken_is_beginning h.0.0.phase items h.0.2
 
 -- what came of it came of its session
 pub of_session : (c : Connection) (s : Session) (items : List Numbered) → c ≡ connection.Whole s → IsWhole c items → SessionTaken s items

@@ -101,9 +101,9 @@ Stands (place.Between side) line said = (bytes : List ℕ) × SaysBytes side lin
 Stands (place.Half side high) line said = (bytes : List ℕ) × IsHalf side high line bytes × (said ≡ heard side bytes)
 Stands place.Silent line said = SaysNothing line × (line ≢ []) × (said ≡ [])
 
--- what one more byte of the line says: a byte of a stream, or that the line is at its end
+-- what one more byte of the line says: a byte of a stream, or that the line is at its end; of a line that says nothing the end is not said
 abbrev pub Passes : Option Said → ℕ → List ℕ → List Heard → Place → Type 0
-Passes None c line said new = Stands new (line ++ c ∷ []) said ⊎ ((c ≡ 10) × (new ≡ place.Start) × IsLine (record { text = line; says = said }))
+Passes None c line said new = Stands new (line ++ c ∷ []) said ⊎ ((c ≡ 10) × (new ≡ place.Start) × (said ≡ []) × IsLine (record { text = line; says = said }))
 Passes (Some (says.Byte side value)) c line said new = Stands new (line ++ c ∷ []) (said ++ record { from = side; byte = value } ∷ [])
 Passes (Some says.End) c line said new = (c ≡ 10) × (new ≡ place.Start) × IsLine (record { text = line; says = said })
 

@@ -2,7 +2,7 @@
 use Rattle.std.specs.Prelude.{◌≡◌, ◌⊎◌, ℕ, Bool, true, List, [], ◌∷◌, ◌++◌}
 use Rattle.mysql_fields.specs.declared.entry.Layout.{Layout}
 use Rattle.mysql_recorder.specs.Frames.{Piece, joined, ComeIn, NoneComes}
-use Rattle.mysql_recorder.specs.Lines.{Heard, heard, IsRead, IsOfSide}
+use Rattle.mysql_recorder.specs.Lines.{AreLines, Heard, heard, IsRead, IsOfSide, Line, said_by, Stands, text_of}
 use Rattle.mysql_recorder.specs.Shown.{Item, Writes}
 use Rattle.mysql_recorder.specs.Sides.{Stand}
 use Rattle.mysql_recorder.specs.Sides as sides
@@ -12,18 +12,28 @@ use Rattle.mysql_recorder.specs.declared.recording.Recording.{Recording}
 abbrev pub layout : Recording → Layout
 layout r = sides.layout r.sides
 
+-- the longest payload
+abbrev pub longest : Recording → ℕ
+longest r = sides.longest r.sides
+
 -- something is lost
 abbrev pub has_lost : Recording → Bool
 has_lost r = sides.has_lost r.sides
 
+-- a text says so far: of whole lines these bytes, and those of the line that is not at its end
+abbrev pub IsReadTo : List ℕ → Place → List Heard → List Heard → Type 0
+IsReadTo text at said more =
+    (lines : List Line) × (line : List ℕ) × AreLines lines × (text ≡ text_of lines ++ line) × (said ≡ said_by lines) × Stands at line more
+
 -- This text was read, and these packets of it are shown: of a connection from its greeting on of which nothing is lost. What came of a
--- line that may be a mark of missing bytes waits.
+-- line that may be a mark of missing bytes waits. Where nothing of a line is taken, all of it waits.
 pub record Recorded (r : Recording) (text : List ℕ) (items : List Item) : Type 0 where
   pub said : List Heard
   pub pieces : List Piece
   pub read : IsRead text r.place said
   pub waits : said ≡ joined pieces ++ heard r.line.side r.line.bytes.items
   pub line : (r.line.bytes.items ≡ []) ⊎ IsOfSide r.line.side r.place
+  pub untaken : r.line.is_untaken ≡ true → IsReadTo text r.place (joined pieces) (heard r.line.side r.line.bytes.items)
   pub stand : Stand r.sides pieces items
 
 -- after this text something is lost, or it is read too, and an entry for each of its packets is appended

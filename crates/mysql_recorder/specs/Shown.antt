@@ -5,7 +5,7 @@ use Rattle.mysql_conversation.specs.Piped.{place}
 use Rattle.mysql_conversation.specs.Pipelined.{Numbered}
 use Rattle.mysql_conversation.specs.declared.kind.Kind.{Kind}
 use Rattle.mysql_conversation.specs.declared.kind.Side.{Side}
-use Rattle.mysql_fields.specs.Entries.{sign_of, name_of_side}
+use Rattle.mysql_fields.specs.Entries.{Begins, sign_of, name_of_side}
 use Rattle.mysql_fields.specs.FieldObject.{object_line}
 use Rattle.mysql_fields.specs.FieldText.{lines_of}
 use Rattle.mysql_fields.specs.Fields.{Said, said, Number, Word, Digits, have_float}
@@ -59,9 +59,16 @@ abbrev pub entry_text : Layout → Entry → List Said → List ℕ
 entry_text layout.Lines e fields = entry_line e ++ lines_of fields
 entry_text layout.Json e fields = object_line (entry_head e) fields
 
--- an entry with some fields is appended. Where one of them is a float, nothing is said of the text, since its digits are not known.
+-- its front, whatever its fields hold: the line; in an object the members stand in the order of their names
+abbrev pub entry_front : Layout → Entry → List ℕ
+entry_front layout.Lines e = entry_line e
+entry_front layout.Json e = []
+
+-- An entry with some fields is appended: what stood before stays, and then comes its front. Where none of the fields is a float, the text is
+-- the entry's; of a float the digits are not known.
 abbrev pub Appends : Layout → Entry → List ℕ → List ℕ → Type 0
-Appends layout entry old new = (fields : List Said) × (have_float fields ≡ false → new ≡ old ++ entry_text layout entry fields)
+Appends layout entry old new =
+    (fields : List Said) × (have_float fields ≡ false → new ≡ old ++ entry_text layout entry fields) × Begins (entry_front layout entry) old new
 
 -- an entry for each of these packets is appended, in their order
 abbrev pub Writes : Layout → List Item → List ℕ → List ℕ → Type 0

@@ -19,6 +19,7 @@ pub record Reads (side : Side) (piece left : List ℕ) (items here : List Item) 
   pub from : AreFrom side here
   pub frames : AreFrames here (old.reader.held ++ piece) (new.reader.held ++ left)
   pub numbered : IsNumbered new.reader
+  pub limit : new.reader.limit ≡ old.reader.limit
   pub followed : IsFollowed after.followed (placed (items ++ here))
   pub written : Writes before.layout here text_before text_after
 
@@ -28,20 +29,27 @@ layout s = s.packets.layout
 abbrev pub has_lost : Sides → Bool
 has_lost s = s.has_lost
 
+-- the longest payload
+abbrev pub longest : Sides → ℕ
+longest s = s.longest
+
 abbrev pub passed_of : Side → Sides → Option ℕ
 passed_of Client s = s.client.passed
 passed_of Server s = s.server.passed
 
+-- A stream is in step: where a header is held, its number is known, and no payload's frames begin what is held.
+pub record InStep (stream : Stream) (longest : ℕ) : Type 0 where
+  pub numbered : IsNumbered stream.reader
+  pub limit : stream.reader.limit ≡ longest
+  pub none : NoneComes stream.reader.held
+  pub none_passed : stream.passed ≡ None
+
 -- These pieces came and these packets of them, of a connection from its greeting on of which nothing is lost.
 pub record Stand (s : Sides) (pieces : List Piece) (items : List Item) : Type 0 where
   pub come : ComeIn [] [] pieces items s.client.reader.held s.server.reader.held
-  pub client_numbered : IsNumbered s.client.reader
-  pub server_numbered : IsNumbered s.server.reader
-  pub client_none : NoneComes s.client.reader.held
-  pub server_none : NoneComes s.server.reader.held
+  pub client : InStep s.client s.longest
+  pub server : InStep s.server s.longest
   pub followed : IsFollowed s.packets.followed (placed items)
-  pub client_in_step : s.client.passed ≡ None
-  pub server_in_step : s.server.passed ≡ None
   pub nothing_lost : s.has_lost ≡ false
 
 -- after these pieces something is lost, or they came too, and an entry for each of their packets is appended
@@ -57,7 +65,17 @@ pub record IsSame (old new : Sides) : Type 0 where
   pub client : new.client ≡ old.client
   pub server : new.server ≡ old.server
   pub has_lost : new.has_lost ≡ old.has_lost
+  pub longest : new.longest ≡ old.longest
   pub packets : new.packets ≡ old.packets
+
+-- but for the sums all is the same
+pub record IsSummed (old new : Sides) : Type 0 where
+  pub client : new.client ≡ old.client
+  pub server : new.server ≡ old.server
+  pub has_lost : new.has_lost ≡ old.has_lost
+  pub longest : new.longest ≡ old.longest
+  pub followed : new.packets.followed ≡ old.packets.followed
+  pub layout : new.packets.layout ≡ old.packets.layout
 
 -- where nothing is lost, nothing is appended
 abbrev pub SaysNothing : Sides → List ℕ → List ℕ → Type 0

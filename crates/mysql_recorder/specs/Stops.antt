@@ -1,5 +1,6 @@
 -- A recording that goes no further, as a packet doesn't come.
 use Rattle.std.specs.Prelude.{◌≡◌, ◌⊎◌, ℕ, true, List, ◌++◌}
+use Rattle.mysql_conversation.specs.Session.{IsSessionBeginning}
 use Rattle.mysql_conversation.specs.declared.kind.Side.{Side}
 use Rattle.mysql_conversation.specs.declared.kind_name.KindName.{KindName}
 use Rattle.mysql_conversation.specs.declared.pipeline.Refusal.{Refusal}
@@ -23,7 +24,7 @@ abbrev pub StopsIn : List KindName → Layout → Side → List ℕ → List Ite
 StopsIn all layout side bytes items why before after =
     (here : List Item) × (sequence : ℕ) × (payload : List ℕ) × (next : ℕ) × (left : List ℕ) × (rest : List ℕ) × (mid : List ℕ)
     × AreFrom side here × AreFrames here bytes left × Framed sequence payload next left rest × Writes layout here before mid
-    × ShowsRefused all layout side sequence payload (placed (items ++ here)) why mid after
+    × IsSessionBeginning (placed (items ++ here)) × ShowsRefused all layout side sequence payload (placed (items ++ here)) why mid after
 
 -- in a piece of a side
 abbrev pub PieceStops : List KindName → Side → List ℕ → Sides → RecordingError → List ℕ → List ℕ → Type 0

@@ -12,6 +12,7 @@ mod line;
 mod loss;
 mod mark;
 mod packets;
+mod piece;
 mod prepared;
 mod program;
 mod recording;

@@ -3,6 +3,9 @@
 //! Where a segment of a stream is not in the capture, `tshark` has a line of its own in the place of these bytes: as digits, the text
 //! `[1460 bytes missing in capture file]` and a byte 0.
 
+ghost use Rattle.std.specs.Prelude.{◌≡◌, ◌≤◌, ℕ, IfSome, drop};
+ghost use Rattle.mysql_recorder.specs.Marks as spec;
+
 /// What a mark begins with.
 const BEFORE: u8 = b'[';
 
@@ -13,28 +16,33 @@ const AFTER: &[u8] = b" bytes missing in capture file]\0";
 const DIGITS: usize = 19;
 
 /// The number after so many digits of a text's front, with what stands after them.
-fn number_of(text: &[u8]) -> (u64, &[u8]) {
+fn number_of(text: &[u8]) -> (u64, &[u8])
+    ensures { (n : ℕ) × (n ≤ 19) × spec.BeginsWithDigits n text.now × (result.1.now ≡ drop n text.now) }
+{
     let mut number: u64 = 0;
-    let mut rest = text;
-    for _ in 0..DIGITS {
-        let [digit @ b'0'..=b'9', after @ ..] = rest else {
-            break;
-        };
-        number = number
-            .wrapping_mul(10)
-            .wrapping_add(u64::from(*digit - b'0'));
-        rest = after;
+    let end = text.len().min(DIGITS);
+    for place in 0..end {
+        match text[place] {
+            digit @ b'0'..=b'9' => {
+                number = number
+                    .wrapping_mul(10)
+                    .wrapping_add(u64::from(digit - b'0'));
+            }
+            _ => return (number, &text[place..]),
+        }
     }
-    (number, rest)
+    (number, &text[end..])
 }
 
 /// How many bytes a line says that the capture lacks, where it is a mark.
-pub(crate) fn missing_of(line: &[u8]) -> Option<u64> {
-    let [BEFORE, text @ ..] = line else {
+pub(crate) fn missing_of(line: &[u8]) -> Option<u64>
+    ensures { IfSome result (λ count. spec.IsMark line.now) }
+{
+    let Some((first, text)) = line.split_first() else {
         return None;
     };
     let (number, rest) = number_of(text);
-    if rest.len() < text.len() && rest == AFTER {
+    if *first == BEFORE && rest.len() < text.len() && rest == AFTER {
         Some(number)
     } else {
         None

@@ -2,6 +2,7 @@
 
 ghost use Rattle.std.specs.Prelude.{◌≡◌, ◌≢◌, [], ◌∷◌, ◌++◌, List, IfOk, IfErr, OnOk, string_bytes};
 ghost use Rattle.mysql_conversation.specs.Pipelined.{Numbered};
+ghost use Rattle.mysql_fields.specs.Entries.{Stays};
 ghost use Rattle.mysql_recorder.specs.Followed.{IsFollowed};
 ghost use Rattle.mysql_recorder.specs.Entries.{entry_as};
 ghost use Rattle.mysql_conversation.specs.declared.kind_name.KindName as names_of;
@@ -83,7 +84,10 @@ impl Packets {
     }
 
     /// Sums what comes from here on.
-    pub(crate) fn sum(&mut self) {
+    pub(crate) fn sum(&mut self)
+        ensures followed { self.new.followed ≡ self.old.followed }
+        ensures layout { self.new.layout ≡ self.old.layout }
+    {
         self.sums = Some(Sums::new(self.alloc));
     }
 
@@ -111,7 +115,9 @@ impl Packets {
     }
 
     /// Goes on at the next command, under what both sides agreed on.
-    pub(crate) fn take_up(&mut self, agreed: SessionCapabilities) {
+    pub(crate) fn take_up(&mut self, agreed: SessionCapabilities)
+        ensures { self.new.layout ≡ self.old.layout }
+    {
         self.followed.take_up(agreed);
     }
 
@@ -144,7 +150,9 @@ impl Packets {
         side: Side,
         field: Field<'_>,
         out: &mut String,
-    ) -> Result<(), AllocError> {
+    ) -> Result<(), AllocError>
+        ensures { OnOk result (Stays (string_bytes out.old) (string_bytes out.new)) }
+    {
         let is_next = kind == "taken_up" && side == Side::Client;
         let remark = Remark {
             side,
@@ -168,6 +176,7 @@ impl Packets {
             → (why : refusals.Refusal) × ShowsRefused KindName.ALL self.old.layout side sequence payload.now items why (string_bytes out.old) (string_bytes out.new)) }
         ensures refused { IfErr result (λ e. (items : List Numbered) → IsFollowed self.old.followed items
             → IfRefused e (λ why. ShowsRefused KindName.ALL self.old.layout side sequence payload.now items why (string_bytes out.old) (string_bytes out.new))) }
+        ensures stays { IfOk result (λ taken. Stays (string_bytes out.old) (string_bytes out.new)) }
         ensures layout { self.new.layout ≡ self.old.layout }
     {
         let is_between = self.followed.is_at_rest();

@@ -1,8 +1,11 @@
 //! A recording: what both sides of a connection sent.
 
-ghost use Rattle.std.specs.Prelude.{◌≡◌, ◌∷◌, [], IfErr, OnOk, true, string_bytes};
+ghost use Rattle.std.specs.Prelude.{◌≡◌, ◌∷◌, [], ℕ, List, IfErr, OnOk, false, true, string_bytes};
+ghost use Rattle.mysql_fields.specs.Entries.{Stays};
+ghost use Rattle.mysql_recorder.specs.Losses.{LineEndLoses, LineLoses, Loses, TextLoses};
 ghost use Rattle.mysql_recorder.specs.Recorded as spec;
 ghost use Rattle.mysql_recorder.specs.Refusals.{IfRefused};
+ghost use Rattle.mysql_recorder.specs.Shown.{Item};
 ghost use Rattle.mysql_recorder.specs.Stops.{LineStops, Stops, TextStops};
 
 use crate::error::RecordingError;
@@ -45,6 +48,7 @@ impl Recording {
     pub fn new(alloc: Global, layout: Layout, longest: usize, waiting: usize) -> Self
         ensures recorded { spec.Recorded result [] [] }
         ensures layout { spec.layout result ≡ layout }
+        ensures longest { spec.longest result ≡ longest }
     {
         Recording {
             alloc,
@@ -60,14 +64,23 @@ impl Recording {
 
     /// Takes up a connection at its next command, under what both sides agreed on: its greeting and its login were not seen. Both
     /// streams are out of step up to there.
-    pub fn taken_up(self, agreed: SessionCapabilities) -> Self {
+    pub fn taken_up(self, agreed: SessionCapabilities) -> Self
+        ensures lost { spec.has_lost result ≡ spec.has_lost self }
+        ensures layout { spec.layout result ≡ spec.layout self }
+        ensures longest { spec.longest result ≡ spec.longest self }
+    {
         let mut recording = self;
         recording.sides.take_up_at(agreed);
         recording
     }
 
     /// Sums what comes from here on.
-    pub fn with_sums(self) -> Self {
+    pub fn with_sums(self) -> Self
+        ensures recorded { (text : List ℕ) (items : List Item) → spec.Recorded self text items → spec.Recorded result text items }
+        ensures lost { spec.has_lost result ≡ spec.has_lost self }
+        ensures layout { spec.layout result ≡ spec.layout self }
+        ensures longest { spec.longest result ≡ spec.longest self }
+    {
         let mut recording = self;
         recording.sides.sum();
         recording
@@ -97,7 +110,10 @@ impl Recording {
         ensures goes { OnOk result (spec.GoesOn input.now self.old self.new (string_bytes out.old) (string_bytes out.new)) }
         ensures lost { spec.has_lost self.old ≡ true → spec.has_lost self.new ≡ true }
         ensures layout { spec.layout self.new ≡ spec.layout self.old }
+        ensures longest { spec.longest self.new ≡ spec.longest self.old }
         ensures refused { IfErr result (λ e. Stops KindName.ALL input.now self.old self.new e (string_bytes out.old) (string_bytes out.new)) }
+        ensures loses { Loses result KindName.ALL input.now self.old self.new (string_bytes out.old) (string_bytes out.new) }
+        ensures text { OnOk result (Stays (string_bytes out.old) (string_bytes out.new)) }
     {
         for byte in input {
             self.take_byte(*byte, out)?;
@@ -110,7 +126,10 @@ impl Recording {
         ensures goes { OnOk result (spec.GoesOn [] self.old self.new (string_bytes out.old) (string_bytes out.new)) }
         ensures lost { spec.has_lost self.old ≡ true → spec.has_lost self.new ≡ true }
         ensures layout { spec.layout self.new ≡ spec.layout self.old }
+        ensures longest { spec.longest self.new ≡ spec.longest self.old }
         ensures refused { IfErr result (λ e. TextStops KindName.ALL self.old e (string_bytes out.old) (string_bytes out.new)) }
+        ensures loses { TextLoses result KindName.ALL ⊥ self.old self.new (string_bytes out.old) (string_bytes out.new) }
+        ensures text { OnOk result (Stays (string_bytes out.old) (string_bytes out.new)) }
     {
         if self.may_be_taken() {
             self.take_line(out)
@@ -124,7 +143,10 @@ impl Recording {
         ensures goes { OnOk result (spec.GoesOn (byte ∷ []) self.old self.new (string_bytes out.old) (string_bytes out.new)) }
         ensures lost { spec.has_lost self.old ≡ true → spec.has_lost self.new ≡ true }
         ensures layout { spec.layout self.new ≡ spec.layout self.old }
+        ensures longest { spec.longest self.new ≡ spec.longest self.old }
         ensures refused { IfErr result (λ e. TextStops KindName.ALL self.old e (string_bytes out.old) (string_bytes out.new)) }
+        ensures loses { TextLoses result KindName.ALL (byte ≡ 10) self.old self.new (string_bytes out.old) (string_bytes out.new) }
+        ensures text { OnOk result (Stays (string_bytes out.old) (string_bytes out.new)) }
     {
         match self.place.pass(byte)? {
             Some(Said::Byte(side, value)) => {
@@ -139,6 +161,8 @@ impl Recording {
     /// Says that the input is at its end, and appends how much of each stream is passed over that is still out of step.
     pub fn finish(&mut self, out: &mut String) -> Result<(), RecordingError>
         ensures finishes { OnOk result (spec.Finishes self.old self.new (string_bytes out.old) (string_bytes out.new)) }
+        ensures loses { TextLoses result KindName.ALL (Unit {0}) self.old self.new (string_bytes out.old) (string_bytes out.new) }
+        ensures text { OnOk result (Stays (string_bytes out.old) (string_bytes out.new)) }
     {
         self.end_line(out)?;
         Ok(self.sides.say_unheard(out)?)
@@ -156,9 +180,13 @@ impl Recording {
         ensures goes { OnOk result (spec.Takes self.old self.new (string_bytes out.old) (string_bytes out.new)) }
         ensures lost { spec.has_lost self.old ≡ true → spec.has_lost self.new ≡ true }
         ensures layout { spec.layout self.new ≡ spec.layout self.old }
+        ensures longest { spec.longest self.new ≡ spec.longest self.old }
         ensures place { self.new.place ≡ self.old.place }
         ensures line { OnOk result (self.new.line.bytes.items ≡ []) }
         ensures refused { IfErr result (λ e. LineStops KindName.ALL self.old e (string_bytes out.old) (string_bytes out.new)) }
+        ensures loses { LineEndLoses result KindName.ALL self.old self.new (string_bytes out.old) (string_bytes out.new) }
+        ensures text { OnOk result (Stays (string_bytes out.old) (string_bytes out.new)) }
+        ensures untaken { self.new.line.is_untaken ≡ true }
     {
         let taken = self.take_last(out);
         self.line.is_untaken = true;
@@ -170,9 +198,12 @@ impl Recording {
         ensures goes { OnOk result (spec.Takes self.old self.new (string_bytes out.old) (string_bytes out.new)) }
         ensures lost { spec.has_lost self.old ≡ true → spec.has_lost self.new ≡ true }
         ensures layout { spec.layout self.new ≡ spec.layout self.old }
+        ensures longest { spec.longest self.new ≡ spec.longest self.old }
         ensures place { self.new.place ≡ self.old.place }
         ensures line { OnOk result (self.new.line.bytes.items ≡ []) }
         ensures refused { IfErr result (λ e. LineStops KindName.ALL self.old e (string_bytes out.old) (string_bytes out.new)) }
+        ensures loses { LineEndLoses result KindName.ALL self.old self.new (string_bytes out.old) (string_bytes out.new) }
+        ensures text { OnOk result (Stays (string_bytes out.old) (string_bytes out.new)) }
     {
         let missing = missing_of(self.line.bytes.as_slice());
         match missing {
@@ -185,10 +216,12 @@ impl Recording {
     fn lose_line(&mut self, count: u64, out: &mut String) -> Result<(), RecordingError>
         ensures lost { OnOk result (spec.has_lost self.new ≡ true) }
         ensures layout { spec.layout self.new ≡ spec.layout self.old }
+        ensures longest { spec.longest self.new ≡ spec.longest self.old }
         ensures place { self.new.place ≡ self.old.place }
         ensures line { OnOk result (self.new.line.bytes.items ≡ []) }
         ensures stays { spec.has_lost self.old ≡ true → spec.has_lost self.new ≡ true }
         ensures refused { IfErr result (λ e. IfRefused e (λ why. ⊥)) }
+        ensures text { OnOk result (Stays (string_bytes out.old) (string_bytes out.new)) }
     {
         self.sides.lose(self.line.side, Loss::Missing(count), out)?;
         self.line.bytes.clear();
@@ -200,9 +233,13 @@ impl Recording {
         ensures goes { OnOk result (spec.Takes self.old self.new (string_bytes out.old) (string_bytes out.new)) }
         ensures lost { spec.has_lost self.old ≡ true → spec.has_lost self.new ≡ true }
         ensures layout { spec.layout self.new ≡ spec.layout self.old }
+        ensures longest { spec.longest self.new ≡ spec.longest self.old }
         ensures place { self.new.place ≡ self.old.place }
         ensures line { OnOk result (self.new.line.bytes.items ≡ []) }
         ensures refused { IfErr result (λ e. LineStops KindName.ALL self.old e (string_bytes out.old) (string_bytes out.new)) }
+        ensures loses { LineLoses result KindName.ALL self.old self.new (string_bytes out.old) (string_bytes out.new) }
+        ensures text { OnOk result (Stays (string_bytes out.old) (string_bytes out.new)) }
+        ensures taken { self.new.line.is_untaken ≡ false }
     {
         let (side, is_untaken) = (self.line.side, self.line.is_untaken);
         let piece = mem::replace(&mut self.line.bytes, Vec::new(self.alloc));

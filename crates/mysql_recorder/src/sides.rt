@@ -1,34 +1,23 @@
 //! Both sides of a connection: their streams, and what is shown of them.
 
-ghost use Rattle.std.specs.Prelude.{◌≡◌, ◌≢◌, ◌∷◌, [], ◌++◌, List, IfOk, IfErr, OnOk, None, true, string_bytes};
-ghost use Rattle.mysql_recorder.specs.Frames.{IsNumbered, NoneComes};
+ghost use Rattle.std.specs.Prelude.{◌≡◌, ◌≢◌, ◌∷◌, [], IfOk, IfErr, OnOk, None, true, string_bytes};
+ghost use Rattle.mysql_fields.specs.Entries.{Stays};
+ghost use Rattle.mysql_recorder.specs.Losses.{PieceLoses, PieceLosesIn};
 ghost use Rattle.mysql_recorder.specs.Refusals.{IfRefused};
-ghost use Rattle.mysql_recorder.specs.Shown.{Item};
 ghost use Rattle.mysql_recorder.specs.Sides as spec;
-ghost use Rattle.mysql_recorder.specs.Stops.{PieceStops, StopsIn};
-ghost use Rattle.mysql_recorder.specs.declared.sides.Came.TheVariants as came_as;
+ghost use Rattle.mysql_recorder.specs.Stops.{PieceStops};
+ghost use Rattle.mysql_recorder.specs.declared.piece.Came.TheVariants as came_as;
 
 use crate::error::RecordingError;
 use crate::loss::{HEAD, Loss, begins_command, begins_with};
-use crate::packets::{Packets, Taken};
-use crate::stream::{Sent, Stream};
+use crate::packets::Packets;
+use crate::piece::{Came, read_packets};
+use crate::stream::Stream;
 use crate::unheard::Front;
 use mysql_conversation::{KindName, Side};
 use mysql_fields::{Field, Layout};
-use mysql_frames::FrameError;
 use mysql_replies::SessionCapabilities;
 use std::alloc::{AllocError, Global};
-
-/// What came of a piece of a stream, and how many of its bytes are left.
-#[derive(Clone, Copy)]
-enum Came {
-    /// Its packets, up to its end.
-    Whole,
-    /// A packet that doesn't come. Both sides agreed on this.
-    Refused(SessionCapabilities, usize),
-    /// Bytes that are no frames.
-    NoFrames(FrameError, usize),
-}
 
 /// Both sides of a connection.
 #[derive(Drop)]
@@ -44,51 +33,12 @@ pub(crate) struct Sides {
     packets: Packets,
 }
 
-/// Takes a piece of a stream, and appends what its packets say. The first of them is answered by a frame of the number `first`.
-fn read_packets(
-    stream: &mut Stream,
-    packets: &mut Packets,
-    side: Side,
-    piece: &[u8],
-    first: &mut Option<u8>,
-    out: &mut String,
-) -> Result<Came, RecordingError>
-    ensures whole { IfOk result (λ came. came ≡ came_as.Whole → (items : List Item)
-        → spec.IsAt stream.old packets.old items → (here : List Item) × spec.Reads side piece.now [] items here stream.old stream.new packets.old packets.new (string_bytes out.old) (string_bytes out.new)) }
-    ensures refused { IfErr result (λ e. (items : List Item) → spec.IsAt stream.old packets.old items
-        → IfRefused e (λ why. StopsIn KindName.ALL packets.old.layout side (stream.old.reader.held ++ piece.now) items why (string_bytes out.old) (string_bytes out.new))) }
-    ensures none { IfOk result (λ came. came ≡ came_as.Whole → IsNumbered stream.old.reader → NoneComes stream.new.reader.held) }
-    ensures passed { stream.new.passed ≡ stream.old.passed }
-    ensures layout { packets.new.layout ≡ packets.old.layout }
-{
-    let mut input = piece;
-    'packets: loop {
-        match stream.next(&mut input) {
-            Ok(Some(sent)) => {
-                let Sent { sequence, payload } = sent;
-                if first.is_none() {
-                    *first = Some(stream.number());
-                }
-                let taken = packets.take(side, sequence, payload.as_slice(), out);
-                stream.give_back(payload);
-                match taken {
-                    Ok(Taken::Shown) => {}
-                    Ok(Taken::Refused(agreed)) => return Ok(Came::Refused(agreed, input.len())),
-                    Err(error) => return Err(error),
-                }
-            }
-            Ok(None) => return Ok(Came::Whole),
-            Err(FrameError::Memory) => return Err(RecordingError::Memory),
-            Err(error) => return Ok(Came::NoFrames(error, input.len())),
-        }
-    }
-}
-
 impl Sides {
     /// Of a connection from its greeting on, for payloads of at most `longest` bytes, in which as many commands may wait.
     pub(crate) fn new(alloc: Global, layout: Layout, longest: usize, waiting: usize) -> Self
         ensures stand { spec.Stand result [] [] }
         ensures layout { spec.layout result ≡ layout }
+        ensures longest { spec.longest result ≡ longest }
     {
         Sides {
             alloc,
@@ -102,14 +52,20 @@ impl Sides {
     }
 
     /// Takes up a connection at its next command, under what both sides agreed on. Both streams are out of step up to there.
-    pub(crate) fn take_up_at(&mut self, agreed: SessionCapabilities) {
+    pub(crate) fn take_up_at(&mut self, agreed: SessionCapabilities)
+        ensures lost { spec.has_lost self.new ≡ spec.has_lost self.old }
+        ensures layout { spec.layout self.new ≡ spec.layout self.old }
+        ensures longest { spec.longest self.new ≡ spec.longest self.old }
+    {
         self.client = Stream::new(self.alloc, self.longest, false);
         self.server = Stream::new(self.alloc, self.longest, false);
         self.packets.take_up(agreed);
     }
 
     /// Sums what comes from here on.
-    pub(crate) fn sum(&mut self) {
+    pub(crate) fn sum(&mut self)
+        ensures { spec.IsSummed self.old self.new }
+    {
         self.packets.sum();
     }
 
@@ -157,6 +113,9 @@ impl Sides {
         ensures refused { IfErr result (λ e. PieceStops KindName.ALL side piece.now self.old e (string_bytes out.old) (string_bytes out.new)) }
         ensures lost { spec.has_lost self.old ≡ true → spec.has_lost self.new ≡ true }
         ensures layout { spec.layout self.new ≡ spec.layout self.old }
+        ensures longest { spec.longest self.new ≡ spec.longest self.old }
+        ensures loses { PieceLoses result KindName.ALL side piece.now self.old self.new (string_bytes out.old) (string_bytes out.new) }
+        ensures text { OnOk result (Stays (string_bytes out.old) (string_bytes out.new)) }
     {
         if is_beginning && self.passed(side).is_some() {
             self.begin_line(side, piece, out)
@@ -175,6 +134,8 @@ impl Sides {
         ensures goes { OnOk result (spec.GoesOn (spec.piece side piece.now ∷ []) self.old self.new (string_bytes out.old) (string_bytes out.new)) }
         ensures lost { spec.has_lost self.old ≡ true → spec.has_lost self.new ≡ true }
         ensures layout { spec.layout self.new ≡ spec.layout self.old }
+        ensures longest { spec.longest self.new ≡ spec.longest self.old }
+        ensures text { OnOk result (Stays (string_bytes out.old) (string_bytes out.new)) }
     {
         self.take_up(side, piece, out)?;
         self.take_piece(side, piece, out)
@@ -185,6 +146,8 @@ impl Sides {
         ensures goes { OnOk result (spec.GoesOn [] self.old self.new (string_bytes out.old) (string_bytes out.new)) }
         ensures lost { spec.has_lost self.old ≡ true → spec.has_lost self.new ≡ true }
         ensures layout { spec.layout self.new ≡ spec.layout self.old }
+        ensures longest { spec.longest self.new ≡ spec.longest self.old }
+        ensures text { OnOk result (Stays (string_bytes out.old) (string_bytes out.new)) }
     {
         let Some(passed) = self.passed(side) else {
             return Ok(());
@@ -211,6 +174,7 @@ impl Sides {
     fn step_in(&mut self, side: Side)
         ensures lost { spec.has_lost self.new ≡ spec.has_lost self.old }
         ensures layout { spec.layout self.new ≡ spec.layout self.old }
+        ensures longest { spec.longest self.new ≡ spec.longest self.old }
     {
         match side {
             Side::Client => self.client.take_up(),
@@ -222,6 +186,7 @@ impl Sides {
     fn pass_over(&mut self, side: Side, count: usize)
         ensures lost { spec.has_lost self.new ≡ spec.has_lost self.old }
         ensures layout { spec.layout self.new ≡ spec.layout self.old }
+        ensures longest { spec.longest self.new ≡ spec.longest self.old }
     {
         match side {
             Side::Client => self.client.pass_over(count),
@@ -231,7 +196,8 @@ impl Sides {
 
     /// Appends how much of each stream is passed over that is still out of step.
     pub(crate) fn say_unheard(&self, out: &mut String) -> Result<(), AllocError>
-        ensures { OnOk result (spec.SaysNothing self.now (string_bytes out.old) (string_bytes out.new)) }
+        ensures none { OnOk result (spec.SaysNothing self.now (string_bytes out.old) (string_bytes out.new)) }
+        ensures stays { OnOk result (Stays (string_bytes out.old) (string_bytes out.new)) }
     {
         self.say_left(Side::Client, out)?;
         self.say_left(Side::Server, out)
@@ -239,7 +205,8 @@ impl Sides {
 
     /// The same of one of them.
     fn say_left(&self, side: Side, out: &mut String) -> Result<(), AllocError>
-        ensures { OnOk result (spec.passed_of side self.now ≡ None → string_bytes out.new ≡ string_bytes out.old) }
+        ensures none { OnOk result (spec.passed_of side self.now ≡ None → string_bytes out.new ≡ string_bytes out.old) }
+        ensures stays { OnOk result (Stays (string_bytes out.old) (string_bytes out.new)) }
     {
         match self.passed(side) {
             Some(passed) if self.has_lost || passed > 0 => {
@@ -256,7 +223,9 @@ impl Sides {
         side: Side,
         passed: u64,
         out: &mut String,
-    ) -> Result<(), AllocError> {
+    ) -> Result<(), AllocError>
+        ensures { OnOk result (Stays (string_bytes out.old) (string_bytes out.new)) }
+    {
         let field = Field::number("passed_over", passed);
         self.packets.append_remark(kind, side, field, out)
     }
@@ -272,6 +241,8 @@ impl Sides {
         ensures stays { spec.has_lost self.old ≡ true → spec.has_lost self.new ≡ true }
         ensures refused { IfErr result (λ e. IfRefused e (λ why. ⊥)) }
         ensures layout { spec.layout self.new ≡ spec.layout self.old }
+        ensures longest { spec.longest self.new ≡ spec.longest self.old }
+        ensures text { OnOk result (Stays (string_bytes out.old) (string_bytes out.new)) }
     {
         let Some(agreed) = self.packets.agreed() else {
             return Err(RecordingError::from(loss));
@@ -295,6 +266,7 @@ impl Sides {
         ensures lost { spec.has_lost self.new ≡ true }
         ensures refused { IfErr result (λ e. IfRefused e (λ why. ⊥)) }
         ensures layout { spec.layout self.new ≡ spec.layout self.old }
+        ensures longest { spec.longest self.new ≡ spec.longest self.old }
     {
         self.has_lost = true;
         self.server.lose();
@@ -307,6 +279,7 @@ impl Sides {
         ensures lost { spec.has_lost self.new ≡ true }
         ensures refused { IfErr result (λ e. IfRefused e (λ why. ⊥)) }
         ensures layout { spec.layout self.new ≡ spec.layout self.old }
+        ensures longest { spec.longest self.new ≡ spec.longest self.old }
     {
         self.has_lost = true;
         self.client.lose();
@@ -326,6 +299,9 @@ impl Sides {
         ensures refused { IfErr result (λ e. PieceStops KindName.ALL side piece.now self.old e (string_bytes out.old) (string_bytes out.new)) }
         ensures lost { spec.has_lost self.old ≡ true → spec.has_lost self.new ≡ true }
         ensures layout { spec.layout self.new ≡ spec.layout self.old }
+        ensures longest { spec.longest self.new ≡ spec.longest self.old }
+        ensures loses { PieceLoses result KindName.ALL side piece.now self.old self.new (string_bytes out.old) (string_bytes out.new) }
+        ensures text { OnOk result (Stays (string_bytes out.old) (string_bytes out.new)) }
     {
         if self.passed(side).is_some() {
             self.pass_over(side, piece.len());
@@ -346,11 +322,13 @@ impl Sides {
         first: Option<u8>,
         out: &mut String,
     ) -> Result<(), RecordingError>
-        ensures whole { came ≡ came_as.Whole → OnOk result (spec.IsSame self.old self.new × (string_bytes out.new ≡ string_bytes out.old)) }
+        ensures whole { came ≡ came_as.Whole → spec.IsSame self.old self.new × (string_bytes out.new ≡ string_bytes out.old) }
         ensures lost { came ≢ came_as.Whole → OnOk result (spec.has_lost self.new ≡ true) }
         ensures stays { spec.has_lost self.old ≡ true → spec.has_lost self.new ≡ true }
         ensures layout { spec.layout self.new ≡ spec.layout self.old }
+        ensures longest { spec.longest self.new ≡ spec.longest self.old }
         ensures refused { IfErr result (λ e. IfRefused e (λ why. ⊥)) }
+        ensures text { OnOk result (Stays (string_bytes out.old) (string_bytes out.new)) }
     {
         self.await_answer(side, first);
         match came {
@@ -380,6 +358,9 @@ impl Sides {
         ensures refused { IfErr result (λ e. PieceStops KindName.ALL side piece.now self.old e (string_bytes out.old) (string_bytes out.new)) }
         ensures lost { spec.has_lost self.new ≡ spec.has_lost self.old }
         ensures layout { spec.layout self.new ≡ spec.layout self.old }
+        ensures longest { spec.longest self.new ≡ spec.longest self.old }
+        ensures loses { IfOk result (λ came. came ≢ came_as.Whole → PieceLosesIn KindName.ALL side piece.now self.old (string_bytes out.old) (string_bytes out.new)) }
+        ensures stays { IfOk result (λ came. Stays (string_bytes out.old) (string_bytes out.new)) }
     {
         match side {
             Side::Client => {

@@ -1,8 +1,8 @@
 //! One side's stream.
 
-ghost use Rattle.std.specs.Prelude.{◌≡◌, [], IfOk, IfSome, IfNone, OnErr, None, true};
+ghost use Rattle.std.specs.Prelude.{◌≡◌, ◌++◌, [], ℕ, List, IfOk, IfSome, IfNone, IsErrOf, OnErr, None, true};
 ghost use Rattle.std.specs.Cow.{cow_slice_items};
-ghost use Rattle.mysql_frames.specs.FrameReader.{HandsOut, HoldsAll, Keeps};
+ghost use Rattle.mysql_frames.specs.FrameReader.{AllLonger, HandsOut, HoldsAll, Keeps, NoneWhole};
 ghost use Rattle.mysql_recorder.specs.Streams.{as_sent};
 
 use mysql_frames::{FrameError, FrameReader};
@@ -37,6 +37,7 @@ impl Stream {
     /// One of which nothing came, for payloads of at most `longest` bytes: in step, or out of step.
     pub(crate) fn new(alloc: Global, longest: usize, is_in_step: bool) -> Self
         ensures held { result.reader.held ≡ [] }
+        ensures limit { result.reader.limit ≡ longest }
         ensures passed { is_in_step ≡ true → result.passed ≡ None }
     {
         Stream {
@@ -69,6 +70,10 @@ impl Stream {
         ensures sequence { IfOk result (λ found. IfSome found (λ sent. sent.sequence ≡ (as_sent self.old.reader input.old.now).number)) }
         ensures more { IfOk result (λ found. IfNone found (HoldsAll (as_sent self.old.reader input.old.now) input.old.now self.new.reader input.new.now)) }
         ensures err { OnErr result (Keeps (as_sent self.old.reader input.old.now) input.old.now self.new.reader input.new.now) }
+        ensures order { IsErrOf result FrameError.OutOfOrder → (more : List ℕ)
+            → NoneWhole (as_sent self.old.reader input.old.now).number ((as_sent self.old.reader input.old.now).held ++ input.old.now ++ more) }
+        ensures long { IsErrOf result FrameError.TooLong → (more : List ℕ)
+            → AllLonger (as_sent self.old.reader input.old.now).limit (as_sent self.old.reader input.old.now).number ((as_sent self.old.reader input.old.now).held ++ input.old.now ++ more) }
         ensures passed { self.new.passed ≡ self.old.passed }
     {
         let before = input.len();
@@ -77,7 +82,11 @@ impl Stream {
         let read = self.reader.read(input);
         let came = before.saturating_sub(input.len()) as u64;
         self.unfinished = self.unfinished.saturating_add(came);
-        match read? {
+        let found = match read {
+            Ok(found) => found,
+            Err(error) => return Err(error),
+        };
+        match found {
             Some(payload) => {
                 self.unfinished = 0;
                 Ok(Some(Sent { sequence, payload }))

@@ -4,7 +4,8 @@ use Rattle.mysql_conversation.specs.declared.kind_name.TheConstants.KindName.{AL
 use Rattle.mysql_conversation.specs.Piped.{place}
 use Rattle.mysql_recorder.specs.Followed.{IsFollowed}
 use Rattle.mysql_recorder.specs.Shown.{Appends}
-use Rattle.mysql_recorder.proofs.Refusals.{refused_ok, refused_err}
+use Rattle.mysql_recorder.proofs.Refusals.{refused_ok, refused_err, refused_stays}
+use Rattle.mysql_recorder.proofs.Stays.{appended_stays}
 use Rattle.mysql_recorder.proofs.packets.Packets.take.Goals as goal
 
 pub returns-in_ok-show-in-Ok-clause-shown : goal.returns-in_ok-show-in-Ok-clause-shown
@@ -26,3 +27,10 @@ pub returns-in-Err-clause-refused : goal.returns-in-Err-clause-refused
 returns-in-Err-clause-refused c =
     refused_err ALL c.args.self.now.layout c.args.self.now.followed c.next.new.self c.args.side c.args.sequence c.args.payload.now c.in-Err.why (string_bytes c.args.out.now) (string_bytes c.refuse.new.out)
     c.in-Err.ensures.err (λ items kind number. c.in-Err.ensures.refused items kind number) c.refuse.result c.refuse.ensures.err
+
+pub returns-in_ok-show-in-Ok-clause-stays : goal.returns-in_ok-show-in-Ok-clause-stays
+returns-in_ok-show-in-Ok-clause-stays c = appended_stays c.args.self.now.layout _ (string_bytes c.args.out.now) (string_bytes c.show.new.out) c.in_ok-show-in-Ok.ensures.ok
+
+pub returns-in-Err-clause-stays : goal.returns-in-Err-clause-stays
+returns-in-Err-clause-stays c =
+    refused_stays c.refuse.result ALL c.args.self.now.layout c.next.new.self c.args.side c.args.sequence c.args.payload.now c.in-Err.why (string_bytes c.args.out.now) (string_bytes c.refuse.new.out) c.refuse.ensures.ok

@@ -1,9 +1,35 @@
-use Rattle.std.proofs.Common.{string_bytes}
+use Rattle.std.proofs.Common.{Ok, Err, refl, sym, subst, string_bytes}
+use Rattle.std.proofs.lemmas.Result.{err_from_is_err_and}
+use Rattle.mysql_conversation.specs.declared.kind_name.TheConstants.KindName.{ALL}
+use Rattle.mysql_recorder.specs.Losses.{TextLoses}
+use Rattle.mysql_recorder.proofs.Losses.{end_loses, then_loses}
 use Rattle.mysql_recorder.proofs.Seen.{finishes}
+use Rattle.mysql_recorder.proofs.Stays.{stays_then}
 use Rattle.mysql_recorder.proofs.recording.Recording.finish.Goals as goal
 
-pub returns : goal.returns
-returns c = record {
-  finishes = finishes c.args.self.now c.end_line.new.self (string_bytes c.args.out.now) (string_bytes c.end_line.new.out) (string_bytes c.say_unheard.new.out)
-      c.in_ok-end_line.ensures.goes c.end_line.ensures.place c.in_ok-say_unheard.ensures;
-}
+pub returns-clause-finishes : goal.returns-clause-finishes
+returns-clause-finishes c =
+    finishes c.args.self.now c.end_line.new.self (string_bytes c.args.out.now) (string_bytes c.end_line.new.out) (string_bytes c.say_unheard.new.out)
+    c.in_ok-end_line.ensures.goes c.end_line.ensures.place c.in_ok-say_unheard.ensures.none
+
+pub returns-clause-loses : goal.returns-clause-loses
+returns-clause-loses c =
+    then_loses (Ok tt) (Ok tt) ALL (Unit {0}) c.args.self.now c.end_line.new.self c.end_line.new.self (string_bytes c.args.out.now) (string_bytes c.end_line.new.out) (string_bytes c.say_unheard.new.out)
+    (end_loses (Ok tt) ALL (Unit {0}) c.args.self.now c.end_line.new.self (string_bytes c.args.out.now) (string_bytes c.end_line.new.out) c.in_ok-end_line.ensures.loses tt)
+    refl (λ m h. stays_then m (string_bytes c.end_line.new.out) (string_bytes c.say_unheard.new.out) h c.in_ok-say_unheard.ensures.stays)
+
+pub returns-in_err-end_line-clause-loses : goal.returns-in_err-end_line-clause-loses
+returns-in_err-end_line-clause-loses c =
+    let p = err_from_is_err_and c.from_residual.result c.from_residual.ensures.1 in
+    subst (λ r. TextLoses r ALL (Unit {0}) c.args.self.now c.end_line.new.self (string_bytes c.args.out.now) (string_bytes c.end_line.new.out)) (sym p.1)
+    (then_loses c.end_line.result (Err p.0) ALL (Unit {0}) c.args.self.now c.end_line.new.self c.end_line.new.self (string_bytes c.args.out.now) (string_bytes c.end_line.new.out) (string_bytes c.end_line.new.out)
+    (end_loses c.end_line.result ALL (Unit {0}) c.args.self.now c.end_line.new.self (string_bytes c.args.out.now) (string_bytes c.end_line.new.out) c.end_line.ensures.loses tt)
+    refl (λ m h. tt))
+
+pub returns-in_err-say_unheard-clause-loses : goal.returns-in_err-say_unheard-clause-loses
+returns-in_err-say_unheard-clause-loses c =
+    let p = err_from_is_err_and c.from_residual-in_err-say_unheard.result c.from_residual-in_err-say_unheard.ensures.1 in
+    subst (λ r. TextLoses r ALL (Unit {0}) c.args.self.now c.end_line.new.self (string_bytes c.args.out.now) (string_bytes c.say_unheard.new.out)) (sym p.1)
+    (then_loses c.end_line.result (Err p.0) ALL (Unit {0}) c.args.self.now c.end_line.new.self c.end_line.new.self (string_bytes c.args.out.now) (string_bytes c.end_line.new.out) (string_bytes c.say_unheard.new.out)
+    (end_loses c.end_line.result ALL (Unit {0}) c.args.self.now c.end_line.new.self (string_bytes c.args.out.now) (string_bytes c.end_line.new.out) c.end_line.ensures.loses tt)
+    refl (λ m h. tt))

@@ -10,5 +10,6 @@ returns-clause-recorded c = record {
   read = ([], [], [], tt, refl, refl, (refl, refl));
   waits = ap (heard side.Client) (sym c.new.ensures.items);
   line = inl c.new.ensures.items;
+  untaken = λ e. ([], [], tt, refl, refl, (refl, ap (heard side.Client) c.new.ensures.items));
   stand = c.new-2.ensures.stand;
 }

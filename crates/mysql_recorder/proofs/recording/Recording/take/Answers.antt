@@ -1,14 +1,17 @@
-use Rattle.std.proofs.Common.{◌≡◌, IfErr, get_or, refl, sym, subst, ◌∙◌, string_bytes}
+use Rattle.std.proofs.Common.{◌≡◌, Ok, Err, IfErr, OnOk, get_or, take, refl, sym, subst, ◌∙◌, string_bytes}
 use Rattle.mysql_conversation.specs.declared.kind_name.TheConstants.KindName.{ALL}
 use Rattle.std.proofs.lemmas.List.{take_all}
 use Rattle.std.proofs.lemmas.Result.{err_from_is_err_and}
+use Rattle.mysql_recorder.specs.Losses.{Loses}
 use Rattle.mysql_recorder.specs.Stops.{Stops}
 use Rattle.mysql_recorder.proofs.Goes.{loop_starts, loop_goes, loop_ends}
+use Rattle.mysql_recorder.proofs.Losses.{byte_loses, loop_loses, loses_none, rest_loses}
+use Rattle.mysql_recorder.proofs.Stays.{on_ok_then, stays_same, stays_then}
 use Rattle.mysql_recorder.proofs.Stopped.{stops_after, stops_on_err}
 use Rattle.mysql_recorder.proofs.recording.Recording.take.Goals as goal
 
 pub loop-byte-init : goal.loop-byte-init
-loop-byte-init c = record { goes = loop_starts c.args.input.now c.args.self.now (string_bytes c.args.out.now); lost = λ e. e; layout = refl }
+loop-byte-init c = record { goes = loop_starts c.args.input.now c.args.self.now (string_bytes c.args.out.now); lost = λ e. e; layout = refl; longest = refl; loses = loses_none (Ok tt) ALL (take 0 c.args.input.now) c.args.self.now c.args.self.now (string_bytes c.args.out.now) (string_bytes c.args.out.now) refl; text = stays_same (string_bytes c.args.out.now) }
 
 pub loop-byte-preserved : goal.loop-byte-preserved
 loop-byte-preserved c = record {
@@ -17,6 +20,11 @@ loop-byte-preserved c = record {
       c.loop-byte-test.true refl c.loop-byte.invariant.goes c.in_ok-take_byte.ensures.lost c.loop-byte.invariant.layout c.in_ok-take_byte.ensures.goes;
   lost = λ e. c.in_ok-take_byte.ensures.lost (c.loop-byte.invariant.lost e);
   layout = c.in_ok-take_byte.ensures.layout ∙ c.loop-byte.invariant.layout;
+  longest = c.in_ok-take_byte.ensures.longest ∙ c.loop-byte.invariant.longest;
+  loses = loop_loses ALL c.args.input.now c.loop-byte.byte-index (get_or c.args.input.now c.loop-byte.byte-index 0) c.args.self.now c.loop-byte.self c.take_byte.new.self
+      (string_bytes c.args.out.now) (string_bytes c.loop-byte.out) (string_bytes c.take_byte.new.out)
+      c.loop-byte-test.true refl c.loop-byte.invariant.goes c.loop-byte.invariant.loses c.loop-byte.invariant.layout c.loop-byte.invariant.longest c.in_ok-take_byte.ensures.loses c.in_ok-take_byte.ensures.text;
+  text = stays_then (string_bytes c.args.out.now) (string_bytes c.loop-byte.out) (string_bytes c.take_byte.new.out) c.loop-byte.invariant.text c.in_ok-take_byte.ensures.text;
 }
 
 pub returns-clause-goes : goal.returns-clause-goes
@@ -41,3 +49,22 @@ returns-in_err-take_byte-clause-refused c =
     (stops_after ALL c.args.input.now c.loop-byte.byte-index c.args.self.now c.loop-byte.self c.take_byte.new.self
     (string_bytes c.args.out.now) (string_bytes c.loop-byte.out) (string_bytes c.take_byte.new.out) c.in_err-take_byte.field-0.0
     c.loop-byte.invariant.goes c.in_err-take_byte.ensures.lost c.loop-byte.invariant.layout c.in_err-take_byte.ensures.refused))
+
+pub returns-clause-loses : goal.returns-clause-loses
+returns-clause-loses c =
+    rest_loses c.take_rest.result ALL c.args.input.now c.loop-byte.byte-index c.args.self.now c.loop-byte.self c.take_rest.new.self
+    (string_bytes c.args.out.now) (string_bytes c.loop-byte.out) (string_bytes c.take_rest.new.out)
+    (take_all c.loop-byte.byte-index c.args.input.now c.loop-byte-test.false)
+    c.loop-byte.invariant.goes c.loop-byte.invariant.loses c.loop-byte.invariant.layout c.loop-byte.invariant.longest c.take_rest.ensures.loses c.take_rest.ensures.text
+
+pub returns-clause-text : goal.returns-clause-text
+returns-clause-text c =
+    on_ok_then c.take_rest.result (string_bytes c.args.out.now) (string_bytes c.loop-byte.out) (string_bytes c.take_rest.new.out) c.loop-byte.invariant.text c.take_rest.ensures.text
+
+pub returns-in_err-take_byte-clause-loses : goal.returns-in_err-take_byte-clause-loses
+returns-in_err-take_byte-clause-loses c =
+    let p = err_from_is_err_and c.from_residual.result c.from_residual.ensures.1 in
+    subst (λ r. Loses r ALL c.args.input.now c.args.self.now c.take_byte.new.self (string_bytes c.args.out.now) (string_bytes c.take_byte.new.out)) (sym p.1)
+    (byte_loses (Err p.0) ALL c.args.input.now c.loop-byte.byte-index (get_or c.args.input.now c.loop-byte.byte-index 0) c.args.self.now c.loop-byte.self c.take_byte.new.self
+    (string_bytes c.args.out.now) (string_bytes c.loop-byte.out) (string_bytes c.take_byte.new.out)
+    c.loop-byte-test.true refl c.loop-byte.invariant.goes c.loop-byte.invariant.loses c.loop-byte.invariant.layout c.loop-byte.invariant.longest c.in_err-take_byte.ensures.loses tt)

@@ -1,5 +1,8 @@
-use Rattle.std.proofs.Common.{◌≡◌, true, take, string_bytes}
-use Rattle.mysql_recorder.specs.Recorded.{GoesOn, has_lost, layout}
+use Rattle.std.proofs.Common.{◌≡◌, true, take, Ok, string_bytes}
+use Rattle.mysql_conversation.specs.declared.kind_name.TheConstants.KindName.{ALL}
+use Rattle.mysql_fields.specs.Entries.{Stays}
+use Rattle.mysql_recorder.specs.Losses.{Loses}
+use Rattle.mysql_recorder.specs.Recorded.{GoesOn, has_lost, layout, longest}
 use Rattle.mysql_recorder.proofs.recording.Recording.take.Given as goal
 
 abbrev pub invariant-loop-byte : goal.invariant-loop-byte
@@ -7,4 +10,7 @@ invariant-loop-byte l = record {
   goes : GoesOn (take l.byte-index l.input) l.fn.self l.self (string_bytes l.fn.out) (string_bytes l.out);
   lost : has_lost l.fn.self ≡ true → has_lost l.self ≡ true;
   layout : layout l.self ≡ layout l.fn.self;
+  longest : longest l.self ≡ longest l.fn.self;
+  loses : Loses (Ok tt) ALL (take l.byte-index l.input) l.fn.self l.self (string_bytes l.fn.out) (string_bytes l.out);
+  text : Stays (string_bytes l.fn.out) (string_bytes l.out);
 }

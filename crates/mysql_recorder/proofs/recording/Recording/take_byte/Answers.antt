@@ -4,6 +4,7 @@ use Rattle.mysql_recorder.specs.Lines.{Heard, Stands, Passes, StaysOf}
 use Rattle.mysql_recorder.specs.declared.line.Said.TheVariants as says
 use Rattle.mysql_recorder.specs.declared.recording.Recording.{Recording}
 use Rattle.mysql_recorder.proofs.Goes.{recorded_goes, ends_on_ok}
+use Rattle.mysql_recorder.proofs.Losses.{feed_loses}
 use Rattle.mysql_recorder.proofs.Stopped.{text_stops_at}
 use Rattle.mysql_recorder.proofs.Texts.{recorded_byte, recorded_none}
 use Rattle.mysql_recorder.proofs.recording.Recording.take_byte.Goals as goal
@@ -21,7 +22,7 @@ returns-in_ok-extend_from_slice-in-Some-Byte-clause-goes c =
     recorded_byte c.args.self.now new text items c.args.byte c.in-Some-Byte.side c.in-Some-Byte.value h
     (subst (λ f. (line : List ℕ) (before : List Heard) → Stands c.args.self.now.place line before → Passes f c.args.byte line before c.pass.new.self) found c.in_ok-side.ensures.passes)
     (subst (λ f. StaysOf f c.args.self.now.place c.pass.new.self) found c.in_ok-side.ensures.side)
-    refl c.in_ok-extend_from_slice-in-Some-Byte.ensures.items refl)
+    refl c.in_ok-extend_from_slice-in-Some-Byte.ensures.items refl refl)
 
 pub returns-in-Some-End-clause-goes : goal.returns-in-Some-End-clause-goes
 returns-in-Some-End-clause-goes c =
@@ -43,3 +44,11 @@ returns-in-None-clause-goes c =
 pub returns-in-Some-End-clause-refused : goal.returns-in-Some-End-clause-refused
 returns-in-Some-End-clause-refused c =
     text_stops_at c.end_line.result ALL c.args.self.now (record c.args.self.now { place = c.pass.new.self }) (string_bytes c.args.out.now) (string_bytes c.end_line.new.out) refl refl c.end_line.ensures.refused
+
+pub returns-in-Some-End-clause-loses : goal.returns-in-Some-End-clause-loses
+returns-in-Some-End-clause-loses c =
+    let found : c.in_ok-side.field-0 ≡ Some says.End = c.in-Some-End.is ∙ ap Some c.in-Some-End.field-0-is in
+    feed_loses c.end_line.result ALL c.args.self.now (record c.args.self.now { place = c.pass.new.self }) c.end_line.new.self c.args.byte
+    (string_bytes c.args.out.now) (string_bytes c.end_line.new.out)
+    (subst (λ f. (line : List ℕ) (before : List Heard) → Stands c.args.self.now.place line before → Passes f c.args.byte line before c.pass.new.self) found c.in_ok-side.ensures.passes)
+    refl refl c.end_line.ensures.loses

@@ -1,7 +1,10 @@
-use Rattle.std.proofs.Common.{IfErr, refl, sym, subst, string_bytes}
+use Rattle.std.proofs.Common.{◌≢◌, IfOk, IfErr, refl, sym, subst, string_bytes}
 use Rattle.mysql_conversation.specs.declared.kind_name.TheConstants.KindName.{ALL}
+use Rattle.mysql_recorder.specs.Losses.{PieceLosesIn}
 use Rattle.mysql_recorder.specs.Stops.{PieceStops}
+use Rattle.mysql_recorder.specs.declared.piece.Came.TheVariants as came_as
 use Rattle.mysql_recorder.proofs.Goes.{whole_client, whole_server}
+use Rattle.mysql_recorder.proofs.Losses.{client_loses, server_loses}
 use Rattle.mysql_recorder.proofs.Stopped.{client_stops, server_stops}
 use Rattle.mysql_recorder.proofs.sides.Sides.read.Goals as goal
 
@@ -9,13 +12,13 @@ pub returns-in-Client-clause-goes : goal.returns-in-Client-clause-goes
 returns-in-Client-clause-goes c = rw c.in-Client.is
     (whole_client c.read_packets.result c.args.self.now (record c.args.self.now { client = c.read_packets.new.stream; packets = c.read_packets.new.packets }) c.args.piece.now
     (string_bytes c.args.out.now) (string_bytes c.read_packets.new.out)
-    c.read_packets.ensures.whole c.read_packets.ensures.none c.read_packets.ensures.passed refl refl)
+    c.read_packets.ensures.whole c.read_packets.ensures.none c.read_packets.ensures.passed refl refl refl)
 
 pub returns-in-Server-clause-goes : goal.returns-in-Server-clause-goes
 returns-in-Server-clause-goes c = rw c.in-Server.is
     (whole_server c.read_packets-in-Server.result c.args.self.now (record c.args.self.now { server = c.read_packets-in-Server.new.stream; packets = c.read_packets-in-Server.new.packets }) c.args.piece.now
     (string_bytes c.args.out.now) (string_bytes c.read_packets-in-Server.new.out)
-    c.read_packets-in-Server.ensures.whole c.read_packets-in-Server.ensures.none c.read_packets-in-Server.ensures.passed refl refl)
+    c.read_packets-in-Server.ensures.whole c.read_packets-in-Server.ensures.none c.read_packets-in-Server.ensures.passed refl refl refl)
 
 pub returns-in-Client-clause-refused : goal.returns-in-Client-clause-refused
 returns-in-Client-clause-refused c =
@@ -26,3 +29,13 @@ pub returns-in-Server-clause-refused : goal.returns-in-Server-clause-refused
 returns-in-Server-clause-refused c =
     subst (λ t. IfErr c.read_packets-in-Server.result (λ e. PieceStops ALL t c.args.piece.now c.args.self.now e (string_bytes c.args.out.now) (string_bytes c.read_packets-in-Server.new.out))) (sym c.in-Server.is)
     (server_stops c.read_packets-in-Server.result ALL c.args.self.now c.args.piece.now (string_bytes c.args.out.now) (string_bytes c.read_packets-in-Server.new.out) c.read_packets-in-Server.ensures.refused)
+
+pub returns-in-Client-clause-loses : goal.returns-in-Client-clause-loses
+returns-in-Client-clause-loses c =
+    subst (λ t. IfOk c.read_packets.result (λ came. came ≢ came_as.Whole → PieceLosesIn ALL t c.args.piece.now c.args.self.now (string_bytes c.args.out.now) (string_bytes c.read_packets.new.out))) (sym c.in-Client.is)
+    (client_loses c.read_packets.result ALL c.args.self.now c.args.piece.now (string_bytes c.args.out.now) (string_bytes c.read_packets.new.out) c.read_packets.ensures.loses)
+
+pub returns-in-Server-clause-loses : goal.returns-in-Server-clause-loses
+returns-in-Server-clause-loses c =
+    subst (λ t. IfOk c.read_packets-in-Server.result (λ came. came ≢ came_as.Whole → PieceLosesIn ALL t c.args.piece.now c.args.self.now (string_bytes c.args.out.now) (string_bytes c.read_packets-in-Server.new.out))) (sym c.in-Server.is)
+    (server_loses c.read_packets-in-Server.result ALL c.args.self.now c.args.piece.now (string_bytes c.args.out.now) (string_bytes c.read_packets-in-Server.new.out) c.read_packets-in-Server.ensures.loses)

@@ -1,6 +1,7 @@
 use Rattle.std.proofs.Common.{[], ◌∷◌, string_bytes}
 use Rattle.mysql_conversation.specs.declared.kind_name.TheConstants.KindName.{ALL}
 use Rattle.mysql_recorder.specs.Sides.{piece}
+use Rattle.mysql_recorder.proofs.Losses.{came_loses, piece_keeps}
 use Rattle.mysql_recorder.proofs.Stopped.{goes_on_came, piece_never}
 use Rattle.mysql_recorder.proofs.sides.Sides.take_piece.Goals as goal
 
@@ -13,3 +14,8 @@ returns-in-Ok-clause-goes c =
 pub returns-in-Ok-clause-refused : goal.returns-in-Ok-clause-refused
 returns-in-Ok-clause-refused c =
     piece_never c.go_on.result ALL c.args.side c.args.piece.now c.args.self.now (string_bytes c.args.out.now) (string_bytes c.go_on.new.out) c.go_on.ensures.refused
+
+pub returns-in-Ok-clause-loses : goal.returns-in-Ok-clause-loses
+returns-in-Ok-clause-loses c =
+    came_loses c.in-Ok.came c.go_on.result ALL c.args.side c.args.piece.now c.args.self.now c.read.new.self c.go_on.new.self (string_bytes c.args.out.now) (string_bytes c.read.new.out) (string_bytes c.go_on.new.out)
+    c.in-Ok.ensures.loses c.go_on.ensures.whole c.in-Ok.ensures.lost c.go_on.ensures.text

@@ -1,8 +1,9 @@
-use Rattle.std.proofs.Common.{◌≡◌, ◌+◌, ◌<◌, List, Ok, length, sym, ap, subst, ◌∙◌, string_bytes, rules}
+use Rattle.std.proofs.Common.{◌≡◌, ◌+◌, ◌<◌, List, Ok, Err, length, sym, ap, subst, ◌∙◌, string_bytes, arith, rules}
 use Rattle.std.proofs.lemmas.Result.{IfErr-at_err}
 use Rattle.std.specs.Cow.{cow_slice_items}
 use Rattle.mysql_conversation.specs.Pipelined.{Numbered}
 use Rattle.mysql_conversation.specs.declared.kind_name.TheConstants.KindName.{ALL}
+use Rattle.mysql_conversation.specs.declared.pipeline.Refusal.{Refusal}
 use Rattle.mysql_recorder.specs.Followed.{IsFollowed}
 use Rattle.mysql_recorder.specs.Frames.{IsNumbered}
 use Rattle.mysql_recorder.specs.Refused.{ShowsRefused}
@@ -12,9 +13,11 @@ use Rattle.mysql_recorder.specs.Sides.{Reads}
 use Rattle.mysql_recorder.specs.Taken.{ShowsPacket}
 use Rattle.mysql_recorder.specs.declared.packets.Taken.TheVariants as taken_as
 use Rattle.mysql_recorder.proofs.Frames.{packets_less, handed_numbered}
+use Rattle.mysql_recorder.proofs.Losses.{loses_frames, loses_packet}
 use Rattle.mysql_recorder.proofs.Pieces.{reads_packet, reads_all, holds_none}
-use Rattle.mysql_recorder.proofs.Stopped.{at_shown, reads_refused}
-use Rattle.mysql_recorder.proofs.sides.read_packets.Goals as goal
+use Rattle.mysql_recorder.proofs.Stays.{stays_then}
+use Rattle.mysql_recorder.proofs.Stopped.{at_refused, at_shown, reads_refused}
+use Rattle.mysql_recorder.proofs.piece.read_packets.Goals as goal
 
 pub packets-smaller : goal.packets-smaller
 packets-smaller c =
@@ -33,6 +36,7 @@ pub packets-preserved : goal.packets-preserved
 packets-preserved c = record {
   passed = ap (λ s. s.passed) c.give_back.ensures ∙ c.in-Ok-Some.ensures.passed ∙ c.packets.invariant.passed;
   layout = c.take-taken.ensures.layout ∙ c.packets.invariant.layout;
+  stays = stays_then (string_bytes c.args.out.now) (string_bytes c.packets.out) (string_bytes c.take-taken.new.out) c.packets.invariant.stays (rw c.in-Ok-Shown.is at c.take-taken.ensures.stays);
   numbered = λ n. subst (λ s. IsNumbered s.reader) (sym c.give_back.ensures)
       (handed_numbered c.packets.stream.reader c.next.new.self.reader c.packets.input.now (cow_slice_items c.in-Ok-Some.sent.payload) c.next.new.input.now (rw c.in-Ok-Some.field-0-is at c.in-Ok-Some.ensures.payload));
   reads = λ items h.
@@ -69,3 +73,23 @@ returns-in-Ok-None-clause-whole c = λ e items h.
 pub returns-in-Ok-None-clause-none : goal.returns-in-Ok-None-clause-none
 returns-in-Ok-None-clause-none c = λ e n.
     holds_none c.packets.stream.reader c.next.new.self.reader c.packets.input.now c.next.new.input.now (c.packets.invariant.numbered n) (rw c.in-Ok-None.field-0-is at c.in-Ok-None.ensures.more)
+
+pub returns-in-Ok-Refused-clause-loses : goal.returns-in-Ok-Refused-clause-loses
+returns-in-Ok-Refused-clause-loses c = λ e items h.
+    let r = c.packets.invariant.reads items h in
+    let P : Type 0 = (xs : List Numbered) → IsFollowed c.packets.packets.followed xs
+    → (why : Refusal) × ShowsRefused ALL c.packets.packets.layout c.args.side c.in-Ok-Some.sent.sequence c.as_slice.result.now xs why (string_bytes c.packets.out) (string_bytes c.take-taken.new.out) in
+    let refused : c.take-taken.result ≡ Ok (taken_as.Refused c.in-Ok-Refused.agreed) = first_of (cc (c.in-Ok-Refused.is, c.in-Ok-Refused.field-0-is), search rules, grind (rules, c.in-Ok-Refused.is, c.in-Ok-Refused.field-0-is)) in
+    loses_packet ALL c.args.side c.args.piece.now c.packets.input.now c.next.new.input.now items r.0 c.args.stream.now c.packets.stream c.next.new.self c.args.packets.now c.packets.packets
+    (string_bytes c.args.out.now) (string_bytes c.packets.out) (string_bytes c.take-taken.new.out) c.in-Ok-Some.sent.sequence c.as_slice.result.now r.1
+    (rw c.as_slice.ensures.value (rw c.in-Ok-Some.field-0-is at c.in-Ok-Some.ensures.payload))
+    (rw c.in-Ok-Some.field-0-is at c.in-Ok-Some.ensures.sequence)
+    c.packets.invariant.layout
+    (at_refused {P = P} c.take-taken.result c.in-Ok-Refused.agreed refused c.take-taken.ensures.lost)
+
+pub returns-in-Err-clause-loses : goal.returns-in-Err-clause-loses
+returns-in-Err-clause-loses c = λ e items h.
+    let r = c.packets.invariant.reads items h in
+    loses_frames ALL c.args.side c.args.piece.now c.packets.input.now items r.0 c.args.stream.now c.packets.stream c.args.packets.now c.packets.packets
+    (string_bytes c.args.out.now) (string_bytes c.packets.out) r.1 c.in-Err.error (λ m. let no : ⊥ = first_of (cc, search rules, grind rules, grind arith) in no)
+    (λ e. c.in-Err.ensures.order (ap Err e)) (λ e. c.in-Err.ensures.long (ap Err e))

@@ -1,0 +1,269 @@
+-- Where something is lost, step by step.
+use Rattle.std.proofs.Common.{◌≡◌, ◌≢◌, ◌⊎◌, inl, inr, ℕ, ◌+◌, ◌<◌, true, false, List, [], ◌∷◌, ◌++◌, Result, Ok, Err, IfOk, OnOk, IsErrOf, Some, None, refl, sym, ap, subst, ◌∙◌, append_assoc, append-nil, length, get_or, take, drop, drop-cons, take-append-drop, suc, add-one}
+use Rattle.std.proofs.lemmas.List.{take_more}
+use Rattle.mysql_conversation.specs.declared.kind.Side.{Side}
+use Rattle.mysql_conversation.specs.declared.kind.Side.TheVariants as side
+use Rattle.mysql_conversation.specs.declared.kind_name.KindName.{KindName}
+use Rattle.mysql_conversation.specs.declared.pipeline.Refusal.{Refusal}
+use Rattle.mysql_conversation.specs.Pipelined.{Numbered}
+use Rattle.mysql_fields.specs.Entries.{Stays}
+use Rattle.mysql_fields.specs.declared.entry.Layout.{Layout}
+use Rattle.mysql_frames.specs.FrameReader.{HandsOut, NoneWhole, AllLonger}
+use Rattle.mysql_frames.specs.declared.error.FrameError.{FrameError}
+use Rattle.mysql_frames.specs.declared.error.FrameError.TheVariants as frame
+use Rattle.mysql_recorder.specs.Followed.{IsFollowed}
+use Rattle.mysql_recorder.specs.Frames.{Piece, joined, of_side}
+use Rattle.mysql_recorder.specs.Lines.{Heard, heard, AreLines, Line, text_of, said_by, Stands, Passes}
+use Rattle.mysql_recorder.specs.Losses.{IsNumberOf, AreNoFrames, AreTooLong, BreaksIn, LosesIn, PieceLosesIn, PieceLoses, LineLoses, LineEndLoses, LosesAfter, EndsInMark, IsLost, TextLoses, IsAtFeed, Loses}
+use Rattle.mysql_recorder.specs.Marks.{IsMark}
+use Rattle.mysql_recorder.specs.Recorded.{IsReadTo, IsShown, Recorded}
+use Rattle.mysql_recorder.specs.Recorded as recorded
+use Rattle.mysql_recorder.specs.Refused.{ShowsRefused}
+use Rattle.mysql_recorder.specs.Shown.{Item, placed, Writes}
+use Rattle.mysql_recorder.specs.Sides.{IsAt, Reads, Stand, has_lost, layout, longest, passed_of}
+use Rattle.mysql_recorder.specs.Sides as sides
+use Rattle.mysql_recorder.specs.Stops.{StopsIn}
+use Rattle.mysql_recorder.specs.Streams.{as_sent}
+use Rattle.mysql_recorder.specs.declared.error.RecordingError.{RecordingError}
+use Rattle.mysql_recorder.specs.declared.line.Place.{Place}
+use Rattle.mysql_recorder.specs.declared.line.Place.TheVariants as place
+use Rattle.mysql_recorder.specs.declared.line.Said.TheVariants as says
+use Rattle.mysql_recorder.specs.declared.packets.Packets.{Packets}
+use Rattle.mysql_recorder.specs.declared.packets.Taken.{Taken}
+use Rattle.mysql_recorder.specs.declared.packets.Taken.TheVariants as taken_as
+use Rattle.mysql_recorder.specs.declared.piece.Came.{Came}
+use Rattle.mysql_recorder.specs.declared.piece.Came.TheVariants as came_as
+use Rattle.mysql_recorder.specs.declared.recording.Recording.{Recording}
+use Rattle.mysql_recorder.specs.declared.sides.Sides.{Sides}
+use Rattle.mysql_recorder.specs.declared.stream.Stream.{Stream}
+use Rattle.mysql_recorder.proofs.Frames.{numbered_sent, sent-held, sent-limit}
+use Rattle.mysql_recorder.proofs.Goes.{passed_none}
+use Rattle.mysql_recorder.proofs.Stays.{on_ok_then}
+use Rattle.mysql_recorder.proofs.Stopped.{stops_in}
+use Rattle.mysql_recorder.proofs.Texts.{shown_of}
+use Rattle.mysql_recorder.proofs.Wholes.{followed_session}
+
+-- ---- one side
+
+-- a packet is handed out that doesn't come
+pub loses_packet : (all : List KindName) (side : Side) (bytes input rest : List ℕ) (items here : List Item) (s old new : Stream) (p po : Packets) (a b c : List ℕ) (sequence : ℕ) (payload : List ℕ)
+    → Reads side bytes input items here s old p po a b
+    → HandsOut (as_sent old.reader input) input payload new.reader rest → sequence ≡ (as_sent old.reader input).number
+    → po.layout ≡ p.layout
+    → ((xs : List Numbered) → IsFollowed po.followed xs → (why : Refusal) × ShowsRefused all po.layout side sequence payload xs why b c)
+    → LosesIn all p.layout s.reader.limit side (s.reader.held ++ bytes) items a c
+loses_packet all side bytes input rest items here s old new p po a b c sequence payload r h n l shows =
+    let shown = shows (placed (items ++ here)) r.followed in
+    inr (shown.0, stops_in all side bytes input rest items here s old new p po a b c sequence payload shown.0 r h n l shown.1)
+
+module _ (all : List KindName) (side : Side) (bytes input : List ℕ) (items here : List Item) (s old : Stream) (p po : Packets) (a b : List ℕ) (r : Reads side bytes input items here s old p po a b) where
+  number_of : IsNumberOf (as_sent old.reader input).number (old.reader.held ++ input)
+  number_of long = numbered_sent old.reader input r.numbered long
+
+  breaks : AreNoFrames (old.reader.held ++ input) ⊎ AreTooLong s.reader.limit (old.reader.held ++ input) → LosesIn all p.layout s.reader.limit side (s.reader.held ++ bytes) items a b
+  breaks h = inl (here, old.reader.held ++ input, r.from, r.frames, r.written, followed_session po.followed (placed (items ++ here)) r.followed, h)
+
+  out_of_order : ((more : List ℕ) → NoneWhole (as_sent old.reader input).number ((as_sent old.reader input).held ++ input ++ more)) → LosesIn all p.layout s.reader.limit side (s.reader.held ++ bytes) items a b
+  out_of_order h = breaks (inl (
+    (as_sent old.reader input).number,
+    number_of,
+    λ more. subst (λ held. NoneWhole (as_sent old.reader input).number (held ++ input ++ more)) (sent-held old.reader input) (h more),
+  ))
+
+  too_long : ((more : List ℕ) → AllLonger (as_sent old.reader input).limit (as_sent old.reader input).number ((as_sent old.reader input).held ++ input ++ more))
+      → LosesIn all p.layout s.reader.limit side (s.reader.held ++ bytes) items a b
+  too_long h = breaks (inr (
+    (as_sent old.reader input).number,
+    number_of,
+    λ more. subst (λ limit. AllLonger limit (as_sent old.reader input).number (old.reader.held ++ input ++ more)) (sent-limit old.reader input ∙ r.limit)
+        (subst (λ held. AllLonger (as_sent old.reader input).limit (as_sent old.reader input).number (held ++ input ++ more)) (sent-held old.reader input) (h more)),
+  ))
+
+  -- frames are refused, and not for memory
+  pub loses_frames : (e : FrameError) → (e ≡ frame.Memory → ⊥)
+      → (e ≡ frame.OutOfOrder → (more : List ℕ) → NoneWhole (as_sent old.reader input).number ((as_sent old.reader input).held ++ input ++ more))
+      → (e ≡ frame.TooLong → (more : List ℕ) → AllLonger (as_sent old.reader input).limit (as_sent old.reader input).number ((as_sent old.reader input).held ++ input ++ more))
+      → LosesIn all p.layout s.reader.limit side (s.reader.held ++ bytes) items a b
+  loses_frames frame.Memory memory order long = absurd (memory refl)
+  loses_frames frame.OutOfOrder memory order long = out_of_order (order refl)
+  loses_frames frame.TooLong memory order long = too_long (long refl)
+
+-- ---- both sides
+
+pub client_loses : (r : Result Came RecordingError) (all : List KindName) (s : Sides) (bytes before after : List ℕ)
+    → IfOk r (λ came. came ≢ came_as.Whole → (items : List Item) → IsAt s.client s.packets items
+    → LosesIn all s.packets.layout s.client.reader.limit side.Client (s.client.reader.held ++ bytes) items before after)
+    → IfOk r (λ came. came ≢ came_as.Whole → PieceLosesIn all side.Client bytes s before after)
+client_loses (Ok came) all s bytes before after h = λ w pieces items k.
+    subst (λ limit. LosesIn all s.packets.layout limit side.Client (s.client.reader.held ++ bytes) items before after) k.client.limit (h w items (k.client.numbered, k.followed))
+client_loses (Err e) all s bytes before after h = tt
+
+pub server_loses : (r : Result Came RecordingError) (all : List KindName) (s : Sides) (bytes before after : List ℕ)
+    → IfOk r (λ came. came ≢ came_as.Whole → (items : List Item) → IsAt s.server s.packets items
+    → LosesIn all s.packets.layout s.server.reader.limit side.Server (s.server.reader.held ++ bytes) items before after)
+    → IfOk r (λ came. came ≢ came_as.Whole → PieceLosesIn all side.Server bytes s before after)
+server_loses (Ok came) all s bytes before after h = λ w pieces items k.
+    subst (λ limit. LosesIn all s.packets.layout limit side.Server (s.server.reader.held ++ bytes) items before after) k.server.limit (h w items (k.server.numbered, k.followed))
+server_loses (Err e) all s bytes before after h = tt
+
+-- nothing more is lost
+pub piece_keeps : (r : Result (Unit {0}) RecordingError) (all : List KindName) (side : Side) (bytes : List ℕ) (old new : Sides) (before after : List ℕ)
+    → has_lost new ≡ has_lost old → PieceLoses r all side bytes old new before after
+piece_keeps r all side bytes old new before after e lost pieces items h = absurd (let no : true ≡ false = sym lost ∙ e ∙ h.nothing_lost in cc)
+
+-- a stream that is out of step
+pub passed_loses : (r : Result (Unit {0}) RecordingError) (all : List KindName) (side : Side) (bytes : List ℕ) (old new : Sides) (before after : List ℕ)
+    → (passed_of side old ≡ None → ⊥) → PieceLoses r all side bytes old new before after
+passed_loses r all side bytes old new before after e lost pieces items h = absurd (e (passed_none old side pieces items h))
+
+-- what came of a piece
+pub came_loses : (came : Came) (r : Result (Unit {0}) RecordingError) (all : List KindName) (side : Side) (bytes : List ℕ) (old mid new : Sides) (before m after : List ℕ)
+    → (came ≢ came_as.Whole → PieceLosesIn all side bytes old before m) → (came ≡ came_as.Whole → sides.IsSame mid new × (after ≡ m)) → has_lost mid ≡ has_lost old → OnOk r (Stays m after)
+    → PieceLoses r all side bytes old new before after
+came_loses came_as.Whole r all side bytes old mid new before m after loses same kept stays = piece_keeps r all side bytes old new before after ((same refl).0.has_lost ∙ kept)
+came_loses (came_as.Refused a n) r all side bytes old mid new before m after loses same kept stays = λ lost pieces items h. (m, loses (λ e. cc) pieces items h, stays)
+came_loses (came_as.NoFrames x n) r all side bytes old mid new before m after loses same kept stays = λ lost pieces items h. (m, loses (λ e. cc) pieces items h, stays)
+
+-- ---- lines and texts
+
+pub line_loses : (r : Result (Unit {0}) RecordingError) (all : List KindName) (old new : Recording) (bytes before after : List ℕ) → bytes ≡ old.line.bytes.items
+    → PieceLoses r all old.line.side bytes old.sides new.sides before after → LineLoses r all old new before after
+line_loses r all old new bytes before after is h = subst (λ b. PieceLoses r all old.line.side b old.sides new.sides before after) is h
+
+pub text_keeps : (r : Result (Unit {0}) RecordingError) (all : List KindName) (ends : Type 0) (old new : Recording) (before after : List ℕ)
+    → recorded.has_lost new ≡ recorded.has_lost old → TextLoses r all ends old new before after
+text_keeps r all ends old new before after e lost text items h = absurd (let no : true ≡ false = sym lost ∙ e ∙ h.stand.nothing_lost in cc)
+
+-- what waits of a line is lost
+waits_loses : (r : Result (Unit {0}) RecordingError) (all : List KindName) (ends : Type 0) (old new : Recording) (before after : List ℕ)
+    → LineLoses r all old new before after → recorded.has_lost new ≡ true → (text : List ℕ) (items : List Item) → Recorded old text items
+    → (mid : List ℕ) × IsLost all (recorded.layout old) (recorded.longest old) ends text items before mid × OnOk r (Stays mid after)
+waits_loses r all ends old new before after loses lost text items h =
+    let l = loses lost h.pieces items h.stand in
+    (l.0, inl (record { side = old.line.side; bytes = old.line.bytes.items; shown = shown_of old text items h; loses = l.1 }), l.2)
+
+pub text_loses : (r : Result (Unit {0}) RecordingError) (all : List KindName) (ends : Type 0) (old new : Recording) (before after : List ℕ)
+    → LineLoses r all old new before after → TextLoses r all ends old new before after
+text_loses r all ends old new before after loses = λ lost text items h. waits_loses r all ends old new before after loses lost text items h
+
+-- a line that says a mark
+mark_ends : (old : Recording) (text : List ℕ) (items : List Item) → Recorded old text items → old.line.is_untaken ≡ true → IsMark old.line.bytes.items → EndsInMark text items
+mark_ends old text items h untaken mark =
+    let to = h.untaken untaken in
+    record {
+      lines = to.0;
+      line = to.1;
+      at = old.place;
+      side = old.line.side;
+      mark = old.line.bytes.items;
+      are_lines = to.2;
+      text_is = to.3;
+      shown = record {
+        at = place.Start;
+        said = said_by to.0;
+        pieces = h.pieces;
+        client_left = old.sides.client.reader.held;
+        server_left = old.sides.server.reader.held;
+        read = (to.0, [], [], to.2, sym (append-nil (text_of to.0)), sym (append-nil (said_by to.0)), (refl, refl));
+        parts = sym to.4 ∙ sym (append-nil (joined h.pieces));
+        packets = h.stand.come;
+        client_none = h.stand.client.none;
+        server_none = h.stand.server.none;
+      };
+      says = to.5;
+      is_mark = mark;
+    }
+
+-- a line that ends
+pub end_loses : (r : Result (Unit {0}) RecordingError) (all : List KindName) (ends : Type 0) (old new : Recording) (before after : List ℕ)
+    → LineEndLoses r all old new before after → ends → TextLoses r all ends old new before after
+end_loses r all ends old new before after (inl loses) here = text_loses r all ends old new before after loses
+end_loses r all ends old new before after (inr mark) here = λ lost text items h. (before, inr (mark_ends old text items h mark.0 mark.1, here, refl), mark.2)
+
+-- the byte that ends a line
+pub feed_loses : (r : Result (Unit {0}) RecordingError) (all : List KindName) (old mid new : Recording) (c : ℕ) (before after : List ℕ)
+    → ((line : List ℕ) (said : List Heard) → Stands old.place line said → Passes (Some says.End) c line said mid.place) → mid.line ≡ old.line → mid.sides ≡ old.sides
+    → LineEndLoses r all mid new before after → TextLoses r all (c ≡ 10) old new before after
+feed_loses r all old mid new c before after passes line same loses lost text items h =
+    let feed : c ≡ 10 = (passes h.read.1 h.read.2 h.read.6).0 in
+    let back : LineEndLoses r all old new before after =
+    subst (λ l. PieceLoses r all l.side l.bytes.items old.sides new.sides before after ⊎ ((l.is_untaken ≡ true) × IsMark l.bytes.items × OnOk r (Stays before after))) line
+    (subst (λ s. PieceLoses r all mid.line.side mid.line.bytes.items s new.sides before after ⊎ ((mid.line.is_untaken ≡ true) × IsMark mid.line.bytes.items × OnOk r (Stays before after))) same loses) in
+    end_loses r all (c ≡ 10) old new before after back feed lost text items h
+
+-- ---- one step after another
+
+-- what is appended then changes nothing else
+pub then_loses : (q r : Result (Unit {0}) RecordingError) (all : List KindName) (ends : Type 0) (old mid new : Recording) (x y z : List ℕ)
+    → TextLoses q all ends old mid x y → recorded.has_lost new ≡ recorded.has_lost mid → ((m : List ℕ) → OnOk q (Stays m y) → OnOk r (Stays m z)) → TextLoses r all ends old new x z
+then_loses q r all ends old mid new x y z loses same stays lost text items h =
+    let l = loses (sym same ∙ lost) text items h in
+    (l.0, l.1, stays l.0 l.2)
+
+is_lost_where : (all : List KindName) (layout : Layout) (limit : ℕ) (ends others : Type 0) (text : List ℕ) (items : List Item) (before after : List ℕ)
+    → (ends → others) → IsLost all layout limit ends text items before after → IsLost all layout limit others text items before after
+is_lost_where all layout limit ends others text items before after f (inl h) = inl h
+is_lost_where all layout limit ends others text items before after f (inr h) = inr (h.0, f h.1, h.2)
+
+feed_more : (back more : List ℕ) → IsAtFeed back → IsAtFeed (back ++ more)
+feed_more back more h = (h.0 ++ more, ap (λ t. t ++ more) h.1)
+
+pub loses_none : (r : Result (Unit {0}) RecordingError) (all : List KindName) (input : List ℕ) (old new : Recording) (before after : List ℕ)
+    → recorded.has_lost new ≡ recorded.has_lost old → Loses r all input old new before after
+loses_none r all input old new before after e lost text items h = absurd (let no : true ≡ false = sym lost ∙ e ∙ h.stand.nothing_lost in cc)
+
+pub loses_then : (r : Result (Unit {0}) RecordingError) (all : List KindName) (ends : Type 0) (a b : List ℕ) (old mid new : Recording) (x y z : List ℕ)
+    → recorded.GoesOn a old mid x y → Loses (Ok tt) all a old mid x y → recorded.layout mid ≡ recorded.layout old → recorded.longest mid ≡ recorded.longest old
+    → TextLoses r all ends mid new y z → (ends → IsAtFeed b) → OnOk r (Stays y z) → Loses r all (a ++ b) old new x z
+loses_then r all ends a b old mid new x y z first before same long loses feed stays lost text items h =
+    elim (first text items h) as (λ _. (front : List ℕ) × (back : List ℕ) × (here : List Item) × (shown : List ℕ) × (m : List ℕ) × (a ++ b ≡ front ++ back)
+    × Writes (recorded.layout old) here x shown × IsLost all (recorded.layout old) (recorded.longest old) (IsAtFeed back) (text ++ front) (items ++ here) shown m × OnOk r (Stays m z)) [
+      | inl e ↦ (let l = before e text items h in (
+        l.0,
+        l.1 ++ b,
+        l.2,
+        l.3,
+        l.4,
+        ap (λ t. t ++ b) l.5 ∙ append_assoc l.0 l.1 b,
+        l.6,
+        is_lost_where all (recorded.layout old) (recorded.longest old) (IsAtFeed l.1) (IsAtFeed (l.1 ++ b)) (text ++ l.0) (items ++ l.2) l.3 l.4 (feed_more l.1 b) l.7,
+        on_ok_then r l.4 y z l.8 stays,
+      ))
+      | inr f ↦ (let l = loses lost (text ++ a) (items ++ f.0) f.1 in (
+        a,
+        b,
+        f.0,
+        y,
+        l.0,
+        refl,
+        f.2,
+        is_lost_where all (recorded.layout old) (recorded.longest old) ends (IsAtFeed b) (text ++ a) (items ++ f.0) y l.0 feed
+            (subst (λ shown_in. IsLost all shown_in (recorded.longest old) ends (text ++ a) (items ++ f.0) y l.0) same
+            (subst (λ limit. IsLost all (recorded.layout mid) limit ends (text ++ a) (items ++ f.0) y l.0) long l.1)),
+        l.2,
+      ))
+    ]
+
+-- ---- the bytes of an input, one after another
+
+pub loop_loses : (all : List KindName) (xs : List ℕ) (i c : ℕ) (old mid new : Recording) (x y z : List ℕ) → i < length xs → c ≡ get_or xs i 0
+    → recorded.GoesOn (take i xs) old mid x y → Loses (Ok tt) all (take i xs) old mid x y → recorded.layout mid ≡ recorded.layout old → recorded.longest mid ≡ recorded.longest old
+    → TextLoses (Ok tt) all (c ≡ 10) mid new y z → Stays y z → Loses (Ok tt) all (take (i + 1) xs) old new x z
+loop_loses all xs i c old mid new x y z below is first before same long loses stays =
+    subst (λ t. Loses (Ok tt) all t old new x z) (ap (λ b. take i xs ++ b ∷ []) is ∙ sym (take_more xs i 0 below))
+    (loses_then (Ok tt) all (c ≡ 10) (take i xs) (c ∷ []) old mid new x y z first before same long loses (λ e. ([], ap (λ b. b ∷ []) e)) stays)
+
+pub rest_loses : (r : Result (Unit {0}) RecordingError) (all : List KindName) (xs : List ℕ) (n : ℕ) (old mid new : Recording) (x y z : List ℕ) → take n xs ≡ xs
+    → recorded.GoesOn (take n xs) old mid x y → Loses (Ok tt) all (take n xs) old mid x y → recorded.layout mid ≡ recorded.layout old → recorded.longest mid ≡ recorded.longest old
+    → TextLoses r all ⊥ mid new y z → OnOk r (Stays y z) → Loses r all xs old new x z
+rest_loses r all xs n old mid new x y z whole first before same long loses stays =
+    subst (λ t. Loses r all t old new x z) (append-nil (take n xs) ∙ whole)
+    (loses_then r all ⊥ (take n xs) [] old mid new x y z first before same long loses (λ no. absurd no) stays)
+
+pub byte_loses : (r : Result (Unit {0}) RecordingError) (all : List KindName) (xs : List ℕ) (i c : ℕ) (old mid new : Recording) (x y z : List ℕ) → i < length xs → c ≡ get_or xs i 0
+    → recorded.GoesOn (take i xs) old mid x y → Loses (Ok tt) all (take i xs) old mid x y → recorded.layout mid ≡ recorded.layout old → recorded.longest mid ≡ recorded.longest old
+    → TextLoses r all (c ≡ 10) mid new y z → OnOk r (Stays y z) → Loses r all xs old new x z
+byte_loses r all xs i c old mid new x y z below is first before same long loses stays =
+    subst (λ t. Loses r all t old new x z) (take-append-drop i xs)
+    (loses_then r all (c ≡ 10) (take i xs) (drop i xs) old mid new x y z first before same long loses
+    (λ e. (drop (i + 1) xs, rw add-one (drop-cons xs i 0 below ∙ ap (λ b. b ∷ drop (suc i) xs) (sym is ∙ e)))) stays)

@@ -1,0 +1,27 @@
+-- What stands in an output stays there.
+use Rattle.std.proofs.Common.{◌≡◌, ℕ, List, [], ◌++◌, Result, Ok, Err, OnOk, sym, ap, ◌∙◌, append_assoc, append-nil}
+use Rattle.mysql_fields.specs.Entries.{Begins, Stays}
+use Rattle.mysql_fields.specs.declared.entry.Layout.{Layout}
+use Rattle.mysql_recorder.specs.Shown.{Appends, Entry, entry_front}
+
+pub stays_same : (a : List ℕ) → Stays a a
+stays_same a = ([], sym (append-nil a))
+
+pub stays_equal : (a b : List ℕ) → b ≡ a → Stays a b
+stays_equal a b e = ([], e ∙ sym (append-nil a))
+
+pub stays_then : (a b c : List ℕ) → Stays a b → Stays b c → Stays a c
+stays_then a b c h g = (h.0 ++ g.0, g.1 ∙ ap (λ t. t ++ g.0) h.1 ∙ append_assoc a h.0 g.0)
+
+pub on_ok_then : {E : Type 0} (r : Result (Unit {0}) E) (a b c : List ℕ) → Stays a b → OnOk r (Stays b c) → OnOk r (Stays a c)
+on_ok_then (Ok u) a b c h g = stays_then a b c h g
+on_ok_then (Err e) a b c h g = tt
+
+pub front_stays : {E : Type 0} (r : Result (Unit {0}) E) (front a b : List ℕ) → OnOk r (Begins front a b) → OnOk r (Stays a b)
+front_stays (Ok u) front a b h = (front ++ h.0, h.1)
+front_stays (Err e) front a b h = tt
+
+pub appended_stays : (layout : Layout) (entry : Entry) (a b : List ℕ) → Appends layout entry a b → Stays a b
+appended_stays layout entry a b h = (entry_front layout entry ++ h.2.0, h.2.1)
+
+pub ruleset same = (stays_same)
