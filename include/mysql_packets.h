@@ -506,8 +506,8 @@ enum myp_bulk_flag {
  * nothing is written. A buffer of max_allowed_packet - 4 bytes is never too small.
  * MYP_INVALID_INPUT of no columns, of values that are no whole rows, of an unknown flag, of a type that may not be declared, of
  * a value that is none or that its type doesn't spell, or of max_allowed_packet below 4; MYP_ROW_TOO_LARGE where the first row
- * is larger than a request may be; MYP_NO_MEMORY: *written and *rows are 0, also where the refused row comes after others.
- * Rows after those that fit are not looked at. MYP_BUFFER_TOO_SMALL: *rows is 0. */
+ * is larger than a request may be: *written and *rows are 0, also where the refused row comes after others. Rows after those that
+ * fit are not looked at. MYP_BUFFER_TOO_SMALL: *rows is 0. It takes no memory, and is never refused any. */
 uint32_t myp_write_bulk(uint32_t statement_id, uint32_t flags, size_t max_allowed_packet, const myp_column_type *types,
                         size_t columns, const myp_value *values, size_t n_values, uint8_t *out, size_t size, size_t *written,
                         size_t *rows);

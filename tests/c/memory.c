@@ -128,7 +128,7 @@ static void requests(void)
     myp_ssl_request r = MYP_SSL_REQUEST_INIT;
     myp_replica replica = MYP_REPLICA_INIT;
     EACH(0, myp_write_execute(1, v, 4, out, sizeof out, &n, &as_long_data));
-    SOME(myp_write_bulk(1, 0, 1 << 20, types, 2, v, 4, out, sizeof out, &n, &rows));
+    EACH(0, myp_write_bulk(1, 0, 1 << 20, types, 2, v, 4, out, sizeof out, &n, &rows));
     EACH(0, myp_write_login(&l, out, sizeof out, &n));
     EACH(0, myp_write_change_user(&c, out, sizeof out, &n));
     EACH(0, myp_write_ssl_request(&r, out, sizeof out, &n));

@@ -40,8 +40,10 @@ fn is_unsigned(kind: ParamType) -> bool
     kind.flags().contains(StmtExecuteParamFlags::UNSIGNED)
 }
 
-/// Whether the type may be declared.
-fn may_be_declared(kind: ParamType) -> bool
+/// Whether the type may be declared for a column: values of it are spelled as they are where no type is declared for them, and
+/// of numbers it says that they are unsigned or nothing.
+#[inline]
+pub fn may_be_declared(kind: ParamType) -> bool
     ensures { result ≡ spec.may_be_declared kind }
 {
     let column_type = kind.column_type();
@@ -58,7 +60,8 @@ pub(crate) fn first_refused(types: &[ParamType]) -> Option<usize>
 
 /// Whether a value is spelled under the type as it is under its own.
 // (the types of what most rows hold are matched themselves, since the compiler makes one more choice of their kinds)
-fn spells(kind: ParamType, value: &ValueRef<'_>) -> bool
+#[inline]
+pub fn spells(kind: ParamType, value: &ValueRef<'_>) -> bool
     ensures { result ≡ spec.spells kind (ref_content value.now) }
 {
     let column_type = kind.column_type();

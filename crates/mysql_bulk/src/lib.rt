@@ -25,6 +25,7 @@ mod whole_run;
 
 pub use builder::ComStmtBulkExecuteRequestBuilder;
 pub use bulk_value::BulkValue;
+pub use column_types::{may_be_declared, spells};
 pub use error::{
     BulkColumnTypeError, BulkExecuteRequestBuilderError, BulkExecuteRequestError, BulkRowRefusal,
 };

@@ -6,6 +6,7 @@ pub mod Changes
 pub mod MergedNames
 pub mod Mixed
 pub mod BulkRows
+pub mod BulkRequests
 pub mod Executions
 pub mod SidHeld
 pub mod WrittenSids

@@ -1,19 +1,23 @@
 -- A bulk request, as C asks for it.
-use Rattle.std.specs.Prelude.{◌≡◌, ◌≢◌, ◌⊎◌, ℕ, ◌+◌, ◌*◌, ◌-◌, ◌%◌, ◌==◌, ◌&&◌, ◌||◌, ◌≤◌, Bool, true, false, not, nat_le, List, [], length, map, take, drop, All, Option, Some, None, position}
-use Rattle.std.specs.List.{list_all}
-use Rattle.mysql_bulk.specs.declared.error.BulkRowRefusal.{BulkRowRefusal}
-use Rattle.mysql_bulk.specs.declared.error.BulkRowRefusal.TheVariants as refusal
-use Rattle.mysql_cuts.specs.Cut.{PartFits}
+use Rattle.std.specs.Prelude.{◌≡◌, ◌≢◌, ◌⊎◌, ℕ, ◌++◌, ◌+◌, ◌*◌, ◌-◌, ◌%◌, ◌==◌, ◌&&◌, ◌||◌, ◌≤◌, Bool, true, false, not, nat_le, List, [], length, map, take, drop, All, Option, Some, None, position}
+use Rattle.std.specs.List.{flat_map, list_all}
+use Rattle.mysql_cuts.specs.Cut.{PartFits, request_size}
 use Rattle.mysql_bulk.specs.Builder.{BuilderState, RowFits, TakesRow, packing}
 use Rattle.mysql_bulk.specs.BuilderRows.{rows_of}
-use Rattle.mysql_bulk.specs.ColumnTypes.{TakesTypes, may_be_declared}
-use Rattle.mysql_bulk.specs.RequestWriter.{Holds, IsBuilt, WriterState, as_builder, new_builder}
+use Rattle.mysql_bulk.specs.ColumnTypes.{TakesTypes, may_be_declared, spell_row, spells}
+use Rattle.mysql_bulk.specs.Head.{head}
+use Rattle.mysql_bulk.specs.ParamValue.{cell}
+use Rattle.mysql_bulk.specs.Request.{request_flags}
+use Rattle.mysql_bulk.specs.RequestWriter.{IsBuilt, new_builder}
+use Rattle.mysql_prepared.specs.ExecuteParam.{value_of}
 use Rattle.mysql_values.specs.ParamType.{typed}
 use Rattle.mysql_values.specs.Value.{Content}
 use Rattle.mysql_values.specs.declared.param_type.ParamType.{ParamType}
 use Rattle.mysql_packets_c.specs.ColumnType.{type_of, unsigned_of}
-use Rattle.mysql_packets_c.specs.Value.{is_value, values_contents}
+use Rattle.mysql_packets_c.specs.Execution.{param}
+use Rattle.mysql_packets_c.specs.Value.{is_value, value_content, values_contents}
 use Rattle.mysql_packets_c.specs.Output.{Puts}
+use Rattle.mysql_packets_c.specs.declared.bulk.BulkCall.{BulkCall}
 use Rattle.mysql_packets_c.specs.declared.rows.CColumnType.{CColumnType}
 use Rattle.mysql_packets_c.specs.declared.value.CValue.{CValue}
 
@@ -130,19 +134,43 @@ abbrev pub Bulk : BuilderState → ℕ → List CValue → ℕ → List ℕ → 
 Bulk s columns values code old new written rows =
     Writes s columns values code old new written rows ⊎ (RefusesAny s columns values code × WritesNothing old new written rows)
 
--- ---- how the rows are offered
+-- ---- how the rows are counted
 
--- the code of a refusal
-abbrev pub refusal_code : BulkRowRefusal → ℕ
-refusal_code refusal.MixedArity = 3
-refusal_code refusal.MixedTypes = 3
-refusal_code refusal.TooLarge = 6
-refusal_code refusal.Memory = 4
+-- what a caller asks for, as the library's builder
+abbrev pub builder_for : BulkCall → BuilderState
+builder_for call = builder_of call.statement_id call.flags call.max_allowed_packet call.columns.now
 
--- a writer that began as the builder has the first rows, and no more fit
-pub record Taken (s : BuilderState) (w : WriterState) (columns count : ℕ) (values : List CValue) : Type 0 where
+-- it is a value, which the type of its column spells
+abbrev pub takes_value : CColumnType → CValue → Bool
+takes_value column value = is_value value && spells (declared_type column) (value_content value)
+
+-- the row is of values, which the types of their columns spell
+abbrev pub takes_row : List CColumnType → List CValue → Bool
+takes_row columns row = list_all is_value row && spell_row (declared_types columns) (values_contents row)
+
+-- the first rows may be a request, which takes so many bytes
+pub record HasRows (s : BuilderState) (columns count len : ℕ) (values : List CValue) : Type 0 where
   pub are_rows : AreRows columns count values
+  pub taken : All (TakesTypes s.columns) (first_rows columns count values)
+  pub fit : first_rows columns count values ≢ [] → PartFits (packing s columns) s.types_due (first_rows columns count values)
+  pub size : len ≡ request_size (packing s columns) s.types_due (first_rows columns count values)
+
+-- and no more fit
+pub record Counted (s : BuilderState) (columns count len : ℕ) (values : List CValue) : Type 0 where
+  pub rows : HasRows s columns count len values
   pub full : IsFull s columns count values
-  pub holds : Holds w (first_rows columns count values)
-  pub settings : as_builder w (first_rows columns count values) ≡ waits s columns count values
-  pub some : first_rows columns count values ≡ [] → values ≡ []
+  pub some : count ≡ 0 → values ≡ []
+
+-- ---- what is written of the rows
+
+-- a value after its indicator
+abbrev pub cell_bytes : CValue → List ℕ
+cell_bytes value = cell (value_of (param value))
+
+-- what stands before the values
+abbrev pub head_with : BulkCall → List ℕ
+head_with call = head.bytes (record { stmt_id = call.statement_id; bulk_flags = request_flags true (call.flags == 64); types = declared_types call.columns.now })
+
+-- a request with these values
+abbrev pub request_with : BulkCall → List CValue → List ℕ
+request_with call values = head_with call ++ flat_map cell_bytes values

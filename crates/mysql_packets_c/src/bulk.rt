@@ -1,29 +1,47 @@
 //! Bulk requests, as many rows as fit.
-#![tactic(auto, using(crate::proofs::BulkRows::bulk_rows, crate::proofs::BulkRows::bulk_calls))]
+#![tactic(auto, using(crate::proofs::BulkRows::bulk_rows, crate::proofs::BulkRows::bulk_calls, crate::proofs::BulkRequests::bulk_requests))]
 
-ghost use Rattle.std.specs.Bool.{OnTrue};
-ghost use Rattle.std.specs.List.{list_all};
-ghost use Rattle.std.specs.Prelude.{◌≡◌, ◌≢◌, ◌*◌, ◌<◌, ◌≤◌, true, false, List, [], length, map, Some, None, IfOk, IfErr, OnOk, OnErr, is_some, vec_capacity};
-ghost use Rattle.mysql_bulk.specs.RequestWriter.{Holds, as_builder};
-ghost use Rattle.mysql_values.specs.Value.{Content};
-ghost use Rattle.mysql_values.specs.ValueRef.{ref_content};
+ghost use Rattle.std.specs.List.{flat_map, position};
+ghost use Rattle.std.specs.Prelude.{◌==◌, ◌≡◌, ◌≢◌, ◌+◌, ◌++◌, ◌*◌, ◌<◌, ◌≤◌, ◌^◌, true, false, [], drop, length, map, take, IfOk, IfErr, MatchOption, is_some, not};
+ghost use Rattle.mysql_wire.specs.Writing.{saturated};
+ghost use Rattle.mysql_bulk.specs.ColumnTypes.{may_be_declared};
+ghost use Rattle.mysql_bulk.specs.Request.{request_flags};
+ghost use Rattle.mysql_bulk.specs.Row.{param_size, row_size};
 ghost use Rattle.mysql_packets_c.specs.Bulk as spec;
-ghost use Rattle.mysql_packets_c.specs.Value.{is_value, values_contents};
+ghost use Rattle.mysql_packets_c.specs.Value.{value_content, values_contents};
 
-use crate::code::{INVALID_INPUT, NO_MEMORY, OK, ROW_TOO_LARGE};
-use crate::output::put;
+use crate::code::{INVALID_INPUT, OK, ROW_TOO_LARGE};
+use crate::output::put_packet;
 use crate::rows::CColumnType;
 use crate::value::{CValue, to_ref};
-use mysql_bulk::{BulkColumnTypeError, BulkRequestWriter, BulkRowRefusal};
-use mysql_stmt::TypedColumn;
-use mysql_values::{ParamType, ValueRef};
-use mysql_wire::{Flags, StmtExecuteParamFlags};
-use std::alloc::{AllocError, Global};
+use mysql_bulk::{ComStmtBulkExecuteHeader, may_be_declared, spells};
+use mysql_prepared::{AsExecuteParam, ItemForm, Items, TypedColumn};
+use mysql_values::ParamType;
+use mysql_wire::{
+    Buffer, Const, Flags, LeU16, LeU32, MySerialize, RawInt, StmtBulkExecuteFlags,
+    StmtExecuteParamFlags, parts,
+};
 
 /// The flag that asks for the results of each row.
 const SEND_UNIT_RESULTS: u32 = 64;
 
+/// What stands before a value.
+const INDICATOR_NONE: u8 = 0;
+
+/// What stands in the place of NULL.
+const INDICATOR_NULL: u8 = 1;
+
+/// What a caller asks for, but for the rows.
+#[derive(Drop)]
+struct BulkCall<'a> {
+    statement_id: u32,
+    flags: u32,
+    max_allowed_packet: usize,
+    columns: &'a [CColumnType],
+}
+
 /// The type that is declared for a column.
+#[inline(always)]
 fn declared_type(column: &CColumnType) -> ParamType
     ensures { result ≡ spec.declared_type column.now }
 {
@@ -35,14 +53,20 @@ fn declared_type(column: &CColumnType) -> ParamType
     ParamType::new(column.value_type(), flags)
 }
 
-/// The types that are declared for the columns.
-fn declared_types(alloc: Global, columns: &[CColumnType]) -> Result<Vec<ParamType>, AllocError>
-    ensures { IfOk result (λ types. types.items ≡ spec.declared_types columns.now) }
+/// The first column whose type may not be declared.
+fn first_refused(columns: &[CColumnType]) -> Option<usize>
+    ensures { result ≡ position (λ column. not (may_be_declared (spec.declared_type column))) columns.now }
 {
     columns
         .iter()
-        .map(|column| declared_type(column))
-        .collect(alloc)
+        .position(|column| !may_be_declared(declared_type(column)))
+}
+
+/// Whether the type of some column may not be declared.
+fn refuses_types(columns: &[CColumnType]) -> bool
+    ensures { result ≡ is_some (spec.first_refused columns.now) }
+{
+    first_refused(columns).is_some()
 }
 
 /// Whether such a call may be made.
@@ -55,34 +79,30 @@ fn may_ask(flags: u32, max_allowed_packet: usize, columns: usize, values: usize)
     max_allowed_packet >= 4 && columns >= 1 && values % columns == 0
 }
 
-/// Puts the values of a row in the place of those that a list holds. There is capacity for them.
-#[tactic(auto, using(crate::proofs::BulkRows::row_values))]
-fn take_row<'a>(list: &mut Vec<ValueRef<'a>>, row: &[CValue<'a>]) -> bool
-    requires { length row.now ≤ vec_capacity list.old }
-    ensures values { result ≡ list_all is_value row.now }
-    ensures contents { OnTrue result (map ref_content list.new.items ≡ values_contents row.now) }
-    ensures capacity { vec_capacity list.old ≤ vec_capacity list.new }
+/// How many bytes a value takes with its indicator, or `usize::MAX` where that is less. `None` where it is none, or the type of its
+/// column does not spell it.
+#[inline(always)]
+fn value_len(column: &CColumnType, value: &CValue<'_>) -> Option<usize>
+    ensures { MatchOption result (spec.takes_value column.now value.now ≡ false) (λ n. (spec.takes_value column.now value.now ≡ true) × (n ≡ saturated (param_size (value_content value.now)))) }
 {
-    list.clear();
-    for value in row {
-        let Some(value) = to_ref(value) else {
-            return false;
-        };
-        list.push_reserved(value);
+    let value = to_ref(value)?;
+    if !spells(declared_type(column), &value) {
+        return None;
     }
-    true
+    Some(value.defined_len().saturating_add(1))
 }
 
-/// The code of a refusal.
-fn refusal_code(refusal: BulkRowRefusal) -> u32
-    ensures { result ≡ spec.refusal_code refusal }
+/// The same of a row, which has a value for each column.
+#[tactic(auto, using(crate::proofs::BulkRows::row_values), unfolding(mysql_wire::specs::Writing::saturated))]
+fn row_len(columns: &[CColumnType], row: &[CValue<'_>]) -> Option<usize>
+    requires { length columns.now ≡ length row.now }
+    ensures { MatchOption result (spec.takes_row columns.now row.now ≡ false) (λ n. (spec.takes_row columns.now row.now ≡ true) × (n ≡ saturated (row_size (values_contents row.now)))) }
 {
-    match refusal {
-        BulkRowRefusal::MixedArity => INVALID_INPUT,
-        BulkRowRefusal::MixedTypes => INVALID_INPUT,
-        BulkRowRefusal::TooLarge => ROW_TOO_LARGE,
-        BulkRowRefusal::Memory => NO_MEMORY,
+    let mut len: usize = 0;
+    for place in 0..row.len() {
+        len = len.saturating_add(value_len(&columns[place], &row[place])?);
     }
+    Some(len)
 }
 
 /// The row after so many others.
@@ -101,72 +121,170 @@ fn row_after<'s, 'a>(
     &values[start..start + columns]
 }
 
-/// Offers rows until one does not fit, and answers how many were taken.
-fn offer<'a>(
-    writer: &mut BulkRequestWriter<'_>,
-    list: &mut Vec<ValueRef<'a>>,
-    values: &[CValue<'a>],
-    columns: usize,
-    rows: usize,
-) -> Result<usize, u32>
-    requires whole { length values.now ≡ rows * columns }
-    requires arity { length writer.old.types ≡ columns }
-    requires none { Holds writer.old [] }
-    requires capacity { columns ≤ vec_capacity list.old }
-    ensures taken { IfOk result (λ count. spec.Taken (as_builder writer.old []) writer.new columns count values.now) }
-    ensures refused { IfErr result (λ code. code ≢ 4 → spec.RefusesAny (as_builder writer.old []) columns values.now code) }
+/// Counts the rows until one does not fit: how many they are, and how many bytes their request takes.
+fn counted(call: &BulkCall<'_>, values: &[CValue<'_>], rows: usize) -> Result<(usize, usize), u32>
+    requires limit { 4 ≤ call.now.max_allowed_packet }
+    requires whole { length values.now ≡ rows * length call.now.columns.now }
+    ensures counted { IfOk result (λ c. spec.Counted (spec.builder_for call.now) (length call.now.columns.now) c.0 c.1 values.now) }
+    ensures refused { IfErr result (λ code. spec.RefusesAny (spec.builder_for call.now) (length call.now.columns.now) values.now code) }
 {
+    let columns = call.columns.len();
+    let limit = call.max_allowed_packet - 4;
+    let mut len = 7 + 2 * columns;
     for count in 0..rows {
-        if !take_row(list, row_after(values, columns, count, rows)) {
+        let row = row_after(values, columns, count, rows);
+        let Some(more) = row_len(call.columns, row) else {
             return Err(INVALID_INPUT);
+        };
+        let longer = len.saturating_add(more);
+        if limit < longer {
+            return if count == 0 {
+                Err(ROW_TOO_LARGE)
+            } else {
+                Ok((count, len))
+            };
         }
-        match writer.add_row_refs(list.as_slice()) {
-            Ok(true) => {}
-            Ok(false) => return Ok(count),
-            Err(refusal) => return Err(refusal_code(refusal)),
-        }
+        len = longer;
     }
-    Ok(rows)
+    Ok((rows, len))
 }
 
-/// A writer with the settings of a call.
-#[tactic(auto, using(crate::proofs::BulkRows::made))]
-fn writer_of<'a>(
-    alloc: Global,
-    statement_id: u32,
-    flags: u32,
-    max_allowed_packet: usize,
-    types: &'a [ParamType],
-) -> Result<BulkRequestWriter<'a>, BulkColumnTypeError>
-    requires { 4 ≤ max_allowed_packet }
-    ensures made { IfOk result (λ w. Holds w [] × (as_builder w [] ≡ spec.builder_with statement_id flags max_allowed_packet types.now)) }
-    ensures all { OnOk result (spec.first_undeclared types.now ≡ None) }
-    ensures refused { OnErr result (is_some (spec.first_undeclared types.now) ≡ true) }
+/// Columns are written as the types that are declared for them.
+#[derive(Drop)]
+struct AsDeclaredTypes;
+
+impl ItemForm<CColumnType> for AsDeclaredTypes {
+    ghost use Rattle.mysql_values.specs.ParamType.{param_type};
+    ghost use Rattle.mysql_packets_c.specs.Bulk.{declared_type};
+
+    ghost item_bytes = { λ _ column. param_type.bytes (declared_type column) };
+
+    #[inline(always)]
+    #[tactic(auto, using(crate::proofs::BulkRequests::type_sizes), unfolding(mysql_wire::specs::Writing::saturated))]
+    fn item_len(&self, _column: &CColumnType) -> usize {
+        2
+    }
+
+    #[inline(always)]
+    fn append_item<O: Buffer>(&self, column: &CColumnType, out: &mut O) {
+        declared_type(column).append(out);
+    }
+}
+
+/// Writes a value after its indicator, for which there is capacity.
+#[inline(always)]
+#[tactic(auto, using(mysql_wire::proofs::After::after), unfolding(mysql_wire::specs::Writing::le_bytes))]
+fn append_cell<O: Buffer>(value: &CValue<'_>, out: &mut O)
+    requires { length (O.held out.old) + length (spec.cell_bytes value.now) ≤ O.capacity out.old }
+    ensures items { O.held out.new ≡ O.held out.old ++ spec.cell_bytes value.now }
+    ensures after { O.after out.new ≡ drop (length (spec.cell_bytes value.now)) (O.after out.old) }
+    ensures capacity { O.capacity out.old ≤ O.capacity out.new }
+    ensures kept { O.kept out.new ≡ O.kept out.old }
 {
-    let writer = BulkRequestWriter::new(Vec::new(alloc), statement_id, max_allowed_packet, types)?;
-    Ok(if flags == SEND_UNIT_RESULTS {
-        writer.with_results()
-    } else {
-        writer
-    })
+    if value.is_null() {
+        out.push_byte(INDICATOR_NULL);
+        return;
+    }
+    out.push_byte(INDICATOR_NONE);
+    value.append_sent(false, out);
 }
 
-/// Writes the request of the rows that were taken. Where there is none, nothing is written.
+/// Writes values, each after its indicator, for which there is capacity.
+// (the buffer is moved to a local one, whose place in memory no write to its bytes can change: so those of a number are one
+// store)
+#[tactic(auto, using(mysql_wire::proofs::After::after))]
+fn append_cells<O: Buffer>(values: &[CValue<'_>], out: &mut O)
+    requires { length (O.held out.old) + length (flat_map spec.cell_bytes values.now) ≤ O.capacity out.old }
+    ensures items { O.held out.new ≡ O.held out.old ++ flat_map spec.cell_bytes values.now }
+    ensures after { O.after out.new ≡ drop (length (flat_map spec.cell_bytes values.now)) (O.after out.old) }
+    ensures capacity { O.capacity out.old ≤ O.capacity out.new }
+    ensures kept { O.kept out.new ≡ O.kept out.old }
+{
+    let mut bytes = out.taken();
+    for value in values {
+        append_cell(value, &mut bytes);
+    }
+    *out = bytes;
+}
+
+/// The flags of a request, which sends types.
+fn bulk_flags(flags: u32) -> StmtBulkExecuteFlags
+    ensures { result ≡ request_flags true (flags == 64) }
+{
+    if flags == SEND_UNIT_RESULTS {
+        StmtBulkExecuteFlags::SEND_TYPES_TO_SERVER | StmtBulkExecuteFlags::SEND_UNIT_RESULTS
+    } else {
+        StmtBulkExecuteFlags::SEND_TYPES_TO_SERVER
+    }
+}
+
+/// Writes what stands before the values, for which there is capacity.
+#[tactic(auto, using(mysql_wire::proofs::Packets::packets, crate::proofs::BulkRequests::heads), unfolding(mysql_bulk::specs::Head::head))]
+fn append_head<O: Buffer>(call: &BulkCall<'_>, out: &mut O)
+    requires { length (O.held out.old) + length (spec.head_with call.now) ≤ O.capacity out.old }
+    ensures items { O.held out.new ≡ O.held out.old ++ spec.head_with call.now }
+    ensures after { O.after out.new ≡ drop (length (spec.head_with call.now)) (O.after out.old) }
+    ensures capacity { O.capacity out.old ≤ O.capacity out.new }
+    ensures kept { O.kept out.new ≡ O.kept out.old }
+{
+    let header = ComStmtBulkExecuteHeader::new();
+    let stmt_id = RawInt::<LeU32>::new(call.statement_id);
+    let bulk_flags = Const::<StmtBulkExecuteFlags, LeU16>::new(bulk_flags(call.flags));
+    let types = Items {
+        items: call.columns,
+        form: AsDeclaredTypes,
+    };
+    parts!(header, stmt_id, bulk_flags, types).append(out);
+}
+
+/// A request of the values of rows, whose bytes were counted.
+#[derive(Drop)]
+struct CountedRequest<'r, 'a> {
+    call: &'r BulkCall<'r>,
+    values: &'r [CValue<'a>],
+    len: usize,
+    ghost exact: { len ≡ length (spec.request_with call.now values.now) },
+}
+
+impl MySerialize for CountedRequest<'_, '_> {
+    ghost use Rattle.mysql_packets_c.specs.Bulk.{request_with};
+
+    ghost bytes = { λ r. request_with r.call.now r.values.now };
+
+    #[tactic(auto, unfolding(mysql_wire::specs::Writing::saturated))]
+    fn defined_len(&self) -> usize {
+        self.len
+    }
+
+    #[tactic(auto, using(mysql_wire::proofs::After::after))]
+    fn append<O: Buffer>(&self, out: &mut O) {
+        append_head(self.call, out);
+        append_cells(self.values, out);
+    }
+}
+
+/// Writes the request of the first rows, whose bytes were counted.
 fn put_request(
-    writer: &BulkRequestWriter<'_>,
+    call: &BulkCall<'_>,
+    values: &[CValue<'_>],
     count: usize,
+    len: usize,
     out: &mut [u8],
     written: &mut usize,
     rows: &mut usize,
 ) -> u32
-    requires none_yet { (written.old ≡ 0) × (rows.old ≡ 0) }
-    ensures none { (taken : List (List Content)) → Holds writer.now taken → taken ≡ [] → (result ≡ 0) × spec.WritesNothing out.old out.new written.new rows.new }
-    ensures some { (taken : List (List Content)) → Holds writer.now taken → taken ≢ [] → spec.WritesBuilt (as_builder writer.now taken) count result out.old out.new written.new rows.new }
+    requires some { 1 ≤ count }
+    requires limit { call.now.max_allowed_packet < 2 ^ 64 }
+    requires counted { spec.HasRows (spec.builder_for call.now) (length call.now.columns.now) count len values.now }
+    requires none_yet { rows.old ≡ 0 }
+    ensures { spec.WritesBuilt (spec.waits (spec.builder_for call.now) (length call.now.columns.now) count values.now) count result out.old out.new written.new rows.new }
 {
-    let Some(request) = writer.request() else {
-        return OK;
+    let request = CountedRequest {
+        call,
+        values: &values[..count * call.columns.len()],
+        len,
     };
-    let code = put(request, out, written);
+    let code = put_packet(&request, out, written);
     if code == OK {
         *rows = count;
     }
@@ -176,11 +294,10 @@ fn put_request(
 /// Writes `COM_STMT_BULK_EXECUTE` with the first rows, as many as fit, and answers how many. The values stand row after row.
 ///
 /// 0; 5, and how many bytes the request takes, and no row; 3 where such a call may not be made, a type may not be declared, a
-/// value is none or its type does not spell it; 6 where the first row is larger than a request; or 4. A row that is refused
-/// after others were taken is the answer too, and nothing is written.
+/// value is none or its type does not spell it; or 6 where the first row is larger than a request. A row that is refused after
+/// others were counted is the answer too, and nothing is written.
 #[unsafe(no_mangle)]
 pub extern "C" fn myp_write_bulk(
-    alloc: Global,
     statement_id: u32,
     flags: u32,
     max_allowed_packet: usize,
@@ -191,35 +308,26 @@ pub extern "C" fn myp_write_bulk(
     rows: &mut usize,
 ) -> u32
     ensures input { spec.may_ask flags max_allowed_packet (length types.now) (length values.now) ≡ false → (result ≡ 3) × spec.WritesNothing out.old out.new written.new rows.new }
-    ensures types { is_some (spec.first_refused types.now) ≡ true → result ≢ 4 → (result ≡ 3) × spec.WritesNothing out.old out.new written.new rows.new }
-    ensures memory { result ≡ 4 → spec.WritesNothing out.old out.new written.new rows.new }
-    ensures none { spec.IsCall flags max_allowed_packet types.now values.now → values.now ≡ [] → result ≢ 4 → (result ≡ 0) × spec.WritesNothing out.old out.new written.new rows.new }
-    ensures value { spec.IsCall flags max_allowed_packet types.now values.now → values.now ≢ [] → result ≢ 4
+    ensures types { is_some (spec.first_refused types.now) ≡ true → (result ≡ 3) × spec.WritesNothing out.old out.new written.new rows.new }
+    ensures none { spec.IsCall flags max_allowed_packet types.now values.now → values.now ≡ [] → (result ≡ 0) × spec.WritesNothing out.old out.new written.new rows.new }
+    ensures value { spec.IsCall flags max_allowed_packet types.now values.now → values.now ≢ []
         → spec.Bulk (spec.builder_of statement_id flags max_allowed_packet types.now) (length types.now) values.now result out.old out.new written.new rows.new }
 {
     *written = 0;
     *rows = 0;
     let columns = types.len();
-    if !may_ask(flags, max_allowed_packet, columns, values.len()) {
+    if !may_ask(flags, max_allowed_packet, columns, values.len()) || refuses_types(types) {
         return INVALID_INPUT;
     }
-    let Ok(declared) = declared_types(alloc, types) else {
-        return NO_MEMORY;
+    let call = BulkCall {
+        statement_id,
+        flags,
+        max_allowed_packet,
+        columns: types,
     };
-    let Ok(mut list) = Vec::with_capacity(alloc, columns) else {
-        return NO_MEMORY;
-    };
-    let Ok(mut writer) = writer_of(alloc, statement_id, flags, max_allowed_packet, &declared) else {
-        return INVALID_INPUT;
-    };
-    match offer(
-        &mut writer,
-        &mut list,
-        values,
-        columns,
-        values.len() / columns,
-    ) {
-        Ok(count) => put_request(&writer, count, out, written, rows),
+    match counted(&call, values, values.len() / columns) {
+        Ok((0, _)) => OK,
+        Ok((count, len)) => put_request(&call, values, count, len, out, written, rows),
         Err(code) => code,
     }
 }
