@@ -70,6 +70,10 @@ typedef struct myp_bytes {
 
 uint32_t myp_version(void);
 
+/* Gives the text of a code, as myp_error_text does, to callers without this header. It ends in no zero. MYP_INVALID_INPUT of a number
+ * that is no code. */
+uint32_t myp_code_text(uint32_t code, myp_bytes *text);
+
 /* ---- packet headers and replies */
 
 /* Initializer: MYP_HEADER_INIT. */
@@ -127,6 +131,11 @@ typedef struct myp_column_count {
 /* Reads the count of columns, length-encoded, and under MYP_MARIADB_CLIENT_CACHE_METADATA a byte that says whether definitions
  * follow. MYP_UNEXPECTED_EOF; MYP_INVALID_DATA of a number that begins with fb or ff. */
 uint32_t myp_read_column_count(const uint8_t *packet, size_t len, uint32_t mariadb_capabilities, myp_column_count *out);
+
+/* The same of a session with MYP_CLIENT_OPTIONAL_RESULTSET_METADATA, under which a byte before the count says it too: definitions follow
+ * where no byte is 0. */
+uint32_t myp_read_column_count_with_metadata(const uint8_t *packet, size_t len, uint32_t capabilities, uint32_t mariadb_capabilities,
+                                             myp_column_count *out);
 
 /* ---- which packet comes next */
 
@@ -220,6 +229,22 @@ typedef struct myp_handshake {
 
 /* Reads Protocol::HandshakeV10. MYP_UNEXPECTED_EOF where a field is cut, or the version has no zero. */
 uint32_t myp_read_handshake(const uint8_t *packet, size_t len, myp_handshake *out);
+
+/* Initializer: MYP_SERVER_VERSION_INIT. */
+typedef struct myp_server_version {
+    uint16_t major;
+    uint16_t minor;
+    uint16_t patch;
+} myp_server_version;
+#define MYP_SERVER_VERSION_INIT { 0, 0, 0 }
+
+/* Reads the version that a server's version text begins with: two numbers of one or two digits and one of one to three, with dots
+ * between them. What follows is not looked at. MYP_INVALID_DATA where the text begins with none. */
+uint32_t myp_read_server_version(const uint8_t *text, size_t len, myp_server_version *out);
+
+/* Reads the version of MariaDB: such numbers with -MariaDB right after them, after the 5.5.5- that its servers put in front, or else
+ * where the text begins. MYP_INVALID_DATA where there is none, as of a server of MySQL. */
+uint32_t myp_read_mariadb_version(const uint8_t *text, size_t len, myp_server_version *out);
 
 /* Initializer: MYP_AUTH_SWITCH_INIT. */
 typedef struct myp_auth_switch {
@@ -368,8 +393,37 @@ typedef struct myp_column {
 #define MYP_COLUMN_INIT { MYP_BYTES_INIT, MYP_BYTES_INIT, MYP_BYTES_INIT, MYP_BYTES_INIT, MYP_BYTES_INIT, 0, 0, 0, 0, 0, 0 }
 
 /* Reads Protocol::ColumnDefinition41. MYP_UNEXPECTED_EOF; MYP_INVALID_DATA of another catalog than def, of a bad length, or of a
- * type that is none. Under MYP_MARIADB_CLIENT_EXTENDED_METADATA columns have another layout, which is MYP_INVALID_DATA. */
+ * type that is none. Under MYP_MARIADB_CLIENT_EXTENDED_METADATA columns have another layout, of myp_read_extended_column. */
 uint32_t myp_read_column(const uint8_t *packet, size_t len, myp_column *out);
+
+/* Initializer: MYP_EXTENDED_COLUMN_INIT. */
+typedef struct myp_extended_column {
+    myp_column column;    /* its used is the bytes of all */
+    myp_bytes metadata;   /* attributes: myp_next_column_attribute goes over them */
+    uint8_t has_metadata; /* 1 where they were sent, else 0 */
+} myp_extended_column;
+#define MYP_EXTENDED_COLUMN_INIT { MYP_COLUMN_INIT, MYP_BYTES_INIT, 0 }
+
+/* Reads a column by MariaDB's flags of both sides: as myp_read_column, and under MYP_MARIADB_CLIENT_EXTENDED_METADATA with the bytes of
+ * its metadata after the names. The attributes in them are not looked at. */
+uint32_t myp_read_extended_column(const uint8_t *packet, size_t len, uint32_t mariadb_capabilities, myp_extended_column *out);
+
+/* Other numbers may come. */
+enum myp_column_attribute_kind {
+    MYP_ATTRIBUTE_TYPE_NAME = 0,  /* the name of the type, as uuid, inet6 or point */
+    MYP_ATTRIBUTE_FORMAT_NAME = 1 /* the name of the format of its values, as json */
+};
+
+/* Initializer: MYP_COLUMN_ATTRIBUTE_INIT. */
+typedef struct myp_column_attribute {
+    myp_bytes text;
+    uint8_t kind; /* of enum myp_column_attribute_kind */
+} myp_column_attribute;
+#define MYP_COLUMN_ATTRIBUTE_INIT { MYP_BYTES_INIT, 0 }
+
+/* Takes the next attribute off the front of *rest, which begins as the metadata of a column. MYP_END where nothing is left;
+ * MYP_UNEXPECTED_EOF; MYP_INVALID_DATA of a bad length. */
+uint32_t myp_next_column_attribute(myp_bytes *rest, myp_column_attribute *out);
 
 /* ---- rows */
 
@@ -629,6 +683,25 @@ uint32_t myp_write_table_dump(const uint8_t *database, size_t database_len, cons
 uint32_t myp_write_semi_sync_ack(uint64_t position, const uint8_t *file_name, size_t file_name_len, uint8_t *out, size_t size,
                                  size_t *written);
 
+enum myp_stream_kind {
+    MYP_STREAM_EVENT = 0,
+    MYP_STREAM_END = 1,  /* an EOF_Packet: myp_read_ok of MYP_OK_STREAM_END reads it */
+    MYP_STREAM_ERROR = 2 /* an ERR_Packet: myp_read_error reads it */
+};
+
+/* A packet of the stream that a dump is answered with. Initializer: MYP_STREAM_PACKET_INIT. */
+typedef struct myp_stream_packet {
+    myp_bytes content; /* of an event its own bytes, with the checksum where the log has one; of an end and an error the whole packet */
+    uint8_t kind;      /* of enum myp_stream_kind */
+    uint8_t wants_ack; /* 1 where an acknowledgement of the event is asked for, else 0 */
+} myp_stream_packet;
+#define MYP_STREAM_PACKET_INIT { MYP_BYTES_INIT, 0, 0 }
+
+/* Reads a packet of the stream by its first byte: 00 an event, fe the end, ff an error. is_semi_sync is any number but 0 where
+ * semi-synchronous replication is agreed on: two bytes then stand before each event, ef and one whose lowest bit asks for an acknowledgement.
+ * MYP_UNEXPECTED_EOF of no byte, or where one of those is missing; MYP_INVALID_DATA of another byte for 00 or ef. */
+uint32_t myp_read_stream_packet(const uint8_t *packet, size_t len, uint8_t is_semi_sync, myp_stream_packet *out);
+
 /* Transactions of one server: from start on, before end. Initializer: MYP_INTERVAL_INIT. */
 typedef struct myp_interval {
     uint64_t start;
@@ -798,8 +871,20 @@ uint32_t myp_write_statement_with_metadata(const myp_statement_with_metadata *st
 uint32_t myp_write_column_count(const myp_column_count *columns, uint32_t mariadb_capabilities, uint8_t *out, size_t size,
                                 size_t *written);
 
+/* The same of a session with MYP_CLIENT_OPTIONAL_RESULTSET_METADATA, under which a byte before the count says it too. */
+uint32_t myp_write_column_count_with_metadata(const myp_column_count *columns, uint32_t capabilities, uint32_t mariadb_capabilities,
+                                              uint8_t *out, size_t size, size_t *written);
+
 /* Writes Protocol::ColumnDefinition41. MYP_INVALID_INPUT of a type that is none of enum myp_type. */
 uint32_t myp_write_column(const myp_column *column, uint8_t *out, size_t size, size_t *written);
+
+/* Writes a column, with its metadata where has_metadata is not 0: a client with MYP_MARIADB_CLIENT_EXTENDED_METADATA expects them,
+ * another expects none. MYP_INVALID_INPUT of a type that is none of enum myp_type. */
+uint32_t myp_write_extended_column(const myp_extended_column *column, uint8_t *out, size_t size, size_t *written);
+
+/* Writes an attribute of a column: its kind, and its text, length-encoded. The metadata of a column are such attributes, one after
+ * another. */
+uint32_t myp_write_column_attribute(const myp_column_attribute *attribute, uint8_t *out, size_t size, size_t *written);
 
 /* Writes ProtocolText::ResultsetRow of n values. MYP_INVALID_INPUT of a value that is neither bytes nor NULL. */
 uint32_t myp_write_text_row(const myp_value *values, size_t n, uint8_t *out, size_t size, size_t *written);
@@ -827,6 +912,13 @@ uint32_t myp_write_public_key(const uint8_t *rsa_key, size_t len, uint8_t *out, 
 
 /* Writes a LOCAL INFILE request: fb, and the file's name. */
 uint32_t myp_write_local_infile(const uint8_t *file_name, size_t len, uint8_t *out, size_t size, size_t *written);
+
+/* Writes a packet of the stream that a dump is answered with; is_semi_sync as of myp_read_stream_packet. MYP_INVALID_INPUT of a kind that
+ * is none, of an end that does not begin with fe, and of an error that does not begin with ff. */
+uint32_t myp_write_stream_packet(const myp_stream_packet *packet, uint8_t is_semi_sync, uint8_t *out, size_t size, size_t *written);
+
+/* ---- what a source of binary logs reads */
+
 /* Initializer: MYP_DUMP_INIT. */
 typedef struct myp_dump {
     myp_bytes file_name;
@@ -839,6 +931,28 @@ typedef struct myp_dump {
 /* Reads COM_BINLOG_DUMP: 11 bytes, and the file's name to the end. MYP_UNEXPECTED_EOF of fewer than 11 bytes;
  * MYP_INVALID_DATA of another first byte than MYP_COM_BINLOG_DUMP. */
 uint32_t myp_read_dump(const uint8_t *packet, size_t len, myp_dump *out);
+
+/* Initializer: MYP_TABLE_DUMP_INIT. */
+typedef struct myp_table_dump {
+    myp_bytes database;
+    myp_bytes table;
+    size_t used;
+} myp_table_dump;
+#define MYP_TABLE_DUMP_INIT { MYP_BYTES_INIT, MYP_BYTES_INIT, 0 }
+
+/* Reads COM_TABLE_DUMP. MYP_UNEXPECTED_EOF where a field is cut; MYP_INVALID_DATA of another first byte than MYP_COM_TABLE_DUMP. */
+uint32_t myp_read_table_dump(const uint8_t *packet, size_t len, myp_table_dump *out);
+
+/* Initializer: MYP_SEMI_SYNC_ACK_INIT. */
+typedef struct myp_semi_sync_ack {
+    myp_bytes file_name;
+    uint64_t position; /* after the event */
+} myp_semi_sync_ack;
+#define MYP_SEMI_SYNC_ACK_INIT { MYP_BYTES_INIT, 0 }
+
+/* Reads the acknowledgement of semi-synchronous replication: ef, the position in eight bytes, and the log's name to the end.
+ * MYP_UNEXPECTED_EOF of fewer than 9 bytes; MYP_INVALID_DATA of another first byte. */
+uint32_t myp_read_semi_sync_ack(const uint8_t *packet, size_t len, myp_semi_sync_ack *out);
 
 /* Reads COM_REGISTER_SLAVE. MYP_UNEXPECTED_EOF where a field is cut; MYP_INVALID_DATA of another first byte than MYP_COM_REGISTER_SLAVE. */
 uint32_t myp_read_register_replica(const uint8_t *packet, size_t len, myp_replica *out);

@@ -124,6 +124,15 @@ static void dumps(void)
     myp_dump d = MYP_DUMP_INIT;
     CHECK(myp_read_dump(p, len, &d) == MYP_OK && d.position == 4 && d.flags == MYP_DUMP_NON_BLOCK && d.server_id == 7 && IS(d.file_name, "mbin.000001") && d.file_name.data == p + 11);
     CHECK(myp_read_dump(p, 10, &d) == MYP_UNEXPECTED_EOF && myp_read_dump(p + 1, len - 1, &d) == MYP_INVALID_DATA && d.position == 4);
+    len = hex(p, "130264620174"); /* commands.txt: a request for a table */
+    myp_table_dump t = MYP_TABLE_DUMP_INIT;
+    CHECK(myp_read_table_dump(p, len, &t) == MYP_OK && IS(t.database, "db") && IS(t.table, "t") && t.table.data == p + 5 && t.used == len);
+    CHECK(myp_read_table_dump(p, len - 1, &t) == MYP_UNEXPECTED_EOF && myp_read_table_dump(p + 1, len - 1, &t) == MYP_INVALID_DATA && t.used == len);
+    len = hex(p, "ef96650000000000006d62696e2e303030303031"); /* commands.txt: captured acknowledgement */
+    myp_semi_sync_ack a = MYP_SEMI_SYNC_ACK_INIT;
+    CHECK(myp_read_semi_sync_ack(p, len, &a) == MYP_OK && a.position == 0x6596 && IS(a.file_name, "mbin.000001") && a.file_name.data == p + 9);
+    CHECK(myp_read_semi_sync_ack(p, 8, &a) == MYP_UNEXPECTED_EOF && myp_read_semi_sync_ack(p + 1, len - 1, &a) == MYP_INVALID_DATA && a.position == 0x6596);
+    CHECK(myp_read_semi_sync_ack(p, 9, &a) == MYP_OK && a.file_name.len == 0);
     len = hex(p, "154d000000107665632d686f73742e6578616d706c6500009f0f0000000000000000"); /* replication.txt: captured registration */
     myp_replica r = MYP_REPLICA_INIT;
     CHECK(myp_read_register_replica(p, len, &r) == MYP_OK && r.server_id == 77 && IS(r.hostname, "vec-host.example") && r.user.len == 0 && r.password.len == 0 && r.port == 3999 && r.replication_rank == 0 && r.master_id == 0 && r.used == len);
@@ -152,6 +161,33 @@ static void dumps(void)
     CHECK(myp_read_gtid_dump(p, len, &g) == MYP_OK && IS(g.file_name, "b.1") && g.n_sids == 0 && g.sids.len == 0 && g.is_tagged == 0 && g.position == 4294967301u);
 }
 
+/* stream.txt: captured packets of a semi-synchronous stream, and the ends of one */
+static void streams(void)
+{
+    uint8_t p[64], out[64];
+    size_t len = hex(p, "00ef01784f096b10010000001f0000005d0200000000a606000000000000cabeb63b"), n = 7;
+    myp_stream_packet s = MYP_STREAM_PACKET_INIT;
+    CHECK(myp_read_stream_packet(p, len, 1, &s) == MYP_OK && s.kind == MYP_STREAM_EVENT && s.wants_ack == 1 && s.content.data == p + 3 && s.content.len == len - 3);
+    CHECK(myp_write_stream_packet(&s, 1, out, len, &n) == MYP_OK && n == len && !memcmp(out, p, len) && myp_write_stream_packet(&s, 1, out, len - 1, &n) == MYP_BUFFER_TOO_SMALL && n == len);
+    s.wants_ack = 0;
+    CHECK(myp_write_stream_packet(&s, 7, out, sizeof out, &n) == MYP_OK && n == len && out[2] == 0 && myp_write_stream_packet(&s, 0, out, sizeof out, &n) == MYP_OK && n == len - 2 && out[0] == 0 && out[1] == 0x78);
+    CHECK(myp_read_stream_packet(p, len, 0, &s) == MYP_OK && s.wants_ack == 0 && s.content.data == p + 1 && s.content.len == len - 1);
+    p[2] = 0xfe; /* the lowest of the flags asks */
+    CHECK(myp_read_stream_packet(p, len, 1, &s) == MYP_OK && s.wants_ack == 0 && s.content.len == len - 3);
+    CHECK(myp_read_stream_packet(p, 2, 1, &s) == MYP_UNEXPECTED_EOF && myp_read_stream_packet(NULL, 0, 0, &s) == MYP_UNEXPECTED_EOF && s.content.len == len - 3);
+    p[1] = 0xee;
+    CHECK(myp_read_stream_packet(p, len, 1, &s) == MYP_INVALID_DATA && myp_read_stream_packet(p + 1, len, 0, &s) == MYP_INVALID_DATA && s.content.len == len - 3);
+    len = hex(p, "fe00002200");
+    CHECK(myp_read_stream_packet(p, len, 1, &s) == MYP_OK && s.kind == MYP_STREAM_END && s.wants_ack == 0 && s.content.data == p && s.content.len == len);
+    CHECK(myp_write_stream_packet(&s, 1, out, sizeof out, &n) == MYP_OK && n == len && !memcmp(out, p, len));
+    s.kind = MYP_STREAM_ERROR; /* no error begins with fe */
+    CHECK(myp_write_stream_packet(&s, 1, out, sizeof out, &n) == MYP_INVALID_INPUT && n == 0 && out[0] == 0xfe);
+    len = hex(p, "ffd404234859303030");
+    CHECK(myp_read_stream_packet(p, len, 0, &s) == MYP_OK && s.kind == MYP_STREAM_ERROR && s.content.data == p && s.content.len == len && myp_write_stream_packet(&s, 0, out, sizeof out, &n) == MYP_OK && n == len && !memcmp(out, p, len));
+    s.kind = 3;
+    CHECK(myp_write_stream_packet(&s, 0, out, sizeof out, &n) == MYP_INVALID_INPUT && n == 0);
+}
+
 static void changes(void)
 {
     uint8_t p[100];
@@ -174,5 +210,6 @@ void replica_checks(void)
     served();
     executions();
     dumps();
+    streams();
     changes();
 }

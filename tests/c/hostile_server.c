@@ -58,6 +58,14 @@ static void read_replica(const uint8_t *p, size_t len)
     memset(&d, 7, sizeof d), d.file_name = nothing;
     CALL(d, myp_read_dump(p, len, &d));
     place("file", d.file_name);
+    myp_table_dump t;
+    memset(&t, 7, sizeof t), t.database = t.table = nothing;
+    CALL(t, myp_read_table_dump(p, len, &t));
+    place("database", t.database), place("table", t.table);
+    myp_semi_sync_ack a;
+    memset(&a, 7, sizeof a), a.file_name = nothing;
+    CALL(a, myp_read_semi_sync_ack(p, len, &a));
+    place("file", a.file_name);
     myp_replica r;
     memset(&r, 7, sizeof r), r.hostname = r.user = r.password = nothing;
     CALL(r, myp_read_register_replica(p, len, &r));

@@ -14,3 +14,5 @@ pub mod HandshakeFit
 pub mod RefusedRow
 pub mod WrittenRows
 pub mod Logins
+pub mod AttributeKinds
+pub mod Versions
