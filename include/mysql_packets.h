@@ -535,6 +535,42 @@ uint32_t myp_read_binary_row(const uint8_t *packet, size_t len, const myp_column
 
 /* ---- what a client says */
 
+/* A command, by its first byte. Which fields one has; the others are empty or 0 where it is read, and not looked at where it is written:
+ *
+ *   MYP_COM_QUERY, MYP_COM_STMT_PREPARE                    text: the query, without its attributes
+ *   MYP_COM_INIT_DB, MYP_COM_CREATE_DB, MYP_COM_DROP_DB    text: the schema
+ *   MYP_COM_FIELD_LIST                                     text: the table; wildcard
+ *   MYP_COM_REFRESH, MYP_COM_SHUTDOWN                      number: a byte, which is read as 0 where a shutdown has none
+ *   MYP_COM_SET_OPTION                                     number: the option's, of two bytes
+ *   MYP_COM_PROCESS_KILL                                   number: the session's
+ *   MYP_COM_STMT_RESET, MYP_COM_STMT_CLOSE                 number: the statement's
+ *   MYP_COM_STMT_FETCH                                     number: the statement's; rows
+ *   MYP_COM_QUIT, MYP_COM_STATISTICS, MYP_COM_PROCESS_INFO, MYP_COM_DEBUG, MYP_COM_PING, MYP_COM_RESET_CONNECTION    none
+ *   MYP_COM_CHANGE_USER, MYP_COM_STMT_EXECUTE, MYP_COM_STMT_SEND_LONG_DATA, MYP_COM_STMT_BULK_EXECUTE, MYP_COM_REGISTER_SLAVE and the
+ *   three dumps                                            none: they have their own calls
+ *   any other byte                                         text: all that follows
+ *
+ * Initializer: MYP_COMMAND_INIT. */
+typedef struct myp_command {
+    myp_bytes text;
+    myp_bytes wildcard; /* which columns, as LIKE has it */
+    size_t used;        /* of a command with an end of its own bytes may follow; what is written does not look at it */
+    uint32_t number;
+    uint32_t rows;
+    uint8_t code;       /* of enum myp_command_code, or any other byte */
+} myp_command;
+#define MYP_COMMAND_INIT { MYP_BYTES_INIT, MYP_BYTES_INIT, 0, 0, 0, 0 }
+
+/* Writes a command of a byte and a text, of a byte and numbers, or of its byte alone; a query is one of a session without
+ * MYP_CLIENT_QUERY_ATTRIBUTES (else myp_write_query). Of a table's name what stands before its first zero. MYP_INVALID_INPUT of a command that has its own calls, but
+ * for MYP_COM_STMT_CLOSE, of another byte, and of a number that does not fit, and *written is 0; MYP_BUFFER_TOO_SMALL; MYP_NO_MEMORY of texts
+ * that no memory holds together, and *written is 0. */
+uint32_t myp_write_command(const myp_command *command, uint8_t *out, size_t size, size_t *written);
+
+/* Writes COM_QUERY without attributes, by what both sides can do: under MYP_CLIENT_QUERY_ATTRIBUTES two bytes say that there are none.
+ * MYP_BUFFER_TOO_SMALL. */
+uint32_t myp_write_query(const uint8_t *text, size_t len, uint32_t capabilities, uint8_t *out, size_t size, size_t *written);
+
 /* Writes COM_STMT_CLOSE, of 5 bytes. MYP_BUFFER_TOO_SMALL. */
 uint32_t myp_write_close(uint32_t statement_id, uint8_t *out, size_t size, size_t *written);
 
@@ -725,11 +761,22 @@ typedef struct myp_sid {
  * 0; MYP_BUFFER_TOO_SMALL where there are fewer places than *count, and nothing else is changed. */
 uint32_t myp_sid_from_text(const uint8_t *text, size_t len, myp_sid *out, myp_interval *intervals, size_t n, size_t *count);
 
+/* Writes the text of a GTID set, as servers show one in @@gtid_executed: each sid's text after a comma and a newline but for the first,
+ * and of one with a tag after one of the same uuid the tag and the intervals alone. The text of one sid is its own. It ends in no zero.
+ * MYP_INVALID_INPUT of a tag that is none, and *written is 0; MYP_BUFFER_TOO_SMALL; MYP_NO_MEMORY, which the text takes, and *written is 0. */
+uint32_t myp_sids_to_text(const myp_sid *sids, size_t n, uint8_t *out, size_t size, size_t *written);
+
 /* Writes COM_BINLOG_DUMP_GTID: the replica has the transactions of these sids. MYP_DUMP_THROUGH_GTID is written where there is
  * a sid, and else not, whatever flags has. MYP_INVALID_INPUT of a tag that is none, and *written is 0; MYP_BUFFER_TOO_SMALL;
  * MYP_NO_MEMORY of names and intervals that no memory holds together, and *written is 0. */
 uint32_t myp_write_gtid_dump(uint32_t server_id, uint16_t flags, const uint8_t *file_name, size_t file_name_len,
                              uint64_t position, const myp_sid *sids, size_t n, uint8_t *out, size_t size, size_t *written);
+
+/* Writes COM_BINLOG_DUMP_GTID with the sids of the text of a GTID set, as @@gtid_executed has it; its flags as myp_write_gtid_dump. The sids of
+ * the text are then those of the request, which myp_read_gtid_dump reads. MYP_INVALID_DATA of another text, and *written is 0;
+ * MYP_BUFFER_TOO_SMALL; MYP_NO_MEMORY, which the sids take, and *written is 0. */
+uint32_t myp_gtid_dump_from_text(uint32_t server_id, uint16_t flags, const uint8_t *file_name, size_t file_name_len, uint64_t position,
+                                 const uint8_t *text, size_t text_len, uint8_t *out, size_t size, size_t *written);
 
 /* ---- what a server reads */
 
@@ -764,8 +811,8 @@ uint32_t myp_read_login_request(const uint8_t *packet, size_t len, myp_login_req
  * last value counts. MYP_END where no byte is left; MYP_UNEXPECTED_EOF; MYP_INVALID_DATA of a bad length. */
 uint32_t myp_next_attribute(myp_bytes *rest, myp_bytes *name, myp_bytes *value);
 
-/* Initializer: MYP_USER_CHANGE_INIT. What was not sent is empty or 0. */
-typedef struct myp_user_change {
+/* Initializer: MYP_CHANGE_USER_REQUEST_INIT. What was not sent is empty or 0. */
+typedef struct myp_change_user_request {
     myp_bytes user;
     myp_bytes auth_response;
     myp_bytes database;
@@ -776,8 +823,8 @@ typedef struct myp_user_change {
     uint8_t has_character_set;    /* 1 where it was sent, else 0; so the next two, which are not sent without it */
     uint8_t has_auth_plugin_name;
     uint8_t has_attributes;
-} myp_user_change;
-#define MYP_USER_CHANGE_INIT { MYP_BYTES_INIT, MYP_BYTES_INIT, MYP_BYTES_INIT, MYP_BYTES_INIT, MYP_BYTES_INIT, 0, 0, 0, 0, 0 }
+} myp_change_user_request;
+#define MYP_CHANGE_USER_REQUEST_INIT { MYP_BYTES_INIT, MYP_BYTES_INIT, MYP_BYTES_INIT, MYP_BYTES_INIT, MYP_BYTES_INIT, 0, 0, 0, 0, 0 }
 
 /* Reads the request for the server's RSA key of caching_sha2_password, the byte 02. MYP_INVALID_DATA of another byte;
  * MYP_UNEXPECTED_EOF of no byte. */
@@ -786,7 +833,12 @@ uint32_t myp_read_public_key_request(const uint8_t *packet, size_t len, size_t *
 /* Reads COM_CHANGE_USER, by what both sides can do: the plugin under MYP_CLIENT_PLUGIN_AUTH, the attributes under
  * MYP_CLIENT_CONNECT_ATTRS. MYP_UNEXPECTED_EOF where a field is cut; MYP_INVALID_DATA of another first byte than
  * MYP_COM_CHANGE_USER, or of a bad length. */
-uint32_t myp_read_change_user(const uint8_t *packet, size_t len, uint32_t capabilities, myp_user_change *out);
+uint32_t myp_read_change_user_request(const uint8_t *packet, size_t len, uint32_t capabilities, myp_change_user_request *out);
+
+/* Reads a command by what both sides can do: attributes of a query under MYP_CLIENT_QUERY_ATTRIBUTES. Each is read whole, those that have their
+ * own calls too, but for what stands after the head of an execution. MYP_UNEXPECTED_EOF of no byte, or where a field is cut;
+ * MYP_INVALID_DATA of a bad length. */
+uint32_t myp_read_command(const uint8_t *packet, size_t len, uint32_t capabilities, myp_command *out);
 
 /* Reads COM_STMT_CLOSE, of 5 bytes. MYP_UNEXPECTED_EOF of fewer; MYP_INVALID_DATA of another first byte than MYP_COM_STMT_CLOSE. */
 uint32_t myp_read_close(const uint8_t *packet, size_t len, uint32_t *statement_id);
@@ -974,6 +1026,10 @@ typedef struct myp_gtid_dump {
  * MYP_UNEXPECTED_EOF where a field or a sid is cut; MYP_INVALID_DATA of another first byte than MYP_COM_BINLOG_DUMP_GTID, or of a bad tag. */
 uint32_t myp_read_gtid_dump(const uint8_t *packet, size_t len, myp_gtid_dump *out);
 
+/* Writes the text of the GTID set of a COM_BINLOG_DUMP_GTID, as myp_sids_to_text does. The codes of myp_read_gtid_dump, and *written is 0;
+ * MYP_BUFFER_TOO_SMALL; MYP_NO_MEMORY, which the text takes, and *written is 0. */
+uint32_t myp_gtid_dump_to_text(const uint8_t *packet, size_t len, uint8_t *out, size_t size, size_t *written);
+
 /* A sid of a packet. Initializer: MYP_SID_PLACES_INIT. */
 typedef struct myp_sid_places {
     myp_bytes tag;       /* none without a tag */
@@ -1010,10 +1066,8 @@ enum myp_column_flag {
     MYP_PART_KEY_FLAG = 16384, MYP_NUM_FLAG = 32768
 };
 
-/* A command without a call of its own is its byte and a text to the end (MYP_COM_QUERY, MYP_COM_STMT_PREPARE, MYP_COM_INIT_DB), the
- * statement's number of four bytes (MYP_COM_STMT_RESET), or its byte alone (MYP_COM_QUIT, MYP_COM_PING). Sequence numbers begin at 0 with
- * each. MYP_COM_STMT_CLOSE and MYP_COM_STMT_SEND_LONG_DATA are not answered. */
-enum myp_command {
+/* Sequence numbers begin at 0 with each command. MYP_COM_STMT_CLOSE and MYP_COM_STMT_SEND_LONG_DATA are not answered. */
+enum myp_command_code {
     MYP_COM_QUIT = 1, MYP_COM_INIT_DB = 2, MYP_COM_QUERY = 3, MYP_COM_FIELD_LIST = 4, MYP_COM_CREATE_DB = 5,
     MYP_COM_DROP_DB = 6, MYP_COM_REFRESH = 7, MYP_COM_SHUTDOWN = 8, MYP_COM_STATISTICS = 9, MYP_COM_PROCESS_INFO = 10,
     MYP_COM_PROCESS_KILL = 12, MYP_COM_DEBUG = 13, MYP_COM_PING = 14, MYP_COM_CHANGE_USER = 17, MYP_COM_BINLOG_DUMP = 18,

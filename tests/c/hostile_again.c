@@ -115,6 +115,15 @@ static void write_rows(const uint8_t *p, size_t len)
         must("binary row, written", !myp_write_binary_row(kinds, columns, v, columns, sent, sizeof sent, &n) && !myp_read_binary_row(sent, n, kinds, columns, w, 8, &used) && same_values(v, w, columns) && used == n);
 }
 
+static void write_commands(const uint8_t *p, size_t len)
+{
+    size_t n = 0;
+    myp_command c = MYP_COMMAND_INIT, d = MYP_COMMAND_INIT;
+    if (!myp_read_command(p, len, 0, &c) && !myp_write_command(&c, sent, sizeof sent, &n))
+        must("command, written", !myp_read_command(sent, n, 0, &d) && d.code == c.code && SAME(d.text, c.text) && SAME(d.wildcard, c.wildcard) && d.number == c.number
+            && d.rows == c.rows && d.used == n);
+}
+
 static void write_replication(const uint8_t *p, size_t len)
 {
     size_t n = 0;
@@ -136,6 +145,7 @@ static void write_replication(const uint8_t *p, size_t len)
 void read_again(const uint8_t *p, size_t len, uint32_t capabilities)
 {
     write_replication(p, len);
+    write_commands(p, len);
     write_replies(p, len, capabilities);
     write_columns(p, len, capabilities);
     write_extended(p, len, capabilities);

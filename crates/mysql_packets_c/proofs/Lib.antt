@@ -16,3 +16,4 @@ pub mod WrittenRows
 pub mod Logins
 pub mod AttributeKinds
 pub mod Versions
+pub mod GtidTexts

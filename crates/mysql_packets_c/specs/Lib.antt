@@ -10,6 +10,7 @@ pub mod Column
 pub mod ColumnAttribute
 pub mod ColumnCount
 pub mod ColumnType
+pub mod Command
 pub mod Conversation
 pub mod Dump
 pub mod ErrPacket
@@ -17,6 +18,7 @@ pub mod Execution
 pub mod ExtendedColumn
 pub mod Given
 pub mod GtidDump
+pub mod GtidText
 pub mod Handshake
 pub mod Header
 pub mod Input
@@ -27,6 +29,7 @@ pub mod OkPacket
 pub mod Output
 pub mod Parsec
 pub mod PublicKey
+pub mod Query
 pub mod RegisterReplica
 pub mod Reply
 pub mod Rows

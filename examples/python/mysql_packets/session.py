@@ -127,7 +127,8 @@ class Session:
     # ---- commands
 
     def write_query(self, sql: str) -> bytes:
-        return bytes([self.library.MYP_COM_QUERY]) + sql.encode()
+        text = sql.encode()
+        return self.library.write("myp_write_query", text, self.capabilities, size=len(text) + 3)
 
     def write_prepare(self, sql: str) -> bytes:
         return bytes([self.library.MYP_COM_STMT_PREPARE]) + sql.encode()
