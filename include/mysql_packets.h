@@ -70,6 +70,10 @@ typedef struct myp_bytes {
 
 uint32_t myp_version(void);
 
+/* Gives the text of a code, as myp_error_text does, to callers without this header. It ends in no zero. MYP_INVALID_INPUT of a number
+ * that is no code. */
+uint32_t myp_code_text(uint32_t code, myp_bytes *text);
+
 /* ---- packet headers and replies */
 
 /* Initializer: MYP_HEADER_INIT. */
@@ -127,6 +131,11 @@ typedef struct myp_column_count {
 /* Reads the count of columns, length-encoded, and under MYP_MARIADB_CLIENT_CACHE_METADATA a byte that says whether definitions
  * follow. MYP_UNEXPECTED_EOF; MYP_INVALID_DATA of a number that begins with fb or ff. */
 uint32_t myp_read_column_count(const uint8_t *packet, size_t len, uint32_t mariadb_capabilities, myp_column_count *out);
+
+/* The same of a session with MYP_CLIENT_OPTIONAL_RESULTSET_METADATA, under which a byte before the count says it too: definitions follow
+ * where no byte is 0. */
+uint32_t myp_read_column_count_with_metadata(const uint8_t *packet, size_t len, uint32_t capabilities, uint32_t mariadb_capabilities,
+                                             myp_column_count *out);
 
 /* ---- which packet comes next */
 
@@ -220,6 +229,22 @@ typedef struct myp_handshake {
 
 /* Reads Protocol::HandshakeV10. MYP_UNEXPECTED_EOF where a field is cut, or the version has no zero. */
 uint32_t myp_read_handshake(const uint8_t *packet, size_t len, myp_handshake *out);
+
+/* Initializer: MYP_SERVER_VERSION_INIT. */
+typedef struct myp_server_version {
+    uint16_t major;
+    uint16_t minor;
+    uint16_t patch;
+} myp_server_version;
+#define MYP_SERVER_VERSION_INIT { 0, 0, 0 }
+
+/* Reads the version that a server's version text begins with: two numbers of one or two digits and one of one to three, with dots
+ * between them. What follows is not looked at. MYP_INVALID_DATA where the text begins with none. */
+uint32_t myp_read_server_version(const uint8_t *text, size_t len, myp_server_version *out);
+
+/* Reads the version of MariaDB: such numbers with -MariaDB right after them, after the 5.5.5- that its servers put in front, or else
+ * where the text begins. MYP_INVALID_DATA where there is none, as of a server of MySQL. */
+uint32_t myp_read_mariadb_version(const uint8_t *text, size_t len, myp_server_version *out);
 
 /* Initializer: MYP_AUTH_SWITCH_INIT. */
 typedef struct myp_auth_switch {
@@ -368,8 +393,37 @@ typedef struct myp_column {
 #define MYP_COLUMN_INIT { MYP_BYTES_INIT, MYP_BYTES_INIT, MYP_BYTES_INIT, MYP_BYTES_INIT, MYP_BYTES_INIT, 0, 0, 0, 0, 0, 0 }
 
 /* Reads Protocol::ColumnDefinition41. MYP_UNEXPECTED_EOF; MYP_INVALID_DATA of another catalog than def, of a bad length, or of a
- * type that is none. Under MYP_MARIADB_CLIENT_EXTENDED_METADATA columns have another layout, which is MYP_INVALID_DATA. */
+ * type that is none. Under MYP_MARIADB_CLIENT_EXTENDED_METADATA columns have another layout, of myp_read_extended_column. */
 uint32_t myp_read_column(const uint8_t *packet, size_t len, myp_column *out);
+
+/* Initializer: MYP_EXTENDED_COLUMN_INIT. */
+typedef struct myp_extended_column {
+    myp_column column;    /* its used is the bytes of all */
+    myp_bytes metadata;   /* attributes: myp_next_column_attribute goes over them */
+    uint8_t has_metadata; /* 1 where they were sent, else 0 */
+} myp_extended_column;
+#define MYP_EXTENDED_COLUMN_INIT { MYP_COLUMN_INIT, MYP_BYTES_INIT, 0 }
+
+/* Reads a column by MariaDB's flags of both sides: as myp_read_column, and under MYP_MARIADB_CLIENT_EXTENDED_METADATA with the bytes of
+ * its metadata after the names. The attributes in them are not looked at. */
+uint32_t myp_read_extended_column(const uint8_t *packet, size_t len, uint32_t mariadb_capabilities, myp_extended_column *out);
+
+/* Other numbers may come. */
+enum myp_column_attribute_kind {
+    MYP_ATTRIBUTE_TYPE_NAME = 0,  /* the name of the type, as uuid, inet6 or point */
+    MYP_ATTRIBUTE_FORMAT_NAME = 1 /* the name of the format of its values, as json */
+};
+
+/* Initializer: MYP_COLUMN_ATTRIBUTE_INIT. */
+typedef struct myp_column_attribute {
+    myp_bytes text;
+    uint8_t kind; /* of enum myp_column_attribute_kind */
+} myp_column_attribute;
+#define MYP_COLUMN_ATTRIBUTE_INIT { MYP_BYTES_INIT, 0 }
+
+/* Takes the next attribute off the front of *rest, which begins as the metadata of a column. MYP_END where nothing is left;
+ * MYP_UNEXPECTED_EOF; MYP_INVALID_DATA of a bad length. */
+uint32_t myp_next_column_attribute(myp_bytes *rest, myp_column_attribute *out);
 
 /* ---- rows */
 
@@ -480,6 +534,42 @@ uint32_t myp_read_binary_row(const uint8_t *packet, size_t len, const myp_column
                              myp_value *values, size_t n, size_t *used);
 
 /* ---- what a client says */
+
+/* A command, by its first byte. Which fields one has; the others are empty or 0 where it is read, and not looked at where it is written:
+ *
+ *   MYP_COM_QUERY, MYP_COM_STMT_PREPARE                    text: the query, without its attributes
+ *   MYP_COM_INIT_DB, MYP_COM_CREATE_DB, MYP_COM_DROP_DB    text: the schema
+ *   MYP_COM_FIELD_LIST                                     text: the table; wildcard
+ *   MYP_COM_REFRESH, MYP_COM_SHUTDOWN                      number: a byte, which is read as 0 where a shutdown has none
+ *   MYP_COM_SET_OPTION                                     number: the option's, of two bytes
+ *   MYP_COM_PROCESS_KILL                                   number: the session's
+ *   MYP_COM_STMT_RESET, MYP_COM_STMT_CLOSE                 number: the statement's
+ *   MYP_COM_STMT_FETCH                                     number: the statement's; rows
+ *   MYP_COM_QUIT, MYP_COM_STATISTICS, MYP_COM_PROCESS_INFO, MYP_COM_DEBUG, MYP_COM_PING, MYP_COM_RESET_CONNECTION    none
+ *   MYP_COM_CHANGE_USER, MYP_COM_STMT_EXECUTE, MYP_COM_STMT_SEND_LONG_DATA, MYP_COM_STMT_BULK_EXECUTE, MYP_COM_REGISTER_SLAVE and the
+ *   three dumps                                            none: they have their own calls
+ *   any other byte                                         text: all that follows
+ *
+ * Initializer: MYP_COMMAND_INIT. */
+typedef struct myp_command {
+    myp_bytes text;
+    myp_bytes wildcard; /* which columns, as LIKE has it */
+    size_t used;        /* of a command with an end of its own bytes may follow; what is written does not look at it */
+    uint32_t number;
+    uint32_t rows;
+    uint8_t code;       /* of enum myp_command_code, or any other byte */
+} myp_command;
+#define MYP_COMMAND_INIT { MYP_BYTES_INIT, MYP_BYTES_INIT, 0, 0, 0, 0 }
+
+/* Writes a command of a byte and a text, of a byte and numbers, or of its byte alone; a query is one of a session without
+ * MYP_CLIENT_QUERY_ATTRIBUTES (else myp_write_query). Of a table's name what stands before its first zero. MYP_INVALID_INPUT of a command that has its own calls, but
+ * for MYP_COM_STMT_CLOSE, of another byte, and of a number that does not fit, and *written is 0; MYP_BUFFER_TOO_SMALL; MYP_NO_MEMORY of texts
+ * that no memory holds together, and *written is 0. */
+uint32_t myp_write_command(const myp_command *command, uint8_t *out, size_t size, size_t *written);
+
+/* Writes COM_QUERY without attributes, by what both sides can do: under MYP_CLIENT_QUERY_ATTRIBUTES two bytes say that there are none.
+ * MYP_BUFFER_TOO_SMALL. */
+uint32_t myp_write_query(const uint8_t *text, size_t len, uint32_t capabilities, uint8_t *out, size_t size, size_t *written);
 
 /* Writes COM_STMT_CLOSE, of 5 bytes. MYP_BUFFER_TOO_SMALL. */
 uint32_t myp_write_close(uint32_t statement_id, uint8_t *out, size_t size, size_t *written);
@@ -629,6 +719,25 @@ uint32_t myp_write_table_dump(const uint8_t *database, size_t database_len, cons
 uint32_t myp_write_semi_sync_ack(uint64_t position, const uint8_t *file_name, size_t file_name_len, uint8_t *out, size_t size,
                                  size_t *written);
 
+enum myp_stream_kind {
+    MYP_STREAM_EVENT = 0,
+    MYP_STREAM_END = 1,  /* an EOF_Packet: myp_read_ok of MYP_OK_STREAM_END reads it */
+    MYP_STREAM_ERROR = 2 /* an ERR_Packet: myp_read_error reads it */
+};
+
+/* A packet of the stream that a dump is answered with. Initializer: MYP_STREAM_PACKET_INIT. */
+typedef struct myp_stream_packet {
+    myp_bytes content; /* of an event its own bytes, with the checksum where the log has one; of an end and an error the whole packet */
+    uint8_t kind;      /* of enum myp_stream_kind */
+    uint8_t wants_ack; /* 1 where an acknowledgement of the event is asked for, else 0 */
+} myp_stream_packet;
+#define MYP_STREAM_PACKET_INIT { MYP_BYTES_INIT, 0, 0 }
+
+/* Reads a packet of the stream by its first byte: 00 an event, fe the end, ff an error. is_semi_sync is any number but 0 where
+ * semi-synchronous replication is agreed on: two bytes then stand before each event, ef and one whose lowest bit asks for an acknowledgement.
+ * MYP_UNEXPECTED_EOF of no byte, or where one of those is missing; MYP_INVALID_DATA of another byte for 00 or ef. */
+uint32_t myp_read_stream_packet(const uint8_t *packet, size_t len, uint8_t is_semi_sync, myp_stream_packet *out);
+
 /* Transactions of one server: from start on, before end. Initializer: MYP_INTERVAL_INIT. */
 typedef struct myp_interval {
     uint64_t start;
@@ -652,11 +761,22 @@ typedef struct myp_sid {
  * 0; MYP_BUFFER_TOO_SMALL where there are fewer places than *count, and nothing else is changed. */
 uint32_t myp_sid_from_text(const uint8_t *text, size_t len, myp_sid *out, myp_interval *intervals, size_t n, size_t *count);
 
+/* Writes the text of a GTID set, as servers show one in @@gtid_executed: each sid's text after a comma and a newline but for the first,
+ * and of one with a tag after one of the same uuid the tag and the intervals alone. The text of one sid is its own. It ends in no zero.
+ * MYP_INVALID_INPUT of a tag that is none, and *written is 0; MYP_BUFFER_TOO_SMALL; MYP_NO_MEMORY, which the text takes, and *written is 0. */
+uint32_t myp_sids_to_text(const myp_sid *sids, size_t n, uint8_t *out, size_t size, size_t *written);
+
 /* Writes COM_BINLOG_DUMP_GTID: the replica has the transactions of these sids. MYP_DUMP_THROUGH_GTID is written where there is
  * a sid, and else not, whatever flags has. MYP_INVALID_INPUT of a tag that is none, and *written is 0; MYP_BUFFER_TOO_SMALL;
  * MYP_NO_MEMORY of names and intervals that no memory holds together, and *written is 0. */
 uint32_t myp_write_gtid_dump(uint32_t server_id, uint16_t flags, const uint8_t *file_name, size_t file_name_len,
                              uint64_t position, const myp_sid *sids, size_t n, uint8_t *out, size_t size, size_t *written);
+
+/* Writes COM_BINLOG_DUMP_GTID with the sids of the text of a GTID set, as @@gtid_executed has it; its flags as myp_write_gtid_dump. The sids of
+ * the text are then those of the request, which myp_read_gtid_dump reads. MYP_INVALID_DATA of another text, and *written is 0;
+ * MYP_BUFFER_TOO_SMALL; MYP_NO_MEMORY, which the sids take, and *written is 0. */
+uint32_t myp_gtid_dump_from_text(uint32_t server_id, uint16_t flags, const uint8_t *file_name, size_t file_name_len, uint64_t position,
+                                 const uint8_t *text, size_t text_len, uint8_t *out, size_t size, size_t *written);
 
 /* ---- what a server reads */
 
@@ -691,8 +811,8 @@ uint32_t myp_read_login_request(const uint8_t *packet, size_t len, myp_login_req
  * last value counts. MYP_END where no byte is left; MYP_UNEXPECTED_EOF; MYP_INVALID_DATA of a bad length. */
 uint32_t myp_next_attribute(myp_bytes *rest, myp_bytes *name, myp_bytes *value);
 
-/* Initializer: MYP_USER_CHANGE_INIT. What was not sent is empty or 0. */
-typedef struct myp_user_change {
+/* Initializer: MYP_CHANGE_USER_REQUEST_INIT. What was not sent is empty or 0. */
+typedef struct myp_change_user_request {
     myp_bytes user;
     myp_bytes auth_response;
     myp_bytes database;
@@ -703,8 +823,8 @@ typedef struct myp_user_change {
     uint8_t has_character_set;    /* 1 where it was sent, else 0; so the next two, which are not sent without it */
     uint8_t has_auth_plugin_name;
     uint8_t has_attributes;
-} myp_user_change;
-#define MYP_USER_CHANGE_INIT { MYP_BYTES_INIT, MYP_BYTES_INIT, MYP_BYTES_INIT, MYP_BYTES_INIT, MYP_BYTES_INIT, 0, 0, 0, 0, 0 }
+} myp_change_user_request;
+#define MYP_CHANGE_USER_REQUEST_INIT { MYP_BYTES_INIT, MYP_BYTES_INIT, MYP_BYTES_INIT, MYP_BYTES_INIT, MYP_BYTES_INIT, 0, 0, 0, 0, 0 }
 
 /* Reads the request for the server's RSA key of caching_sha2_password, the byte 02. MYP_INVALID_DATA of another byte;
  * MYP_UNEXPECTED_EOF of no byte. */
@@ -713,7 +833,12 @@ uint32_t myp_read_public_key_request(const uint8_t *packet, size_t len, size_t *
 /* Reads COM_CHANGE_USER, by what both sides can do: the plugin under MYP_CLIENT_PLUGIN_AUTH, the attributes under
  * MYP_CLIENT_CONNECT_ATTRS. MYP_UNEXPECTED_EOF where a field is cut; MYP_INVALID_DATA of another first byte than
  * MYP_COM_CHANGE_USER, or of a bad length. */
-uint32_t myp_read_change_user(const uint8_t *packet, size_t len, uint32_t capabilities, myp_user_change *out);
+uint32_t myp_read_change_user_request(const uint8_t *packet, size_t len, uint32_t capabilities, myp_change_user_request *out);
+
+/* Reads a command by what both sides can do: attributes of a query under MYP_CLIENT_QUERY_ATTRIBUTES. Each is read whole, those that have their
+ * own calls too, but for what stands after the head of an execution. MYP_UNEXPECTED_EOF of no byte, or where a field is cut;
+ * MYP_INVALID_DATA of a bad length. */
+uint32_t myp_read_command(const uint8_t *packet, size_t len, uint32_t capabilities, myp_command *out);
 
 /* Reads COM_STMT_CLOSE, of 5 bytes. MYP_UNEXPECTED_EOF of fewer; MYP_INVALID_DATA of another first byte than MYP_COM_STMT_CLOSE. */
 uint32_t myp_read_close(const uint8_t *packet, size_t len, uint32_t *statement_id);
@@ -798,8 +923,20 @@ uint32_t myp_write_statement_with_metadata(const myp_statement_with_metadata *st
 uint32_t myp_write_column_count(const myp_column_count *columns, uint32_t mariadb_capabilities, uint8_t *out, size_t size,
                                 size_t *written);
 
+/* The same of a session with MYP_CLIENT_OPTIONAL_RESULTSET_METADATA, under which a byte before the count says it too. */
+uint32_t myp_write_column_count_with_metadata(const myp_column_count *columns, uint32_t capabilities, uint32_t mariadb_capabilities,
+                                              uint8_t *out, size_t size, size_t *written);
+
 /* Writes Protocol::ColumnDefinition41. MYP_INVALID_INPUT of a type that is none of enum myp_type. */
 uint32_t myp_write_column(const myp_column *column, uint8_t *out, size_t size, size_t *written);
+
+/* Writes a column, with its metadata where has_metadata is not 0: a client with MYP_MARIADB_CLIENT_EXTENDED_METADATA expects them,
+ * another expects none. MYP_INVALID_INPUT of a type that is none of enum myp_type. */
+uint32_t myp_write_extended_column(const myp_extended_column *column, uint8_t *out, size_t size, size_t *written);
+
+/* Writes an attribute of a column: its kind, and its text, length-encoded. The metadata of a column are such attributes, one after
+ * another. */
+uint32_t myp_write_column_attribute(const myp_column_attribute *attribute, uint8_t *out, size_t size, size_t *written);
 
 /* Writes ProtocolText::ResultsetRow of n values. MYP_INVALID_INPUT of a value that is neither bytes nor NULL. */
 uint32_t myp_write_text_row(const myp_value *values, size_t n, uint8_t *out, size_t size, size_t *written);
@@ -827,6 +964,13 @@ uint32_t myp_write_public_key(const uint8_t *rsa_key, size_t len, uint8_t *out, 
 
 /* Writes a LOCAL INFILE request: fb, and the file's name. */
 uint32_t myp_write_local_infile(const uint8_t *file_name, size_t len, uint8_t *out, size_t size, size_t *written);
+
+/* Writes a packet of the stream that a dump is answered with; is_semi_sync as of myp_read_stream_packet. MYP_INVALID_INPUT of a kind that
+ * is none, of an end that does not begin with fe, and of an error that does not begin with ff. */
+uint32_t myp_write_stream_packet(const myp_stream_packet *packet, uint8_t is_semi_sync, uint8_t *out, size_t size, size_t *written);
+
+/* ---- what a source of binary logs reads */
+
 /* Initializer: MYP_DUMP_INIT. */
 typedef struct myp_dump {
     myp_bytes file_name;
@@ -839,6 +983,28 @@ typedef struct myp_dump {
 /* Reads COM_BINLOG_DUMP: 11 bytes, and the file's name to the end. MYP_UNEXPECTED_EOF of fewer than 11 bytes;
  * MYP_INVALID_DATA of another first byte than MYP_COM_BINLOG_DUMP. */
 uint32_t myp_read_dump(const uint8_t *packet, size_t len, myp_dump *out);
+
+/* Initializer: MYP_TABLE_DUMP_INIT. */
+typedef struct myp_table_dump {
+    myp_bytes database;
+    myp_bytes table;
+    size_t used;
+} myp_table_dump;
+#define MYP_TABLE_DUMP_INIT { MYP_BYTES_INIT, MYP_BYTES_INIT, 0 }
+
+/* Reads COM_TABLE_DUMP. MYP_UNEXPECTED_EOF where a field is cut; MYP_INVALID_DATA of another first byte than MYP_COM_TABLE_DUMP. */
+uint32_t myp_read_table_dump(const uint8_t *packet, size_t len, myp_table_dump *out);
+
+/* Initializer: MYP_SEMI_SYNC_ACK_INIT. */
+typedef struct myp_semi_sync_ack {
+    myp_bytes file_name;
+    uint64_t position; /* after the event */
+} myp_semi_sync_ack;
+#define MYP_SEMI_SYNC_ACK_INIT { MYP_BYTES_INIT, 0 }
+
+/* Reads the acknowledgement of semi-synchronous replication: ef, the position in eight bytes, and the log's name to the end.
+ * MYP_UNEXPECTED_EOF of fewer than 9 bytes; MYP_INVALID_DATA of another first byte. */
+uint32_t myp_read_semi_sync_ack(const uint8_t *packet, size_t len, myp_semi_sync_ack *out);
 
 /* Reads COM_REGISTER_SLAVE. MYP_UNEXPECTED_EOF where a field is cut; MYP_INVALID_DATA of another first byte than MYP_COM_REGISTER_SLAVE. */
 uint32_t myp_read_register_replica(const uint8_t *packet, size_t len, myp_replica *out);
@@ -859,6 +1025,10 @@ typedef struct myp_gtid_dump {
 /* Reads COM_BINLOG_DUMP_GTID, and looks at each sid. Bytes after the last sid of the block are not looked at.
  * MYP_UNEXPECTED_EOF where a field or a sid is cut; MYP_INVALID_DATA of another first byte than MYP_COM_BINLOG_DUMP_GTID, or of a bad tag. */
 uint32_t myp_read_gtid_dump(const uint8_t *packet, size_t len, myp_gtid_dump *out);
+
+/* Writes the text of the GTID set of a COM_BINLOG_DUMP_GTID, as myp_sids_to_text does. The codes of myp_read_gtid_dump, and *written is 0;
+ * MYP_BUFFER_TOO_SMALL; MYP_NO_MEMORY, which the text takes, and *written is 0. */
+uint32_t myp_gtid_dump_to_text(const uint8_t *packet, size_t len, uint8_t *out, size_t size, size_t *written);
 
 /* A sid of a packet. Initializer: MYP_SID_PLACES_INIT. */
 typedef struct myp_sid_places {
@@ -896,10 +1066,8 @@ enum myp_column_flag {
     MYP_PART_KEY_FLAG = 16384, MYP_NUM_FLAG = 32768
 };
 
-/* A command without a call of its own is its byte and a text to the end (MYP_COM_QUERY, MYP_COM_STMT_PREPARE, MYP_COM_INIT_DB), the
- * statement's number of four bytes (MYP_COM_STMT_RESET), or its byte alone (MYP_COM_QUIT, MYP_COM_PING). Sequence numbers begin at 0 with
- * each. MYP_COM_STMT_CLOSE and MYP_COM_STMT_SEND_LONG_DATA are not answered. */
-enum myp_command {
+/* Sequence numbers begin at 0 with each command. MYP_COM_STMT_CLOSE and MYP_COM_STMT_SEND_LONG_DATA are not answered. */
+enum myp_command_code {
     MYP_COM_QUIT = 1, MYP_COM_INIT_DB = 2, MYP_COM_QUERY = 3, MYP_COM_FIELD_LIST = 4, MYP_COM_CREATE_DB = 5,
     MYP_COM_DROP_DB = 6, MYP_COM_REFRESH = 7, MYP_COM_SHUTDOWN = 8, MYP_COM_STATISTICS = 9, MYP_COM_PROCESS_INFO = 10,
     MYP_COM_PROCESS_KILL = 12, MYP_COM_DEBUG = 13, MYP_COM_PING = 14, MYP_COM_CHANGE_USER = 17, MYP_COM_BINLOG_DUMP = 18,

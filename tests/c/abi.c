@@ -44,6 +44,12 @@ static void replies(void)
     CHECK(myp_read_column_count((const uint8_t *)"\xfc\x00\x01", 3, 0, &c) == MYP_OK && c.count == 256 && c.metadata_follows == 1 && c.used == 3);
     CHECK(myp_read_column_count((const uint8_t *)"\x02\x00", 2, MYP_MARIADB_CLIENT_CACHE_METADATA, &c) == MYP_OK && c.count == 2 && c.metadata_follows == 0 && c.used == 2);
     CHECK(myp_read_column_count((const uint8_t *)"\xfb", 1, 0, &c) == MYP_INVALID_DATA && c.count == 2);
+    uint32_t optional = MYP_CLIENT_OPTIONAL_RESULTSET_METADATA; /* replies.txt: a byte before the count */
+    CHECK(myp_read_column_count_with_metadata((const uint8_t *)"\x01\x02", 2, optional, 0, &c) == MYP_OK && c.count == 2 && c.metadata_follows == 1 && c.used == 2);
+    CHECK(myp_read_column_count_with_metadata((const uint8_t *)"\x00\x03", 2, optional, 0, &c) == MYP_OK && c.count == 3 && c.metadata_follows == 0);
+    CHECK(myp_read_column_count_with_metadata((const uint8_t *)"\x01\x04\x00", 3, optional, MYP_MARIADB_CLIENT_CACHE_METADATA, &c) == MYP_OK && c.count == 4 && c.metadata_follows == 0 && c.used == 3);
+    CHECK(myp_read_column_count_with_metadata((const uint8_t *)"\x01\x02", 2, ~optional, 0, &c) == MYP_OK && c.count == 1 && c.metadata_follows == 1 && c.used == 1);
+    CHECK(myp_read_column_count_with_metadata((const uint8_t *)"\x01", 1, optional, 0, &c) == MYP_UNEXPECTED_EOF && c.count == 1);
 }
 
 /* a query and its rows, an execution of a statement that has none, and what doesn't come */
@@ -81,6 +87,13 @@ static void connection(void)
     CHECK(IS(h.scramble_1, "abcdefgh") && IS(h.scramble_2, "ijklmnopqrst\0") && IS(h.auth_plugin_name, "mysql_native_password"));
     CHECK(h.capabilities == 0x81fff7fe && h.mariadb_capabilities == 0x1d && h.default_collation == 0x2d && h.status_flags == 2);
     CHECK(myp_read_handshake(handshake, 30, &h) == MYP_UNEXPECTED_EOF);
+    myp_server_version v = MYP_SERVER_VERSION_INIT;
+    CHECK(myp_read_server_version(h.server_version.data, h.server_version.len, &v) == MYP_OK && v.major == 5 && v.minor == 5 && v.patch == 5);
+    CHECK(myp_read_mariadb_version(h.server_version.data, h.server_version.len, &v) == MYP_OK && v.major == 10 && v.minor == 11 && v.patch == 19);
+    CHECK(myp_read_server_version((const uint8_t *)"8.0.1234", 8, &v) == MYP_OK && v.major == 8 && v.minor == 0 && v.patch == 123); /* handshakes.txt: its first row */
+    CHECK(myp_read_mariadb_version((const uint8_t *)"8.0.1234", 8, &v) == MYP_INVALID_DATA && v.patch == 123);
+    CHECK(myp_read_mariadb_version((const uint8_t *)"10.11.6-MariaDB-1", 17, &v) == MYP_OK && v.major == 10 && v.minor == 11 && v.patch == 6);
+    CHECK(myp_read_server_version((const uint8_t *)"100.0.1", 7, &v) == MYP_INVALID_DATA && myp_read_server_version(NULL, 0, &v) == MYP_INVALID_DATA && v.major == 10);
     static const uint8_t change[] = "\xfe" "caching_sha2_password\0aaaaaaaaaaaaaaaaaaaa";
     myp_auth_switch s = MYP_AUTH_SWITCH_INIT;
     CHECK(myp_read_auth_switch(change, sizeof change, &s) == MYP_OK && IS(s.plugin_name, "caching_sha2_password") && s.plugin_data.len == 21 && s.plugin_data.data == change + 23);
@@ -132,6 +145,19 @@ static void results(void)
     myp_column c = MYP_COLUMN_INIT;
     CHECK(myp_read_column(column, sizeof column - 1, &c) == MYP_OK && IS(c.schema, "test") && IS(c.table, "tbl") && IS(c.org_table, "org") && IS(c.name, "a") && IS(c.org_name, "b"));
     CHECK(c.character_set == 63 && c.column_length == 11 && c.column_type == MYP_TYPE_LONGLONG && c.flags == 33 && c.decimals == 0 && c.used == sizeof column - 1);
+    uint8_t x[64]; /* replies.txt: a column with a type's name and a format's */
+    size_t len = hex(x, "0364656602766501740174016a016a090004757569640101610c2d00fffffffffc9000000000");
+    myp_extended_column ex = MYP_EXTENDED_COLUMN_INIT;
+    CHECK(myp_read_extended_column(x, len, MYP_MARIADB_CLIENT_EXTENDED_METADATA, &ex) == MYP_OK && IS(ex.column.schema, "ve") && IS(ex.column.name, "j") && ex.column.column_type == MYP_TYPE_BLOB && ex.column.flags == 144 && ex.column.used == len);
+    CHECK(ex.has_metadata == 1 && ex.metadata.len == 9 && ex.metadata.data == x + 16);
+    myp_column_attribute at = MYP_COLUMN_ATTRIBUTE_INIT;
+    CHECK(myp_next_column_attribute(&ex.metadata, &at) == MYP_OK && at.kind == MYP_ATTRIBUTE_TYPE_NAME && IS(at.text, "uuid") && ex.metadata.len == 3);
+    CHECK(myp_next_column_attribute(&ex.metadata, &at) == MYP_OK && at.kind == MYP_ATTRIBUTE_FORMAT_NAME && IS(at.text, "a") && ex.metadata.len == 0);
+    CHECK(myp_next_column_attribute(&ex.metadata, &at) == MYP_END && at.kind == MYP_ATTRIBUTE_FORMAT_NAME);
+    myp_bytes bad = { (const uint8_t *)"\x00\xff", 2 };
+    CHECK(myp_next_column_attribute(&bad, &at) == MYP_INVALID_DATA && bad.len == 2 && (bad.len = 1) && myp_next_column_attribute(&bad, &at) == MYP_UNEXPECTED_EOF && bad.len == 1);
+    CHECK(myp_read_extended_column(x, len, 0, &ex) == MYP_INVALID_DATA && myp_read_extended_column(x, len - 1, MYP_MARIADB_CLIENT_EXTENDED_METADATA, &ex) == MYP_UNEXPECTED_EOF && ex.has_metadata == 1);
+    CHECK(myp_read_extended_column(column, sizeof column - 1, 0, &ex) == MYP_OK && ex.has_metadata == 0 && ex.metadata.len == 0 && IS(ex.column.org_name, "b") && ex.column.used == sizeof column - 1);
     static const uint8_t text[] = { 1, '7', 0xfb, 3, 'a', 'b', 'c', 9 };
     myp_value v[4] = { MYP_VALUE_INIT, MYP_VALUE_INIT, MYP_VALUE_INIT, MYP_VALUE_INIT };
     size_t used = 0;
@@ -149,6 +175,27 @@ static void commands(void)
 {
     uint8_t out[16];
     size_t n = 0;
+    static const struct { uint8_t code, len; const char *text, *wildcard; uint32_t number, rows; const char *bytes; } sent[] = {
+        { MYP_COM_QUERY, 9, "select 1", "", 0, 0, "\x03select 1" }, { MYP_COM_INIT_DB, 3, "db", "", 0, 0, "\x02" "db" }, { MYP_COM_PING, 1, "no", "", 9, 9, "\x0e" },
+        { MYP_COM_FIELD_LIST, 5, "t", "a%", 0, 0, "\x04t\0a%" }, { MYP_COM_PROCESS_KILL, 5, "", "", 0x01020304, 0, "\x0c\x04\x03\x02\x01" },
+        { MYP_COM_STMT_FETCH, 9, "", "", 1, 10, "\x1c\x01\0\0\0\x0a\0\0\0" }, { MYP_COM_SET_OPTION, 3, "", "", 1, 0, "\x1b\x01\0" }, { MYP_COM_REFRESH, 2, "", "", 4, 0, "\x07\x04" },
+        { MYP_COM_STMT_RESET, 5, "", "", 5, 0, "\x1a\x05\0\0\0" }, { MYP_COM_STMT_PREPARE, 3, "?", "", 0, 0, "\x16?" } };
+    for (size_t i = 0; i < sizeof sent / sizeof *sent; i++) {
+        size_t len = sent[i].code == MYP_COM_STMT_PREPARE ? 2 : sent[i].len;
+        myp_command c = { { (const uint8_t *)sent[i].text, strlen(sent[i].text) }, { (const uint8_t *)sent[i].wildcard, strlen(sent[i].wildcard) }, 0, sent[i].number, sent[i].rows, sent[i].code };
+        CHECK(myp_write_command(&c, out, sizeof out, &n) == MYP_OK && n == len && !memcmp(out, sent[i].bytes, len));
+        CHECK(myp_write_command(&c, out, len - 1, &n) == MYP_BUFFER_TOO_SMALL && n == len);
+    }
+    CHECK(myp_write_query((const uint8_t *)"select 1", 8, 0, out, sizeof out, &n) == MYP_OK && n == 9 && !memcmp(out, "\x03select 1", 9));
+    CHECK(myp_write_query((const uint8_t *)"select 1", 8, MYP_CLIENT_QUERY_ATTRIBUTES, out, sizeof out, &n) == MYP_OK && n == 11 && !memcmp(out, "\x03\x00\x01select 1", 11));
+    CHECK(myp_write_query(NULL, 0, ~(uint32_t)MYP_CLIENT_QUERY_ATTRIBUTES, out, sizeof out, &n) == MYP_OK && n == 1 && myp_write_query(NULL, 0, MYP_CLIENT_QUERY_ATTRIBUTES, out, 2, &n) == MYP_BUFFER_TOO_SMALL && n == 3);
+    myp_command bad = MYP_COMMAND_INIT;
+    bad.code = MYP_COM_STMT_EXECUTE;
+    CHECK(myp_write_command(&bad, out, sizeof out, &n) == MYP_INVALID_INPUT && n == 0);
+    bad.code = MYP_COM_REFRESH, bad.number = 256;
+    CHECK(myp_write_command(&bad, out, sizeof out, &n) == MYP_INVALID_INPUT && n == 0);
+    bad.code = MYP_COM_SET_OPTION, bad.number = 65536;
+    CHECK(myp_write_command(&bad, out, sizeof out, &n) == MYP_INVALID_INPUT && n == 0);
     CHECK(myp_write_close(0x01020304, out, sizeof out, &n) == MYP_OK && n == 5 && !memcmp(out, "\x19\x04\x03\x02\x01", 5));
     CHECK(myp_write_close(1, out, 4, &n) == MYP_BUFFER_TOO_SMALL && n == 5 && out[1] == 4);
     CHECK(myp_write_long_data(5, 2, (const uint8_t *)"abc", 3, out, sizeof out, &n) == MYP_OK && n == 10 && !memcmp(out, "\x18\x05\0\0\0\x02\0abc", 10));
@@ -186,12 +233,19 @@ static void nulls(void)
 
 int main(void)
 {
+    for (uint32_t code = MYP_OK; code <= MYP_END; code++) { /* the header and the library say the same of a code */
+        myp_bytes words = MYP_BYTES_INIT;
+        CHECK(myp_code_text(code, &words) == MYP_OK && words.len == strlen(myp_error_text(code)) && !memcmp(words.data, myp_error_text(code), words.len));
+    }
+    myp_bytes kept = { (const uint8_t *)"kept", 4 };
+    CHECK(myp_code_text(MYP_END + 1, &kept) == MYP_INVALID_INPUT && myp_code_text(UINT32_MAX, &kept) == MYP_INVALID_INPUT && IS(kept, "kept"));
     CHECK(myp_version() == MYP_VERSION && !strcmp(myp_error_text(MYP_OK), "done") && !strcmp(myp_error_text(MYP_END), "nothing is left"));
     CHECK(sizeof(myp_bytes) == 16 && sizeof(myp_value) == 40 && sizeof(myp_column_type) == 2 && sizeof(myp_header) == 8);
     CHECK(sizeof(myp_column) == 104 && sizeof(myp_ok) == 64 && sizeof(myp_error) == 56 && sizeof(myp_handshake) == 88 && sizeof(myp_statement) == 24 && sizeof(myp_column_count) == 24);
     CHECK(sizeof(myp_change) == 56 && sizeof(myp_login) == 96 && sizeof(myp_change_user) == 88 && sizeof(myp_ssl_request) == 16 && sizeof(myp_attribute) == 32 && sizeof(myp_bulk_rule) == 16);
     CHECK(sizeof(myp_replica) == 72 && sizeof(myp_interval) == 16 && sizeof(myp_sid) == 72 && sizeof(myp_ssl_request) == 16 && sizeof(myp_login_request) == 104);
-    CHECK(sizeof(myp_long_data) == 24 && sizeof(myp_execution_head) == 16 && sizeof(myp_param) == 3 && sizeof(myp_user_change) == 96 && sizeof(myp_dump) == 32 && sizeof(myp_gtid_dump) == 64 && sizeof(myp_sid_places) == 56 && sizeof(myp_execution) == 16 && sizeof(myp_conversation) == 32 && sizeof(myp_packet) == 16 && sizeof(myp_frame) == 24);
+    CHECK(sizeof(myp_server_version) == 6 && sizeof(myp_extended_column) == 128 && sizeof(myp_column_attribute) == 24 && sizeof(myp_stream_packet) == 24 && sizeof(myp_table_dump) == 40 && sizeof(myp_semi_sync_ack) == 24 && sizeof(myp_command) == 56);
+    CHECK(sizeof(myp_long_data) == 24 && sizeof(myp_execution_head) == 16 && sizeof(myp_param) == 3 && sizeof(myp_change_user_request) == 96 && sizeof(myp_dump) == 32 && sizeof(myp_gtid_dump) == 64 && sizeof(myp_sid_places) == 56 && sizeof(myp_execution) == 16 && sizeof(myp_conversation) == 32 && sizeof(myp_packet) == 16 && sizeof(myp_frame) == 24);
     headers();
     replies();
     conversations();

@@ -59,6 +59,60 @@ static void sids(void)
     CHECK(myp_write_gtid_dump(42, 0, (const uint8_t *)"", 0, 4, s, 1, out, sizeof out, &n) == MYP_INVALID_INPUT && n == 0);
 }
 
+/* gtid_sets.txt: @@gtid_executed of a server, and dumps with it */
+static void texts(void)
+{
+    static const char set[] = "00000000-0000-0000-0000-000000000001:9223372036854775805,\n3e11fa47-71ca-11e1-9e33-c80aa9429562:1-8:_x9:4-5:app:1-3:5-6:9-10";
+    static const char spaced[] = "11111111-1111-1111-1111-111111111111 : tAg : 4 , ", plain[] = "11111111-1111-1111-1111-111111111111:tag:4";
+    uint8_t packet[400], out[400];
+    size_t n = 7, len = 0, count = 0;
+    CHECK(myp_gtid_dump_from_text(7, MYP_DUMP_NON_BLOCK, (const uint8_t *)"b.1", 3, 4, (const uint8_t *)set, sizeof set - 1, packet, sizeof packet, &len) == MYP_OK);
+    myp_gtid_dump g = MYP_GTID_DUMP_INIT;
+    myp_sid_places s = MYP_SID_PLACES_INIT;
+    CHECK(myp_read_gtid_dump(packet, len, &g) == MYP_OK && g.server_id == 7 && g.flags == (MYP_DUMP_NON_BLOCK | MYP_DUMP_THROUGH_GTID) && IS(g.file_name, "b.1") && g.position == 4 && g.n_sids == 4 && g.is_tagged == 1);
+    CHECK(myp_next_sid(&g.sids, 1, &s) == MYP_OK && s.tag.len == 0 && s.uuid[15] == 1 && s.n_intervals == 1 && myp_next_sid(&g.sids, 1, &s) == MYP_OK && s.tag.len == 0 && myp_next_sid(&g.sids, 1, &s) == MYP_OK && IS(s.tag, "_x9"));
+    CHECK(myp_next_sid(&g.sids, 1, &s) == MYP_OK && IS(s.tag, "app") && s.n_intervals == 3 && myp_next_sid(&g.sids, 1, &s) == MYP_END);
+    CHECK(myp_gtid_dump_to_text(packet, len, out, sizeof out, &n) == MYP_OK && n == sizeof set - 1 && !memcmp(out, set, n));
+    CHECK(myp_gtid_dump_to_text(packet, len, out, n - 1, &n) == MYP_BUFFER_TOO_SMALL && n == sizeof set - 1);
+    CHECK(myp_gtid_dump_to_text(packet, len - 1, out, sizeof out, &n) == MYP_UNEXPECTED_EOF && n == 0 && (n = 1) && myp_gtid_dump_to_text(packet + 1, len - 1, out, sizeof out, &n) == MYP_INVALID_DATA && n == 0);
+    CHECK(myp_gtid_dump_from_text(7, MYP_DUMP_NON_BLOCK, (const uint8_t *)"b.1", 3, 4, (const uint8_t *)set, sizeof set - 1, out, len - 1, &n) == MYP_BUFFER_TOO_SMALL && n == len);
+    CHECK(myp_gtid_dump_from_text(7, 0, NULL, 0, 4, (const uint8_t *)spaced, sizeof spaced - 1, packet, sizeof packet, &len) == MYP_OK && myp_gtid_dump_to_text(packet, len, out, sizeof out, &n) == MYP_OK && n == sizeof plain - 1 && !memcmp(out, plain, n));
+    CHECK(myp_gtid_dump_from_text(7, MYP_DUMP_THROUGH_GTID, NULL, 0, 4, NULL, 0, packet, sizeof packet, &len) == MYP_OK && myp_read_gtid_dump(packet, len, &g) == MYP_OK && g.n_sids == 0 && g.flags == 0 && myp_gtid_dump_to_text(packet, len, out, sizeof out, &n) == MYP_OK && n == 0);
+    CHECK(myp_gtid_dump_from_text(7, 0, NULL, 0, 4, (const uint8_t *)"11111111-1111-1111-1111-111111111111:0", 38, packet, sizeof packet, &len) == MYP_INVALID_DATA && len == 0);
+    CHECK(myp_gtid_dump_from_text(7, 0, NULL, 0, 4, (const uint8_t *)"\xff", 1, packet, sizeof packet, &len) == MYP_INVALID_DATA && len == 0);
+    myp_interval places[2] = { MYP_INTERVAL_INIT, MYP_INTERVAL_INIT };
+    myp_sid held[2] = { MYP_SID_INIT, MYP_SID_INIT };
+    static const char one[] = "3E11FA47-71CA-11E1-9E33-C80AA9429562:app:1-99:200", lower[] = "3e11fa47-71ca-11e1-9e33-c80aa9429562:app:1-99:200";
+    CHECK(myp_sid_from_text((const uint8_t *)one, sizeof one - 1, held, places, 2, &count) == MYP_OK && myp_sids_to_text(held, 1, out, sizeof out, &n) == MYP_OK && n == sizeof lower - 1 && !memcmp(out, lower, n));
+    held[1] = held[0], held[1].tag[0] = 'b'; /* the same uuid */
+    static const char both[] = "3e11fa47-71ca-11e1-9e33-c80aa9429562:app:1-99:200:bpp:1-99:200";
+    CHECK(myp_sids_to_text(held, 2, out, sizeof out, &n) == MYP_OK && n == sizeof both - 1 && !memcmp(out, both, n) && myp_sids_to_text(held, 2, out, 3, &n) == MYP_BUFFER_TOO_SMALL && n == sizeof both - 1);
+    held[1].tag[0] = 'B';
+    CHECK(myp_sids_to_text(held, 2, out, sizeof out, &n) == MYP_INVALID_INPUT && n == 0 && myp_sids_to_text(NULL, 0, out, sizeof out, &n) == MYP_OK && n == 0);
+}
+
+/* commands.txt: what a client asks, by its first byte */
+static void asked(void)
+{
+    uint8_t p[64];
+    myp_command c = MYP_COMMAND_INIT;
+    CHECK(myp_read_command((const uint8_t *)"\x03select 1", 9, 0, &c) == MYP_OK && c.code == MYP_COM_QUERY && IS(c.text, "select 1") && c.used == 9 && c.number == 0 && c.wildcard.len == 0);
+    CHECK(myp_read_command((const uint8_t *)"\x03\x00\x01select 1", 11, MYP_CLIENT_QUERY_ATTRIBUTES, &c) == MYP_OK && IS(c.text, "select 1") && c.used == 11);
+    CHECK(myp_read_command((const uint8_t *)"\x02" "db", 3, 0, &c) == MYP_OK && c.code == MYP_COM_INIT_DB && IS(c.text, "db"));
+    CHECK(myp_read_command((const uint8_t *)"\x16select ?", 9, 0, &c) == MYP_OK && c.code == MYP_COM_STMT_PREPARE && IS(c.text, "select ?"));
+    CHECK(myp_read_command((const uint8_t *)"\x04t\0a%", 5, 0, &c) == MYP_OK && c.code == MYP_COM_FIELD_LIST && IS(c.text, "t") && IS(c.wildcard, "a%"));
+    CHECK(myp_read_command((const uint8_t *)"\x0e", 1, 0, &c) == MYP_OK && c.code == MYP_COM_PING && c.text.len == 0 && c.wildcard.len == 0 && c.used == 1);
+    CHECK(myp_read_command((const uint8_t *)"\x0c\x04\x03\x02\x01", 5, 0, &c) == MYP_OK && c.code == MYP_COM_PROCESS_KILL && c.number == 0x01020304);
+    CHECK(myp_read_command((const uint8_t *)"\x1c\x01\0\0\0\x0a\0\0\0", 9, 0, &c) == MYP_OK && c.code == MYP_COM_STMT_FETCH && c.number == 1 && c.rows == 10 && c.used == 9);
+    CHECK(myp_read_command((const uint8_t *)"\x1b\x01\0", 3, 0, &c) == MYP_OK && c.code == MYP_COM_SET_OPTION && c.number == 1 && c.rows == 0);
+    CHECK(myp_read_command((const uint8_t *)"\x08", 1, 0, &c) == MYP_OK && c.code == MYP_COM_SHUTDOWN && c.number == 0 && myp_read_command((const uint8_t *)"\x08\x10", 2, 0, &c) == MYP_OK && c.number == 16);
+    CHECK(myp_read_command((const uint8_t *)"\x1a\x05\0\0\0", 5, 0, &c) == MYP_OK && c.code == MYP_COM_STMT_RESET && c.number == 5 && myp_read_command((const uint8_t *)"\x19\x06\0\0\0", 5, 0, &c) == MYP_OK && c.code == MYP_COM_STMT_CLOSE && c.number == 6);
+    size_t len = hex(p, "12040000000100070000006d62696e2e303030303031");
+    CHECK(myp_read_command(p, len, 0, &c) == MYP_OK && c.code == MYP_COM_BINLOG_DUMP && c.text.len == 0 && c.number == 0 && c.used == len);
+    CHECK(myp_read_command((const uint8_t *)"\x20" "ab", 3, 0, &c) == MYP_OK && c.code == MYP_COM_CLONE && IS(c.text, "ab"));
+    CHECK(myp_read_command(NULL, 0, 0, &c) == MYP_UNEXPECTED_EOF && myp_read_command(p, 10, 0, &c) == MYP_UNEXPECTED_EOF && myp_read_command((const uint8_t *)"\x04t", 2, 0, &c) == MYP_UNEXPECTED_EOF && c.code == MYP_COM_CLONE);
+}
+
 static void served(void)
 {
     uint32_t id = 5;
@@ -124,6 +178,15 @@ static void dumps(void)
     myp_dump d = MYP_DUMP_INIT;
     CHECK(myp_read_dump(p, len, &d) == MYP_OK && d.position == 4 && d.flags == MYP_DUMP_NON_BLOCK && d.server_id == 7 && IS(d.file_name, "mbin.000001") && d.file_name.data == p + 11);
     CHECK(myp_read_dump(p, 10, &d) == MYP_UNEXPECTED_EOF && myp_read_dump(p + 1, len - 1, &d) == MYP_INVALID_DATA && d.position == 4);
+    len = hex(p, "130264620174"); /* commands.txt: a request for a table */
+    myp_table_dump t = MYP_TABLE_DUMP_INIT;
+    CHECK(myp_read_table_dump(p, len, &t) == MYP_OK && IS(t.database, "db") && IS(t.table, "t") && t.table.data == p + 5 && t.used == len);
+    CHECK(myp_read_table_dump(p, len - 1, &t) == MYP_UNEXPECTED_EOF && myp_read_table_dump(p + 1, len - 1, &t) == MYP_INVALID_DATA && t.used == len);
+    len = hex(p, "ef96650000000000006d62696e2e303030303031"); /* commands.txt: captured acknowledgement */
+    myp_semi_sync_ack a = MYP_SEMI_SYNC_ACK_INIT;
+    CHECK(myp_read_semi_sync_ack(p, len, &a) == MYP_OK && a.position == 0x6596 && IS(a.file_name, "mbin.000001") && a.file_name.data == p + 9);
+    CHECK(myp_read_semi_sync_ack(p, 8, &a) == MYP_UNEXPECTED_EOF && myp_read_semi_sync_ack(p + 1, len - 1, &a) == MYP_INVALID_DATA && a.position == 0x6596);
+    CHECK(myp_read_semi_sync_ack(p, 9, &a) == MYP_OK && a.file_name.len == 0);
     len = hex(p, "154d000000107665632d686f73742e6578616d706c6500009f0f0000000000000000"); /* replication.txt: captured registration */
     myp_replica r = MYP_REPLICA_INIT;
     CHECK(myp_read_register_replica(p, len, &r) == MYP_OK && r.server_id == 77 && IS(r.hostname, "vec-host.example") && r.user.len == 0 && r.password.len == 0 && r.port == 3999 && r.replication_rank == 0 && r.master_id == 0 && r.used == len);
@@ -152,27 +215,57 @@ static void dumps(void)
     CHECK(myp_read_gtid_dump(p, len, &g) == MYP_OK && IS(g.file_name, "b.1") && g.n_sids == 0 && g.sids.len == 0 && g.is_tagged == 0 && g.position == 4294967301u);
 }
 
+/* stream.txt: captured packets of a semi-synchronous stream, and the ends of one */
+static void streams(void)
+{
+    uint8_t p[64], out[64];
+    size_t len = hex(p, "00ef01784f096b10010000001f0000005d0200000000a606000000000000cabeb63b"), n = 7;
+    myp_stream_packet s = MYP_STREAM_PACKET_INIT;
+    CHECK(myp_read_stream_packet(p, len, 1, &s) == MYP_OK && s.kind == MYP_STREAM_EVENT && s.wants_ack == 1 && s.content.data == p + 3 && s.content.len == len - 3);
+    CHECK(myp_write_stream_packet(&s, 1, out, len, &n) == MYP_OK && n == len && !memcmp(out, p, len) && myp_write_stream_packet(&s, 1, out, len - 1, &n) == MYP_BUFFER_TOO_SMALL && n == len);
+    s.wants_ack = 0;
+    CHECK(myp_write_stream_packet(&s, 7, out, sizeof out, &n) == MYP_OK && n == len && out[2] == 0 && myp_write_stream_packet(&s, 0, out, sizeof out, &n) == MYP_OK && n == len - 2 && out[0] == 0 && out[1] == 0x78);
+    CHECK(myp_read_stream_packet(p, len, 0, &s) == MYP_OK && s.wants_ack == 0 && s.content.data == p + 1 && s.content.len == len - 1);
+    p[2] = 0xfe; /* the lowest of the flags asks */
+    CHECK(myp_read_stream_packet(p, len, 1, &s) == MYP_OK && s.wants_ack == 0 && s.content.len == len - 3);
+    CHECK(myp_read_stream_packet(p, 2, 1, &s) == MYP_UNEXPECTED_EOF && myp_read_stream_packet(NULL, 0, 0, &s) == MYP_UNEXPECTED_EOF && s.content.len == len - 3);
+    p[1] = 0xee;
+    CHECK(myp_read_stream_packet(p, len, 1, &s) == MYP_INVALID_DATA && myp_read_stream_packet(p + 1, len, 0, &s) == MYP_INVALID_DATA && s.content.len == len - 3);
+    len = hex(p, "fe00002200");
+    CHECK(myp_read_stream_packet(p, len, 1, &s) == MYP_OK && s.kind == MYP_STREAM_END && s.wants_ack == 0 && s.content.data == p && s.content.len == len);
+    CHECK(myp_write_stream_packet(&s, 1, out, sizeof out, &n) == MYP_OK && n == len && !memcmp(out, p, len));
+    s.kind = MYP_STREAM_ERROR; /* no error begins with fe */
+    CHECK(myp_write_stream_packet(&s, 1, out, sizeof out, &n) == MYP_INVALID_INPUT && n == 0 && out[0] == 0xfe);
+    len = hex(p, "ffd404234859303030");
+    CHECK(myp_read_stream_packet(p, len, 0, &s) == MYP_OK && s.kind == MYP_STREAM_ERROR && s.content.data == p && s.content.len == len && myp_write_stream_packet(&s, 0, out, sizeof out, &n) == MYP_OK && n == len && !memcmp(out, p, len));
+    s.kind = 3;
+    CHECK(myp_write_stream_packet(&s, 0, out, sizeof out, &n) == MYP_INVALID_INPUT && n == 0);
+}
+
 static void changes(void)
 {
     uint8_t p[100];
     size_t len = hex(p, "11750002010264000201636c69656e745f656432353531390004016b0176"); /* changes.txt: the same, read */
     uint32_t both = MYP_CLIENT_PLUGIN_AUTH | MYP_CLIENT_CONNECT_ATTRS;
-    myp_user_change c = MYP_USER_CHANGE_INIT;
-    CHECK(myp_read_change_user(p, len, both, &c) == MYP_OK && IS(c.user, "u") && IS(c.auth_response, "\x01\x02") && IS(c.database, "d") && c.has_character_set == 1 && c.character_set == 258);
+    myp_change_user_request c = MYP_CHANGE_USER_REQUEST_INIT;
+    CHECK(myp_read_change_user_request(p, len, both, &c) == MYP_OK && IS(c.user, "u") && IS(c.auth_response, "\x01\x02") && IS(c.database, "d") && c.has_character_set == 1 && c.character_set == 258);
     CHECK(c.has_auth_plugin_name == 1 && IS(c.auth_plugin_name, "client_ed25519") && c.has_attributes == 1 && c.attributes.data == p + 26 && c.attributes.len == 4 && c.used == len);
-    CHECK(myp_read_change_user(p, len - 1, both, &c) == MYP_UNEXPECTED_EOF && myp_read_change_user(p + 1, len - 1, both, &c) == MYP_INVALID_DATA && c.character_set == 258);
+    CHECK(myp_read_change_user_request(p, len - 1, both, &c) == MYP_UNEXPECTED_EOF && myp_read_change_user_request(p + 1, len - 1, both, &c) == MYP_INVALID_DATA && c.character_set == 258);
     len = hex(p, "11726f6f740000"); /* connections.txt: cut in its database */
-    CHECK(myp_read_change_user(p, len, MYP_CLIENT_CONNECT_ATTRS, &c) == MYP_UNEXPECTED_EOF && c.character_set == 258 && c.user.len == 1);
+    CHECK(myp_read_change_user_request(p, len, MYP_CLIENT_CONNECT_ATTRS, &c) == MYP_UNEXPECTED_EOF && c.character_set == 258 && c.user.len == 1);
     len = hex(p, "11726f6f74000000"); /* nothing after the database */
-    CHECK(myp_read_change_user(p, len, both, &c) == MYP_OK && IS(c.user, "root") && c.database.len == 0 && c.has_character_set == 0 && c.has_auth_plugin_name == 0 && c.has_attributes == 0);
+    CHECK(myp_read_change_user_request(p, len, both, &c) == MYP_OK && IS(c.user, "root") && c.database.len == 0 && c.has_character_set == 0 && c.has_auth_plugin_name == 0 && c.has_attributes == 0);
 }
 
 void replica_checks(void)
 {
     replicas();
     sids();
+    texts();
+    asked();
     served();
     executions();
     dumps();
+    streams();
     changes();
 }

@@ -81,11 +81,29 @@ static void written_columns(void)
     WRITES("\x02\x00", 2, myp_write_column_count(&c, MYP_MARIADB_CLIENT_CACHE_METADATA, out, size, &n));
     CHECK(myp_read_column_count(sent, 2, MYP_MARIADB_CLIENT_CACHE_METADATA, &count) == MYP_OK && count.count == 2 && count.metadata_follows == 0);
     REFUSES(myp_write_column_count(&c, 0, out, size, &n));
+    uint32_t optional = MYP_CLIENT_OPTIONAL_RESULTSET_METADATA;
+    WRITES("\x00\x02", 2, myp_write_column_count_with_metadata(&c, optional, 0, out, size, &n));
+    REFUSES(myp_write_column_count_with_metadata(&c, ~optional, 0, out, size, &n));
+    c.metadata_follows = 1;
+    WRITES("\x01\x02", 2, myp_write_column_count_with_metadata(&c, optional, 0, out, size, &n));
+    WRITES("\x01\x02\x01", 3, myp_write_column_count_with_metadata(&c, optional, MYP_MARIADB_CLIENT_CACHE_METADATA, out, size, &n));
+    WRITES("\x02", 1, myp_write_column_count_with_metadata(&c, ~optional, 0, out, size, &n));
     static const uint8_t column[] = "\003def\004test\003tbl\003org\001a\001b\x0c\x3f\0\x0b\0\0\0\x08\x21\0\0\0\0";
     myp_column d = { TEXT("test"), TEXT("tbl"), TEXT("org"), TEXT("a"), TEXT("b"), 11, 63, 33, MYP_TYPE_LONGLONG, 0, 0 }, read = MYP_COLUMN_INIT;
     WRITES(column, sizeof column - 1, myp_write_column(&d, out, size, &n));
     CHECK(myp_read_column(sent, sizeof column - 1, &read) == MYP_OK && SAME(read.schema, d.schema) && SAME(read.table, d.table) && SAME(read.org_table, d.org_table) && SAME(read.name, d.name) && SAME(read.org_name, d.org_name));
     CHECK(read.column_length == 11 && read.character_set == 63 && read.flags == 33 && read.column_type == MYP_TYPE_LONGLONG && read.decimals == 0);
+    uint8_t extended[64]; /* replies.txt: a column with a type's name and a format's */
+    size_t len = hex(extended, "0364656602766501740174016a016a090004757569640101610c2d00fffffffffc9000000000");
+    myp_extended_column x = { { TEXT("ve"), TEXT("t"), TEXT("t"), TEXT("j"), TEXT("j"), 0xffffffff, 45, 144, MYP_TYPE_BLOB, 0, 9 }, { extended + 16, 9 }, 7 };
+    WRITES(extended, len, myp_write_extended_column(&x, out, size, &n));
+    myp_column_attribute format = { TEXT("a"), MYP_ATTRIBUTE_FORMAT_NAME }, type = { TEXT("uuid"), MYP_ATTRIBUTE_TYPE_NAME };
+    WRITES(extended + 16, 6, myp_write_column_attribute(&type, out, size, &n));
+    WRITES(extended + 22, 3, myp_write_column_attribute(&format, out, size, &n));
+    x.column = d, x.has_metadata = 0;
+    WRITES(column, sizeof column - 1, myp_write_extended_column(&x, out, size, &n));
+    x.column.column_type = 32;
+    REFUSES(myp_write_extended_column(&x, out, size, &n));
     d.column_type = 32;
     REFUSES(myp_write_column(&d, out, size, &n));
 }

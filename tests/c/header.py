@@ -36,13 +36,16 @@ def comments_out(text):
     return re.sub(r"/\*.*?\*/", "", text, flags=re.S)
 
 
-def layout(fields):
-    """The C fields of a struct of Rattle, with their offsets, and its size."""
+def layout(fields, inner):
+    """The C fields of a struct of Rattle, with their offsets, and its size and alignment. A field may be a struct that is known."""
     at, widest, found = 0, 1, []
     for name, kind in fields:
         array = re.fullmatch(r"\[u8; (\d+)\]", kind)
+        held = inner.get(re.sub(r"<.*>", "", kind))
         parts = [(name, int(array[1]), 1)] if array else [(name, SIZES[kind], SIZES[kind])] if kind in SIZES else None
-        if parts is None and kind.startswith("&'a [u8]"):
+        if held:
+            parts = [(name, *layout(held, inner)[1:])]
+        elif parts is None and kind.startswith("&'a [u8]"):
             parts = [(name, 16, 8)]
         elif parts is None and kind.startswith("&'a ["):
             parts = [(name, 8, 8), (f"n_{name}", 8, 8)]
@@ -50,7 +53,7 @@ def layout(fields):
             at = (at + align - 1) // align * align
             found.append((part, at))
             at, widest = at + size, max(widest, align)
-    return found, (at + widest - 1) // widest * widest
+    return found, (at + widest - 1) // widest * widest, widest
 
 
 def structs():
@@ -65,11 +68,12 @@ def structs():
 def asserted(header):
     """The assertions of C on its structs, and what has no counterpart."""
     known, wrong, lines = {name: fields for name, _, fields in structs()}, [], []
+    inner = {name: fields for _, name, fields in structs()}
     declared = dict(re.findall(r"typedef struct (myp_\w+) \{(.*?)\} \1;", header, re.S))
     known.pop("myp_bytes"), declared.pop("myp_bytes")
     wrong += [f"{it} is a struct of one side alone" for it in declared.keys() ^ known.keys()]
     for name in declared.keys() & known.keys():
-        fields, size = layout(known[name])
+        fields, size, _ = layout(known[name], inner)
         lines += [f'_Static_assert(offsetof({name}, {field}) == {at}, "{name}.{field}");' for field, at in fields]
         lines.append(f'_Static_assert(sizeof({name}) == {size}, "{name}");')
         count = len([it for line in declared[name].split(";") for it in line.split(",") if it.strip()])

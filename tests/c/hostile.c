@@ -86,6 +86,11 @@ static void read_all(size_t len)
     myp_column_count count;
     memset(&count, 7, sizeof count);
     CALL(count, myp_read_column_count(p, len, caps, &count));
+    CALL(count, myp_read_column_count_with_metadata(p, len, caps, (uint32_t)varied(), &count));
+    myp_server_version version;
+    memset(&version, 7, sizeof version);
+    CALL(version, myp_read_server_version(p, len, &version));
+    CALL(version, myp_read_mariadb_version(p, len, &version));
     static myp_conversation stands = MYP_CONVERSATION_INIT;
     myp_conversation any;
     myp_packet next;

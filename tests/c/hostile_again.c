@@ -42,11 +42,33 @@ static void write_columns(const uint8_t *p, size_t len, uint32_t caps)
     if (!myp_read_column_count(p, len, caps, &c))
         must("count, written", !myp_write_column_count(&c, caps, sent, sizeof sent, &n) && !myp_read_column_count(sent, n, caps, &d) && d.count == c.count
             && d.metadata_follows == c.metadata_follows && d.used == n);
+    if (!myp_read_column_count_with_metadata(p, len, caps, caps, &c))
+        must("count with metadata, written", !myp_write_column_count_with_metadata(&c, caps, caps, sent, sizeof sent, &n)
+            && !myp_read_column_count_with_metadata(sent, n, caps, caps, &d) && d.count == c.count && d.metadata_follows == c.metadata_follows && d.used == n);
     myp_column k = MYP_COLUMN_INIT, l = MYP_COLUMN_INIT;
     if (!myp_read_column(p, len, &k))
         must("column, written", !myp_write_column(&k, sent, sizeof sent, &n) && !myp_read_column(sent, n, &l) && SAME(l.schema, k.schema) && SAME(l.table, k.table)
             && SAME(l.org_table, k.org_table) && SAME(l.name, k.name) && SAME(l.org_name, k.org_name) && l.column_length == k.column_length
             && l.character_set == k.character_set && l.flags == k.flags && l.column_type == k.column_type && l.decimals == k.decimals && l.used == n);
+}
+
+static void write_extended(const uint8_t *p, size_t len, uint32_t caps)
+{
+    size_t n = 0;
+    myp_extended_column x = MYP_EXTENDED_COLUMN_INIT, y = MYP_EXTENDED_COLUMN_INIT;
+    if (!myp_read_extended_column(p, len, caps, &x))
+        must("extended column, written", !myp_write_extended_column(&x, sent, sizeof sent, &n) && !myp_read_extended_column(sent, n, caps, &y)
+            && SAME(y.column.schema, x.column.schema) && SAME(y.column.table, x.column.table) && SAME(y.column.org_table, x.column.org_table)
+            && SAME(y.column.name, x.column.name) && SAME(y.column.org_name, x.column.org_name) && y.column.column_length == x.column.column_length
+            && y.column.character_set == x.column.character_set && y.column.flags == x.column.flags && y.column.column_type == x.column.column_type
+            && y.column.decimals == x.column.decimals && y.has_metadata == x.has_metadata && SAME(y.metadata, x.metadata) && y.column.used == n);
+    myp_bytes rest = { p, len };
+    myp_column_attribute t = MYP_COLUMN_ATTRIBUTE_INIT;
+    if (len && !myp_next_column_attribute(&rest, &t)) {
+        myp_column_attribute u = MYP_COLUMN_ATTRIBUTE_INIT;
+        must("attribute, written", !myp_write_column_attribute(&t, sent, sizeof sent, &n) && (rest.data = sent, rest.len = n, !myp_next_column_attribute(&rest, &u))
+            && u.kind == t.kind && SAME(u.text, t.text) && rest.len == 0);
+    }
 }
 
 static void write_connection(const uint8_t *p, size_t len)
@@ -93,10 +115,40 @@ static void write_rows(const uint8_t *p, size_t len)
         must("binary row, written", !myp_write_binary_row(kinds, columns, v, columns, sent, sizeof sent, &n) && !myp_read_binary_row(sent, n, kinds, columns, w, 8, &used) && same_values(v, w, columns) && used == n);
 }
 
+static void write_commands(const uint8_t *p, size_t len)
+{
+    size_t n = 0;
+    myp_command c = MYP_COMMAND_INIT, d = MYP_COMMAND_INIT;
+    if (!myp_read_command(p, len, 0, &c) && !myp_write_command(&c, sent, sizeof sent, &n))
+        must("command, written", !myp_read_command(sent, n, 0, &d) && d.code == c.code && SAME(d.text, c.text) && SAME(d.wildcard, c.wildcard) && d.number == c.number
+            && d.rows == c.rows && d.used == n);
+}
+
+static void write_replication(const uint8_t *p, size_t len)
+{
+    size_t n = 0;
+    uint8_t is_semi_sync = (uint8_t)(varied() % 2);
+    myp_stream_packet s = MYP_STREAM_PACKET_INIT, t = MYP_STREAM_PACKET_INIT;
+    if (!myp_read_stream_packet(p, len, is_semi_sync, &s))
+        must("stream packet, written", !myp_write_stream_packet(&s, is_semi_sync, sent, sizeof sent, &n) && !myp_read_stream_packet(sent, n, is_semi_sync, &t)
+            && t.kind == s.kind && t.wants_ack == s.wants_ack && SAME(t.content, s.content));
+    myp_table_dump d = MYP_TABLE_DUMP_INIT, e = MYP_TABLE_DUMP_INIT;
+    if (!myp_read_table_dump(p, len, &d))
+        must("table dump, written", !myp_write_table_dump(d.database.data, d.database.len, d.table.data, d.table.len, sent, sizeof sent, &n)
+            && !myp_read_table_dump(sent, n, &e) && SAME(e.database, d.database) && SAME(e.table, d.table) && e.used == n);
+    myp_semi_sync_ack a = MYP_SEMI_SYNC_ACK_INIT, b = MYP_SEMI_SYNC_ACK_INIT;
+    if (!myp_read_semi_sync_ack(p, len, &a))
+        must("acknowledgement, written", !myp_write_semi_sync_ack(a.position, a.file_name.data, a.file_name.len, sent, sizeof sent, &n)
+            && !myp_read_semi_sync_ack(sent, n, &b) && b.position == a.position && SAME(b.file_name, a.file_name));
+}
+
 void read_again(const uint8_t *p, size_t len, uint32_t capabilities)
 {
+    write_replication(p, len);
+    write_commands(p, len);
     write_replies(p, len, capabilities);
     write_columns(p, len, capabilities);
+    write_extended(p, len, capabilities);
     write_connection(p, len);
     write_rows(p, len);
 }

@@ -43,8 +43,39 @@ static void read_changes(const uint8_t *p, size_t len)
     variables((myp_bytes){ p, len });
 }
 
+static void attributes(myp_bytes bytes)
+{
+    struct {
+        myp_bytes rest;
+        myp_column_attribute attribute;
+    } left;
+    memset(&left, 7, sizeof left), left.rest = bytes, left.attribute.text = nothing;
+    NEXT(left, (place("text", left.attribute.text), place("rest", left.rest)), myp_next_column_attribute(&left.rest, &left.attribute));
+}
+
+static void read_extended(const uint8_t *p, size_t len)
+{
+    myp_extended_column c;
+    memset(&c, 7, sizeof c), c.column.schema = c.column.table = c.column.org_table = c.column.name = c.column.org_name = c.metadata = nothing;
+    CALL(c, myp_read_extended_column(p, len, (uint32_t)varied(), &c));
+    place("schema", c.column.schema), place("table", c.column.table), place("org_table", c.column.org_table), place("name", c.column.name);
+    place("org_name", c.column.org_name), place("metadata", c.metadata);
+    attributes(c.metadata);
+    attributes((myp_bytes){ p, len });
+}
+
+static void read_stream(const uint8_t *p, size_t len)
+{
+    myp_stream_packet s;
+    memset(&s, 7, sizeof s), s.content = nothing;
+    CALL(s, myp_read_stream_packet(p, len, (uint8_t)(varied() % 2), &s));
+    place("content", s.content);
+}
+
 void read_client(const uint8_t *p, size_t len)
 {
     read_keys(p, len);
+    read_extended(p, len);
+    read_stream(p, len);
     read_changes(p, len);
 }

@@ -6,6 +6,10 @@ static void read_served(const uint8_t *p, size_t len)
 {
     uint32_t id = 7;
     CALL(id, myp_read_close(p, len, &id));
+    myp_command c;
+    memset(&c, 7, sizeof c), c.text = c.wildcard = nothing;
+    CALL(c, myp_read_command(p, len, capabilities, &c));
+    place("text", c.text), place("wildcard", c.wildcard);
     myp_long_data l;
     memset(&l, 7, sizeof l), l.content = nothing;
     CALL(l, myp_read_long_data(p, len, &l));
@@ -17,9 +21,9 @@ static void read_served(const uint8_t *p, size_t len)
     memset(&r, 7, sizeof r), r.user = r.auth_response = r.database = r.auth_plugin_name = r.attributes = nothing;
     CALL(r, myp_read_login_request(p, len, &r));
     place("user", r.user), place("response", r.auth_response), place("database", r.database), place("plugin", r.auth_plugin_name), place("attributes", r.attributes);
-    myp_user_change u;
+    myp_change_user_request u;
     memset(&u, 7, sizeof u), u.user = u.auth_response = u.database = u.auth_plugin_name = u.attributes = nothing;
-    CALL(u, myp_read_change_user(p, len, capabilities, &u));
+    CALL(u, myp_read_change_user_request(p, len, capabilities, &u));
     place("user", u.user), place("response", u.auth_response), place("database", u.database), place("plugin", u.auth_plugin_name), place("attributes", u.attributes);
     struct { myp_bytes rest, name, value; } a = { r.attributes, nothing, nothing };
     while (a.rest.len) {
@@ -58,6 +62,14 @@ static void read_replica(const uint8_t *p, size_t len)
     memset(&d, 7, sizeof d), d.file_name = nothing;
     CALL(d, myp_read_dump(p, len, &d));
     place("file", d.file_name);
+    myp_table_dump t;
+    memset(&t, 7, sizeof t), t.database = t.table = nothing;
+    CALL(t, myp_read_table_dump(p, len, &t));
+    place("database", t.database), place("table", t.table);
+    myp_semi_sync_ack a;
+    memset(&a, 7, sizeof a), a.file_name = nothing;
+    CALL(a, myp_read_semi_sync_ack(p, len, &a));
+    place("file", a.file_name);
     myp_replica r;
     memset(&r, 7, sizeof r), r.hostname = r.user = r.password = nothing;
     CALL(r, myp_read_register_replica(p, len, &r));
@@ -66,6 +78,16 @@ static void read_replica(const uint8_t *p, size_t len)
     memset(&g, 7, sizeof g), g.file_name = g.sids = nothing, g.n_sids = 0;
     CALL(g, myp_read_gtid_dump(p, len, &g));
     place("file", g.file_name), place("sids", g.sids);
+    static uint8_t shown[65536];
+    size_t written = 7;
+    uint32_t code = myp_gtid_dump_to_text(p, len, shown, sizeof shown, &written);
+    done++, refused += code != 0;
+    if (code > MYP_INVALID_DATA || (code && written))
+        lost("myp_gtid_dump_to_text", code);
+    code = myp_gtid_dump_from_text(1, 0, p, len, 4, p, len, shown, sizeof shown, &written);
+    done++, refused += code != 0;
+    if (code && (code != MYP_INVALID_DATA || written))
+        lost("myp_gtid_dump_from_text", code);
     struct { myp_bytes rest; myp_sid_places sid; } s;
     memset(&s, 7, sizeof s), s.rest = g.sids, s.sid.tag = s.sid.intervals = nothing;
     uint64_t n = 0;

@@ -86,7 +86,15 @@ static void results(void)
     v[0].kind = MYP_BYTES, v[0].bytes = text;
     EACH(0, myp_write_statement(&s, out, sizeof out, &n));
     EACH(0, myp_write_column_count(&c, MYP_MARIADB_CLIENT_CACHE_METADATA, out, sizeof out, &n));
+    EACH(0, myp_write_column_count_with_metadata(&c, MYP_CLIENT_OPTIONAL_RESULTSET_METADATA, 0, out, sizeof out, &n));
     EACH(0, myp_write_column(&d, out, sizeof out, &n));
+    static const myp_extended_column x = { { TEXT("test"), TEXT("tbl"), TEXT("org"), TEXT("a"), TEXT("b"), 11, 63, 33, MYP_TYPE_LONGLONG, 0, 0 }, TEXT("\1\1a"), 1 };
+    static const myp_column_attribute attribute = { TEXT("a"), 1 };
+    myp_extended_column found = MYP_EXTENDED_COLUMN_INIT;
+    EACH(0, myp_write_extended_column(&x, out, sizeof out, &n));
+    static const uint8_t extended[] = "\3def\0\0\0\1a\0\3\1\1a\x0c\x3f\0\x0b\0\0\0\x08\x21\0\0\0\0";
+    EACH(0, (code = myp_read_extended_column(extended, sizeof extended - 1, MYP_MARIADB_CLIENT_EXTENDED_METADATA, &found), n = found.column.used, code));
+    EACH(0, myp_write_column_attribute(&attribute, out, sizeof out, &n));
     EACH(0, myp_write_text_row(v, 2, out, sizeof out, &n));
     EACH(0, myp_write_binary_row(types, 2, v, 2, out, sizeof out, &n));
 }
@@ -103,6 +111,9 @@ static void connection(void)
 
 static void commands(void)
 {
+    static const myp_command c = { TEXT("t"), TEXT("%"), 0, 0, 0, MYP_COM_FIELD_LIST };
+    EACH(0, myp_write_command(&c, out, sizeof out, &n));
+    EACH(0, myp_write_query((const uint8_t *)"select 1", 8, MYP_CLIENT_QUERY_ATTRIBUTES, out, sizeof out, &n));
     EACH(0, myp_write_header(5, 1, out, sizeof out, &n));
     EACH(0, myp_write_close(1, out, sizeof out, &n));
     EACH(0, myp_write_long_data(5, 2, (const uint8_t *)"abc", 3, out, sizeof out, &n));
@@ -137,9 +148,18 @@ static void requests(void)
     EACH(0, myp_write_dump(1, 0, text.data, text.len, 4, out, sizeof out, &n));
     EACH(0, myp_write_table_dump(text.data, text.len, text.data, text.len, out, sizeof out, &n));
     EACH(0, myp_write_semi_sync_ack(4, text.data, text.len, out, sizeof out, &n));
+    static const myp_stream_packet event = { TEXT("some bytes"), MYP_STREAM_EVENT, 1 };
+    EACH(0, myp_write_stream_packet(&event, 1, out, sizeof out, &n));
     EACH(0, myp_write_gtid_dump(1, 0, text.data, text.len, 4, &sid, 1, out, sizeof out, &n));
     myp_interval places[4] = { MYP_INTERVAL_INIT, MYP_INTERVAL_INIT, MYP_INTERVAL_INIT, MYP_INTERVAL_INIT };
     SOME(myp_sid_from_text((const uint8_t *)"3e11fa47-71ca-11e1-9e33-c80aa9429562:1-5:7", 42, &sid, places, 4, &n));
+    SOME(myp_sids_to_text(&sid, 1, out, sizeof out, &n));
+    static const char set[] = "3e11fa47-71ca-11e1-9e33-c80aa9429562:1-8:app:1-3:5-6";
+    SOME(myp_gtid_dump_from_text(1, 0, text.data, text.len, 4, (const uint8_t *)set, sizeof set - 1, out, sizeof out, &n));
+    static uint8_t dump[256];
+    size_t len = 0;
+    refuse = 0, check("myp_write_gtid_dump", myp_write_gtid_dump(1, 0, text.data, text.len, 4, &sid, 1, dump, sizeof dump, &len) == MYP_OK);
+    SOME(myp_gtid_dump_to_text(dump, len, out, sizeof out, &n));
     /* (a refused execution that is read leaves the struct: `used` in the place of what is written) */
     static const myp_param params[] = { { MYP_TYPE_LONGLONG, 0, 0 }, { MYP_TYPE_LONGLONG, 0, 0 } };
     myp_column_type found[2] = { { 0, 0 }, { 0, 0 } };

@@ -90,6 +90,8 @@ def inside():
     greeting, ok, prepared, *rest = frames((TOP / "crates/examples_driver/stdin").read_bytes())
     hello = session.read_handshake(greeting)
     expect("greeting", (hello.server_version, hello.connection_id, hello.auth_plugin), ("5.5.5-10.11.19-MariaDB-0+deb12u1-log", 6, "mysql_native_password"))
+    expect("version", session.server_version(hello), (10, 11, 19))
+    expect("another server's version", session.server_version(hello._replace(server_version="8.4.3")), (8, 4, 3))
     expect("nonce", (hello.nonce[:8], len(hello.nonce)), (b"H.Mv,t)k", 20))
     session.agree(hello, session.wanted() | p.MYP_CLIENT_SESSION_TRACK)
     login = session.write_login(hello, "me", "secret", "live")
@@ -138,6 +140,7 @@ def inside():
     expect("header", (session.write_header(5, 7), session.read_header(b"\5\0\0\7")), (b"\5\0\0\7", (5, 7)))
 
     # an exception a code
+    refused("no version", my.InvalidData, session.server_version, hello._replace(server_version="none"))
     refused("a cut packet", my.UnexpectedEof, session.read_ok, ok[:5])
     refused("another first byte", my.InvalidData, session.read_ok, b"\1" + ok[1:])
     refused("a length that no header has", my.InvalidInput, session.write_header, 1 << 24, 0)

@@ -23,6 +23,7 @@ from lines import summary, vectors
 from mysql_packets import Library
 
 CODES = {"": "MYP_OK", "UnexpectedEof": "MYP_UNEXPECTED_EOF", "InvalidData": "MYP_INVALID_DATA"}
+COLUMN = "schema table org_table name org_name character_set column_length column_type flags decimals"
 # the struct of each word that is read into one, its call, and its fields: the name that the reference decoder has for each, or none
 # where it is the same, and `?` after it where what is absent is 0 or empty
 STRUCTS = {
@@ -30,7 +31,7 @@ STRUCTS = {
                   "status_flags mariadb_capabilities=mariadb auth_plugin_name?"),
     "auth_switch": ("myp_auth_switch", "myp_read_auth_switch", "plugin_data=raw"),
     "stmt": ("myp_statement", "myp_read_statement", "statement_id num_columns num_params warning_count"),
-    "column": ("myp_column", "myp_read_column", "schema table org_table name org_name character_set column_length column_type flags decimals"),
+    "column": ("myp_column", "myp_read_column", COLUMN),
     **{word: ("myp_ok", "myp_read_ok", "affected_rows last_insert_id? status_flags warnings info? session_state=session_state_info?")
        for word in ("ok", "ok_end", "ok_eof", "ok_stream")},
     "err": ("myp_error", "myp_read_error", ""),
@@ -39,8 +40,17 @@ STRUCTS = {
     "binlog_dump": ("myp_dump", "myp_read_dump", "position=pos flags server_id file_name=filename"),
     "register_slave": ("myp_replica", "myp_read_register_replica", "server_id hostname user password port replication_rank master_id"),
     "gtid": ("myp_gtid_dump", "myp_read_gtid_dump", "server_id flags file_name=filename position=pos n_sids=sids"),
+    "table_dump": ("myp_table_dump", "myp_read_table_dump", "database table"),
+    "semi_sync_ack": ("myp_semi_sync_ack", "myp_read_semi_sync_ack", "position file_name=filename"),
+    "column_count": ("myp_column_count", "myp_read_column_count_with_metadata", "count"),
+    "extended_column": ("myp_extended_column", "myp_read_extended_column", "metadata?"),
+    "stream": ("myp_stream_packet", "myp_read_stream_packet", ""),
     "com_long_data": ("myp_long_data", "myp_read_long_data", "statement_id=stmt_id param_index content=data_ref"),
 }
+# what else a call is passed, of the words of the context
+GIVEN = {**dict.fromkeys(("err", "extended_column"), lambda caps: [int(caps) & 0xFFFFFFFF]),
+         "column_count": lambda caps, mariadb: [int(caps) & 0xFFFFFFFF, int(mariadb) & 0xFFFFFFFF],
+         "stream": lambda agreed: [int(agreed == "semi_sync")]}
 KINDS = {"ok": 0, "ok_end": 1, "ok_eof": 2, "ok_stream": 3}
 # a word that is read as one number or one byte string
 SINGLE = {"local_infile": ("myp_read_local_infile", "file_name"), "auth_more_data": ("myp_read_auth_more_data", "data"),
@@ -88,6 +98,31 @@ def sid_words(packets, out):
     return words
 
 
+def version_words(packets, text):
+    """The versions in a server's version text."""
+    words, version = [], packets.new("myp_server_version")
+    for call, name in (("myp_read_server_version", "version"), ("myp_read_mariadb_version", "maria_db")):
+        code = getattr(packets.dll, call)(text.data, text.len, ctypes.byref(version))
+        words += [f"{name}=none"] if code == packets.MYP_INVALID_DATA else [f"{name}={version.major}", f"minor={version.minor}", f"patch={version.patch}"]
+    return words
+
+
+def extended_words(packets, out):
+    """The column of an extended one, and its attributes to the end, or to the first that is none."""
+    words, attribute, rest = [field_word(packets, out.column, it) for it in COLUMN.split()], packets.new("myp_column_attribute"), out.metadata
+    while not (code := packets.dll.myp_next_column_attribute(ctypes.byref(rest), ctypes.byref(attribute))):
+        words += [f"kind={ {0: 'TypeName', 1: 'FormatName'}.get(attribute.kind, attribute.kind)}", f"text={x(packets.text(attribute.text))}"]
+    faults = {getattr(packets, code): fault for fault, code in CODES.items()}
+    return words if code == packets.MYP_END else [*words, f"attribute={faults[code]}"]
+
+
+def stream_words(packets, out, is_semi_sync):
+    content = x(packets.text(out.content))
+    if out.kind != packets.MYP_STREAM_EVENT:
+        return [f"{'end' if out.kind == packets.MYP_STREAM_END else 'err'}={content}"]
+    return [f"wants_ack={('no', 'yes')[out.wants_ack] if is_semi_sync else 'none'}", f"event={content}"]
+
+
 def value_word(packets, value):
     """A value as a word of an answer."""
     kinds = [getattr(packets, f"MYP_{it}") for it in "NULL BYTES INT UINT FLOAT DOUBLE DATE TIME".split()]
@@ -104,7 +139,8 @@ def places(packets, out):
     """Each byte string of a struct."""
     if isinstance(out, packets.types["myp_bytes"]):
         return [out]
-    return [getattr(out, name) for name, kind in getattr(out, "_fields_", []) if kind is packets.types["myp_bytes"]]
+    found = [getattr(out, name) for name, kind in getattr(out, "_fields_", []) if kind is packets.types["myp_bytes"]]
+    return found + (places(packets, out.column) if hasattr(out, "column") else [])
 
 
 class Calls:
@@ -130,14 +166,19 @@ class Calls:
         out = p.new(name)
         before = bytes(out)
         given = [KINDS[word]] if word in KINDS else []
-        given += [int(context[0]) & 0xFFFFFFFF] if word in KINDS or word == "err" else []
+        given += [int(context[0]) & 0xFFFFFFFF] if word in KINDS else GIVEN[word](*context) if word in GIVEN else []
         code = getattr(p.dll, call)(payload.data, payload.len, *given, ctypes.byref(out))
         if code:
             return code, [], None, "" if bytes(out) == before else "the struct is changed"
         words = error_words(p, out) if word == "err" else [field_word(p, out, it) for it in fields.split()]
         words += login_words(p, out) if word == "response" else []
         words += sid_words(p, out) if word == "gtid" else []
-        return code, words, getattr(out, "used", None), self.outside(payload, places(p, out))
+        words += version_words(p, out.server_version) if word == "handshake" else []
+        words += [f"metadata_follows={('no', 'yes')[out.metadata_follows]}"] if word == "column_count" else []
+        words += extended_words(p, out) if word == "extended_column" else []
+        words += stream_words(p, out, *given) if word == "stream" else []
+        used = out.column.used if word == "extended_column" else getattr(out, "used", None)
+        return code, words, used, self.outside(payload, places(p, out))
 
     def single(self, word, payload):
         p, (call, name) = self.packets, SINGLE[word]
@@ -188,6 +229,11 @@ class Calls:
         return ""
 
 
+def follow(words, wanted):
+    """Whether these words stand among the others one after another."""
+    return any(wanted[at : at + len(words)] == words for at in range(len(wanted)))
+
+
 def wrong(packets, calls, describer_, request, content):
     """What is wrong with an answer, or nothing."""
     right = malformed.Reading(describer_, content)
@@ -207,6 +253,9 @@ def wrong(packets, calls, describer_, request, content):
         is_same = words == wanted
     elif request.startswith("gtid"):
         is_same = set(words[:5]) == set(wanted[:5]) and words[5:] == wanted[5:]
+    elif request.startswith("handshake"):
+        # (the versions stand together)
+        is_same = set(words) <= {*wanted, *(f"{word[:-1]}none" for word in wanted if word.endswith("=x"))} and follow(words[10:], wanted)
     else:
         # (what is absent and what is empty is one in C)
         is_same = set(words) <= {*wanted, *(f"{word[:-1]}none" for word in wanted if word.endswith("=x")), "affected_rows=0"}

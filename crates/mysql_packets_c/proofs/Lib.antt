@@ -15,3 +15,6 @@ pub mod HandshakeFit
 pub mod RefusedRow
 pub mod WrittenRows
 pub mod Logins
+pub mod AttributeKinds
+pub mod Versions
+pub mod GtidTexts

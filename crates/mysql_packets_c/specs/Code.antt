@@ -1,10 +1,11 @@
 -- What calls answer.
-use Rattle.std.specs.Prelude.{◌≡◌, ℕ, List, Ok, Err}
+use Rattle.std.specs.Prelude.{◌≡◌, ℕ, ◌==◌, List, Option, Some, None, Ok, Err, codes, if◌then◌else◌}
 use Rattle.mysql_wire.specs.declared.fault.FaultKind.{FaultKind}
 use Rattle.mysql_wire.specs.declared.fault.FaultKind.TheVariants as kind
 use Rattle.mysql_wire.specs.declared.fault.FaultOf.{FaultOf}
 use Rattle.mysql_wire.specs.declared.fault.FaultOf.TheVariants as fault
 use Rattle.mysql_wire.specs.Reading.{Reading}
+use Rattle.mysql_packets_c.specs.declared.text.CBytes.{CBytes}
 
 abbrev pub fault_code : FaultOf → ℕ
 fault_code fault.UnexpectedEof = 1
@@ -24,3 +25,21 @@ kind_code kind.Memory = 4
 abbrev pub ReadsInto : {A S : Type 0} → (A → List ℕ → S → Type 0) → Reading A → ℕ → S → S → Type 0
 ReadsInto Holds (Ok x) code old new = (code ≡ 0) × Holds x.0 x.1 new
 ReadsInto Holds (Err k) code old new = (code ≡ kind_code k) × (new ≡ old)
+
+-- what a code means, in words
+abbrev pub code_text : ℕ → Option (List ℕ)
+code_text code =
+    if code == 0 then Some (codes "done")
+    else if code == 1 then Some (codes "bytes are missing")
+    else if code == 2 then Some (codes "the bytes spell no such packet")
+    else if code == 3 then Some (codes "what was passed fits no packet")
+    else if code == 4 then Some (codes "memory was refused")
+    else if code == 5 then Some (codes "the buffer is too small")
+    else if code == 6 then Some (codes "a row is too large for a request")
+    else if code == 7 then Some (codes "nothing is left")
+    else None
+
+-- 0 and the text of a code; or 3, and the place is as it was
+abbrev pub TextInto : Option (List ℕ) → ℕ → CBytes → CBytes → Type 0
+TextInto (Some text) answer old new = (answer ≡ 0) × (new.bytes.now ≡ text)
+TextInto None answer old new = (answer ≡ 3) × (new ≡ old)

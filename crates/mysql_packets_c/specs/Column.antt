@@ -8,7 +8,8 @@ use Rattle.mysql_wire.specs.declared.codes.column_type.ColumnType.{ColumnType}
 use Rattle.mysql_packets_c.specs.Input.{used_of}
 use Rattle.mysql_packets_c.specs.declared.column.CColumn.{CColumn}
 
-pub record IsColumn (packet : List ℕ) (c : Column) (rest : List ℕ) (out : CColumn) : Type 0 where
+-- the fields of a column of which so many bytes were read
+pub record HoldsColumn (c : Column) (taken : ℕ) (out : CColumn) : Type 0 where
   pub schema : out.schema.now ≡ column.schema c
   pub table : out.table.now ≡ column.table c
   pub org_table : out.org_table.now ≡ column.org_table c
@@ -19,7 +20,10 @@ pub record IsColumn (packet : List ℕ) (c : Column) (rest : List ℕ) (out : CC
   pub flags : out.flags ≡ (column.flags c).0
   pub column_type : out.column_type ≡ column_type_code (column.column_type c)
   pub decimals : out.decimals ≡ column.decimals c
-  pub used : out.used ≡ used_of packet rest
+  pub used : out.used ≡ taken
+
+abbrev pub IsColumn : List ℕ → Column → List ℕ → CColumn → Type 0
+IsColumn packet c rest out = HoldsColumn c (used_of packet rest) out
 
 -- the column of this type, and of the other fields
 abbrev pub column_given : ColumnType → CColumn → Column

@@ -23,7 +23,7 @@ use mysql_wire::{CapabilityFlags, parts};
 use std::alloc::Global;
 use std::borrow::CowSlice;
 
-/// `myp_user_change`.
+/// `myp_change_user_request`.
 #[repr(C)]
 #[derive(Drop)]
 pub struct CUserChange<'a> {
@@ -66,7 +66,7 @@ fn put_more_data<'a>(more: Option<&ComChangeUserMoreDataRef<'a>>, out: &mut CUse
 
 /// Reads `COM_CHANGE_USER`: 0; or 1 or 2, and the struct is as it was.
 #[unsafe(no_mangle)]
-pub extern "C" fn myp_read_change_user<'a>(
+pub extern "C" fn myp_read_change_user_request<'a>(
     alloc: Global,
     packet: &'a [u8],
     capabilities: u32,

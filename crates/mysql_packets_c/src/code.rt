@@ -1,8 +1,9 @@
 //! What calls answer.
 
-ghost use Rattle.std.specs.Prelude.{◌≡◌, ◌≤◌};
-ghost use Rattle.mysql_packets_c.specs.Code.{fault_code};
+ghost use Rattle.std.specs.Prelude.{◌≡◌, ◌≤◌, option_map};
+ghost use Rattle.mysql_packets_c.specs.Code.{TextInto, code_text, fault_code};
 
+use crate::text::CBytes;
 use mysql_wire::FaultOf;
 
 /// It is done.
@@ -43,4 +44,35 @@ pub extern "C" fn myp_version() -> u32
     ensures value { result ≡ 0x000100 }
 {
     0x000100
+}
+
+/// The text of a code.
+fn code_text(code: u32) -> Option<&'static [u8]>
+    ensures value { option_map (λ t. t.now) result ≡ code_text code }
+{
+    match code {
+        OK => Some(b"done"),
+        UNEXPECTED_EOF => Some(b"bytes are missing"),
+        INVALID_DATA => Some(b"the bytes spell no such packet"),
+        INVALID_INPUT => Some(b"what was passed fits no packet"),
+        NO_MEMORY => Some(b"memory was refused"),
+        BUFFER_TOO_SMALL => Some(b"the buffer is too small"),
+        ROW_TOO_LARGE => Some(b"a row is too large for a request"),
+        END => Some(b"nothing is left"),
+        _ => None,
+    }
+}
+
+/// The text of a code: 0; or 3 of a number that is no code, and the place is as it was.
+#[unsafe(no_mangle)]
+pub extern "C" fn myp_code_text(code: u32, text: &mut CBytes<'_>) -> u32
+    ensures value { TextInto (code_text code) result text.old text.new }
+{
+    match code_text(code) {
+        Some(found) => {
+            text.bytes = found;
+            OK
+        }
+        None => INVALID_INPUT,
+    }
 }

@@ -2,9 +2,9 @@
 #![tactic(auto, using(crate::proofs::Codes::codes))]
 
 ghost use Rattle.std.specs.Prelude.{◌≡◌, ◌≢◌, ◌<◌, false, true};
-ghost use Rattle.mysql_replies.specs.ColumnCount.{column_count, says_follow};
+ghost use Rattle.mysql_replies.specs.ColumnCount.{column_count, says_follow, says_optional};
 ghost use Rattle.mysql_packets_c.specs.Code.{ReadsInto};
-ghost use Rattle.mysql_packets_c.specs.ColumnCount.{IsCount, count_given, session_of};
+ghost use Rattle.mysql_packets_c.specs.ColumnCount.{IsCount, count_given, is_said, session_of, session_with, with_cached, with_optional};
 ghost use Rattle.mysql_packets_c.specs.Output.{PutsUnlessTooLong};
 
 use crate::code::{INVALID_INPUT, OK, code_of};
@@ -13,7 +13,7 @@ use crate::input::read;
 use crate::output::put_packet;
 use bitflags::Flags;
 use mysql_replies::{ColumnCount, SessionCapabilities};
-use mysql_wire::MariadbCapabilities;
+use mysql_wire::{CapabilityFlags, MariadbCapabilities};
 use std::alloc::Global;
 
 /// `myp_column_count`.
@@ -25,17 +25,15 @@ pub struct CColumnCount {
     pub used: usize,
 }
 
-/// Reads how many columns a result has: 0; or 1 or 2, and the struct is as it was.
-#[unsafe(no_mangle)]
-pub extern "C" fn myp_read_column_count(
+/// Reads how many columns a result has, by the flags of both sides.
+fn read_count(
     alloc: Global,
     packet: &[u8],
-    mariadb_capabilities: u32,
+    capabilities: SessionCapabilities,
     out: &mut CColumnCount,
 ) -> u32
-    ensures value { ReadsInto (IsCount packet.now) ((column_count.form (session_of mariadb_capabilities)).reads packet.now) result out.old out.new }
+    ensures value { ReadsInto (IsCount packet.now) ((column_count.form capabilities).reads packet.now) result out.old out.new }
 {
-    let capabilities = session_of(mariadb_capabilities);
     match read::<ColumnCount>(alloc, packet, capabilities) {
         Ok((columns, used)) => {
             out.count = columns.count();
@@ -47,17 +45,58 @@ pub extern "C" fn myp_read_column_count(
     }
 }
 
-/// None of MySQL's flags, and MariaDB's own of these bits.
-fn session_of(mariadb_capabilities: u32) -> SessionCapabilities
-    ensures value { result ≡ session_of mariadb_capabilities }
+/// Reads how many columns a result has, without `CLIENT_OPTIONAL_RESULTSET_METADATA`: 0; or 1 or 2, and the struct is as it was.
+#[unsafe(no_mangle)]
+pub extern "C" fn myp_read_column_count(
+    alloc: Global,
+    packet: &[u8],
+    mariadb_capabilities: u32,
+    out: &mut CColumnCount,
+) -> u32
+    ensures value { ReadsInto (IsCount packet.now) ((column_count.form (session_of mariadb_capabilities)).reads packet.now) result out.old out.new }
+{
+    read_count(alloc, packet, session_of(0, mariadb_capabilities), out)
+}
+
+/// Reads how many columns a result has, by the flags of both sides: 0; or 1 or 2, and the struct is as it was.
+#[unsafe(no_mangle)]
+pub extern "C" fn myp_read_column_count_with_metadata(
+    alloc: Global,
+    packet: &[u8],
+    capabilities: u32,
+    mariadb_capabilities: u32,
+    out: &mut CColumnCount,
+) -> u32
+    ensures value { ReadsInto (IsCount packet.now) ((column_count.form (session_with capabilities mariadb_capabilities)).reads packet.now) result out.old out.new }
+{
+    read_count(
+        alloc,
+        packet,
+        session_of(capabilities, mariadb_capabilities),
+        out,
+    )
+}
+
+/// What both sides can do: MySQL's flags, and MariaDB's own.
+fn session_of(capabilities: u32, mariadb_capabilities: u32) -> SessionCapabilities
+    ensures value { result ≡ session_with capabilities mariadb_capabilities }
 {
     SessionCapabilities {
-        mysql: capabilities_of(0),
+        mysql: capabilities_of(capabilities),
         mariadb: mariadb_of(mariadb_capabilities),
     }
 }
 
-/// Whether a byte says that definitions follow.
+/// Whether a byte before the count says that definitions follow.
+fn says_optional(capabilities: SessionCapabilities) -> bool
+    ensures value { result ≡ says_optional capabilities }
+{
+    capabilities
+        .mysql
+        .contains(CapabilityFlags::CLIENT_OPTIONAL_RESULTSET_METADATA)
+}
+
+/// Whether a byte after it does.
 fn says_follow(capabilities: SessionCapabilities) -> bool
     ensures value { result ≡ says_follow capabilities }
 {
@@ -66,20 +105,54 @@ fn says_follow(capabilities: SessionCapabilities) -> bool
         .contains(MariadbCapabilities::MARIADB_CLIENT_CACHE_METADATA)
 }
 
-/// The count of the caller's fields.
-fn count_of(capabilities: SessionCapabilities, columns: &CColumnCount) -> ColumnCount
-    ensures value { result ≡ count_given capabilities columns.now }
+/// The count with a byte before it, where the flags ask for one.
+fn with_optional(
+    capabilities: SessionCapabilities,
+    follows: bool,
+    count: ColumnCount,
+) -> ColumnCount
+    ensures value { result ≡ with_optional capabilities follows count }
 {
-    let count = ColumnCount::new(columns.count);
-    if says_follow(capabilities) {
-        count.with_metadata_follows(columns.metadata_follows != 0)
+    if says_optional(capabilities) {
+        count.with_optional_metadata(follows)
     } else {
         count
     }
 }
 
-/// Writes how many columns a result has: 0; 5, and how many bytes it takes; or 3, where no definitions follow and no byte
-/// says so.
+/// The count with a byte after it, where the flags ask for one.
+fn with_cached(capabilities: SessionCapabilities, follows: bool, count: ColumnCount) -> ColumnCount
+    ensures value { result ≡ with_cached capabilities follows count }
+{
+    if says_follow(capabilities) {
+        count.with_metadata_follows(follows)
+    } else {
+        count
+    }
+}
+
+/// Writes the count of the caller's fields, by the flags of both sides.
+fn put_count(
+    columns: &CColumnCount,
+    capabilities: SessionCapabilities,
+    out: &mut [u8],
+    written: &mut usize,
+) -> u32
+    ensures refused { columns.now.metadata_follows ≡ 0 → is_said capabilities ≡ false → (result ≡ 3) × (out.new ≡ out.old) × (written.new ≡ 0) }
+    ensures follow { columns.now.metadata_follows ≢ 0 → PutsUnlessTooLong (column_count.bytes (count_given capabilities columns.now)) result out.old out.new written.new }
+    ensures said { is_said capabilities ≡ true → PutsUnlessTooLong (column_count.bytes (count_given capabilities columns.now)) result out.old out.new written.new }
+{
+    let follows = columns.metadata_follows != 0;
+    if !follows && !says_optional(capabilities) && !says_follow(capabilities) {
+        *written = 0;
+        return INVALID_INPUT;
+    }
+    let count = with_optional(capabilities, follows, ColumnCount::new(columns.count));
+    put_packet(&with_cached(capabilities, follows, count), out, written)
+}
+
+/// Writes how many columns a result has, without `CLIENT_OPTIONAL_RESULTSET_METADATA`: 0; 5, and how many bytes it takes; or 3,
+/// where no definitions follow and no byte says so.
 #[unsafe(no_mangle)]
 pub extern "C" fn myp_write_column_count(
     columns: &CColumnCount,
@@ -91,10 +164,27 @@ pub extern "C" fn myp_write_column_count(
     ensures follow { columns.now.metadata_follows ≢ 0 → PutsUnlessTooLong (column_count.bytes (count_given (session_of mariadb_capabilities) columns.now)) result out.old out.new written.new }
     ensures said { says_follow (session_of mariadb_capabilities) ≡ true → PutsUnlessTooLong (column_count.bytes (count_given (session_of mariadb_capabilities) columns.now)) result out.old out.new written.new }
 {
-    let capabilities = session_of(mariadb_capabilities);
-    if columns.metadata_follows == 0 && !says_follow(capabilities) {
-        *written = 0;
-        return INVALID_INPUT;
-    }
-    put_packet(&count_of(capabilities, columns), out, written)
+    put_count(columns, session_of(0, mariadb_capabilities), out, written)
+}
+
+/// Writes how many columns a result has, by the flags of both sides: 0; 5, and how many bytes it takes; or 3, where no
+/// definitions follow and no byte says so.
+#[unsafe(no_mangle)]
+pub extern "C" fn myp_write_column_count_with_metadata(
+    columns: &CColumnCount,
+    capabilities: u32,
+    mariadb_capabilities: u32,
+    out: &mut [u8],
+    written: &mut usize,
+) -> u32
+    ensures refused { columns.now.metadata_follows ≡ 0 → is_said (session_with capabilities mariadb_capabilities) ≡ false → (result ≡ 3) × (out.new ≡ out.old) × (written.new ≡ 0) }
+    ensures follow { columns.now.metadata_follows ≢ 0 → PutsUnlessTooLong (column_count.bytes (count_given (session_with capabilities mariadb_capabilities) columns.now)) result out.old out.new written.new }
+    ensures said { is_said (session_with capabilities mariadb_capabilities) ≡ true → PutsUnlessTooLong (column_count.bytes (count_given (session_with capabilities mariadb_capabilities) columns.now)) result out.old out.new written.new }
+{
+    put_count(
+        columns,
+        session_of(capabilities, mariadb_capabilities),
+        out,
+        written,
+    )
 }

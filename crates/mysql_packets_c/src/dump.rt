@@ -1,17 +1,16 @@
-//! The request for a binary log, or for a table.
+//! The request for a binary log.
 #![tactic(auto, using(crate::proofs::Codes::codes))]
 
 ghost use Rattle.std.specs.Prelude.{◌≡◌, ◌≢◌};
 ghost use Rattle.mysql_repl.specs.BinlogDump as dump;
-ghost use Rattle.mysql_repl.specs.TableDump as table_dump;
 ghost use Rattle.mysql_packets_c.specs.Code.{ReadsInto};
 ghost use Rattle.mysql_packets_c.specs.Dump.{IsDump};
-ghost use Rattle.mysql_packets_c.specs.Output.{Puts, PutsUnlessTooLong};
+ghost use Rattle.mysql_packets_c.specs.Output.{Puts};
 
 use crate::code::{OK, code_of};
 use crate::input::read;
 use crate::output::put_packet;
-use mysql_repl::{BinlogDumpFlags, ComBinlogDump, ComBinlogDumpRef, ComTableDump};
+use mysql_repl::{BinlogDumpFlags, ComBinlogDump, ComBinlogDumpRef};
 use mysql_wire::Flags;
 use std::alloc::Global;
 use std::borrow::CowSlice;
@@ -60,19 +59,5 @@ pub extern "C" fn myp_write_dump(
         .with_pos(position)
         .with_flags(BinlogDumpFlags::from_bits_retain(flags))
         .with_filename(CowSlice::Borrowed(file_name));
-    put_packet(&packet, out, written)
-}
-
-/// Writes `COM_TABLE_DUMP`: 0; 5, and how many bytes it takes. Of a longer name the first 255 bytes are written.
-#[unsafe(no_mangle)]
-pub extern "C" fn myp_write_table_dump(
-    database: &[u8],
-    table: &[u8],
-    out: &mut [u8],
-    written: &mut usize,
-) -> u32
-    ensures { PutsUnlessTooLong (table_dump.table_dump.bytes (table_dump.dump_of database.now table.now)) result out.old out.new written.new }
-{
-    let packet = ComTableDump::new(CowSlice::Borrowed(database), CowSlice::Borrowed(table));
     put_packet(&packet, out, written)
 }

@@ -109,7 +109,7 @@ pub(crate) fn tag_held<'b>(sid: &'b CSid<'_>) -> Option<Option<Tag<'b>>>
 }
 
 /// Whether each tag is one, or none.
-fn are_tagged(sids: &[CSid<'_>]) -> bool
+pub(crate) fn are_tagged(sids: &[CSid<'_>]) -> bool
     ensures { result ≡ list_all (λ s. is_some (spec.tag_held s)) sids.now }
 {
     sids.iter().all(|sid| tag_held(sid).is_some())

@@ -2,6 +2,7 @@
 import ctypes
 from typing import Iterator, List, Optional, Sequence, Tuple
 
+from .errors import InvalidData
 from .library import Library
 from .records import Change, Column, Handshake, OkPacket, Row, ServerError, Statement, Value
 
@@ -43,6 +44,15 @@ class Session:
         nonce = (self.library.text(it.scramble_1) + self.library.text(it.scramble_2))[:20]
         return Handshake(self._text(it.server_version), it.connection_id, it.capabilities, it.mariadb_capabilities, it.status_flags, nonce,
                          self._text(it.auth_plugin_name))
+
+    def server_version(self, greeting: Handshake) -> Tuple[int, int, int]:
+        """The version of MariaDB, or else of the server that it says to be. InvalidData of a text that begins with none."""
+        p, text = self.library, greeting.server_version.encode("utf-8", "surrogateescape")
+        try:
+            it = p.read("myp_read_mariadb_version", text, into="myp_server_version")
+        except InvalidData:
+            it = p.read("myp_read_server_version", text, into="myp_server_version")
+        return it.major, it.minor, it.patch
 
     def agree(self, greeting: Handshake, capabilities: int, mariadb_capabilities: int = 0) -> None:
         """Keeps what both sides can do: those of these that the server has."""
@@ -86,10 +96,11 @@ class Session:
     # ---- results
 
     def read_column_count(self, payload: bytes) -> int:
-        return self.library.read("myp_read_column_count", payload, self.mariadb_capabilities, into="myp_column_count").count
+        agreed = self.capabilities, self.mariadb_capabilities
+        return self.library.read("myp_read_column_count_with_metadata", payload, *agreed, into="myp_column_count").count
 
     def read_column(self, payload: bytes) -> Column:
-        it = self.library.read("myp_read_column", payload, into="myp_column")
+        it = self.library.read("myp_read_extended_column", payload, self.mariadb_capabilities, into="myp_extended_column").column
         names = (self._text(span) for span in (it.schema, it.table, it.org_table, it.name, it.org_name))
         return Column(*names, it.character_set, it.column_length, it.column_type, it.flags, it.decimals)
 
@@ -116,7 +127,8 @@ class Session:
     # ---- commands
 
     def write_query(self, sql: str) -> bytes:
-        return bytes([self.library.MYP_COM_QUERY]) + sql.encode()
+        text = sql.encode()
+        return self.library.write("myp_write_query", text, self.capabilities, size=len(text) + 3)
 
     def write_prepare(self, sql: str) -> bytes:
         return bytes([self.library.MYP_COM_STMT_PREPARE]) + sql.encode()

@@ -1,0 +1,70 @@
+-- What is answered of the texts of GTID sets.
+use Rattle.std.proofs.Common.{◌≡◌, ◌≢◌, ℕ, ◌<◌, ◌+◌, List, [], ◌∷◌, ◌++◌, length, take, get_or, Result, Ok, Err, Option, Some, None, Bool, true, false, refl, sym, subst, ap, ◌∙◌, ◌⊎◌, inl, inr}
+use Rattle.std.proofs.lemmas.List.{map-append, take_more}
+use Rattle.std.specs.List.{list_all}
+use Rattle.std.specs.Prelude.{is_some}
+use Rattle.mysql_packets_c.proofs.WrittenSids.{all-held, none-held}
+use Rattle.mysql_repl.specs.BinlogDumpGtid.{gtid_dump, sids, with_sids}
+use Rattle.mysql_repl.specs.GtidSetText.{with_read_sids}
+use Rattle.mysql_repl.specs.GtidSetWritten.{set_text}
+use Rattle.mysql_repl.specs.declared.binlog_dump_gtid.ComBinlogDumpGtid.{ComBinlogDumpGtid}
+use Rattle.mysql_repl.specs.declared.sid.Sid.{Sid}
+use Rattle.mysql_repl.specs.declared.sid_text.InvalidSid.{InvalidSid}
+use Rattle.mysql_wire.specs.declared.fault.FaultOf.{FaultOf}
+use Rattle.mysql_wire.specs.declared.fault.FaultOf.TheVariants as fault
+use Rattle.mysql_wire.specs.Reading.{Reading, Faults}
+use Rattle.mysql_packets_c.specs.Code.{fault_code}
+use Rattle.mysql_packets_c.specs.GtidText.{PutsShown, PutsSpelled, Refuses, Spelled}
+use Rattle.mysql_packets_c.specs.Output.{Puts, PutsUnlessTooLong}
+use Rattle.mysql_packets_c.specs.Sid.{sid_or, sids_held, sids_or, tag_held}
+use Rattle.mysql_packets_c.specs.declared.sid.CSid.{CSid}
+
+-- one sid more
+pub one-held : (held : List Sid) (list : List CSid) (i : ℕ) (s : Sid) (c d : CSid) → i < length list → c ≡ get_or list i d → s ≡ sid_or c → held ≡ sids_or (take i list)
+    → held ++ s ∷ [] ≡ sids_or (take (i + 1) list)
+one-held held list i s c d lt is same so_far =
+    ap (λ (l : List Sid). l ++ s ∷ []) so_far ∙ ap (λ (z : Sid). sids_or (take i list) ++ z ∷ []) (same ∙ ap sid_or is)
+    ∙ sym (ap sids_or (take_more list i d lt) ∙ map-append sid_or (take i list) (get_or list i d ∷ []))
+
+either_way : (b : Bool) → (b ≡ true) ⊎ (b ≡ false)
+either_way true = inl refl
+either_way false = inr refl
+
+-- the sids that are held
+pub held-are : (list : List CSid) (held : List Sid) → sids_held list ≡ Some held → sids_or list ≡ held
+held-are list held e =
+    elim (either_way (list_all (λ s. is_some (tag_held s)) list)) [
+      | inl tagged ↦ let h : Some (sids_or list) ≡ Some held = sym (all-held list tagged) ∙ e in cc
+      | inr other ↦ let h : None ≡ Some held = sym (none-held list other) ∙ e in absurd cc
+    ]
+
+-- the request of a text
+pub spelled-put : (read : Result (List Sid) InvalidSid) (dump p : ComBinlogDumpGtid) (dump_of : List Sid → ComBinlogDumpGtid) (code : ℕ) (old new : List ℕ) (written : ℕ)
+    → with_read_sids read dump ≡ Ok p → ((list : List Sid) → dump_of list ≡ with_sids list dump) → PutsUnlessTooLong (gtid_dump.bytes p) code old new written → code ≢ 4
+    → PutsSpelled read dump_of code old new written
+spelled-put (Ok list) dump p dump_of code old new written e same puts ne =
+    let is : with_sids list dump ≡ p = cc in
+    subst (λ (d : ComBinlogDumpGtid). Puts (gtid_dump.bytes d) code old new written) (sym (same list ∙ is)) (puts.puts ne)
+spelled-put (Err x) dump p dump_of code old new written e same puts ne = absurd cc
+
+refuses : (code : ℕ) (old : List ℕ) → (code ≡ 2) ⊎ (code ≡ 4) → code ≢ 4 → Refuses 2 code old old 0
+refuses code old (inl is) ne = record { code = is; buffer = refl; none = refl }
+refuses code old (inr is) ne = absurd (ne is)
+
+pub spelled-refused : (read : Result (List Sid) InvalidSid) (dump : ComBinlogDumpGtid) (dump_of : List Sid → ComBinlogDumpGtid) (code : ℕ) (old : List ℕ)
+    → Spelled (Err code) (with_read_sids read dump) → code ≢ 4 → PutsSpelled read dump_of code old old 0
+spelled-refused (Ok list) dump dump_of code old h ne = absurd (ne h)
+spelled-refused (Err x) dump dump_of code old h ne = refuses code old h ne
+
+-- the text of a request
+pub shown-put : (read : Reading ComBinlogDumpGtid) (p : ComBinlogDumpGtid) (rest : List ℕ) (code : ℕ) (old new : List ℕ) (written : ℕ)
+    → read ≡ Ok (p, rest) → (code ≢ 4 → Puts (set_text (sids p)) code old new written) → code ≢ 4 → PutsShown read code old new written
+shown-put read p rest code old new written e puts ne = subst (λ (r : _). PutsShown r code old new written) (sym e) (puts ne)
+
+pub shown-fault : (read : Reading ComBinlogDumpGtid) (e : FaultOf) (old : List ℕ) → Faults false e read → PutsShown read (fault_code e) old old 0
+shown-fault read fault.UnexpectedEof old h = subst (λ (r : _). PutsShown r 1 old old 0) (sym h) (record { code = refl; buffer = refl; none = refl })
+shown-fault read (fault.InvalidData text) old h = subst (λ (r : _). PutsShown r 2 old old 0) (sym h) (record { code = refl; buffer = refl; none = refl })
+shown-fault read (fault.InvalidInput text) old h = subst (λ (r : _). PutsShown r 3 old old 0) (sym h) (record { code = refl; buffer = refl; none = refl })
+shown-fault read fault.Memory old h = absurd cc
+
+pub ruleset texts = (one-held, held-are, spelled-put, spelled-refused, shown-put, shown-fault)

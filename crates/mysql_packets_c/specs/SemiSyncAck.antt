@@ -1,0 +1,9 @@
+-- The acknowledgement of semi-synchronous replication, as C has it.
+use Rattle.std.specs.Prelude.{◌≡◌, ℕ, List}
+use Rattle.mysql_repl.specs.SemiSyncAck as ack
+use Rattle.mysql_repl.specs.declared.semi_sync_ack.SemiSyncAckPacket.{SemiSyncAckPacket}
+use Rattle.mysql_packets_c.specs.declared.semi_sync_ack.CSemiSyncAck.{CSemiSyncAck}
+
+pub record IsAck (p : SemiSyncAckPacket) (rest : List ℕ) (out : CSemiSyncAck) : Type 0 where
+  pub file_name : out.file_name.now ≡ ack.filename p
+  pub position : out.position ≡ ack.position p

@@ -1,0 +1,78 @@
+//! The attributes in the extended metadata of a column, one after another.
+#![tactic(auto, using(crate::proofs::Codes::codes, crate::proofs::Changes::changes, crate::proofs::AttributeKinds::kinds))]
+
+ghost use Rattle.std.specs.Prelude.{◌≡◌, ◌≢◌, [], IfErr, IfOk, Ok, false};
+ghost use Rattle.mysql_replies.specs.ColumnAttribute.{attribute_of, column_attribute};
+ghost use Rattle.mysql_wire.specs.Reading.{Faults};
+ghost use Rattle.mysql_packets_c.specs.ColumnAttribute.{IsAttribute};
+ghost use Rattle.mysql_packets_c.specs.Output.{PutsUnlessTooLong};
+ghost use Rattle.mysql_packets_c.specs.SessionChange.{NextInto};
+
+use crate::code::{END, OK, code_of};
+use crate::output::put_packet;
+use crate::text::CBytes;
+use mysql_replies::{ColumnAttribute, ColumnAttributeKind, ColumnAttributeRef};
+use mysql_wire::{Fault, ParseBuf};
+use std::alloc::Global;
+use std::borrow::CowSlice;
+
+/// `myp_column_attribute`.
+#[repr(C)]
+#[derive(Drop)]
+pub struct CColumnAttribute<'a> {
+    pub text: &'a [u8],
+    pub kind: u8,
+}
+
+/// The attribute that the bytes begin with, and the bytes after it.
+#[inline(always)]
+fn next_attribute<'a>(
+    alloc: Global,
+    bytes: &'a [u8],
+) -> Result<(ColumnAttributeRef<'a>, &'a [u8]), Fault>
+    ensures good { IfOk result (λ x. (column_attribute.form tt).reads bytes.now ≡ Ok (x.0, x.1.now)) }
+    ensures refused { IfErr result (λ e. Faults false e ((column_attribute.form tt).reads bytes.now)) }
+{
+    let mut buf = ParseBuf::new(alloc, bytes);
+    let attribute: ColumnAttributeRef<'a> = buf.parse(())?;
+    Ok((attribute, buf.eat_all()))
+}
+
+/// Takes the next attribute off the front: 0, and what follows it is left; 7 where nothing is left; or 1 or 2. But for 0 both
+/// places are as they were.
+#[unsafe(no_mangle)]
+pub extern "C" fn myp_next_column_attribute<'a>(
+    alloc: Global,
+    rest: &mut CBytes<'a>,
+    out: &mut CColumnAttribute<'a>,
+) -> u32
+    ensures end { rest.old.bytes.now ≡ [] → (result ≡ 7) × (rest.new ≡ rest.old) × (out.new ≡ out.old) }
+    ensures value { rest.old.bytes.now ≢ [] → NextInto IsAttribute ((column_attribute.form tt).reads rest.old.bytes.now) result rest.old rest.new out.old out.new }
+{
+    if rest.bytes.is_empty() {
+        return END;
+    }
+    match next_attribute(alloc, rest.bytes) {
+        Ok((attribute, after)) => {
+            out.text = attribute.text();
+            out.kind = attribute.kind().code();
+            rest.bytes = after;
+            OK
+        }
+        Err(fault) => code_of(&fault),
+    }
+}
+
+/// Writes an attribute, a byte with its kind and the text, length-encoded: 0; 5, and how many bytes it takes; or 4.
+#[unsafe(no_mangle)]
+pub extern "C" fn myp_write_column_attribute(
+    attribute: &CColumnAttribute<'_>,
+    out: &mut [u8],
+    written: &mut usize,
+) -> u32
+    ensures { PutsUnlessTooLong (column_attribute.bytes (attribute_of attribute.now.kind attribute.now.text.now)) result out.old out.new written.new }
+{
+    let kind = ColumnAttributeKind::of(attribute.kind);
+    let packet = ColumnAttribute::new(kind, CowSlice::Borrowed(attribute.text));
+    put_packet(&packet, out, written)
+}

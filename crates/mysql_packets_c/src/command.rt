@@ -1,0 +1,200 @@
+//! A command, by its first byte.
+#![tactic(auto, using(crate::proofs::Codes::codes))]
+
+ghost use Rattle.std.specs.Prelude.{◌≡◌, ◌≢◌, None, Some};
+ghost use Rattle.mysql_commands.specs.Command.{command, command_bytes};
+ghost use Rattle.mysql_commands.specs.declared.command.Command.{Command};
+ghost use Rattle.mysql_packets_c.specs.Code.{ReadsInto};
+ghost use Rattle.mysql_packets_c.specs.Command as spec;
+ghost use Rattle.mysql_packets_c.specs.Command.{Holds, IsCommand, alone, fields_of, with_number, with_text};
+ghost use Rattle.mysql_packets_c.specs.Output.{PutsUnlessTooLong};
+
+use crate::code::{INVALID_INPUT, OK, code_of};
+use crate::flags::capabilities_of;
+use crate::input::read;
+use crate::output::put_packet;
+use mysql_commands::{
+    BytesRef, ComFieldListRef, ComQueryRef, ComSetOption, ComStmtFetch, ComStmtReset, Command,
+};
+use mysql_stmt::ComStmtClose;
+use std::alloc::Global;
+
+/// `myp_command`.
+#[repr(C)]
+#[derive(Drop)]
+pub struct CCommand<'a> {
+    pub text: &'a [u8],
+    pub wildcard: &'a [u8],
+    pub used: usize,
+    pub number: u32,
+    pub rows: u32,
+    pub code: u8,
+}
+
+/// Puts a command that is its code alone, or that another call reads.
+fn put_alone(code: u8, out: &mut CCommand<'_>)
+    ensures value { Holds (alone code) out.new }
+{
+    out.code = code;
+    out.text = &[];
+    out.wildcard = &[];
+    out.number = 0;
+    out.rows = 0;
+}
+
+/// Puts a command with a text.
+fn put_text<'a>(code: u8, text: &'a [u8], out: &mut CCommand<'a>)
+    ensures value { Holds (with_text code text.now) out.new }
+{
+    put_alone(code, out);
+    out.text = text;
+}
+
+/// Puts a command with a number.
+fn put_number(code: u8, number: u32, out: &mut CCommand<'_>)
+    ensures value { Holds (with_number code number) out.new }
+{
+    put_alone(code, out);
+    out.number = number;
+}
+
+/// Puts what a command says.
+fn put_command<'a>(command: Command<'a>, out: &mut CCommand<'a>)
+    ensures value { Holds (fields_of command.entry) out.new }
+{
+    match command {
+        Command::Quit => put_alone(1, out),
+        Command::InitDb(schema) => put_text(2, schema.as_bytes(), out),
+        Command::Query(query) => put_text(3, query.text(), out),
+        Command::FieldList(list) => {
+            put_text(4, list.table(), out);
+            out.wildcard = list.wildcard();
+        }
+        Command::CreateDb(schema) => put_text(5, schema.as_bytes(), out),
+        Command::DropDb(schema) => put_text(6, schema.as_bytes(), out),
+        Command::Refresh(options) => put_number(7, u32::from(options), out),
+        Command::Shutdown(level) => put_number(8, u32::from(level.unwrap_or(0)), out),
+        Command::Statistics => put_alone(9, out),
+        Command::ProcessInfo => put_alone(10, out),
+        Command::ProcessKill(id) => put_number(12, id, out),
+        Command::Debug => put_alone(13, out),
+        Command::Ping => put_alone(14, out),
+        Command::ChangeUser(_) => put_alone(17, out),
+        Command::BinlogDump(_) => put_alone(18, out),
+        Command::TableDump(_) => put_alone(19, out),
+        Command::RegisterSlave(_) => put_alone(21, out),
+        Command::StmtPrepare(text) => put_text(22, text.as_bytes(), out),
+        Command::StmtExecute(_) => put_alone(23, out),
+        Command::StmtSendLongData(_) => put_alone(24, out),
+        Command::StmtClose(close) => put_number(25, close.stmt_id, out),
+        Command::StmtReset(reset) => put_number(26, reset.stmt_id, out),
+        Command::SetOption(option) => put_number(27, u32::from(option.code), out),
+        Command::StmtFetch(fetch) => {
+            put_number(28, fetch.stmt_id, out);
+            out.rows = fetch.num_rows;
+        }
+        Command::BinlogDumpGtid(_) => put_alone(30, out),
+        Command::ResetConnection => put_alone(31, out),
+        Command::StmtBulkExecute(_) => put_alone(250, out),
+        Command::Unknown(unknown) => put_text(unknown.code(), unknown.content(), out),
+    }
+}
+
+/// Reads a command, by the flags of both sides: 0; or 1 or 2, and the struct is as it was.
+#[unsafe(no_mangle)]
+pub extern "C" fn myp_read_command<'a>(
+    alloc: Global,
+    packet: &'a [u8],
+    capabilities: u32,
+    out: &mut CCommand<'a>,
+) -> u32
+    ensures value { ReadsInto (IsCommand packet.now) ((command (record { 0 = capabilities; 1 = record {} })).reads packet.now) result out.old out.new }
+{
+    let capabilities = capabilities_of(capabilities);
+    match read::<Command<'a>>(alloc, packet, capabilities) {
+        Ok((found, used)) => {
+            put_command(found, out);
+            out.used = used;
+            OK
+        }
+        Err(fault) => code_of(&fault),
+    }
+}
+
+/// The command of this code that says nothing more.
+fn alone_of(code: u8) -> Option<Command<'static>>
+    ensures value { result ≡ spec.alone_given code }
+{
+    match code {
+        1 => Some(Command::Quit),
+        9 => Some(Command::Statistics),
+        10 => Some(Command::ProcessInfo),
+        13 => Some(Command::Debug),
+        14 => Some(Command::Ping),
+        31 => Some(Command::ResetConnection),
+        _ => None,
+    }
+}
+
+/// The command of this code with a text.
+fn text_of<'a>(code: u8, text: &'a [u8], wildcard: &'a [u8]) -> Option<Command<'a>>
+    ensures value { result ≡ spec.text_given code text.now wildcard.now }
+{
+    match code {
+        2 => Some(Command::InitDb(BytesRef::new(text))),
+        3 => Some(Command::Query(ComQueryRef::new(text))),
+        4 => Some(Command::FieldList(ComFieldListRef::new(text, wildcard))),
+        5 => Some(Command::CreateDb(BytesRef::new(text))),
+        6 => Some(Command::DropDb(BytesRef::new(text))),
+        22 => Some(Command::StmtPrepare(BytesRef::new(text))),
+        _ => None,
+    }
+}
+
+/// The command of this code with a number, which its bytes can tell.
+fn number_of(code: u8, number: u32, rows: u32) -> Option<Command<'static>>
+    ensures value { result ≡ spec.number_given code number rows }
+{
+    match code {
+        7 if number < 256 => Some(Command::Refresh(number as u8)),
+        8 if number < 256 => Some(Command::Shutdown(Some(number as u8))),
+        12 => Some(Command::ProcessKill(number)),
+        25 => Some(Command::StmtClose(ComStmtClose::new(number))),
+        26 => Some(Command::StmtReset(ComStmtReset::new(number))),
+        27 if number < 65536 => Some(Command::SetOption(ComSetOption {
+            code: number as u16,
+        })),
+        28 => Some(Command::StmtFetch(ComStmtFetch::new(number, rows))),
+        _ => None,
+    }
+}
+
+/// The command of the caller's fields, where they are of one.
+fn command_of<'a>(fields: &CCommand<'a>) -> Option<Command<'a>>
+    ensures value { result ≡ spec.command_given fields.now }
+{
+    if let Some(found) = alone_of(fields.code) {
+        return Some(found);
+    }
+    if let Some(found) = text_of(fields.code, fields.text, fields.wildcard) {
+        return Some(found);
+    }
+    number_of(fields.code, fields.number, fields.rows)
+}
+
+/// Writes a command: 0; 5, and how many bytes it takes; 4; or 3 of one that has its own call, and of fields that are of none.
+#[unsafe(no_mangle)]
+pub extern "C" fn myp_write_command(
+    command: &CCommand<'_>,
+    out: &mut [u8],
+    written: &mut usize,
+) -> u32
+    ensures refused { spec.command_given command.now ≡ None → (result ≡ 3) × (out.new ≡ out.old) × (written.new ≡ 0) }
+    ensures value { (c : Command) → spec.command_given command.now ≡ Some c → PutsUnlessTooLong (command_bytes c) result out.old out.new written.new }
+{
+    let Some(command) = command_of(command) else {
+        *written = 0;
+        return INVALID_INPUT;
+    };
+    put_packet(&command, out, written)
+}

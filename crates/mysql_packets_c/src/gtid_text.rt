@@ -1,0 +1,186 @@
+//! The text of a GTID set.
+#![tactic(auto, using(crate::proofs::Codes::codes, crate::proofs::GtidTexts::texts))]
+
+ghost use Rattle.std.specs.Prelude.{false, ◌≡◌, ◌≢◌, ℕ, Err, IfOk, List, None, Some, string_bytes};
+ghost use Rattle.std.specs.Str.{IsUtf8};
+ghost use Rattle.mysql_repl.specs.BinlogDumpGtid as dump;
+ghost use Rattle.mysql_repl.specs.GtidSetText.{read_sids, with_read_sids};
+ghost use Rattle.mysql_repl.specs.GtidSetWritten.{set_text};
+ghost use Rattle.mysql_repl.specs.declared.sid.Sid.{Sid};
+ghost use Rattle.mysql_packets_c.specs.GtidDump.{dump_with};
+ghost use Rattle.mysql_packets_c.specs.GtidText.{PutsShown, PutsSpelled, Refuses, Spelled};
+ghost use Rattle.mysql_packets_c.specs.Output.{Puts};
+ghost use Rattle.mysql_packets_c.specs.Sid as spec;
+
+use crate::code::{INVALID_DATA, INVALID_INPUT, NO_MEMORY, code_of};
+use crate::gtid_dump::{are_tagged, tag_held};
+use crate::input::read;
+use crate::output::{put, put_packet};
+use crate::sid::{CInterval, CSid};
+use mysql_repl::{
+    BinlogDumpFlags, ComBinlogDumpGtid, ComBinlogDumpGtidRef, GnoInterval, GtidSetText, InvalidSid,
+    Sid, sids_from_text,
+};
+use mysql_wire::Flags;
+use std::alloc::{AllocError, Global};
+use std::borrow::CowSlice;
+use std::str;
+
+/// The intervals of a sid, copied.
+fn copied(alloc: Global, intervals: &[CInterval]) -> Result<Vec<GnoInterval>, AllocError>
+    ensures value { IfOk result (λ v. v.items ≡ spec.intervals_of intervals.now) }
+{
+    intervals
+        .iter()
+        .map(|interval| GnoInterval::new(interval.start, interval.end))
+        .collect(alloc)
+}
+
+/// A sid of the caller's, without a tag where that is none.
+fn sid_of<'b>(alloc: Global, sid: &'b CSid<'_>) -> Result<Sid<'b>, AllocError>
+    ensures value { IfOk result (λ s. s ≡ spec.sid_or sid.now) }
+{
+    let found = Sid::new(sid.uuid).with_intervals(copied(alloc, sid.intervals)?);
+    match tag_held(sid) {
+        Some(Some(tag)) => Ok(found.with_tag(tag)),
+        Some(None) => Ok(found),
+        None => Ok(found),
+    }
+}
+
+/// The sids of the caller's.
+fn sids_of<'b>(alloc: Global, sids: &'b [CSid<'_>]) -> Result<Vec<Sid<'b>>, AllocError>
+    ensures value { IfOk result (λ v. v.items ≡ spec.sids_or sids.now) }
+{
+    let mut held = Vec::new(alloc);
+    for sid in sids {
+        held.push(sid_of(alloc, sid)?)?;
+    }
+    Ok(held)
+}
+
+/// The text of sids.
+fn text_of(alloc: Global, sids: &[Sid<'_>]) -> Result<String, AllocError>
+    ensures value { IfOk result (λ text. string_bytes text ≡ set_text sids.now) }
+{
+    let set = GtidSetText(sids);
+    format!(in alloc; "{set}")
+}
+
+/// The text of the sids of the caller's.
+fn text_of_sids(alloc: Global, sids: &[CSid<'_>]) -> Result<String, AllocError>
+    ensures value { IfOk result (λ text. string_bytes text ≡ set_text (spec.sids_or sids.now)) }
+{
+    let held = sids_of(alloc, sids)?;
+    text_of(alloc, &held)
+}
+
+/// The text of the sids of a request.
+fn text_of_dump(alloc: Global, found: &ComBinlogDumpGtidRef<'_>) -> Result<String, AllocError>
+    ensures value { IfOk result (λ text. string_bytes text ≡ set_text (dump.sids found.now)) }
+{
+    let held = found.sids().to_vec(alloc)?;
+    text_of(alloc, &held)
+}
+
+/// Writes a text to the front of a buffer, or nothing where memory was refused.
+fn put_text(text: Result<String, AllocError>, out: &mut [u8], written: &mut usize) -> u32
+    ensures memory { result ≡ 4 → (out.new ≡ out.old) × (written.new ≡ 0) }
+    ensures value { (bytes : List ℕ) → IfOk text (λ t. string_bytes t ≡ bytes) → result ≢ 4 → Puts bytes result out.old out.new written.new }
+{
+    match text {
+        Ok(text) => put(text.as_bytes(), out, written),
+        Err(_) => {
+            *written = 0;
+            NO_MEMORY
+        }
+    }
+}
+
+/// Writes the text of sids: 0; 5, and how many bytes it takes; 4; or 3 of a tag that is none.
+#[tactic(auto, using(crate::proofs::Codes::codes, crate::proofs::WrittenSids::held_sids, crate::proofs::GtidTexts::texts))]
+#[unsafe(no_mangle)]
+pub extern "C" fn myp_sids_to_text(
+    alloc: Global,
+    sids: &[CSid<'_>],
+    out: &mut [u8],
+    written: &mut usize,
+) -> u32
+    ensures tags { spec.sids_held sids.now ≡ None → Refuses 3 result out.old out.new written.new }
+    ensures memory { result ≡ 4 → (out.new ≡ out.old) × (written.new ≡ 0) }
+    ensures value { result ≢ 4 → (list : List Sid) → spec.sids_held sids.now ≡ Some list → Puts (set_text list) result out.old out.new written.new }
+{
+    if !are_tagged(sids) {
+        *written = 0;
+        return INVALID_INPUT;
+    }
+    put_text(text_of_sids(alloc, sids), out, written)
+}
+
+/// The request with the sids that a text spells, or the code of its refusal.
+fn dump_of_text<'a>(
+    alloc: Global,
+    dump: ComBinlogDumpGtid<'a>,
+    text: &[u8],
+) -> Result<ComBinlogDumpGtid<'a>, u32>
+    ensures bytes { (IsUtf8 text.now → ⊥) → result ≡ Err 2 }
+    ensures value { IsUtf8 text.now → Spelled result (with_read_sids (read_sids text.now) dump.entry) }
+{
+    let Ok(text) = str::from_utf8(text) else {
+        return Err(INVALID_DATA);
+    };
+    match dump.with_gtid_set(alloc, text) {
+        Ok(dump) => Ok(dump),
+        Err(InvalidSid::Memory) => Err(NO_MEMORY),
+        Err(_) => Err(INVALID_DATA),
+    }
+}
+
+/// Writes `COM_BINLOG_DUMP_GTID` with the sids of the text of a GTID set: 0; 5, and how many bytes it takes; 4; or 2 of another text.
+#[unsafe(no_mangle)]
+pub extern "C" fn myp_gtid_dump_from_text(
+    alloc: Global,
+    server_id: u32,
+    flags: u16,
+    file_name: &[u8],
+    position: u64,
+    text: &[u8],
+    out: &mut [u8],
+    written: &mut usize,
+) -> u32
+    ensures memory { result ≡ 4 → (out.new ≡ out.old) × (written.new ≡ 0) }
+    ensures bytes { (IsUtf8 text.now → ⊥) → Refuses 2 result out.old out.new written.new }
+    ensures value { IsUtf8 text.now → result ≢ 4 → PutsSpelled (read_sids text.now) (dump_with server_id flags file_name.now position) result out.old out.new written.new }
+{
+    let dump = ComBinlogDumpGtid::new(server_id)
+        .with_flags(BinlogDumpFlags::from_bits_retain(flags))
+        .with_filename(CowSlice::Borrowed(file_name))
+        .with_pos(position);
+    match dump_of_text(alloc, dump, text) {
+        Ok(dump) => put_packet(&dump, out, written),
+        Err(code) => {
+            *written = 0;
+            code
+        }
+    }
+}
+
+/// Writes the text of the GTID set of a `COM_BINLOG_DUMP_GTID`: 0; 5, and how many bytes it takes; 4; or 1 or 2 of another packet.
+#[unsafe(no_mangle)]
+pub extern "C" fn myp_gtid_dump_to_text(
+    alloc: Global,
+    packet: &[u8],
+    out: &mut [u8],
+    written: &mut usize,
+) -> u32
+    ensures memory { result ≡ 4 → (out.new ≡ out.old) × (written.new ≡ 0) }
+    ensures value { result ≢ 4 → PutsShown ((dump.gtid_dump.form false).reads packet.now) result out.old out.new written.new }
+{
+    match read::<ComBinlogDumpGtidRef<'_>>(alloc, packet, ()) {
+        Ok((found, _used)) => put_text(text_of_dump(alloc, &found), out, written),
+        Err(fault) => {
+            *written = 0;
+            code_of(&fault)
+        }
+    }
+}
