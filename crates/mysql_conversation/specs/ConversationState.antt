@@ -1,6 +1,6 @@
 -- Where a conversation stands, in plain numbers.
 use Rattle.std.specs.Prelude.{◌≡◌, ℕ, ◌==◌, List, Bool, true, false, Option, Some, None, if◌then◌else◌}
-use Rattle.std.specs.Option.{option_map}
+use Rattle.std.specs.Option.{IsSome, option_map}
 use Rattle.mysql_conversation.specs.Agreements.{Agreed}
 use Rattle.mysql_conversation.specs.Conversation.{Packet}
 use Rattle.mysql_conversation.specs.Machine.{Takes, entrance}
@@ -50,6 +50,10 @@ state_at s =
     else (if s.place == 13 then Some state.Events
     else (if s.place == 14 then Some state.Refusal
     else None))))))))))))))
+
+-- the numbers are of a state
+abbrev pub IsState : ConversationState → Type 0
+IsState s = IsSome (state_at s)
 
 -- a conversation that stands there has taken these packets, of these kinds
 abbrev pub TakenAt : Agreed → ConversationState → List Packet → Type 0

@@ -1,6 +1,6 @@
 //! Which packet comes next.
 
-ghost use Rattle.std.specs.Prelude.{◌≡◌, ◌↔◌, IfOk, IfSome, IfNone, OnErr, IsTrue, List, [], ◌∷◌, ◌++◌};
+ghost use Rattle.std.specs.Prelude.{◌≡◌, ◌↔◌, IfOk, IfSome, IfNone, IsSome, OnErr, IsTrue, List, [], ◌∷◌, ◌++◌};
 
 use crate::conversation_state::{ConversationState, numbers_of, state_at};
 use crate::expected::expects;
@@ -25,7 +25,7 @@ pub struct Conversation {
 
 impl Conversation {
     ghost use Rattle.mysql_conversation.specs.Conversation.{Packet, IsConversation, IsBeginning};
-    ghost use Rattle.mysql_conversation.specs.ConversationState.{TakenAt};
+    ghost use Rattle.mysql_conversation.specs.ConversationState.{IsState, TakenAt};
     ghost use Rattle.mysql_conversation.specs.History as history;
     ghost use Rattle.mysql_conversation.specs.History.{Taken, GoesOn};
     ghost use Rattle.mysql_conversation.specs.Taken.{packet};
@@ -55,6 +55,7 @@ impl Conversation {
         ensures agreed { IfSome result (λ c. history.agreed c ≡ agreed) }
         ensures opening { IfSome result (λ c. history.opening c ≡ state.now.opening) }
         ensures none { IfNone result ((items : List Packet) → TakenAt agreed state.now items → ⊥) }
+        ensures state { IsSome result ↔ IsState state.now }
     {
         let stands_at = state_at(state)?;
         Some(Conversation {
@@ -69,6 +70,7 @@ impl Conversation {
     pub fn state(&self) -> ConversationState
         ensures taken { (items : List Packet) → Taken self.now items → TakenAt (history.agreed self.now) result items }
         ensures opening { result.opening ≡ history.opening self.now }
+        ensures state { IsState result }
     {
         numbers_of(self.opening, self.state)
     }

@@ -1,8 +1,9 @@
 -- Which packet comes next, as C has it.
-use Rattle.std.specs.Prelude.{◌≡◌, ℕ, ◌==◌, List, [], ◌∷◌, ◌++◌, Bool, true, false, Option, Some, None, if◌then◌else◌}
+use Rattle.std.specs.Prelude.{◌≡◌, ℕ, ◌<◌, ◌==◌, List, [], ◌∷◌, ◌++◌, Bool, true, false, Option, Some, None, if◌then◌else◌}
 use Rattle.mysql_conversation.specs.Agreements.{Agreed}
 use Rattle.mysql_conversation.specs.Conversation.{Packet, IsBeginning, IsConversation}
 use Rattle.mysql_conversation.specs.ConversationState.{TakenAt}
+use Rattle.mysql_conversation.specs.ConversationState as stands
 use Rattle.mysql_conversation.specs.History as history
 use Rattle.mysql_conversation.specs.KindName.{index, name_of}
 use Rattle.mysql_conversation.specs.Taken.{packet}
@@ -44,6 +45,10 @@ state_of c o = record { opening = o; place = c.place; request = c.request; after
 -- these packets, of these kinds, are what it has taken
 abbrev pub Taken : CConversation → List Packet → Type 0
 Taken c items = (o : Opening) × (opening_of c.opening ≡ Some o) × TakenAt (agreed_of c) (state_of c o) items
+
+-- the numbers are of an opening, and of a state, which is the same from each
+abbrev pub IsState : CConversation → Type 0
+IsState c = (c.opening < 2) × stands.IsState (state_of c Login)
 
 -- the numbers are of no conversation
 abbrev pub IsNone : CConversation → Type 0

@@ -1,7 +1,7 @@
 //! Which packet comes next.
 #![tactic(auto)]
 
-ghost use Rattle.std.specs.Prelude.{◌≡◌, ◌≢◌, ◌↔◌, ◌<◌, ◌≤◌, ◌⊎◌, List, [], ◌∷◌, ◌++◌, IfSome, IfNone, Some};
+ghost use Rattle.std.specs.Prelude.{◌≡◌, ◌≢◌, ◌↔◌, ◌<◌, ◌≤◌, ◌⊎◌, List, [], ◌∷◌, ◌++◌, IfSome, IfNone, IsSome, Some};
 ghost use Rattle.mysql_conversation.specs.Conversation.{Packet};
 ghost use Rattle.mysql_conversation.specs.History as history;
 ghost use Rattle.mysql_packets_c.specs.Conversation as spec;
@@ -58,7 +58,8 @@ fn opening_of(opening: u8) -> Option<Opening>
 }
 
 fn number_of(opening: Opening) -> u8
-    ensures { result ≡ spec.number_of opening }
+    ensures value { result ≡ spec.number_of opening }
+    ensures below { result < 2 }
 {
     match opening {
         Opening::Login => 0,
@@ -80,6 +81,7 @@ fn side_of(side: u32) -> Option<Side>
 fn conversation_of(alloc: Global, numbers: &CConversation) -> Option<Conversation>
     ensures taken { IfSome result (λ c. spec.IsOf numbers.now c) }
     ensures none { IfNone result (spec.IsNone numbers.now) }
+    ensures state { IsSome result ↔ spec.IsState numbers.now }
 {
     let Some(opening) = opening_of(numbers.opening) else {
         return None;
@@ -100,6 +102,7 @@ fn keep(conversation: &Conversation, numbers: &mut CConversation)
     requires { history.agreed conversation.now ≡ spec.agreed_of numbers.old }
     ensures taken { (items : List Packet) → history.Taken conversation.now items → spec.Taken numbers.new items }
     ensures under { spec.IsUnder (history.agreed conversation.now) (Some (history.opening conversation.now)) numbers.new }
+    ensures state { spec.IsState numbers.new }
 {
     let state = conversation.state();
     numbers.opening = number_of(state.opening);
@@ -138,6 +141,7 @@ pub extern "C" fn myp_begin_conversation(
     out: &mut CConversation,
 ) -> u32
     ensures begun { opening < 2 → (result ≡ 0) × spec.Taken out.new [] × spec.IsUnder (spec.agreed_by capabilities mariadb_capabilities) (spec.opening_of opening) out.new }
+    ensures stands { result ≡ 0 → spec.IsState out.new }
     ensures refused { (opening < 2 → ⊥) → (result ≡ 3) × (out.new ≡ out.old) }
 {
     let Some(begins) = opening_of(opening) else {
@@ -164,8 +168,10 @@ pub extern "C" fn myp_next_packet(
     out: &mut CPacket,
 ) -> u32
     ensures taken { result ≡ 0 → spec.Goes conversation.old from payload.now conversation.new out.new }
+    ensures stands { result ≡ 0 → spec.IsState conversation.new }
     ensures refused { result ≡ 2 → spec.ComesNot conversation.old from payload.now }
     ensures invalid { result ≡ 3 → (2 ≤ from) ⊎ spec.IsNone conversation.old }
+    ensures state { (result ≡ 3) ↔ ((2 ≤ from) ⊎ (spec.IsState conversation.old → ⊥)) }
     ensures stays { result ≢ 0 → (conversation.new ≡ conversation.old) × (out.new ≡ out.old) }
     ensures code { (result ≡ 0) ⊎ ((result ≡ 2) ⊎ (result ≡ 3)) }
 {
@@ -195,6 +201,7 @@ pub extern "C" fn myp_is_at_rest(
     ensures rests { result ≡ 0 → (items : List Packet) → spec.Taken conversation.now items → (is_at_rest.new ≡ 1) ↔ spec.IsWhole conversation.now items }
     ensures is_flag { result ≡ 0 → is_at_rest.new < 2 }
     ensures invalid { result ≢ 0 → (result ≡ 3) × spec.IsNone conversation.now × (is_at_rest.new ≡ is_at_rest.old) }
+    ensures state { (result ≡ 3) ↔ (spec.IsState conversation.now → ⊥) }
 {
     let Some(stands) = conversation_of(alloc, conversation) else {
         return INVALID_INPUT;
