@@ -1,4 +1,5 @@
-/* One call of the library over many packets, each other than the one before it, for valgrind to count what runs in `measured`.
+/* One call of the library over many packets, each other than the one before it, for valgrind to count what runs in
+ * `measured`, or in a call itself.
  *
  * packets NAME COUNT    prints a sum over what was read; built with -DALLOCATIONS, how many blocks of memory a packet took */
 #include "mysql_packets.h"
@@ -247,6 +248,71 @@ static uint64_t text_row_written(const uint8_t *p, size_t n)
     return text_row(p, n) && !myp_write_text_row(row, COLUMNS, out, sizeof out, &written) ? written : 0;
 }
 
+/* an OK packet with session changes, as it was read */
+static uint64_t ok_written(const uint8_t *p, size_t n)
+{
+    static uint8_t out[512];
+    static myp_ok o = MYP_OK_INIT;
+    size_t written = 0;
+    if (myp_read_ok(p, n, MYP_OK_COMMON, CAPABILITIES, &o))
+        return 0;
+    return myp_write_ok(&o, MYP_OK_COMMON, CAPABILITIES, out, sizeof out, &written) ? 0 : written;
+}
+
+/* ---- how many bytes they take */
+
+static uint64_t header_length(const uint8_t *p, size_t n)
+{
+    size_t written = 0;
+    return myp_write_header((uint32_t)n, *p, NULL, 0, &written) == MYP_BUFFER_TOO_SMALL ? written : 0;
+}
+
+static uint64_t close_length(const uint8_t *p, size_t n)
+{
+    size_t written = 0;
+    return myp_write_close((uint32_t)n + *p, NULL, 0, &written) == MYP_BUFFER_TOO_SMALL ? written : 0;
+}
+
+static uint64_t error_length(const uint8_t *p, size_t n)
+{
+    static const uint8_t state[] = "HY000";
+    static myp_error e = MYP_ERROR_INIT;
+    size_t written = 0;
+    e.code = (uint16_t)n, e.sql_state.data = state, e.sql_state.len = 5, e.message.data = p, e.message.len = n;
+    return myp_write_error(&e, NULL, 0, &written) == MYP_BUFFER_TOO_SMALL ? written : 0;
+}
+
+static uint64_t ok_length(const uint8_t *p, size_t n)
+{
+    static myp_ok o = MYP_OK_INIT;
+    size_t written = 0;
+    if (myp_read_ok(p, n, MYP_OK_COMMON, CAPABILITIES, &o))
+        return 0;
+    return myp_write_ok(&o, MYP_OK_COMMON, CAPABILITIES, NULL, 0, &written) == MYP_BUFFER_TOO_SMALL ? written : 0;
+}
+
+static uint64_t binary_row_length(const uint8_t *p, size_t n)
+{
+    size_t written = 0;
+    return binary_row(p, n) && myp_write_binary_row(types, COLUMNS, row, COLUMNS, NULL, 0, &written) == MYP_BUFFER_TOO_SMALL ? written : 0;
+}
+
+static uint64_t text_row_length(const uint8_t *p, size_t n)
+{
+    size_t written = 0;
+    return text_row(p, n) && myp_write_text_row(row, COLUMNS, NULL, 0, &written) == MYP_BUFFER_TOO_SMALL ? written : 0;
+}
+
+static uint64_t execution_length(const uint8_t *p, size_t n)
+{
+    uint8_t as_long_data = 0;
+    size_t written = 0;
+    (void)n;
+    for (int i = 0; i < COLUMNS; i++)
+        row[i].kind = MYP_INT, memcpy(&row[i].number, p + 8 * i, 8);
+    return myp_write_execute(1, row, COLUMNS, NULL, 0, &written, &as_long_data) == MYP_BUFFER_TOO_SMALL ? written : 0;
+}
+
 static const struct operation {
     const char *name;
     void (*put)(struct batch *);
@@ -257,6 +323,10 @@ static const struct operation {
     { "binary_row", put_binary_row, binary_row }, { "text_row", put_text_row, text_row }, { "execution", put_ten_numbers, execution },
     { "header_written", put_statement, header_written }, { "close_written", put_statement, close_written }, { "error_written", put_error, error_written },
     { "binary_row_written", put_binary_row, binary_row_written }, { "text_row_written", put_text_row, text_row_written },
+    { "ok_written", put_ok_changes, ok_written }, { "header_length", put_statement, header_length },
+    { "close_length", put_statement, close_length }, { "error_length", put_error, error_length }, { "ok_length", put_ok_changes, ok_length },
+    { "binary_row_length", put_binary_row, binary_row_length }, { "text_row_length", put_text_row, text_row_length },
+    { "execution_length", put_ten_numbers, execution_length },
 };
 
 __attribute__((noinline)) uint64_t measured(uint64_t (*run)(const uint8_t *, size_t), const struct batch *b)
@@ -272,12 +342,13 @@ __attribute__((noinline)) uint64_t measured(uint64_t (*run)(const uint8_t *, siz
     return sum;
 }
 
-/* a number, 20 bytes and NULL in each row, in one request */
+/* a number, 20 bytes and NULL in each row, in one request; with no buffer, how many bytes it takes */
 __attribute__((noinline)) uint64_t measured_bulk(const myp_value *values, size_t rows, uint8_t *out, size_t size)
 {
     static const myp_column_type of[3] = { { MYP_TYPE_LONGLONG, 0 }, { MYP_TYPE_VAR_STRING, 0 }, { MYP_TYPE_LONGLONG, 0 } };
     size_t written = 0, taken = 0;
-    return myp_write_bulk(1, 0, 1 << 24, of, 3, values, 3 * rows, out, size, &written, &taken) || taken != rows ? 0 : written;
+    uint32_t code = myp_write_bulk(1, 0, 1 << 24, of, 3, values, 3 * rows, out, size, &written, &taken);
+    return code == (size ? MYP_OK : MYP_BUFFER_TOO_SMALL) && taken == (size ? rows : 0) ? written : 0;
 }
 
 int main(int argc, char **argv)
@@ -288,7 +359,7 @@ int main(int argc, char **argv)
     size_t count = strtoul(argv[2], NULL, 10);
     for (int i = 0; i < COLUMNS; i++)
         row[i] = (myp_value)MYP_VALUE_INIT;
-    if (!strcmp(argv[1], "bulk")) {
+    if (!strcmp(argv[1], "bulk") || !strcmp(argv[1], "bulk_length")) {
         static const char text[] = "abcdefghijklmnopqrstuvwxyzabcdefghijklmnop";
         size_t size = 64 * count + 64;
         myp_value *values = malloc(3 * count * sizeof *values);
@@ -305,7 +376,7 @@ int main(int argc, char **argv)
 #ifdef ALLOCATIONS
         before = blocks;
 #endif
-        sum = measured_bulk(values, count, out, size);
+        sum = strcmp(argv[1], "bulk") ? measured_bulk(values, count, NULL, 0) : measured_bulk(values, count, out, size);
     }
     for (size_t i = 0; i < sizeof operations / sizeof *operations; i++)
         if (!strcmp(argv[1], operations[i].name)) {

@@ -296,6 +296,41 @@ impl AsExecuteParam for CValue<'_> {
             _ => self.as_execute_param().append_sent(as_long_data, out),
         }
     }
+
+    #[inline(always)]
+    fn is_taken_by(&self, column_type: ColumnType, is_unsigned: bool) -> bool {
+        match self.kind {
+            1 => ValueRef::Bytes(self.bytes).is_taken_by(column_type, is_unsigned),
+            2 => ValueRef::Int(self.number.cast_signed()).is_taken_by(column_type, is_unsigned),
+            3 => ValueRef::UInt(self.number).is_taken_by(column_type, is_unsigned),
+            5 => ValueRef::Double(self.number).is_taken_by(column_type, is_unsigned),
+            _ => self
+                .as_execute_param()
+                .is_taken_by(column_type, is_unsigned),
+        }
+    }
+
+    #[inline(always)]
+    fn cell_len(&self, column_type: ColumnType) -> usize {
+        match self.kind {
+            1 => ValueRef::Bytes(self.bytes).cell_len(column_type),
+            2 => ValueRef::Int(self.number.cast_signed()).cell_len(column_type),
+            3 => ValueRef::UInt(self.number).cell_len(column_type),
+            5 => ValueRef::Double(self.number).cell_len(column_type),
+            _ => self.as_execute_param().cell_len(column_type),
+        }
+    }
+
+    #[inline(always)]
+    fn append_cell<O: Buffer>(&self, column_type: ColumnType, out: &mut O) {
+        match self.kind {
+            1 => ValueRef::Bytes(self.bytes).append_cell(column_type, out),
+            2 => ValueRef::Int(self.number.cast_signed()).append_cell(column_type, out),
+            3 => ValueRef::UInt(self.number).append_cell(column_type, out),
+            5 => ValueRef::Double(self.number).append_cell(column_type, out),
+            _ => self.as_execute_param().append_cell(column_type, out),
+        }
+    }
 }
 
 /// Writes `COM_STMT_EXECUTE` with the values: 0; 5, and how many bytes it takes; 4; or 3 where one of them is no value, and then

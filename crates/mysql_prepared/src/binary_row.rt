@@ -13,7 +13,6 @@ use crate::execute_param::AsExecuteParam;
 use crate::items::put_over;
 use crate::null_bitmap::NullBitmap;
 use crate::null_marks::{append_nulls, put_nulls};
-use crate::sent_params::typed_value;
 use crate::typed_column::TypedColumn;
 use mysql_values::{ServerSide, ValueKind, ValueRef, string_type};
 use mysql_wire::{Buffer, ColumnType, MySerialize};
@@ -67,7 +66,7 @@ fn takes_integer(column_type: ColumnType, is_unsigned: bool, n: i64) -> bool
 /// Whether the value is one that a column of the type is read as.
 // (in line, so that a value which is made for it is not put into memory; so are the next two)
 #[inline(always)]
-fn takes(column_type: ColumnType, is_unsigned: bool, value: &ValueRef<'_>) -> bool
+pub(crate) fn takes(column_type: ColumnType, is_unsigned: bool, value: &ValueRef<'_>) -> bool
     ensures { result ≡ spec.takes column_type is_unsigned (ref_content value.now) }
 {
     match value {
@@ -89,8 +88,7 @@ fn refused_at<C: TypedColumn, V: AsExecuteParam>(columns: &[C], values: &[V]) ->
 {
     for place in 0..values.len() {
         let column = &columns[place];
-        let value = typed_value(values[place].as_execute_param());
-        if !takes(column.value_type(), column.is_unsigned(), &value) {
+        if !values[place].is_taken_by(column.value_type(), column.is_unsigned()) {
             return Some(place);
         }
     }
@@ -114,7 +112,7 @@ fn integer_size(column_type: ColumnType) -> usize
 /// How many bytes a value takes in a column of the type, or `usize::MAX` where that is less.
 #[inline(always)]
 #[tactic(auto, unfolding(mysql_wire::specs::Writing::saturated))]
-fn cell_len(column_type: ColumnType, value: &ValueRef<'_>) -> usize
+pub(crate) fn cell_len(column_type: ColumnType, value: &ValueRef<'_>) -> usize
     ensures { result ≡ saturated (length (spec.bin_in column_type (ref_content value.now))) }
 {
     match value {
@@ -130,8 +128,7 @@ fn values_len<C: TypedColumn, V: AsExecuteParam>(columns: &[C], values: &[V]) ->
 {
     let mut total: usize = 0;
     for place in 0..values.len() {
-        let value = typed_value(values[place].as_execute_param());
-        total = total.saturating_add(cell_len(columns[place].value_type(), &value));
+        total = total.saturating_add(values[place].cell_len(columns[place].value_type()));
     }
     total
 }
@@ -153,7 +150,7 @@ fn append_integer<O: Buffer>(column_type: ColumnType, n: i64, out: &mut O)
 
 /// Writes a value in a column of the type.
 #[inline(always)]
-fn append_cell<O: Buffer>(column_type: ColumnType, value: &ValueRef<'_>, out: &mut O)
+pub(crate) fn append_cell<O: Buffer>(column_type: ColumnType, value: &ValueRef<'_>, out: &mut O)
     requires { length (O.held out.old) + length (spec.bin_in column_type (ref_content value.now)) ≤ O.capacity out.old }
     ensures items { O.held out.new ≡ O.held out.old ++ spec.bin_in column_type (ref_content value.now) }
     ensures after { O.after out.new ≡ drop (length (spec.bin_in column_type (ref_content value.now))) (O.after out.old) }
@@ -167,6 +164,8 @@ fn append_cell<O: Buffer>(column_type: ColumnType, value: &ValueRef<'_>, out: &m
 }
 
 /// Writes the values of a row.
+// (the buffer is moved to a local one, whose place in memory no write to its bytes can change: so those of a number are one
+// store)
 fn append_values<C: TypedColumn, V: AsExecuteParam, O: Buffer>(
     columns: &[C],
     values: &[V],
@@ -179,10 +178,11 @@ fn append_values<C: TypedColumn, V: AsExecuteParam, O: Buffer>(
     ensures capacity { O.capacity out.old ≤ O.capacity out.new }
     ensures kept { O.kept out.new ≡ O.kept out.old }
 {
+    let mut bytes = out.taken();
     for place in 0..values.len() {
-        let value = typed_value(values[place].as_execute_param());
-        append_cell(columns[place].value_type(), &value, out);
+        values[place].append_cell(columns[place].value_type(), &mut bytes);
     }
+    *out = bytes;
 }
 
 /// The values of a row, each in its column's width: one for each column.

@@ -3,12 +3,14 @@
 ghost use Rattle.std.specs.Prelude.{◌≡◌, ◌+◌, ◌++◌, ◌≤◌, length, drop};
 ghost use Rattle.mysql_wire.specs.Writing.{saturated};
 ghost use Rattle.mysql_values.specs.ParamType.{type_of};
+ghost use Rattle.mysql_prepared.specs.BinaryRow.{bin_in, takes};
 ghost use Rattle.mysql_prepared.specs.ExecuteParam as spec;
 ghost use Rattle.mysql_prepared.specs.NullMarks.{is_null};
 
+use crate::binary_row::{append_cell, cell_len, takes};
 use crate::sent_params::{append_sent, sent_len, typed_value};
 use mysql_values::{ParamType, Value, ValueRef};
-use mysql_wire::{Buffer, MySerialize};
+use mysql_wire::{Buffer, ColumnType, MySerialize};
 
 /// A parameter of an execution: a value, or one whose data was sent ahead.
 #[derive(Clone, Copy, Debug, PartialEq)]
@@ -68,6 +70,38 @@ pub trait AsExecuteParam {
     {
         append_sent(self.as_execute_param(), as_long_data, out);
     }
+
+    /// Whether it is a value that a column of the type takes, in a binary row.
+    #[inline(always)]
+    fn is_taken_by(&self, column_type: ColumnType, is_unsigned: bool) -> bool
+        ensures value { result ≡ takes column_type is_unsigned (spec.value_of (param self.now)) }
+    {
+        takes(
+            column_type,
+            is_unsigned,
+            &typed_value(self.as_execute_param()),
+        )
+    }
+
+    /// How many bytes it takes in such a column, or `usize::MAX` where that is less.
+    #[inline(always)]
+    fn cell_len(&self, column_type: ColumnType) -> usize
+        ensures value { result ≡ saturated (length (bin_in column_type (spec.value_of (param self.now)))) }
+    {
+        cell_len(column_type, &typed_value(self.as_execute_param()))
+    }
+
+    /// Writes it as such a column has it, for which there is capacity.
+    #[inline(always)]
+    fn append_cell<O: Buffer>(&self, column_type: ColumnType, out: &mut O)
+        requires { length (O.held out.old) + length (bin_in column_type (spec.value_of (param self.now))) ≤ O.capacity out.old }
+        ensures items { O.held out.new ≡ O.held out.old ++ bin_in column_type (spec.value_of (param self.now)) }
+        ensures after { O.after out.new ≡ drop (length (bin_in column_type (spec.value_of (param self.now)))) (O.after out.old) }
+        ensures capacity { O.capacity out.old ≤ O.capacity out.new }
+        ensures kept { O.kept out.new ≡ O.kept out.old }
+    {
+        append_cell(column_type, &typed_value(self.as_execute_param()), out);
+    }
 }
 
 impl AsExecuteParam for ExecuteParam<'_> {
@@ -117,6 +151,21 @@ impl AsExecuteParam for ValueRef<'_> {
             ValueRef::Bytes(_) if as_long_data => {}
             value => value.append(out),
         }
+    }
+
+    #[inline(always)]
+    fn is_taken_by(&self, column_type: ColumnType, is_unsigned: bool) -> bool {
+        takes(column_type, is_unsigned, self)
+    }
+
+    #[inline(always)]
+    fn cell_len(&self, column_type: ColumnType) -> usize {
+        cell_len(column_type, self)
+    }
+
+    #[inline(always)]
+    fn append_cell<O: Buffer>(&self, column_type: ColumnType, out: &mut O) {
+        append_cell(column_type, self, out);
     }
 }
 

@@ -5,12 +5,39 @@ ghost use Rattle.mysql_wire.specs.Writing.{saturated};
 
 use mysql_wire::{Buffer, MySerialize};
 
+/// A value whose bytes were counted before it is written.
+#[derive(Drop)]
+struct Counted<'a, P: MySerialize> {
+    value: &'a P,
+    len: usize,
+    ghost exact: { len ≡ length (P.bytes value.now) },
+}
+
+impl<P: MySerialize> MySerialize for Counted<'_, P> {
+    ghost bytes = { λ counted. P.bytes counted.value.now };
+
+    #[inline(always)]
+    #[tactic(auto, unfolding(mysql_wire::specs::Writing::saturated))]
+    fn defined_len(&self) -> usize {
+        self.len
+    }
+
+    #[inline(always)]
+    fn append<O: Buffer>(&self, out: &mut O) {
+        self.value.append(out);
+    }
+}
+
 /// Writes what takes as many bytes as there are over them.
 pub(crate) fn put_over<P: MySerialize>(value: &P, out: &mut [u8])
     requires { length out.old ≡ length (P.bytes value.now) }
     ensures { out.new ≡ P.bytes value.now }
 {
-    let _len = value.write_to_slice(out).unwrap();
+    let counted = Counted {
+        value,
+        len: out.len(),
+    };
+    let _len = counted.write_to_slice(out).unwrap();
 }
 
 /// The form in which the items of a list are written.
@@ -53,10 +80,14 @@ impl<T, F: ItemForm<T>> MySerialize for Items<'_, T, F> {
         total
     }
 
+    // (the buffer is moved to a local one, whose place in memory no write to its bytes can change: so those of a number are one
+    // store)
     #[tactic(auto, using(mysql_wire::proofs::After::after))]
     fn append<O: Buffer>(&self, out: &mut O) {
+        let mut bytes = out.taken();
         for item in self.items {
-            self.form.append_item(item, out);
+            self.form.append_item(item, &mut bytes);
         }
+        *out = bytes;
     }
 }

@@ -5,12 +5,12 @@ use Rattle.mysql_prepared.proofs.binary_row.append_values.Given as goal
 
 abbrev pub invariant-loop-place : goal.invariant-loop-place
 invariant-loop-place g l =
-    let bytes = values_bytes g.C.TypedColumn.type_of g.C.TypedColumn.unsigned in
+    let cells = values_bytes g.C.TypedColumn.type_of g.C.TypedColumn.unsigned in
     let held = contents g.V.AsExecuteParam.param in
     record {
       lengths : length l.columns ≡ length l.values;
-      left : g.O.Buffer.held l.out ++ bytes (drop l.place l.columns) (held (drop l.place l.values)) ≡ g.O.Buffer.held l.initial.out ++ bytes l.columns (held l.values);
-      after : drop (length (bytes (drop l.place l.columns) (held (drop l.place l.values)))) (g.O.Buffer.after l.out) ≡ drop (length (bytes l.columns (held l.values))) (g.O.Buffer.after l.initial.out);
-      capacity : g.O.Buffer.capacity l.initial.out ≤ g.O.Buffer.capacity l.out;
-      kept : g.O.Buffer.kept l.out ≡ g.O.Buffer.kept l.initial.out;
+      left : g.O.Buffer.held l.bytes ++ cells (drop l.place l.columns) (held (drop l.place l.values)) ≡ g.O.Buffer.held l.fn.out ++ cells l.columns (held l.values);
+      after : drop (length (cells (drop l.place l.columns) (held (drop l.place l.values)))) (g.O.Buffer.after l.bytes) ≡ drop (length (cells l.columns (held l.values))) (g.O.Buffer.after l.fn.out);
+      capacity : g.O.Buffer.capacity l.fn.out ≤ g.O.Buffer.capacity l.bytes;
+      kept : g.O.Buffer.kept l.bytes ≡ g.O.Buffer.kept l.fn.out;
     }

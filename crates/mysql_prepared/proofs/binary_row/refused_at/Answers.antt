@@ -1,15 +1,14 @@
 use Rattle.std.proofs.Common.{◌≡◌, ◌+◌, ◌<◌, ◌&&◌, Bool, false, add-one, length, drop, get_or, slice_get, Some, IsTrue, not, sym, ap, ◌∙◌, arith, true}
 use Rattle.std.specs.Prelude.{IsFalse}
 use Rattle.std.proofs.lemmas.Option.{slice_get-get_or}
-use Rattle.mysql_values.specs.ValueRef.{ref_content}
 use Rattle.mysql_values.specs.Value.{Content}
 use Rattle.mysql_prepared.specs.BinaryRow.{takes, takes_row}
 use Rattle.mysql_prepared.specs.ExecuteParam.{contents, value_of}
 use Rattle.mysql_prepared.proofs.RowBytes.{held-at, taken-next, taken_more}
 use Rattle.mysql_prepared.proofs.binary_row.refused_at.Goals as goal
 
-pub returns-then-not-takes-clause-some : goal.returns-then-not-takes-clause-some
-returns-then-not-takes-clause-some g c =
+pub returns-then-not-is_taken_by-clause-some : goal.returns-then-not-is_taken_by-clause-some
+returns-then-not-is_taken_by-clause-some g c =
     let held : g.row.V.Denot → Content = λ v. value_of (g.V.AsExecuteParam.param v) in
     let columns = c.args.columns.now in
     let values = c.args.values.now in
@@ -17,8 +16,7 @@ returns-then-not-takes-clause-some g c =
     let column = c.index-columns-place.result in
     let value = c.index-values-place.result in
     let within : i < length columns = omega (arith, c.loop-place-test.true, c.requires) in
-    let is : ref_content c.typed_value-value.result ≡ held value = c.typed_value-value.ensures.value ∙ ap value_of c.as_execute_param.ensures.value in
-    let test : takes (g.C.TypedColumn.type_of column) (g.C.TypedColumn.unsigned column) (held value) ≡ false = cc (is, c.takes.ensures, c.value_type.ensures, c.is_unsigned.ensures, c.if-not-takes.true) in
+    let test : takes (g.C.TypedColumn.type_of column) (g.C.TypedColumn.unsigned column) (held value) ≡ false = cc (c.is_taken_by.ensures.value, c.value_type.ensures, c.is_unsigned.ensures, c.if-not-is_taken_by.true) in
     record {
       refused = (
         column,
@@ -44,8 +42,7 @@ loop-place-preserved g c =
     let within : i < length columns = omega (arith, c.loop-place-test.true, c.requires) in
     let there : slice_get columns i ≡ Some column = slice_get-get_or columns i column within ∙ ap Some (sym c.index-columns-place.is) in
     let at = held-at held values i value (slice_get-get_or values i value c.loop-place-test.true ∙ ap Some (sym c.index-values-place.is)) in
-    let is : ref_content c.typed_value-value.result ≡ held value = c.typed_value-value.ensures.value ∙ ap value_of c.as_execute_param.ensures.value in
-    let one : IsTrue (takes (type_of column) (unsigned column) (held value)) = cc (is, c.takes.ensures, c.value_type.ensures, c.is_unsigned.ensures, c.if-not-takes.false) in
+    let one : IsTrue (takes (type_of column) (unsigned column) (held value)) = cc (c.is_taken_by.ensures.value, c.value_type.ensures, c.is_unsigned.ensures, c.if-not-is_taken_by.false) in
     let later = takes_row type_of unsigned (drop (i + 1) columns) (contents g.V.AsExecuteParam.param (drop (i + 1) values)) in
     record {
       lengths = k.lengths;

@@ -1,7 +1,6 @@
 use Rattle.std.proofs.Common.{◌≡◌, length, ap, ◌∙◌, arith}
 use Rattle.mysql_wire.specs.Writing.{saturated}
 use Rattle.mysql_values.specs.Value.{Content}
-use Rattle.mysql_values.specs.ValueRef.{ref_content}
 use Rattle.mysql_prepared.specs.ExecuteParam.{value_of}
 use Rattle.mysql_prepared.proofs.RowBytes.{length-next, bytes-end}
 use Rattle.mysql_prepared.proofs.binary_row.values_len.Goals as goal
@@ -12,12 +11,11 @@ loop-place-preserved g c =
     let held : g.row.V.Denot → Content = λ v. value_of (g.V.AsExecuteParam.param v) in
     let k = c.loop-place.invariant in
     let value = c.index-values-place.result in
-    let is : ref_content c.typed_value-value.result ≡ held value = c.typed_value-value.ensures.value ∙ ap value_of c.as_execute_param.ensures.value in
     let next = length-next g.C.TypedColumn.type_of g.C.TypedColumn.unsigned held c.args.columns.now c.args.values.now c.loop-place.place c.index-columns-place.result value k.lengths c.loop-place-test.true c.index-columns-place.is c.index-values-place.is in
-    let cell = c.cell_len.ensures in
+    let cell = c.cell_len.ensures.value in
     record {
       lengths = k.lengths;
-      left = rw (c.saturating_add-total.ensures, cell, c.value_type.ensures, is) (omega (arith, k.left, next));
+      left = rw (c.saturating_add-total.ensures, cell, c.value_type.ensures) (omega (arith, k.left, next));
       small = omega (arith, c.saturating_add-total.ensures);
     }
 

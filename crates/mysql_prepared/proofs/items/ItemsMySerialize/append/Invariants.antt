@@ -5,8 +5,8 @@ use Rattle.mysql_prepared.proofs.items.ItemsMySerialize.append.Given as goal
 abbrev pub invariant-loop-item : goal.invariant-loop-item
 invariant-loop-item g l =
     record {
-      items : g.O.Buffer.held l.out ≡ g.O.Buffer.held l.initial.out ++ flat_map (g.F.ItemForm.item_bytes l.self.form) (take l.item-index l.self.items.now);
-      after : g.O.Buffer.after l.out ≡ drop (length (flat_map (g.F.ItemForm.item_bytes l.self.form) (take l.item-index l.self.items.now))) (g.O.Buffer.after l.initial.out);
-      capacity : g.O.Buffer.capacity l.initial.out ≤ g.O.Buffer.capacity l.out;
-      kept : g.O.Buffer.kept l.out ≡ g.O.Buffer.kept l.initial.out;
+      items : g.O.Buffer.held l.bytes ≡ g.O.Buffer.held l.fn.out ++ flat_map (g.F.ItemForm.item_bytes l.self.form) (take l.item-index l.self.items.now);
+      after : g.O.Buffer.after l.bytes ≡ drop (length (flat_map (g.F.ItemForm.item_bytes l.self.form) (take l.item-index l.self.items.now))) (g.O.Buffer.after l.fn.out);
+      capacity : g.O.Buffer.capacity l.fn.out ≤ g.O.Buffer.capacity l.bytes;
+      kept : g.O.Buffer.kept l.bytes ≡ g.O.Buffer.kept l.fn.out;
     }
