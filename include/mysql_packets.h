@@ -585,9 +585,10 @@ uint32_t myp_write_long_data(uint32_t statement_id, uint16_t param_index, const 
 uint32_t myp_write_execute(uint32_t statement_id, const myp_value *values, size_t n, uint8_t *out, size_t size, size_t *written,
                            uint8_t *as_long_data);
 
-/* Flags of myp_write_bulk. */
+/* Flags of a bulk execution: myp_write_bulk is passed the first, and sets the second. */
 enum myp_bulk_flag {
-    MYP_SEND_UNIT_RESULTS = 64 /* each row is answered with a result of its own */
+    MYP_SEND_UNIT_RESULTS = 64,    /* each row is answered with a result of its own */
+    MYP_SEND_TYPES_TO_SERVER = 128 /* types stand before the rows */
 };
 
 /* Writes COM_STMT_BULK_EXECUTE with the first rows, as many as a request of max_allowed_packet - 4 bytes holds, and their
@@ -866,6 +867,18 @@ typedef struct myp_execution_head {
 /* Reads the first 10 bytes of COM_STMT_EXECUTE, which say which statement it is. MYP_UNEXPECTED_EOF of fewer;
  * MYP_INVALID_DATA of another first byte than MYP_COM_STMT_EXECUTE, or of another count of executions than 1. */
 uint32_t myp_read_execution_head(const uint8_t *packet, size_t len, myp_execution_head *out);
+
+/* Initializer: MYP_BULK_HEAD_INIT. */
+typedef struct myp_bulk_head {
+    myp_bytes rows;        /* all after the head: the types, where MYP_SEND_TYPES_TO_SERVER is set, and the rows */
+    uint32_t statement_id;
+    uint16_t flags;        /* of enum myp_bulk_flag */
+} myp_bulk_head;
+#define MYP_BULK_HEAD_INIT { MYP_BYTES_INIT, 0, 0 }
+
+/* Reads the seven bytes of COM_STMT_BULK_EXECUTE before its types and rows. MYP_UNEXPECTED_EOF of fewer; MYP_INVALID_DATA of another first
+ * byte than MYP_COM_STMT_BULK_EXECUTE. */
+uint32_t myp_read_bulk_head(const uint8_t *packet, size_t len, myp_bulk_head *out);
 
 /* A parameter, as a server knows it before an execution. */
 typedef struct myp_param {

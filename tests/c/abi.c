@@ -179,9 +179,9 @@ static void commands(void)
         { MYP_COM_QUERY, 9, "select 1", "", 0, 0, "\x03select 1" }, { MYP_COM_INIT_DB, 3, "db", "", 0, 0, "\x02" "db" }, { MYP_COM_PING, 1, "no", "", 9, 9, "\x0e" },
         { MYP_COM_FIELD_LIST, 5, "t", "a%", 0, 0, "\x04t\0a%" }, { MYP_COM_PROCESS_KILL, 5, "", "", 0x01020304, 0, "\x0c\x04\x03\x02\x01" },
         { MYP_COM_STMT_FETCH, 9, "", "", 1, 10, "\x1c\x01\0\0\0\x0a\0\0\0" }, { MYP_COM_SET_OPTION, 3, "", "", 1, 0, "\x1b\x01\0" }, { MYP_COM_REFRESH, 2, "", "", 4, 0, "\x07\x04" },
-        { MYP_COM_STMT_RESET, 5, "", "", 5, 0, "\x1a\x05\0\0\0" }, { MYP_COM_STMT_PREPARE, 3, "?", "", 0, 0, "\x16?" } };
+        { MYP_COM_STMT_RESET, 5, "", "", 5, 0, "\x1a\x05\0\0\0" }, { MYP_COM_STMT_PREPARE, 2, "?", "", 0, 0, "\x16?" } };
     for (size_t i = 0; i < sizeof sent / sizeof *sent; i++) {
-        size_t len = sent[i].code == MYP_COM_STMT_PREPARE ? 2 : sent[i].len;
+        size_t len = sent[i].len;
         myp_command c = { { (const uint8_t *)sent[i].text, strlen(sent[i].text) }, { (const uint8_t *)sent[i].wildcard, strlen(sent[i].wildcard) }, 0, sent[i].number, sent[i].rows, sent[i].code };
         CHECK(myp_write_command(&c, out, sizeof out, &n) == MYP_OK && n == len && !memcmp(out, sent[i].bytes, len));
         CHECK(myp_write_command(&c, out, len - 1, &n) == MYP_BUFFER_TOO_SMALL && n == len);
@@ -244,7 +244,7 @@ int main(void)
     CHECK(sizeof(myp_column) == 104 && sizeof(myp_ok) == 64 && sizeof(myp_error) == 56 && sizeof(myp_handshake) == 88 && sizeof(myp_statement) == 24 && sizeof(myp_column_count) == 24);
     CHECK(sizeof(myp_change) == 56 && sizeof(myp_login) == 96 && sizeof(myp_change_user) == 88 && sizeof(myp_ssl_request) == 16 && sizeof(myp_attribute) == 32 && sizeof(myp_bulk_rule) == 16);
     CHECK(sizeof(myp_replica) == 72 && sizeof(myp_interval) == 16 && sizeof(myp_sid) == 72 && sizeof(myp_ssl_request) == 16 && sizeof(myp_login_request) == 104);
-    CHECK(sizeof(myp_server_version) == 6 && sizeof(myp_extended_column) == 128 && sizeof(myp_column_attribute) == 24 && sizeof(myp_stream_packet) == 24 && sizeof(myp_table_dump) == 40 && sizeof(myp_semi_sync_ack) == 24 && sizeof(myp_command) == 56);
+    CHECK(sizeof(myp_server_version) == 6 && sizeof(myp_extended_column) == 128 && sizeof(myp_column_attribute) == 24 && sizeof(myp_stream_packet) == 24 && sizeof(myp_table_dump) == 40 && sizeof(myp_semi_sync_ack) == 24 && sizeof(myp_command) == 56 && sizeof(myp_bulk_head) == 24);
     CHECK(sizeof(myp_long_data) == 24 && sizeof(myp_execution_head) == 16 && sizeof(myp_param) == 3 && sizeof(myp_change_user_request) == 96 && sizeof(myp_dump) == 32 && sizeof(myp_gtid_dump) == 64 && sizeof(myp_sid_places) == 56 && sizeof(myp_execution) == 16 && sizeof(myp_conversation) == 32 && sizeof(myp_packet) == 16 && sizeof(myp_frame) == 24);
     headers();
     replies();

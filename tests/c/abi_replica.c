@@ -171,6 +171,16 @@ static void executions(void)
     CHECK(myp_read_execution(p, 10, params, 0, v, 0, t, 0, &e) == MYP_OK && e.used == 10 && e.sends_types == 0);
 }
 
+static void bulks(void)
+{
+    uint8_t p[32];
+    size_t len = hex(p, "fa0100000080000800000100000000000000"); /* bulk.txt: a row of one number */
+    myp_bulk_head b = MYP_BULK_HEAD_INIT;
+    CHECK(myp_read_bulk_head(p, len, &b) == MYP_OK && b.statement_id == 1 && b.flags == MYP_SEND_TYPES_TO_SERVER && b.rows.data == p + 7 && b.rows.len == len - 7);
+    CHECK(myp_read_bulk_head(p, 6, &b) == MYP_UNEXPECTED_EOF && myp_read_bulk_head(p + 1, len - 1, &b) == MYP_INVALID_DATA && b.statement_id == 1);
+    CHECK(myp_read_bulk_head(p, 7, &b) == MYP_OK && b.rows.len == 0);
+}
+
 static void dumps(void)
 {
     uint8_t p[200];
@@ -265,6 +275,7 @@ void replica_checks(void)
     asked();
     served();
     executions();
+    bulks();
     dumps();
     streams();
     changes();

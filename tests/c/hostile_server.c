@@ -42,6 +42,10 @@ static void read_served(const uint8_t *p, size_t len)
     myp_execution_head h;
     memset(&h, 7, sizeof h);
     CALL(h, myp_read_execution_head(p, len, &h));
+    myp_bulk_head b;
+    memset(&b, 7, sizeof b), b.rows = nothing;
+    CALL(b, myp_read_bulk_head(p, len, &b));
+    place("rows", b.rows);
     static const myp_value no_value = MYP_VALUE_INIT;
     myp_param params[6];
     myp_value v[6];

@@ -139,6 +139,14 @@ def inside():
     expect("bulk", [len(it) <= 1000 for it in session.write_bulk(statement, [(n, "x" * 100) for n in range(20)], 1004)], [True] * 3)
     expect("header", (session.write_header(5, 7), session.read_header(b"\5\0\0\7")), (b"\5\0\0\7", (5, 7)))
 
+    # replication
+    gtids = "3e11fa47-71ca-11e1-9e33-c80aa9429562:1-8:_x9:4-5,\na0b1c2d3-e4f5-6789-abcd-ef0123456789:10-11"
+    dump = session.write_dump(7, gtids)
+    asked = p.read("myp_read_gtid_dump", dump, into="myp_gtid_dump")
+    expect("dump by GTID set", (asked.server_id, asked.n_sids, asked.position, asked.flags), (7, 3, 4, p.MYP_DUMP_THROUGH_GTID))
+    expect("its set", session.read_gtid_set(dump), gtids)
+    refused("no GTID set", my.InvalidData, session.write_dump, 7, "3e11fa47:1")
+
     # an exception a code
     refused("no version", my.InvalidData, session.server_version, hello._replace(server_version="none"))
     refused("a cut packet", my.UnexpectedEof, session.read_ok, ok[:5])

@@ -45,10 +45,12 @@ STRUCTS = {
     "column_count": ("myp_column_count", "myp_read_column_count_with_metadata", "count"),
     "extended_column": ("myp_extended_column", "myp_read_extended_column", "metadata?"),
     "stream": ("myp_stream_packet", "myp_read_stream_packet", ""),
+    "command": ("myp_command", "myp_read_command", ""),
+    "com_bulk_ref": ("myp_bulk_head", "myp_read_bulk_head", "statement_id=stmt_id flags=bulk_flags rows"),
     "com_long_data": ("myp_long_data", "myp_read_long_data", "statement_id=stmt_id param_index content=data_ref"),
 }
 # what else a call is passed, of the words of the context
-GIVEN = {**dict.fromkeys(("err", "extended_column"), lambda caps: [int(caps) & 0xFFFFFFFF]),
+GIVEN = {**dict.fromkeys(("err", "extended_column", "command"), lambda caps: [int(caps) & 0xFFFFFFFF]),
          "column_count": lambda caps, mariadb: [int(caps) & 0xFFFFFFFF, int(mariadb) & 0xFFFFFFFF],
          "stream": lambda agreed: [int(agreed == "semi_sync")]}
 KINDS = {"ok": 0, "ok_end": 1, "ok_eof": 2, "ok_stream": 3}
@@ -123,6 +125,24 @@ def stream_words(packets, out, is_semi_sync):
     return [f"wants_ack={('no', 'yes')[out.wants_ack] if is_semi_sync else 'none'}", f"event={content}"]
 
 
+# what a command says, by the names of the reference decoder
+SAYS = {**dict.fromkeys(("COM_INIT_DB", "COM_CREATE_DB", "COM_DROP_DB", "COM_QUERY", "COM_STMT_PREPARE"), "text"), "COM_FIELD_LIST": "text=table wildcard",
+        "COM_REFRESH": "number=options", "COM_SHUTDOWN": "number=level", "COM_PROCESS_KILL": "number=id", "COM_SET_OPTION": "number=code",
+        **dict.fromkeys(("COM_STMT_CLOSE", "COM_STMT_RESET"), "number=stmt_id"), "COM_STMT_FETCH": "number=stmt_id rows=num_rows"}
+# what has a record that another call reads
+OTHERS = {f"COM_{it}" for it in ("QUIT STATISTICS PROCESS_INFO DEBUG PING RESET_CONNECTION CHANGE_USER BINLOG_DUMP TABLE_DUMP REGISTER_SLAVE STMT_EXECUTE "
+                                 "STMT_SEND_LONG_DATA BINLOG_DUMP_GTID STMT_BULK_EXECUTE").split()}
+
+
+def command_words(packets, out):
+    named = {number: name.removeprefix("MYP_") for name, number in packets.numbers.items() if name.startswith("MYP_COM_")}
+    name = named.get(out.code, "")
+    if name in SAYS:
+        # (a shutdown without a byte is one of 0)
+        return [name] + [field_word(packets, out, it) for it in SAYS[name].split() if name != "COM_SHUTDOWN" or out.number]
+    return [name] if name in OTHERS else ["unknown", f"code={out.code}", f"content={x(packets.text(out.text))}"]
+
+
 def value_word(packets, value):
     """A value as a word of an answer."""
     kinds = [getattr(packets, f"MYP_{it}") for it in "NULL BYTES INT UINT FLOAT DOUBLE DATE TIME".split()]
@@ -177,6 +197,7 @@ class Calls:
         words += [f"metadata_follows={('no', 'yes')[out.metadata_follows]}"] if word == "column_count" else []
         words += extended_words(p, out) if word == "extended_column" else []
         words += stream_words(p, out, *given) if word == "stream" else []
+        words += command_words(p, out) if word == "command" else []
         used = out.column.used if word == "extended_column" else getattr(out, "used", None)
         return code, words, used, self.outside(payload, places(p, out))
 
@@ -273,7 +294,7 @@ def rows_read():
         for it in vectors(probe):
             head, _, digits = it.request.rpartition(" ")
             if head.split(" ")[0] in READ and describer(it.request):
-                yield head, bytes.fromhex(digits)
+                yield head, bytes.fromhex("" if digits == "()" else digits)
 
 
 def main(library, count="100000"):

@@ -3,6 +3,7 @@ pub mod AuthMoreData
 pub mod AuthSwitch
 pub mod Bulk
 pub mod BulkCut
+pub mod BulkHead
 pub mod ChangeUser
 pub mod Close
 pub mod Code

@@ -9,6 +9,7 @@ mod auth_more_data;
 mod auth_switch;
 mod bulk;
 mod bulk_cut;
+mod bulk_head;
 mod change_user;
 mod close;
 mod code;

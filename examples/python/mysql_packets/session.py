@@ -152,6 +152,17 @@ class Session:
     def write_close(self, statement: Statement) -> bytes:
         return self.library.write("myp_write_close", statement.statement_id)
 
+    # ---- replication
+
+    def write_dump(self, server_id: int, gtid_set: str, file_name: str = "", position: int = 4) -> bytes:
+        """The request for a binary log without the transactions of a set, as `@@gtid_executed` has it."""
+        text = gtid_set.encode()
+        return self.library.write("myp_gtid_dump_from_text", server_id, 0, file_name.encode(), position, text, size=64 + 2 * len(text))
+
+    def read_gtid_set(self, dump: bytes) -> str:
+        """The set of such a request."""
+        return self.library.write("myp_gtid_dump_to_text", dump, size=64 + 4 * len(dump)).decode()
+
     def write_bulk(self, statement: Statement, rows: Sequence[Sequence[Value]], limit: int = LIMIT) -> Iterator[bytes]:
         """The fewest requests of at most `limit` - 4 bytes with all rows, which are of one length. Each is answered by an OK packet."""
         p, columns = self.library, len(rows[0]) if rows else 0
