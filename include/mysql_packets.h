@@ -41,7 +41,7 @@ enum myp_code {
     MYP_INVALID_DATA = 2,     /* the bytes spell no such packet */
     MYP_INVALID_INPUT = 3,    /* what was passed fits no packet */
     MYP_NO_MEMORY = 4,        /* memory was refused, and none is kept */
-    MYP_BUFFER_TOO_SMALL = 5, /* *written is how many bytes it takes, and nothing is written */
+    MYP_BUFFER_TOO_SMALL = 5, /* *written is how many bytes it takes, and nothing is written; of a reader: the places it fills are too few */
     MYP_ROW_TOO_LARGE = 6,    /* a row is too large for a request of its own */
     MYP_END = 7               /* nothing is left */
 };
@@ -256,6 +256,10 @@ typedef struct myp_auth_switch {
 /* Reads Protocol::AuthSwitchRequest: fe, the plugin's name up to a zero, and its data. MYP_INVALID_DATA of another first
  * byte; MYP_UNEXPECTED_EOF of no byte, or of a name without its zero. */
 uint32_t myp_read_auth_switch(const uint8_t *packet, size_t len, myp_auth_switch *out);
+
+/* Reads Protocol::AuthNextFactorRequest, under MYP_CLIENT_MULTI_FACTOR_AUTHENTICATION: 02, the plugin's name up to a zero, and its data. The
+ * codes of myp_read_auth_switch. */
+uint32_t myp_read_auth_next_factor(const uint8_t *packet, size_t len, myp_auth_switch *out);
 
 /* Reads Protocol::OldAuthSwitchRequest, the byte fe: the switch to mysql_old_password, of a client without MYP_CLIENT_PLUGIN_AUTH. A
  * switch to a named plugin begins with fe too: here *used is 1 and its packet is longer. MYP_INVALID_DATA of another byte;
@@ -673,13 +677,13 @@ typedef struct myp_change_user {
     const myp_attribute *attributes;
     size_t n_attributes;
     uint16_t character_set;
-    uint8_t has_auth_plugin; /* not 0: the plugin is named */
 } myp_change_user;
-#define MYP_CHANGE_USER_INIT { MYP_BYTES_INIT, MYP_BYTES_INIT, MYP_BYTES_INIT, MYP_BYTES_INIT, &myp_no_attribute, 0, 0, 0 }
+#define MYP_CHANGE_USER_INIT { MYP_BYTES_INIT, MYP_BYTES_INIT, MYP_BYTES_INIT, MYP_BYTES_INIT, &myp_no_attribute, 0, 0 }
 
-/* Writes COM_CHANGE_USER; of a name what stands before its first zero. MYP_INVALID_INPUT of attributes that are not UTF-8, and
+/* Writes COM_CHANGE_USER by what both sides can do: the plugin's name under MYP_CLIENT_PLUGIN_AUTH, the attributes under
+ * MYP_CLIENT_CONNECT_ATTRS. Of a name what stands before its first zero. MYP_INVALID_INPUT of attributes that are sent and not UTF-8, and
  * *written is 0; MYP_BUFFER_TOO_SMALL; MYP_NO_MEMORY as of myp_write_login. */
-uint32_t myp_write_change_user(const myp_change_user *change, uint8_t *out, size_t size, size_t *written);
+uint32_t myp_write_change_user(const myp_change_user *change, uint32_t capabilities, uint8_t *out, size_t size, size_t *written);
 
 /* Writes the request for the server's RSA key of caching_sha2_password, of one byte. MYP_BUFFER_TOO_SMALL. */
 uint32_t myp_write_public_key_request(uint8_t *out, size_t size, size_t *written);
@@ -910,7 +914,8 @@ uint32_t myp_read_execution(const uint8_t *packet, size_t len, const myp_param *
  * memory holds together, as where one is passed in many places, and *written is 0. */
 
 /* Writes OK_Packet or EOF_Packet of a kind of enum myp_ok_kind. An empty info or session state is absent, and what the kind or the
- * capabilities leave no place for is not written. MYP_INVALID_INPUT of a kind that is none. */
+ * capabilities leave no place for is not written. MYP_INVALID_INPUT of a kind that is none, and of a session state that has a place where
+ * status_flags lacks MYP_SERVER_SESSION_STATE_CHANGED. */
 uint32_t myp_write_ok(const myp_ok *packet, uint32_t kind, uint32_t capabilities, uint8_t *out, size_t size, size_t *written);
 
 /* Writes one change of the session: its type, and its data, length-encoded. The session_state of an OK packet is such changes, one
@@ -954,8 +959,9 @@ uint32_t myp_write_column_attribute(const myp_column_attribute *attribute, uint8
 /* Writes ProtocolText::ResultsetRow of n values. MYP_INVALID_INPUT of a value that is neither bytes nor NULL. */
 uint32_t myp_write_text_row(const myp_value *values, size_t n, uint8_t *out, size_t size, size_t *written);
 
-/* Writes ProtocolBinary::ResultsetRow, a value of each column, of a kind that the column is read as. MYP_INVALID_INPUT of a value
- * that is none or that its column's type can't spell, and where n is not n_columns. */
+/* Writes ProtocolBinary::ResultsetRow, a value of each column, of a kind that the column is read as. An unsigned number below 2^63 stands
+ * in a signed column too. MYP_INVALID_INPUT of a value that is none or that its column's type can't spell, as a number past the column's
+ * width or a MYP_DATE with a time of day in a column of DATE, and where n is not n_columns. */
 uint32_t myp_write_binary_row(const myp_column_type *columns, size_t n_columns, const myp_value *values, size_t n, uint8_t *out,
                               size_t size, size_t *written);
 
@@ -965,6 +971,9 @@ uint32_t myp_write_handshake(const myp_handshake *handshake, uint8_t *out, size_
 
 /* Writes Protocol::AuthSwitchRequest. MYP_INVALID_INPUT of a name with a zero. */
 uint32_t myp_write_auth_switch(const myp_auth_switch *request, uint8_t *out, size_t size, size_t *written);
+
+/* Writes Protocol::AuthNextFactorRequest, to a client with MYP_CLIENT_MULTI_FACTOR_AUTHENTICATION. MYP_INVALID_INPUT of a name with a zero. */
+uint32_t myp_write_auth_next_factor(const myp_auth_switch *request, uint8_t *out, size_t size, size_t *written);
 
 /* Writes Protocol::OldAuthSwitchRequest, of one byte. */
 uint32_t myp_write_old_auth_switch(uint8_t *out, size_t size, size_t *written);
@@ -1066,7 +1075,7 @@ enum myp_type {
     MYP_TYPE_DECIMAL = 0, MYP_TYPE_TINY = 1, MYP_TYPE_SHORT = 2, MYP_TYPE_LONG = 3, MYP_TYPE_FLOAT = 4, MYP_TYPE_DOUBLE = 5,
     MYP_TYPE_NULL = 6, MYP_TYPE_TIMESTAMP = 7, MYP_TYPE_LONGLONG = 8, MYP_TYPE_INT24 = 9, MYP_TYPE_DATE = 10,
     MYP_TYPE_TIME = 11, MYP_TYPE_DATETIME = 12, MYP_TYPE_YEAR = 13, MYP_TYPE_NEWDATE = 14, MYP_TYPE_VARCHAR = 15,
-    MYP_TYPE_BIT = 16, MYP_TYPE_TIMESTAMP2 = 17, MYP_TYPE_DATETIME2 = 18, MYP_TYPE_TIME2 = 19, MYP_TYPE_JSON = 245,
+    MYP_TYPE_BIT = 16, MYP_TYPE_TIMESTAMP2 = 17, MYP_TYPE_DATETIME2 = 18, MYP_TYPE_TIME2 = 19, MYP_TYPE_VECTOR = 242, MYP_TYPE_JSON = 245,
     MYP_TYPE_NEWDECIMAL = 246, MYP_TYPE_ENUM = 247, MYP_TYPE_SET = 248, MYP_TYPE_TINY_BLOB = 249, MYP_TYPE_MEDIUM_BLOB = 250,
     MYP_TYPE_LONG_BLOB = 251, MYP_TYPE_BLOB = 252, MYP_TYPE_VAR_STRING = 253, MYP_TYPE_STRING = 254, MYP_TYPE_GEOMETRY = 255
 };
@@ -1090,7 +1099,24 @@ enum myp_command_code {
     MYP_COM_SUBSCRIBE_GROUP_REPLICATION_STREAM = 33, MYP_COM_STMT_BULK_EXECUTE = 250, MYP_COM_MULTI = 254
 };
 
-/* A client of MariaDB leaves MYP_CLIENT_LONG_PASSWORD out: with it the server takes it for one of MySQL, and mariadb_capabilities are
+/* Both sides agree on the flags that both have, and a client sets none that myp_supported_capabilities() lacks: compression, and the
+ * attributes of queries. What a flag changes, and what the calls that read or write it say:
+ *
+ *   MYP_CLIENT_PROTOCOL_41                      an error's SQL state (myp_read_error), the status in OK packets and EOF packets (myp_read_ok)
+ *   MYP_CLIENT_SESSION_TRACK                    an OK packet's info and session state (myp_read_ok, myp_write_ok)
+ *   MYP_CLIENT_DEPRECATE_EOF                    the end of rows; there is none after definitions (myp_row_kind, myp_next_packet)
+ *   MYP_CLIENT_OPTIONAL_RESULTSET_METADATA      a byte before a count of columns, one after a statement (.._with_metadata)
+ *   MYP_CLIENT_PROGRESS                         reports of progress before an answer (myp_read_error)
+ *   MYP_CLIENT_MULTI_FACTOR_AUTHENTICATION      requests for a next factor (myp_read_auth_next_factor)
+ *   MYP_CLIENT_PLUGIN_AUTH, MYP_CLIENT_CONNECT_ATTRS, MYP_CLIENT_CONNECT_WITH_DB, MYP_CLIENT_PLUGIN_AUTH_LENENC_CLIENT_DATA
+ *                                               logins and changes of user (myp_write_login, myp_write_change_user)
+ *   MYP_CLIENT_SSL                              the caller's own TLS, after myp_write_ssl_request
+ *   MYP_CLIENT_LOCAL_FILES                      requests for a file (myp_read_local_infile)
+ *   MYP_MARIADB_CLIENT_EXTENDED_METADATA        columns (myp_read_extended_column)
+ *   MYP_MARIADB_CLIENT_CACHE_METADATA           a byte after a count of columns (myp_read_column_count)
+ *   MYP_MARIADB_CLIENT_STMT_BULK_OPERATIONS     bulk requests (myp_write_bulk); with _BULK_UNIT_RESULTS each row may have its own result
+ *
+ * A client of MariaDB leaves MYP_CLIENT_LONG_PASSWORD out: with it the server takes it for one of MySQL, and mariadb_capabilities are
  * ignored. */
 enum myp_capability {
     MYP_CLIENT_LONG_PASSWORD = 1, MYP_CLIENT_FOUND_ROWS = 2, MYP_CLIENT_LONG_FLAG = 4, MYP_CLIENT_CONNECT_WITH_DB = 8,
@@ -1110,6 +1136,10 @@ enum myp_mariadb_capability {
     MYP_MARIADB_CLIENT_PROGRESS = 1, MYP_MARIADB_CLIENT_COM_MULTI = 2, MYP_MARIADB_CLIENT_STMT_BULK_OPERATIONS = 4,
     MYP_MARIADB_CLIENT_EXTENDED_METADATA = 8, MYP_MARIADB_CLIENT_CACHE_METADATA = 16, MYP_MARIADB_CLIENT_BULK_UNIT_RESULTS = 32
 };
+
+/* The flags that both sides may agree on, for these calls to read and write each packet of the session. */
+uint32_t myp_supported_capabilities(void);
+uint32_t myp_supported_mariadb_capabilities(void);
 
 enum myp_status {
     MYP_SERVER_STATUS_IN_TRANS = 1, MYP_SERVER_STATUS_AUTOCOMMIT = 2, MYP_SERVER_MORE_RESULTS_EXISTS = 8,

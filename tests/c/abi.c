@@ -239,6 +239,7 @@ int main(void)
     }
     myp_bytes kept = { (const uint8_t *)"kept", 4 };
     CHECK(myp_code_text(MYP_END + 1, &kept) == MYP_INVALID_INPUT && myp_code_text(UINT32_MAX, &kept) == MYP_INVALID_INPUT && IS(kept, "kept"));
+    CHECK(myp_supported_capabilities() == (0x7fffffffu & ~(MYP_CLIENT_COMPRESS | MYP_CLIENT_ZSTD_COMPRESSION_ALGORITHM | MYP_CLIENT_QUERY_ATTRIBUTES)) && myp_supported_mariadb_capabilities() == (0x3fu & ~MYP_MARIADB_CLIENT_COM_MULTI));
     CHECK(myp_version() == MYP_VERSION && !strcmp(myp_error_text(MYP_OK), "done") && !strcmp(myp_error_text(MYP_END), "nothing is left"));
     CHECK(sizeof(myp_bytes) == 16 && sizeof(myp_value) == 40 && sizeof(myp_column_type) == 2 && sizeof(myp_header) == 8);
     CHECK(sizeof(myp_column) == 104 && sizeof(myp_ok) == 64 && sizeof(myp_error) == 56 && sizeof(myp_handshake) == 88 && sizeof(myp_statement) == 24 && sizeof(myp_column_count) == 24);

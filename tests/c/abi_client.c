@@ -117,14 +117,17 @@ static void logins(void)
     myp_change_user c = MYP_CHANGE_USER_INIT;
     c.user.data = (const uint8_t *)"u", c.user.len = 1, c.auth_plugin_data.data = (const uint8_t *)"AB", c.auth_plugin_data.len = 2;
     c.database.data = (const uint8_t *)"d", c.database.len = 1, c.character_set = 258;
-    c.auth_plugin_name.data = (const uint8_t *)"client_ed25519", c.auth_plugin_name.len = 14, c.has_auth_plugin = 1;
+    c.auth_plugin_name.data = (const uint8_t *)"client_ed25519", c.auth_plugin_name.len = 14;
+    const uint32_t named = MYP_CLIENT_PLUGIN_AUTH | MYP_CLIENT_CONNECT_ATTRS;
     a[1].value.data = (const uint8_t *)"v", c.attributes = a, c.n_attributes = 2;
-    CHECK(myp_write_change_user(&c, out, sizeof out, &n) == MYP_OK && is_hex(out, n, "11750002414264000201636c69656e745f656432353531390004016b0176"));
-    CHECK(myp_write_change_user(&c, out, 29, &n) == MYP_BUFFER_TOO_SMALL && n == 30);
+    CHECK(myp_write_change_user(&c, named, out, sizeof out, &n) == MYP_OK && is_hex(out, n, "11750002414264000201636c69656e745f656432353531390004016b0176"));
+    CHECK(myp_write_change_user(&c, named, out, 29, &n) == MYP_BUFFER_TOO_SMALL && n == 30);
     a[0].name.data = (const uint8_t *)"\x80";
-    CHECK(myp_write_change_user(&c, out, sizeof out, &n) == MYP_INVALID_INPUT && n == 0);
-    c.n_attributes = 0, c.has_auth_plugin = 0, c.character_set = 45, c.auth_plugin_data.len = c.database.len = 0, c.user.data = (const uint8_t *)"root", c.user.len = 4;
-    CHECK(myp_write_change_user(&c, out, sizeof out, &n) == MYP_OK && is_hex(out, n, "11726f6f740000002d0000"));
+    CHECK(myp_write_change_user(&c, named, out, sizeof out, &n) == MYP_INVALID_INPUT && n == 0);
+    CHECK(myp_write_change_user(&c, MYP_CLIENT_PLUGIN_AUTH, out, sizeof out, &n) == MYP_OK && is_hex(out, n, "11750002414264000201636c69656e745f6564323535313900"));
+    c.n_attributes = 0, c.character_set = 45, c.auth_plugin_data.len = c.database.len = 0, c.user.data = (const uint8_t *)"root", c.user.len = 4;
+    CHECK(myp_write_change_user(&c, MYP_CLIENT_CONNECT_ATTRS, out, sizeof out, &n) == MYP_OK && is_hex(out, n, "11726f6f740000002d0000"));
+    CHECK(myp_write_change_user(&c, 0, out, sizeof out, &n) == MYP_OK && is_hex(out, n, "11726f6f740000002d00"));
 }
 
 static void keys(void)

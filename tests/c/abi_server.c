@@ -35,6 +35,11 @@ static void written_answers(void)
     WRITES(eof, sizeof eof, myp_write_ok(&o, MYP_OK_OLD_EOF, 0, out, size, &n));
     WRITES(eof, sizeof eof, myp_write_ok(&o, MYP_OK_STREAM_END, 0, out, size, &n));
     REFUSES(myp_write_ok(&o, 4, 0, out, size, &n));
+    /* (a state that the status does not say, where it has a place) */
+    myp_ok unsaid = { 0, 0, MYP_BYTES_INIT, TEXT("\1\5\4name"), 0, 2, 0 };
+    REFUSES(myp_write_ok(&unsaid, MYP_OK_COMMON, MYP_CLIENT_SESSION_TRACK, out, size, &n));
+    REFUSES(myp_write_ok(&unsaid, MYP_OK_TERMINATOR, MYP_CLIENT_SESSION_TRACK, out, size, &n));
+    WRITES("\0\0\0\2\0\0\0", 7, myp_write_ok(&unsaid, MYP_OK_COMMON, 0, out, size, &n));
     static const uint8_t schema[] = { 0x00, 0x00, 0x00, 0x02, 0x40, 0x00, 0x00, 0x00, 0x0c, 0x01, 0x0a, 0x09, 'n', 'e', 'w', '_', 's', 'c', 'h', 'm', '1' };
     WRITES(schema + 9, sizeof schema - 9, myp_write_change(1, (const uint8_t *)"\x09new_schm1", 10, out, size, &n));
     REFUSES(myp_write_change(6, (const uint8_t *)"x", 1, out, size, &n));
@@ -163,8 +168,13 @@ static void written_connection(void)
     myp_auth_switch s = { TEXT("mysql_native_password"), TEXT("zQg4i6oNy6=rHN/>-b)A\0") }, seen = MYP_AUTH_SWITCH_INIT;
     WRITES(change, sizeof change, myp_write_auth_switch(&s, out, size, &n));
     CHECK(myp_read_auth_switch(sent, sizeof change, &seen) == MYP_OK && SAME(seen.plugin_name, s.plugin_name) && SAME(seen.plugin_data, s.plugin_data));
+    static const uint8_t factor[] = "\x02" "mysql_native_password\0zQg4i6oNy6=rHN/>-b)A";
+    WRITES(factor, sizeof factor, myp_write_auth_next_factor(&s, out, size, &n));
+    CHECK(myp_read_auth_next_factor(sent, sizeof factor, &seen) == MYP_OK && SAME(seen.plugin_name, s.plugin_name) && SAME(seen.plugin_data, s.plugin_data));
+    CHECK(myp_read_auth_next_factor(change, sizeof change, &seen) == MYP_INVALID_DATA && myp_read_auth_next_factor(NULL, 0, &seen) == MYP_UNEXPECTED_EOF);
     s.plugin_name = s.plugin_data;
     REFUSES(myp_write_auth_switch(&s, out, size, &n));
+    REFUSES(myp_write_auth_next_factor(&s, out, size, &n));
     myp_bytes more = MYP_BYTES_INIT, file = MYP_BYTES_INIT;
     WRITES("\x01\x04", 2, myp_write_auth_more_data((const uint8_t *)"\x04", 1, out, size, &n));
     CHECK(myp_read_auth_more_data(sent, 2, &more) == MYP_OK && IS(more, "\x04"));

@@ -118,6 +118,7 @@ static void read_all(size_t len)
     place("file", file), place("more data", more);
     myp_auth_switch w = MYP_AUTH_SWITCH_INIT;
     CALL(w, myp_read_auth_switch(p, len, &w));
+    CALL(w, myp_read_auth_next_factor(p, len, &w));
     place("plugin", w.plugin_name), place("plugin's data", w.plugin_data);
     myp_column c;
     memset(&c, 7, sizeof c), c.schema = c.table = c.org_table = c.name = c.org_name = none;

@@ -105,6 +105,7 @@ static void connection(void)
     static const myp_auth_switch s = { TEXT("mysql_native_password"), TEXT("zQg4i6oNy6=rHN/>-b)A\0") };
     EACH(0, myp_write_handshake(&h, out, sizeof out, &n));
     EACH(0, myp_write_auth_switch(&s, out, sizeof out, &n));
+    EACH(0, myp_write_auth_next_factor(&s, out, sizeof out, &n));
     EACH(0, myp_write_auth_more_data((const uint8_t *)"\4", 1, out, sizeof out, &n));
     EACH(0, myp_write_public_key((const uint8_t *)"-----BEGIN", 10, out, sizeof out, &n));
 }
@@ -133,7 +134,7 @@ static void requests(void)
     myp_login l = MYP_LOGIN_INIT;
     l.user = text, l.auth_plugin_name = text, l.has_auth_plugin = 1, l.attributes = attributes, l.n_attributes = 2, l.has_attributes = 1;
     myp_change_user c = MYP_CHANGE_USER_INIT;
-    c.user = text, c.has_auth_plugin = 1, c.auth_plugin_name = text, c.attributes = attributes, c.n_attributes = 2;
+    c.user = text, c.auth_plugin_name = text, c.attributes = attributes, c.n_attributes = 2;
     myp_sid sid = MYP_SID_INIT;
     sid.intervals = intervals, sid.n_intervals = 2, sid.tag[0] = 'a', sid.tag_length = 1;
     myp_ssl_request r = MYP_SSL_REQUEST_INIT;
@@ -141,7 +142,7 @@ static void requests(void)
     EACH(0, myp_write_execute(1, v, 4, out, sizeof out, &n, &as_long_data));
     EACH(0, myp_write_bulk(1, 0, 1 << 20, types, 2, v, 4, out, sizeof out, &n, &rows));
     EACH(0, myp_write_login(&l, out, sizeof out, &n));
-    EACH(0, myp_write_change_user(&c, out, sizeof out, &n));
+    EACH(0, myp_write_change_user(&c, MYP_CLIENT_PLUGIN_AUTH | MYP_CLIENT_CONNECT_ATTRS, out, sizeof out, &n));
     EACH(0, myp_write_ssl_request(&r, out, sizeof out, &n));
     EACH(0, myp_write_public_key_request(out, sizeof out, &n));
     EACH(0, myp_write_register_replica(&replica, out, sizeof out, &n));

@@ -30,6 +30,7 @@ STRUCTS = {
     "handshake": ("myp_handshake", "myp_read_handshake", "protocol_version server_version connection_id scramble_1 scramble_2? capabilities default_collation "
                   "status_flags mariadb_capabilities=mariadb auth_plugin_name?"),
     "auth_switch": ("myp_auth_switch", "myp_read_auth_switch", "plugin_data=raw"),
+    "next_factor": ("myp_auth_switch", "myp_read_auth_next_factor", "plugin_data=raw"),
     "stmt": ("myp_statement", "myp_read_statement", "statement_id num_columns num_params warning_count"),
     "column": ("myp_column", "myp_read_column", COLUMN),
     **{word: ("myp_ok", "myp_read_ok", "affected_rows last_insert_id? status_flags warnings info? session_state=session_state_info?")

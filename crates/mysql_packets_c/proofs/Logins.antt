@@ -1,5 +1,5 @@
 -- A login and a change of user end in their attributes.
-use Rattle.std.proofs.Common.{◌≡◌, ◌≢◌, ℕ, Bool, true, not, List, [], ◌++◌, Option, Some, None, if◌then◌else◌, append_assoc, sym, ap, ◌∙◌}
+use Rattle.std.proofs.Common.{◌≡◌, ◌≢◌, ℕ, Bool, true, false, not, List, [], ◌++◌, Option, Some, None, if◌then◌else◌, append_assoc, sym, ap, ◌∙◌}
 use Rattle.std.proofs.lemmas.Bool.{ne_eqb}
 use Rattle.std.proofs.lemmas.List.{append-nil}
 use Rattle.mysql_auth.proofs.ResponseEnds.{response-ends}
@@ -8,17 +8,24 @@ use Rattle.mysql_auth.specs.ComChangeUser.{change_user, last_part, more_data, se
 use Rattle.mysql_auth.specs.HandshakeResponse.{before_attributes, connect_attributes, handshake_response}
 use Rattle.mysql_auth.specs.declared.handshake_response.HandshakeResponse.{HandshakeResponse}
 use Rattle.mysql_packets_c.specs.Attributes.{merged_pairs}
-use Rattle.mysql_packets_c.specs.ChangeUser.{change_before, change_of}
+use Rattle.mysql_packets_c.specs.ChangeUser.{change_of, change_with, sends_attributes}
 use Rattle.mysql_packets_c.specs.Given.{if_set, is_set}
 use Rattle.mysql_packets_c.specs.Login.{with_attributes}
 use Rattle.mysql_packets_c.specs.declared.change_user.CChangeUser.{CChangeUser}
 use Rattle.mysql_packets_c.specs.declared.login.CLogin.{CLogin}
 
-pub change-ends : (c : CChangeUser) → change_user.bytes (change_before c) ++ (attributes.bytes (merged_pairs c.attributes.now) ++ []) ≡ change_user.bytes (change_of c)
+ends : (n : ℕ) (c : CChangeUser) (pairs : List Attribute) → change_user.bytes (change_with n c None) ++ (attributes.bytes pairs ++ []) ≡ change_user.bytes (change_with n c (Some pairs))
 unfolding change_user last_part more_data sent_attributes
-change-ends c = simp (append-nil, append_assoc)
+ends n c pairs = simp (append-nil, append_assoc)
 
-pub ruleset changes = (change-ends)
+pub change-ends : (n : ℕ) (c : CChangeUser) → sends_attributes n ≡ true
+    → change_user.bytes (change_with n c None) ++ (attributes.bytes (merged_pairs c.attributes.now) ++ []) ≡ change_user.bytes (change_of n c)
+change-ends n c sent = ends n c (merged_pairs c.attributes.now) ∙ ap (λ (b : Bool). change_user.bytes (change_with n c (if b then Some (merged_pairs c.attributes.now) else None))) (sym sent)
+
+pub change-without : (n : ℕ) (c : CChangeUser) → sends_attributes n ≡ false → change_of n c ≡ change_with n c None
+change-without n c none = ap (λ (b : Bool). change_with n c (if b then Some (merged_pairs c.attributes.now) else None)) none
+
+pub ruleset changes = (change-ends, change-without)
 
 -- a number that is set
 set-is : (n : ℕ) → n ≢ 0 → is_set n ≡ true

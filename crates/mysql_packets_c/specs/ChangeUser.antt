@@ -1,26 +1,39 @@
 -- The change of a session's user, as C has it.
-use Rattle.std.specs.Prelude.{Some, ◌≡◌, ◌<◌, ℕ, ◌==◌, List, Option, None, if◌then◌else◌, option_map}
+use Rattle.std.specs.Prelude.{Some, ◌≡◌, ◌<◌, ℕ, Bool, not, ◌||◌, ◌==◌, List, Option, None, if◌then◌else◌, option_map}
+use Rattle.mysql_wire.specs.FlagMasks.{CLIENT_CONNECT_ATTRS, CLIENT_PLUGIN_AUTH}
+use Rattle.mysql_wire.specs.Flags.{has}
+use Rattle.mysql_auth.specs.Attributes.{Attribute}
 use Rattle.mysql_auth.specs.AuthPlugin.{plugin_of}
+use Rattle.mysql_auth.specs.declared.auth_plugin.AuthPlugin.{AuthPlugin}
 use Rattle.mysql_auth.specs.ComChangeUser as change
 use Rattle.mysql_auth.specs.declared.com_change_user.ComChangeUser.{ComChangeUser}
 use Rattle.mysql_auth.specs.declared.com_change_user_more_data.ComChangeUserMoreData.{ComChangeUserMoreData}
-use Rattle.mysql_packets_c.specs.Attributes.{attributes_in, merged_pairs}
+use Rattle.mysql_packets_c.specs.Attributes.{are_texts, attributes_in, merged_pairs}
 use Rattle.mysql_packets_c.specs.Given.{SaysSent, if_set}
 use Rattle.mysql_packets_c.specs.Input.{used_of}
 use Rattle.mysql_packets_c.specs.declared.change_user.CChangeUser.{CChangeUser}
 use Rattle.mysql_packets_c.specs.declared.change_user.CUserChange.{CUserChange}
 
--- what stands after the database
-abbrev pub more_of : CChangeUser → ComChangeUserMoreData
-more_of c = change.more_data_of c.character_set (if_set c.has_auth_plugin (plugin_of c.auth_plugin_name.now)) (Some (merged_pairs c.attributes.now))
+-- the plugin, which a session with CLIENT_PLUGIN_AUTH names
+abbrev pub named_plugin : ℕ → CChangeUser → Option AuthPlugin
+named_plugin capabilities c = if has capabilities CLIENT_PLUGIN_AUTH then Some (plugin_of c.auth_plugin_name.now) else None
 
--- the packet of these without the attributes, which are written after it
-abbrev pub change_before : CChangeUser → ComChangeUser
-change_before c = change.change_of c.user.now c.auth_plugin_data.now c.database.now (Some (change.more_data_of c.character_set (if_set c.has_auth_plugin (plugin_of c.auth_plugin_name.now)) None))
+-- the attributes, which a session with CLIENT_CONNECT_ATTRS has
+abbrev pub sends_attributes : ℕ → Bool
+sends_attributes capabilities = has capabilities CLIENT_CONNECT_ATTRS
 
--- the packet of these
-abbrev pub change_of : CChangeUser → ComChangeUser
-change_of c = change.change_of c.user.now c.auth_plugin_data.now c.database.now (Some (more_of c))
+-- the packet of these with such attributes
+abbrev pub change_with : ℕ → CChangeUser → Option (List Attribute) → ComChangeUser
+change_with capabilities c attributes =
+    change.change_of c.user.now c.auth_plugin_data.now c.database.now (Some (change.more_data_of c.character_set (named_plugin capabilities c) attributes))
+
+-- the packet of these, by the flags of both sides
+abbrev pub change_of : ℕ → CChangeUser → ComChangeUser
+change_of capabilities c = change_with capabilities c (if sends_attributes capabilities then Some (merged_pairs c.attributes.now) else None)
+
+-- whether the attributes that are sent are UTF-8
+abbrev pub change_texts : ℕ → CChangeUser → Bool
+change_texts capabilities c = not (sends_attributes capabilities) || are_texts c.attributes.now
 
 -- the character set, the plugin and the attributes, where they were sent
 abbrev pub more_held : CUserChange → Option ComChangeUserMoreData

@@ -43,5 +43,6 @@ pub mod SslRequest
 pub mod Statement
 pub mod StreamPacket
 pub mod StreamPlaces
+pub mod Supported
 pub mod TableDump
 pub mod Value

@@ -1,6 +1,7 @@
 -- An OK packet, as C has it.
 use Rattle.std.specs.Option.{unwrap_or}
-use Rattle.std.specs.Prelude.{◌≡◌, ℕ, List}
+use Rattle.std.specs.Prelude.{◌≡◌, ℕ, Bool, not, ◌&&◌, nat_lt, List, length}
+use Rattle.mysql_wire.specs.FlagMasks.{CLIENT_SESSION_TRACK, SERVER_SESSION_STATE_CHANGED}
 use Rattle.mysql_replies.specs.OkKind.{common_ok_body, terminator_body, old_eof_body, body_of}
 use Rattle.mysql_replies.specs.OkPacket as ok
 use Rattle.mysql_replies.specs.OkPacket.{packet_of}
@@ -10,7 +11,7 @@ use Rattle.mysql_replies.specs.declared.ok_kind.OldEofPacket.{OldEofPacket}
 use Rattle.mysql_replies.specs.declared.ok_kind.ResultSetTerminator.{ResultSetTerminator}
 use Rattle.mysql_replies.specs.declared.ok_packet.OkPacket.{OkPacket}
 use Rattle.mysql_replies.specs.declared.ok_packet.OkPacketDeserializer.{OkPacketDeserializer}
-use Rattle.mysql_wire.specs.Flags.{CapabilityFlags}
+use Rattle.mysql_wire.specs.Flags.{CapabilityFlags, has}
 use Rattle.mysql_wire.specs.Form.{Form}
 use Rattle.mysql_packets_c.specs.Input.{used_of}
 use Rattle.mysql_packets_c.specs.declared.ok_packet.COk.{COk}
@@ -40,6 +41,11 @@ pub record HoldsOk (p : OkPacket) (taken : ℕ) (out : COk) : Type 0 where
 
 abbrev pub IsOk : {T : Type 0} → List ℕ → OkPacketDeserializer T → List ℕ → COk → Type 0
 IsOk packet d rest out = HoldsOk (ok.packet d) (used_of packet rest) out
+
+-- A state is given, and the kind and the flags have a place for it, but the status does not say that one follows.
+abbrev pub loses_state : ℕ → ℕ → COk → Bool
+loses_state kind capabilities c =
+    nat_lt kind 2 && has capabilities CLIENT_SESSION_TRACK && not (has c.status_flags SERVER_SESSION_STATE_CHANGED) && nat_lt 0 (length c.session_state.now)
 
 -- the packet of these fields: an insert id of 0, an empty info and an empty state are absent
 abbrev pub ok_of : COk → OkPacket

@@ -5,7 +5,7 @@ ghost use Rattle.std.specs.Prelude.{◌≡◌, ◌≢◌, IsFalse, IsTrue};
 ghost use Rattle.mysql_auth.specs.AuthSwitchRequest.{auth_switch_request, switch_to};
 ghost use Rattle.mysql_auth.specs.OldAuthSwitchRequest.{old_auth_switch_request, the_request};
 ghost use Rattle.mysql_auth.specs.PluginName.{has_zero};
-ghost use Rattle.mysql_packets_c.specs.AuthSwitch.{IsSwitch};
+ghost use Rattle.mysql_packets_c.specs.AuthSwitch.{IsRequest};
 ghost use Rattle.mysql_packets_c.specs.Code.{ReadsInto};
 ghost use Rattle.mysql_packets_c.specs.Input.{IsUsed};
 ghost use Rattle.mysql_packets_c.specs.Output.{Puts, PutsUnlessTooLong};
@@ -33,7 +33,7 @@ pub extern "C" fn myp_read_auth_switch<'a>(
     packet: &'a [u8],
     out: &mut CAuthSwitch<'a>,
 ) -> u32
-    ensures value { ReadsInto IsSwitch ((auth_switch_request.form tt).reads packet.now) result out.old out.new }
+    ensures value { ReadsInto IsRequest ((auth_switch_request.form tt).reads packet.now) result out.old out.new }
 {
     match read::<AuthSwitchRequestRef<'a>>(alloc, packet, ()) {
         Ok((found, _used)) => {

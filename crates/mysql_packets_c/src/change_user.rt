@@ -1,10 +1,9 @@
 //! The change of a session's user.
 #![tactic(auto, using(crate::proofs::Codes::codes))]
 
-ghost use Rattle.std.specs.Prelude.{false, ◌≡◌, true, option_map};
+ghost use Rattle.std.specs.Prelude.{false, ◌≡◌, true, option_map, None};
 ghost use Rattle.mysql_auth.specs.ComChangeUser as change;
 ghost use Rattle.mysql_auth.specs.ComChangeUser.{change_user};
-ghost use Rattle.mysql_packets_c.specs.Attributes.{are_texts};
 ghost use Rattle.mysql_packets_c.specs.ChangeUser as spec;
 ghost use Rattle.mysql_packets_c.specs.ChangeUser.{change_of};
 ghost use Rattle.mysql_packets_c.specs.Code.{ReadsInto};
@@ -12,12 +11,13 @@ ghost use Rattle.mysql_packets_c.specs.Output.{PutsUnlessTooLong};
 
 use crate::attributes::{CAttribute, WrittenAttributes, are_texts};
 use crate::code::{INVALID_INPUT, OK, code_of};
+use crate::flags::capabilities_of;
 use crate::input::read;
-use crate::login::{plugin_named, sent, sent_attributes};
+use crate::login::{sent, sent_attributes};
 use crate::output::put_packet;
 use bitflags::Flags;
 use mysql_auth::{
-    ComChangeUser, ComChangeUserMoreData, ComChangeUserMoreDataRef, ComChangeUserRef,
+    AuthPlugin, ComChangeUser, ComChangeUserMoreData, ComChangeUserMoreDataRef, ComChangeUserRef,
 };
 use mysql_wire::{CapabilityFlags, parts};
 use std::alloc::Global;
@@ -98,16 +98,40 @@ pub struct CChangeUser<'a> {
     pub auth_plugin_name: &'a [u8],
     pub attributes: &'a [CAttribute<'a>],
     pub character_set: u16,
-    pub has_auth_plugin: u8,
+}
+
+/// The plugin, where a session names one.
+fn plugin_of<'a>(capabilities: CapabilityFlags, change: &CChangeUser<'a>) -> Option<AuthPlugin<'a>>
+    ensures { result ≡ spec.named_plugin capabilities.0 change.now }
+{
+    if capabilities.contains(CapabilityFlags::CLIENT_PLUGIN_AUTH) {
+        Some(AuthPlugin::from_bytes(change.auth_plugin_name))
+    } else {
+        None
+    }
+}
+
+/// Whether a session has attributes.
+fn sends_attributes(capabilities: CapabilityFlags) -> bool
+    ensures { result ≡ spec.sends_attributes capabilities.0 }
+{
+    capabilities.contains(CapabilityFlags::CLIENT_CONNECT_ATTRS)
+}
+
+/// Whether the attributes that are sent are UTF-8.
+fn change_texts(capabilities: CapabilityFlags, change: &CChangeUser<'_>) -> bool
+    ensures { result ≡ spec.change_texts capabilities.0 change.now }
+{
+    !sends_attributes(capabilities) || are_texts(change.attributes)
 }
 
 /// The packet of a change, without attributes.
-fn packet_of<'a>(change: &CChangeUser<'a>) -> ComChangeUser<'a>
-    ensures { result ≡ spec.change_before change.now }
+fn packet_of<'a>(capabilities: CapabilityFlags, change: &CChangeUser<'a>) -> ComChangeUser<'a>
+    ensures { result ≡ spec.change_with capabilities.0 change.now None }
 {
-    let more = ComChangeUserMoreData::new(change.character_set).with_auth_plugin(plugin_named(
-        change.has_auth_plugin,
-        change.auth_plugin_name,
+    let more = ComChangeUserMoreData::new(change.character_set).with_auth_plugin(plugin_of(
+        capabilities,
+        change,
     ));
     ComChangeUser::new()
         .with_user(Some(CowSlice::Borrowed(change.user)))
@@ -116,22 +140,28 @@ fn packet_of<'a>(change: &CChangeUser<'a>) -> ComChangeUser<'a>
         .with_more_data(Some(more))
 }
 
-/// Writes `COM_CHANGE_USER`: 0; 5, and how many bytes it takes; 4; or 3 where attributes are not UTF-8.
+/// Writes `COM_CHANGE_USER` by what both sides can do: 0; 5, and how many bytes it takes; 4; or 3 where attributes that are sent are not
+/// UTF-8.
 #[tactic(auto, using(crate::proofs::Codes::codes, crate::proofs::Logins::changes))]
 #[unsafe(no_mangle)]
 pub extern "C" fn myp_write_change_user(
     change: &CChangeUser<'_>,
+    capabilities: u32,
     out: &mut [u8],
     written: &mut usize,
 ) -> u32
-    ensures refused { are_texts change.now.attributes.now ≡ false → (result ≡ 3) × (out.new ≡ out.old) × (written.new ≡ 0) }
-    ensures value { are_texts change.now.attributes.now ≡ true → PutsUnlessTooLong (change_user.bytes (change_of change.now)) result out.old out.new written.new }
+    ensures refused { spec.change_texts capabilities change.now ≡ false → (result ≡ 3) × (out.new ≡ out.old) × (written.new ≡ 0) }
+    ensures value { spec.change_texts capabilities change.now ≡ true → PutsUnlessTooLong (change_user.bytes (change_of capabilities change.now)) result out.old out.new written.new }
 {
-    if !are_texts(change.attributes) {
+    let capabilities = capabilities_of(capabilities);
+    if !change_texts(capabilities, change) {
         *written = 0;
         return INVALID_INPUT;
     }
-    let before = packet_of(change);
+    let before = packet_of(capabilities, change);
+    if !sends_attributes(capabilities) {
+        return put_packet(&before, out, written);
+    }
     let attributes = WrittenAttributes(change.attributes);
     put_packet(&parts!(before, attributes), out, written)
 }

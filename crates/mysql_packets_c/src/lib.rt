@@ -6,6 +6,7 @@
 
 mod attributes;
 mod auth_more_data;
+mod auth_next_factor;
 mod auth_switch;
 mod bulk;
 mod bulk_cut;
@@ -49,6 +50,7 @@ mod sid_block;
 mod ssl_request;
 mod statement;
 mod stream_packet;
+mod supported;
 mod table_dump;
 mod text;
 mod value;

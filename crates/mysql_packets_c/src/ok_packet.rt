@@ -1,10 +1,10 @@
 //! OK packets, by their kinds.
 #![tactic(auto, using(crate::proofs::Codes::codes))]
 
-ghost use Rattle.std.specs.Prelude.{◌≡◌, ◌<◌, ◌≢◌};
+ghost use Rattle.std.specs.Prelude.{◌≡◌, ◌<◌, ◌≢◌, true, false};
 ghost use Rattle.mysql_replies.specs.OkPacketSent.{common_bytes, eof_bytes, terminator_bytes};
 ghost use Rattle.mysql_packets_c.specs.Code.{ReadsInto};
-ghost use Rattle.mysql_packets_c.specs.OkPacket.{HoldsOk, IsOk, common_ok, old_eof, stream_end, terminator, ok_of};
+ghost use Rattle.mysql_packets_c.specs.OkPacket.{HoldsOk, IsOk, common_ok, loses_state, old_eof, stream_end, terminator, ok_of};
 ghost use Rattle.mysql_packets_c.specs.Output.{PutsUnlessTooLong};
 
 use crate::code::{INVALID_INPUT, OK, code_of};
@@ -16,7 +16,7 @@ use mysql_replies::{
     CommonOkPacket, NetworkStreamTerminator, OkPacket, OkPacketLayout, OkPacketRef,
     OkPacketRefDeserializer, OkPacketSerializer, OldEofPacket, ResultSetTerminator,
 };
-use mysql_wire::CapabilityFlags;
+use mysql_wire::{CapabilityFlags, StatusFlags};
 use std::alloc::Global;
 use std::borrow::CowSlice;
 
@@ -193,7 +193,18 @@ fn write_kind<T: OkPacketLayout>(
     put_packet(&sent, out, written)
 }
 
-/// Writes `OK_Packet` or `EOF_Packet` of a kind: 0; 5, and how many bytes it takes; 4; or 3, where there is no such kind.
+/// Whether a state is given that has a place, but for the status, which does not say that one follows.
+fn loses_state(packet: &COk<'_>, kind: u32, capabilities: CapabilityFlags) -> bool
+    ensures { result ≡ loses_state kind capabilities.0 packet.now }
+{
+    kind < 2
+        && capabilities.contains(CapabilityFlags::CLIENT_SESSION_TRACK)
+        && !status_of(packet.status_flags).contains(StatusFlags::SERVER_SESSION_STATE_CHANGED)
+        && 0 < packet.session_state.len()
+}
+
+/// Writes `OK_Packet` or `EOF_Packet` of a kind: 0; 5, and how many bytes it takes; 4; or 3, where there is no such kind, or of a state that
+/// the status does not say.
 ///
 /// What a kind or the flags leave no place for is not written. An empty info and an empty state are absent.
 #[unsafe(no_mangle)]
@@ -205,12 +216,17 @@ pub extern "C" fn myp_write_ok(
     written: &mut usize,
 ) -> u32
     ensures unknown { 3 < kind → (result ≡ 3) × (out.new ≡ out.old) × (written.new ≡ 0) }
-    ensures common { kind ≡ 0 → PutsUnlessTooLong (common_bytes (record { 0 = capabilities; 1 = record {} }) (ok_of packet.now)) result out.old out.new written.new }
-    ensures terminator { kind ≡ 1 → PutsUnlessTooLong (terminator_bytes (record { 0 = capabilities; 1 = record {} }) (ok_of packet.now)) result out.old out.new written.new }
+    ensures loses { loses_state kind capabilities packet.now ≡ true → (result ≡ 3) × (out.new ≡ out.old) × (written.new ≡ 0) }
+    ensures common { kind ≡ 0 → loses_state kind capabilities packet.now ≡ false → PutsUnlessTooLong (common_bytes (record { 0 = capabilities; 1 = record {} }) (ok_of packet.now)) result out.old out.new written.new }
+    ensures terminator { kind ≡ 1 → loses_state kind capabilities packet.now ≡ false → PutsUnlessTooLong (terminator_bytes (record { 0 = capabilities; 1 = record {} }) (ok_of packet.now)) result out.old out.new written.new }
     ensures old_eof { kind ≡ 2 → PutsUnlessTooLong (eof_bytes (ok_of packet.now)) result out.old out.new written.new }
     ensures stream_end { kind ≡ 3 → PutsUnlessTooLong (eof_bytes (ok_of packet.now)) result out.old out.new written.new }
 {
     let capabilities = capabilities_of(capabilities);
+    if loses_state(packet, kind, capabilities) {
+        *written = 0;
+        return INVALID_INPUT;
+    }
     match kind {
         0 => write_kind::<CommonOkPacket>(packet, capabilities, out, written),
         1 => write_kind::<ResultSetTerminator>(packet, capabilities, out, written),

@@ -1,0 +1,13 @@
+-- The flags under which some call reads and some writes each packet of a session: all that there are but compression, and the attributes of
+-- queries, under which executions have another layout.
+use Rattle.std.specs.Prelude.{ℕ}
+use Rattle.bitflags.specs.Sets.{without}
+use Rattle.mysql_wire.specs.FlagMasks.{CLIENT_COMPRESS, CLIENT_ZSTD_COMPRESSION_ALGORITHM, CLIENT_QUERY_ATTRIBUTES, MARIADB_CLIENT_COM_MULTI}
+
+-- the flags of enum myp_capability, but for these
+abbrev pub supported : ℕ
+supported = without 32 (without 32 (without 32 0x7fff_ffff CLIENT_COMPRESS) CLIENT_ZSTD_COMPRESSION_ALGORITHM) CLIENT_QUERY_ATTRIBUTES
+
+-- the flags of enum myp_mariadb_capability, but for COM_MULTI
+abbrev pub supported_of_mariadb : ℕ
+supported_of_mariadb = without 32 0x3f MARIADB_CLIENT_COM_MULTI
