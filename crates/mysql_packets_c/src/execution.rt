@@ -4,7 +4,8 @@
 ghost use Rattle.std.specs.List.{list_all};
 ghost use Rattle.std.specs.Prelude.{◌≡◌, ◌≢◌, ◌<◌, ◌≤◌, ◌⊎◌, ◌+◌, ◌++◌, Ok, Err, IfErr, IfOk, IsOk, OnOk, drop, length, take, false, true};
 ghost use Rattle.mysql_prepared.specs.ExecuteHead.{execute_head};
-ghost use Rattle.mysql_prepared.specs.ExecuteParam.{Sent, param_bytes, param_of};
+ghost use Rattle.mysql_prepared.specs.BinaryRow.{bin_in};
+ghost use Rattle.mysql_prepared.specs.ExecuteParam.{Sent, param_bytes, param_of, value_of};
 ghost use Rattle.mysql_values.specs.ValueRef.{ref_content};
 ghost use Rattle.mysql_prepared.specs.ExecuteRead.{HasNoParam, RefusesParam};
 ghost use Rattle.mysql_packets_c.specs.Code.{ReadsInto};
@@ -241,6 +242,33 @@ fn append_number<O: Buffer>(number: ValueRef<'_>, as_long_data: bool, out: &mut 
     *out = taken;
 }
 
+/// Writes a value of any kind, for which there is capacity.
+// (by a call, so that what writes numbers and bytes stays small enough to be in line)
+#[inline(never)]
+#[tactic(auto, unfolding(crate::specs::Value::value_content))]
+fn append_any<O: Buffer>(value: &CValue<'_>, as_long_data: bool, out: &mut O)
+    requires { length (O.held out.old) + length (param_bytes as_long_data (spec.param value.now)) ≤ O.capacity out.old }
+    ensures items { O.held out.new ≡ O.held out.old ++ param_bytes as_long_data (spec.param value.now) }
+    ensures after { O.after out.new ≡ drop (length (param_bytes as_long_data (spec.param value.now))) (O.after out.old) }
+    ensures capacity { O.capacity out.old ≤ O.capacity out.new }
+    ensures kept { O.kept out.new ≡ O.kept out.old }
+{
+    value.as_execute_param().append_sent(as_long_data, out);
+}
+
+/// The same of a value in a column of a binary row.
+#[inline(never)]
+#[tactic(auto, unfolding(crate::specs::Value::value_content))]
+fn append_any_cell<O: Buffer>(value: &CValue<'_>, column_type: ColumnType, out: &mut O)
+    requires { length (O.held out.old) + length (bin_in column_type (value_of (spec.param value.now))) ≤ O.capacity out.old }
+    ensures items { O.held out.new ≡ O.held out.old ++ bin_in column_type (value_of (spec.param value.now)) }
+    ensures after { O.after out.new ≡ drop (length (bin_in column_type (value_of (spec.param value.now)))) (O.after out.old) }
+    ensures capacity { O.capacity out.old ≤ O.capacity out.new }
+    ensures kept { O.kept out.new ≡ O.kept out.old }
+{
+    value.as_execute_param().append_cell(column_type, out);
+}
+
 /// The kind alone says the rest, so that a value is made once, where its bytes are written.
 #[tactic(auto, unfolding(crate::specs::Value::value_content))]
 impl AsExecuteParam for CValue<'_> {
@@ -293,7 +321,7 @@ impl AsExecuteParam for CValue<'_> {
             2 => append_number(ValueRef::Int(self.number.cast_signed()), as_long_data, out),
             3 => append_number(ValueRef::UInt(self.number), as_long_data, out),
             5 => append_number(ValueRef::Double(self.number), as_long_data, out),
-            _ => self.as_execute_param().append_sent(as_long_data, out),
+            _ => append_any(self, as_long_data, out),
         }
     }
 
@@ -328,7 +356,7 @@ impl AsExecuteParam for CValue<'_> {
             2 => ValueRef::Int(self.number.cast_signed()).append_cell(column_type, out),
             3 => ValueRef::UInt(self.number).append_cell(column_type, out),
             5 => ValueRef::Double(self.number).append_cell(column_type, out),
-            _ => self.as_execute_param().append_cell(column_type, out),
+            _ => append_any_cell(self, column_type, out),
         }
     }
 }

@@ -15,7 +15,7 @@ use crate::null_bitmap::NullBitmap;
 use crate::null_marks::{append_nulls, put_nulls};
 use crate::typed_column::TypedColumn;
 use mysql_values::{ServerSide, ValueKind, ValueRef, string_type};
-use mysql_wire::{Buffer, ColumnType, MySerialize};
+use mysql_wire::{Buffer, ColumnType, IntRepr, LeU64, MySerialize};
 use thiserror::Error;
 
 /// Why a binary row is not written.
@@ -143,6 +143,11 @@ fn append_integer<O: Buffer>(column_type: ColumnType, n: i64, out: &mut O)
     ensures capacity { O.capacity out.old ≤ O.capacity out.new }
     ensures kept { O.kept out.new ≡ O.kept out.old }
 {
+    // (of a known width it is one store)
+    if let ColumnType::MYSQL_TYPE_LONGLONG = column_type {
+        <LeU64 as IntRepr>::append(n.cast_unsigned(), out);
+        return;
+    }
     let bytes = n.cast_unsigned().to_le_bytes();
     let size = integer_size(column_type);
     out.push_bytes(&bytes[..size]);
