@@ -242,6 +242,20 @@ fn append_number<O: Buffer>(number: ValueRef<'_>, as_long_data: bool, out: &mut 
     *out = taken;
 }
 
+/// The same in a column of a binary row.
+#[inline(always)]
+fn append_number_cell<O: Buffer>(number: ValueRef<'_>, column_type: ColumnType, out: &mut O)
+    requires { length (O.held out.old) + length (bin_in column_type (ref_content number)) ≤ O.capacity out.old }
+    ensures items { O.held out.new ≡ O.held out.old ++ bin_in column_type (ref_content number.entry) }
+    ensures after { O.after out.new ≡ drop (length (bin_in column_type (ref_content number.entry))) (O.after out.old) }
+    ensures capacity { O.capacity out.old ≤ O.capacity out.new }
+    ensures kept { O.kept out.new ≡ O.kept out.old }
+{
+    let mut taken = out.taken();
+    number.append_cell(column_type, &mut taken);
+    *out = taken;
+}
+
 /// Writes a value of any kind, for which there is capacity.
 // (by a call, so that what writes numbers and bytes stays small enough to be in line)
 #[inline(never)]
@@ -286,7 +300,11 @@ impl AsExecuteParam for CValue<'_> {
 
     #[inline(always)]
     fn is_null(&self) -> bool {
-        self.kind == 0 || !is_value(self)
+        match self.kind {
+            1 | 2 | 3 | 5 | 7 => false,
+            4 | 6 => !is_value(self),
+            _ => true,
+        }
     }
 
     #[inline(always)]
@@ -353,9 +371,9 @@ impl AsExecuteParam for CValue<'_> {
     fn append_cell<O: Buffer>(&self, column_type: ColumnType, out: &mut O) {
         match self.kind {
             1 => ValueRef::Bytes(self.bytes).append_cell(column_type, out),
-            2 => ValueRef::Int(self.number.cast_signed()).append_cell(column_type, out),
-            3 => ValueRef::UInt(self.number).append_cell(column_type, out),
-            5 => ValueRef::Double(self.number).append_cell(column_type, out),
+            2 => append_number_cell(ValueRef::Int(self.number.cast_signed()), column_type, out),
+            3 => append_number_cell(ValueRef::UInt(self.number), column_type, out),
+            5 => append_number_cell(ValueRef::Double(self.number), column_type, out),
             _ => append_any_cell(self, column_type, out),
         }
     }
