@@ -17,3 +17,4 @@ pub mod Logins
 pub mod AttributeKinds
 pub mod Versions
 pub mod GtidTexts
+pub mod QueryAttributes
