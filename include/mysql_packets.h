@@ -845,6 +845,19 @@ uint32_t myp_read_change_user_request(const uint8_t *packet, size_t len, uint32_
  * MYP_INVALID_DATA of a bad length. */
 uint32_t myp_read_command(const uint8_t *packet, size_t len, uint32_t capabilities, myp_command *out);
 
+/* Initializer: MYP_QUERY_ATTRIBUTE_INIT. */
+typedef struct myp_query_attribute {
+    myp_bytes name;
+    myp_value value;
+    uint8_t column_type; /* of enum myp_type, as it was sent */
+    uint8_t is_unsigned; /* 1 where it was sent as unsigned, else 0 */
+} myp_query_attribute;
+#define MYP_QUERY_ATTRIBUTE_INIT { MYP_BYTES_INIT, MYP_VALUE_INIT, 0, 0 }
+
+/* Reads one attribute of a COM_QUERY of a session with MYP_CLIENT_QUERY_ATTRIBUTES, the first being at place 0. Each call reads the query anew.
+ * MYP_END where there are fewer; MYP_UNEXPECTED_EOF and MYP_INVALID_DATA of what is no such query. */
+uint32_t myp_read_query_attribute(const uint8_t *packet, size_t len, size_t place, myp_query_attribute *out);
+
 /* Reads COM_STMT_CLOSE, of 5 bytes. MYP_UNEXPECTED_EOF of fewer; MYP_INVALID_DATA of another first byte than MYP_COM_STMT_CLOSE. */
 uint32_t myp_read_close(const uint8_t *packet, size_t len, uint32_t *statement_id);
 

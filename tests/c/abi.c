@@ -245,7 +245,7 @@ int main(void)
     CHECK(sizeof(myp_column) == 104 && sizeof(myp_ok) == 64 && sizeof(myp_error) == 56 && sizeof(myp_handshake) == 88 && sizeof(myp_statement) == 24 && sizeof(myp_column_count) == 24);
     CHECK(sizeof(myp_change) == 56 && sizeof(myp_login) == 96 && sizeof(myp_change_user) == 88 && sizeof(myp_ssl_request) == 16 && sizeof(myp_attribute) == 32 && sizeof(myp_bulk_rule) == 16);
     CHECK(sizeof(myp_replica) == 72 && sizeof(myp_interval) == 16 && sizeof(myp_sid) == 72 && sizeof(myp_ssl_request) == 16 && sizeof(myp_login_request) == 104);
-    CHECK(sizeof(myp_server_version) == 6 && sizeof(myp_extended_column) == 128 && sizeof(myp_column_attribute) == 24 && sizeof(myp_stream_packet) == 24 && sizeof(myp_table_dump) == 40 && sizeof(myp_semi_sync_ack) == 24 && sizeof(myp_command) == 56 && sizeof(myp_bulk_head) == 24);
+    CHECK(sizeof(myp_server_version) == 6 && sizeof(myp_extended_column) == 128 && sizeof(myp_column_attribute) == 24 && sizeof(myp_stream_packet) == 24 && sizeof(myp_table_dump) == 40 && sizeof(myp_semi_sync_ack) == 24 && sizeof(myp_command) == 56 && sizeof(myp_bulk_head) == 24 && sizeof(myp_query_attribute) == 64);
     CHECK(sizeof(myp_long_data) == 24 && sizeof(myp_execution_head) == 16 && sizeof(myp_param) == 3 && sizeof(myp_change_user_request) == 96 && sizeof(myp_dump) == 32 && sizeof(myp_gtid_dump) == 64 && sizeof(myp_sid_places) == 56 && sizeof(myp_execution) == 16 && sizeof(myp_conversation) == 32 && sizeof(myp_packet) == 16 && sizeof(myp_frame) == 24);
     headers();
     replies();

@@ -107,7 +107,17 @@ static void asked(void)
     CHECK(myp_read_command((const uint8_t *)"\x1b\x01\0", 3, 0, &c) == MYP_OK && c.code == MYP_COM_SET_OPTION && c.number == 1 && c.rows == 0);
     CHECK(myp_read_command((const uint8_t *)"\x08", 1, 0, &c) == MYP_OK && c.code == MYP_COM_SHUTDOWN && c.number == 0 && myp_read_command((const uint8_t *)"\x08\x10", 2, 0, &c) == MYP_OK && c.number == 16);
     CHECK(myp_read_command((const uint8_t *)"\x1a\x05\0\0\0", 5, 0, &c) == MYP_OK && c.code == MYP_COM_STMT_RESET && c.number == 5 && myp_read_command((const uint8_t *)"\x19\x06\0\0\0", 5, 0, &c) == MYP_OK && c.code == MYP_COM_STMT_CLOSE && c.number == 6);
-    size_t len = hex(p, "12040000000100070000006d62696e2e303030303031");
+    size_t len = hex(p, "0303010401fe00026e310300026e320600026e3302763107000000444f2031"); /* commands.txt: three attributes */
+    myp_query_attribute a = MYP_QUERY_ATTRIBUTE_INIT;
+    CHECK(myp_read_query_attribute(p, len, 0, &a) == MYP_OK && IS(a.name, "n1") && a.column_type == MYP_TYPE_STRING && a.is_unsigned == 0 && a.value.kind == MYP_BYTES && IS(a.value.bytes, "v1"));
+    CHECK(myp_read_query_attribute(p, len, 1, &a) == MYP_OK && IS(a.name, "n2") && a.column_type == MYP_TYPE_LONG && a.value.kind == MYP_INT && a.value.number == 7 && a.value.bytes.len == 0);
+    CHECK(myp_read_query_attribute(p, len, 2, &a) == MYP_OK && IS(a.name, "n3") && a.column_type == MYP_TYPE_NULL && a.value.kind == MYP_NULL);
+    CHECK(myp_read_query_attribute(p, len, 3, &a) == MYP_END && myp_read_query_attribute(p, len, SIZE_MAX, &a) == MYP_END && IS(a.name, "n3"));
+    CHECK(myp_read_query_attribute(p, 20, 0, &a) == MYP_UNEXPECTED_EOF && myp_read_query_attribute(p + 1, len - 1, 0, &a) == MYP_INVALID_DATA && IS(a.name, "n3"));
+    CHECK(myp_read_command(p, len, MYP_CLIENT_QUERY_ATTRIBUTES, &c) == MYP_OK && IS(c.text, "DO 1") && c.used == len);
+    len = hex(p, "03010100010880002a00000000000000");
+    CHECK(myp_read_query_attribute(p, len, 0, &a) == MYP_OK && a.name.len == 0 && a.column_type == MYP_TYPE_LONGLONG && a.is_unsigned == 1 && a.value.kind == MYP_UINT && a.value.number == 42);
+    len = hex(p, "12040000000100070000006d62696e2e303030303031");
     CHECK(myp_read_command(p, len, 0, &c) == MYP_OK && c.code == MYP_COM_BINLOG_DUMP && c.text.len == 0 && c.number == 0 && c.used == len);
     CHECK(myp_read_command((const uint8_t *)"\x20" "ab", 3, 0, &c) == MYP_OK && c.code == MYP_COM_CLONE && IS(c.text, "ab"));
     CHECK(myp_read_command(NULL, 0, 0, &c) == MYP_UNEXPECTED_EOF && myp_read_command(p, 10, 0, &c) == MYP_UNEXPECTED_EOF && myp_read_command((const uint8_t *)"\x04t", 2, 0, &c) == MYP_UNEXPECTED_EOF && c.code == MYP_COM_CLONE);

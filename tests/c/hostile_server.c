@@ -1,6 +1,27 @@
 /* What a server reads. */
 #include "hostile.h"
 
+/* the attributes of a query, to the last or to a fault */
+static void read_query(const uint8_t *p, size_t len)
+{
+    myp_query_attribute t;
+    memset(&t, 7, sizeof t), t.name = t.value.bytes = nothing;
+    for (size_t i = 0; i < 3; i++) {
+        myp_query_attribute before;
+        memcpy(&before, &t, sizeof t);
+        uint32_t code = myp_read_query_attribute(p, len, i, &t);
+        done++;
+        if (code) {
+            refused++;
+            if (code > MYP_INVALID_DATA && code != MYP_END)
+                lost("myp_read_query_attribute", code);
+            changed += memcmp(&before, &t, sizeof t) != 0;
+            break;
+        }
+        place("name", t.name), place("value", t.value.bytes);
+    }
+}
+
 /* what a server reads */
 static void read_served(const uint8_t *p, size_t len)
 {
@@ -118,6 +139,7 @@ static void read_replica(const uint8_t *p, size_t len)
 
 void read_server(const uint8_t *p, size_t len)
 {
+    read_query(p, len);
     read_served(p, len);
     read_replica(p, len);
 }

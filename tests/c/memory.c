@@ -115,6 +115,9 @@ static void commands(void)
     static const myp_command c = { TEXT("t"), TEXT("%"), 0, 0, 0, MYP_COM_FIELD_LIST };
     EACH(0, myp_write_command(&c, out, sizeof out, &n));
     EACH(0, myp_write_query((const uint8_t *)"select 1", 8, MYP_CLIENT_QUERY_ATTRIBUTES, out, sizeof out, &n));
+    static const uint8_t query[] = { 3, 1, 1, 0, 1, 3, 0, 1, 'n', 7, 0, 0, 0, 'q' };
+    myp_query_attribute a = MYP_QUERY_ATTRIBUTE_INIT;
+    EACH(0, (code = myp_read_query_attribute(query, sizeof query, 0, &a), n = a.name.len, code));
     EACH(0, myp_write_header(5, 1, out, sizeof out, &n));
     EACH(0, myp_write_close(1, out, sizeof out, &n));
     EACH(0, myp_write_long_data(5, 2, (const uint8_t *)"abc", 3, out, sizeof out, &n));

@@ -144,6 +144,15 @@ def command_words(packets, out):
     return [name] if name in OTHERS else ["unknown", f"code={out.code}", f"content={x(packets.text(out.text))}"]
 
 
+def attribute_words(packets, payload):
+    """The attributes of a query, to the last."""
+    words, place, out = [], 0, packets.new("myp_query_attribute")
+    while not (code := packets.dll.myp_read_query_attribute(payload.data, payload.len, place, ctypes.byref(out))):
+        words += [f"name={x(packets.text(out.name))}", f"{out.column_type}-{128 * out.is_unsigned}={value_word(packets, out.value)}"]
+        place += 1
+    return [f"attributes={place if code == packets.MYP_END else code}", *words]
+
+
 def value_word(packets, value):
     """A value as a word of an answer."""
     kinds = [getattr(packets, f"MYP_{it}") for it in "NULL BYTES INT UINT FLOAT DOUBLE DATE TIME".split()]
@@ -199,6 +208,7 @@ class Calls:
         words += extended_words(p, out) if word == "extended_column" else []
         words += stream_words(p, out, *given) if word == "stream" else []
         words += command_words(p, out) if word == "command" else []
+        words += attribute_words(p, payload) if word == "command" and out.code == p.MYP_COM_QUERY and given[0] & p.MYP_CLIENT_QUERY_ATTRIBUTES else []
         used = out.column.used if word == "extended_column" else getattr(out, "used", None)
         return code, words, used, self.outside(payload, places(p, out))
 
@@ -265,7 +275,7 @@ def wrong(packets, calls, describer_, request, content):
     if why or code:
         return why
     wanted = right.words
-    if request.startswith("com_execute"):
+    if request.startswith(("com_execute", "command")):
         # (of a type's flags C has the one of unsigned numbers)
         wanted = [re.sub(r"^(\d+)-(\d+)=", lambda it: f"{it[1]}-{int(it[2]) & 128}=", word) for word in wanted]
     if request.startswith("gtid"):

@@ -18,3 +18,4 @@ pub mod Logins
 pub mod AttributeKinds
 pub mod Versions
 pub mod GtidTexts
+pub mod QueryAttributes

@@ -31,6 +31,7 @@ pub mod Output
 pub mod Parsec
 pub mod PublicKey
 pub mod Query
+pub mod QueryAttribute
 pub mod RegisterReplica
 pub mod Reply
 pub mod Rows

@@ -38,6 +38,7 @@ mod output;
 mod parsec;
 mod public_key;
 mod query;
+mod query_attribute;
 mod register_replica;
 mod reply;
 mod rows;

@@ -1,0 +1,109 @@
+//! The attributes of a query.
+#![tactic(auto, using(crate::proofs::QueryAttributes::attributes))]
+
+ghost use Rattle.std.specs.Prelude.{◌≡◌, option_map};
+ghost use Rattle.mysql_commands.specs.Query.{query};
+ghost use Rattle.mysql_commands.specs.QueryAttributes.{IsGood, attributes_read};
+ghost use Rattle.mysql_packets_c.specs.QueryAttribute as spec;
+ghost use Rattle.mysql_packets_c.specs.QueryAttribute.{AttributeInto, IsQueryAttribute};
+
+use crate::code::{END, OK, code_of};
+use crate::flags::capabilities_of;
+use crate::input::read;
+use crate::value::{CValue, put_ref};
+use bitflags::Flags;
+use mysql_commands::{ComQueryRef, QueryAttributeRef, QueryAttributesView};
+use mysql_wire::{ConstValue, StmtExecuteParamFlags};
+use std::alloc::Global;
+
+/// The flag under which attributes are sent.
+const CLIENT_QUERY_ATTRIBUTES: u32 = 1 << 27;
+
+/// `myp_query_attribute`.
+#[repr(C)]
+#[derive(Drop)]
+pub struct CQueryAttribute<'a> {
+    pub name: &'a [u8],
+    pub value: CValue<'a>,
+    pub column_type: u8,
+    pub is_unsigned: u8,
+}
+
+/// The next attribute of a query that was read, whose attributes are good.
+fn next_of<'a>(view: &mut QueryAttributesView<'a>) -> Option<QueryAttributeRef<'a>>
+    requires { IsGood view.old }
+    ensures value { spec.TakesFirst view.old result view.new }
+    ensures good { IsGood view.new }
+{
+    match view.next_attribute() {
+        Ok(Some(found)) => Some(found),
+        Ok(None) => {
+            let _rest = view.rest();
+            None
+        }
+        Err(_) => None,
+    }
+}
+
+/// The attribute at that place, the first being 0.
+fn attribute_at<'a>(
+    mut view: QueryAttributesView<'a>,
+    place: usize,
+) -> Option<QueryAttributeRef<'a>>
+    requires { IsGood view }
+    ensures value { result ≡ spec.at (attributes_read view.entry.all) place }
+{
+    let mut before = place;
+    while before > 0 {
+        if next_of(&mut view).is_none() {
+            return None;
+        }
+        before -= 1;
+    }
+    next_of(&mut view)
+}
+
+/// Puts an attribute into a struct of the caller's.
+fn put_attribute<'a>(found: &QueryAttributeRef<'a>, out: &mut CQueryAttribute<'a>)
+    ensures value { IsQueryAttribute found.now out.old out.new }
+{
+    let param_type = found.param_type();
+    out.name = found.name();
+    out.column_type = param_type.column_type().code();
+    out.is_unsigned = u8::from(param_type.flags().contains(StmtExecuteParamFlags::UNSIGNED));
+    put_ref(&mut out.value, found.value());
+}
+
+/// The attribute of a query at that place.
+fn attribute_of<'a>(query: &ComQueryRef<'a>, place: usize) -> Option<QueryAttributeRef<'a>>
+    ensures value { result ≡ spec.at (spec.attributes_of query.now) place }
+{
+    match query.attributes() {
+        Some(attributes) => attribute_at(attributes.view(), place),
+        None => None,
+    }
+}
+
+/// Reads one attribute of a `COM_QUERY`, the first being 0: 0; 7 where there are fewer; or 1 or 2. After another code than 0 the
+/// struct is as it was.
+#[unsafe(no_mangle)]
+pub extern "C" fn myp_read_query_attribute<'a>(
+    alloc: Global,
+    packet: &'a [u8],
+    place: usize,
+    out: &mut CQueryAttribute<'a>,
+) -> u32
+    ensures value { AttributeInto place ((query.form (record { 0 = 0x0800_0000; 1 = record {} })).reads packet.now) result out.old out.new }
+{
+    let capabilities = capabilities_of(CLIENT_QUERY_ATTRIBUTES);
+    match read::<ComQueryRef<'a>>(alloc, packet, capabilities) {
+        Ok((found, _used)) => match attribute_of(&found, place) {
+            Some(attribute) => {
+                put_attribute(&attribute, out);
+                OK
+            }
+            None => END,
+        },
+        Err(fault) => code_of(&fault),
+    }
+}
