@@ -6,6 +6,7 @@ ghost use Rattle.std.specs.Prelude.{◌≡◌, ◌≢◌, ◌<◌, ◌≤◌, �
 ghost use Rattle.mysql_prepared.specs.ExecuteHead.{execute_head};
 ghost use Rattle.mysql_prepared.specs.BinaryRow.{bin_in};
 ghost use Rattle.mysql_prepared.specs.ExecuteParam.{Sent, param_bytes, param_of, value_of};
+ghost use Rattle.mysql_values.specs.Value.{Bytes};
 ghost use Rattle.mysql_values.specs.ValueRef.{ref_content};
 ghost use Rattle.mysql_prepared.specs.ExecuteRead.{HasNoParam, RefusesParam};
 ghost use Rattle.mysql_packets_c.specs.Code.{ReadsInto};
@@ -256,8 +257,21 @@ fn append_number_cell<O: Buffer>(number: ValueRef<'_>, column_type: ColumnType, 
     *out = taken;
 }
 
+/// Writes a string, for which there is capacity.
+// (by a call too)
+#[inline(never)]
+fn append_string<O: Buffer>(string: &[u8], as_long_data: bool, out: &mut O)
+    requires { length (O.held out.old) + length (param_bytes as_long_data (Sent (Bytes string.now))) ≤ O.capacity out.old }
+    ensures items { O.held out.new ≡ O.held out.old ++ param_bytes as_long_data (Sent (Bytes string.now)) }
+    ensures after { O.after out.new ≡ drop (length (param_bytes as_long_data (Sent (Bytes string.now)))) (O.after out.old) }
+    ensures capacity { O.capacity out.old ≤ O.capacity out.new }
+    ensures kept { O.kept out.new ≡ O.kept out.old }
+{
+    ValueRef::Bytes(string).append_sent(as_long_data, out);
+}
+
 /// Writes a value of any kind, for which there is capacity.
-// (by a call, so that what writes numbers and bytes stays small enough to be in line)
+// (by a call, so that what writes numbers stays small enough to be in line)
 #[inline(never)]
 #[tactic(auto, unfolding(crate::specs::Value::value_content))]
 fn append_any<O: Buffer>(value: &CValue<'_>, as_long_data: bool, out: &mut O)
@@ -335,7 +349,7 @@ impl AsExecuteParam for CValue<'_> {
     #[inline(always)]
     fn append_sent<O: Buffer>(&self, as_long_data: bool, out: &mut O) {
         match self.kind {
-            1 => ValueRef::Bytes(self.bytes).append_sent(as_long_data, out),
+            1 => append_string(self.bytes, as_long_data, out),
             2 => append_number(ValueRef::Int(self.number.cast_signed()), as_long_data, out),
             3 => append_number(ValueRef::UInt(self.number), as_long_data, out),
             5 => append_number(ValueRef::Double(self.number), as_long_data, out),
