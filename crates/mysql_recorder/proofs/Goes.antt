@@ -24,10 +24,6 @@ use Rattle.mysql_recorder.proofs.Texts.{line_ends, read_byte}
 
 -- ---- sides
 
-pub stays : (old new : Sides) (text : List ℕ) → new ≡ old → sides.GoesOn [] old new text text
-stays old new text e pieces items h =
-    inr ([], subst (λ s. Stand s (pieces ++ []) (items ++ [])) (sym e) (subst (λ xs. Stand old (pieces ++ []) xs) (sym (append-nil items)) (subst (λ ps. Stand old ps items) (sym (append-nil pieces)) h)), refl)
-
 pub is_lost : (more : List Piece) (old new : Sides) (before after : List ℕ) → has_lost new ≡ true → sides.GoesOn more old new before after
 is_lost more old new before after e pieces items h = inl e
 
@@ -50,17 +46,6 @@ pub then_on_ok : (r : Result (Unit {0}) RecordingError) (b : List Piece) (old mi
     → OnOk r (sides.GoesOn b mid new y z) → OnOk r (sides.GoesOn b old new x z)
 then_on_ok (Ok u) b old mid new x y z first lost same second = sides_then [] b old mid new x y z first lost same second
 then_on_ok (Err e) b old mid new x y z first lost same second = tt
-
--- a stream that is out of step is no longer that of a connection of which nothing is lost
-pub passed_none : (s : Sides) (side : Side) (pieces : List Piece) (items : List Item) → Stand s pieces items → passed_of side s ≡ None
-passed_none s side.Client pieces items h = h.client.none_passed
-passed_none s side.Server pieces items h = h.server.none_passed
-
-some_none : {A : Type 0} (o : Option ℕ) (n : ℕ) → o ≡ Some n → o ≡ None → A
-some_none o n e f = absurd (let g : Some n ≡ None = sym e ∙ f in cc)
-
-pub out_of_step : (more : List Piece) (side : Side) (n : ℕ) (old new : Sides) (before after : List ℕ) → passed_of side old ≡ Some n → sides.GoesOn more old new before after
-out_of_step more side n old new before after e pieces items h = some_none (passed_of side old) n e (passed_none old side pieces items h)
 
 -- the stream of a piece, and the other one
 read_step : (side : Side) (bytes : List ℕ) (items here : List Item) (old new : Stream) (before after : Packets) (x y : List ℕ) (was longest : ℕ) → Reads side bytes [] items here old new before after x y

@@ -37,7 +37,6 @@ use Rattle.mysql_recorder.specs.declared.recording.Recording.{Recording}
 use Rattle.mysql_recorder.specs.declared.sides.Sides.{Sides}
 use Rattle.mysql_recorder.specs.declared.stream.Stream.{Stream}
 use Rattle.mysql_recorder.proofs.Frames.{numbered_sent, sent-held, sent-limit}
-use Rattle.mysql_recorder.proofs.Goes.{passed_none}
 use Rattle.mysql_recorder.proofs.Stays.{on_ok_then}
 use Rattle.mysql_recorder.proofs.Stopped.{stops_in}
 use Rattle.mysql_recorder.proofs.Texts.{shown_of}
@@ -110,11 +109,6 @@ server_loses (Err e) all s bytes before after h = tt
 pub piece_keeps : (r : Result (Unit {0}) RecordingError) (all : List KindName) (side : Side) (bytes : List ℕ) (old new : Sides) (before after : List ℕ)
     → has_lost new ≡ has_lost old → PieceLoses r all side bytes old new before after
 piece_keeps r all side bytes old new before after e lost pieces items h = absurd (let no : true ≡ false = sym lost ∙ e ∙ h.nothing_lost in cc)
-
--- a stream that is out of step
-pub passed_loses : (r : Result (Unit {0}) RecordingError) (all : List KindName) (side : Side) (bytes : List ℕ) (old new : Sides) (before after : List ℕ)
-    → (passed_of side old ≡ None → ⊥) → PieceLoses r all side bytes old new before after
-passed_loses r all side bytes old new before after e lost pieces items h = absurd (e (passed_none old side pieces items h))
 
 -- what came of a piece
 pub came_loses : (came : Came) (r : Result (Unit {0}) RecordingError) (all : List KindName) (side : Side) (bytes : List ℕ) (old mid new : Sides) (before m after : List ℕ)

@@ -14,16 +14,6 @@ use Rattle.mysql_recorder.specs.declared.packets.Packets.{Packets}
 use Rattle.mysql_recorder.specs.declared.stream.Stream.{Stream}
 use Rattle.mysql_recorder.proofs.Frames.{placed-append, writes_one, from_then, frames_then, handed_out, handed_numbered, held_all, held_numbered, none_comes, sent-limit}
 
-pub reads_none : (side : Side) (bytes : List ℕ) (items : List Item) (s : Stream) (p : Packets) (text : List ℕ) → IsAt s p items → Reads side bytes bytes items [] s s p p text text
-reads_none side bytes items s p text h = record {
-  from = tt;
-  frames = refl;
-  numbered = h.0;
-  limit = refl;
-  followed = subst (λ xs. IsFollowed p.followed (placed xs)) (sym (append-nil items)) h.1;
-  written = refl;
-}
-
 -- a packet is handed out and shown
 pub reads_packet : (side : Side) (bytes input rest : List ℕ) (items here : List Item) (s old new : Stream) (p po pn : Packets) (a b c : List ℕ) (sequence : ℕ) (payload : List ℕ)
     → Reads side bytes input items here s old p po a b

@@ -7,9 +7,6 @@ use Rattle.mysql_recorder.specs.Shown.{Appends, Entry, entry_front}
 pub stays_same : (a : List ℕ) → Stays a a
 stays_same a = ([], sym (append-nil a))
 
-pub stays_equal : (a b : List ℕ) → b ≡ a → Stays a b
-stays_equal a b e = ([], e ∙ sym (append-nil a))
-
 pub stays_then : (a b c : List ℕ) → Stays a b → Stays b c → Stays a c
 stays_then a b c h g = (h.0 ++ g.0, g.1 ∙ ap (λ t. t ++ g.0) h.1 ∙ append_assoc a h.0 g.0)
 
@@ -23,5 +20,3 @@ front_stays (Err e) front a b h = tt
 
 pub appended_stays : (layout : Layout) (entry : Entry) (a b : List ℕ) → Appends layout entry a b → Stays a b
 appended_stays layout entry a b h = (entry_front layout entry ++ h.2.0, h.2.1)
-
-pub ruleset same = (stays_same)

@@ -30,7 +30,7 @@ use Rattle.mysql_recorder.specs.declared.piece.Came.TheVariants as came_as
 use Rattle.mysql_recorder.specs.declared.sides.Sides.{Sides}
 use Rattle.mysql_recorder.specs.declared.stream.Stream.{Stream}
 use Rattle.mysql_recorder.proofs.Frames.{handed_out}
-use Rattle.mysql_recorder.proofs.Goes.{goes_same, is_lost, passed_none}
+use Rattle.mysql_recorder.proofs.Goes.{goes_same, is_lost}
 use Rattle.mysql_recorder.proofs.Texts.{shown_of}
 use Rattle.mysql_recorder.proofs.Wholes.{followed_session}
 
@@ -118,23 +118,12 @@ pub piece_never : (r : Result (Unit {0}) RecordingError) (all : List KindName) (
 piece_never (Ok u) all side bytes s before after h = tt
 piece_never (Err e) all side bytes s before after h = λ pieces items k. never e _ h
 
--- a stream that is out of step
-pub piece_passed : (r : Result (Unit {0}) RecordingError) (all : List KindName) (side : Side) (bytes : List ℕ) (s : Sides) (before after : List ℕ)
-    → (passed_of side s ≡ None → ⊥) → IfErr r (λ e. PieceStops all side bytes s e before after)
-piece_passed (Ok u) all side bytes s before after h = tt
-piece_passed (Err e) all side bytes s before after h = λ pieces items k. absurd (h (passed_none s side pieces items k))
-
 -- ---- recordings
 
 pub line_stops : (r : Result (Unit {0}) RecordingError) (all : List KindName) (old : Recording) (bytes before after : List ℕ) → bytes ≡ old.line.bytes.items
     → IfErr r (λ e. PieceStops all old.line.side bytes old.sides e before after) → IfErr r (λ e. LineStops all old e before after)
 line_stops (Ok u) all old bytes before after is h = tt
 line_stops (Err e) all old bytes before after is h = subst (λ b. PieceStops all old.line.side b old.sides e before after) is h
-
-pub line_never : (r : Result (Unit {0}) RecordingError) (all : List KindName) (old : Recording) (before after : List ℕ)
-    → IfErr r (λ e. IfRefused e (λ why. ⊥)) → IfErr r (λ e. LineStops all old e before after)
-line_never (Ok u) all old before after h = tt
-line_never (Err e) all old before after h = λ pieces items k. never e _ h
 
 after_text : (all : List KindName) (r : Recording) (text : List ℕ) (items : List Item) (e : RecordingError) (before after : List ℕ) → Recorded r text items → LineStops all r e before after
     → IfRefused e (λ why. StopsAfter all (recorded.layout r) text items why before after)
