@@ -194,12 +194,12 @@ then_loses q r all ends old mid new x y z loses same stays lost text items h =
     let l = loses (sym same ∙ lost) text items h in
     (l.0, l.1, stays l.0 l.2)
 
-is_lost_where : (all : List KindName) (layout : Layout) (limit : ℕ) (ends others : Type 0) (text : List ℕ) (items : List Item) (before after : List ℕ)
+pub is_lost_where : (all : List KindName) (layout : Layout) (limit : ℕ) (ends others : Type 0) (text : List ℕ) (items : List Item) (before after : List ℕ)
     → (ends → others) → IsLost all layout limit ends text items before after → IsLost all layout limit others text items before after
 is_lost_where all layout limit ends others text items before after f (inl h) = inl h
 is_lost_where all layout limit ends others text items before after f (inr h) = inr (h.0, f h.1, h.2)
 
-feed_more : (back more : List ℕ) → IsAtFeed back → IsAtFeed (back ++ more)
+pub feed_more : (back more : List ℕ) → IsAtFeed back → IsAtFeed (back ++ more)
 feed_more back more h = (h.0 ++ more, ap (λ t. t ++ more) h.1)
 
 pub loses_none : (r : Result (Unit {0}) RecordingError) (all : List KindName) (input : List ℕ) (old new : Recording) (before after : List ℕ)

@@ -11,6 +11,7 @@ pub mod laws;
 mod line;
 mod loss;
 mod mark;
+mod output;
 mod packets;
 mod piece;
 mod prepared;

@@ -1,12 +1,19 @@
 //! `mypackets conversation [MAX] [caps=CAPS] [mariadb=CAPS] [--json] [--sum]`.
 
+ghost use Rattle.std.specs.Prelude.{◌≡◌, ◌≤◌, ◌++◌, ℕ, length, List, OnSome, [], Option, Some, None, IfOk, IfSome, MatchOption, string_bytes};
+ghost use Rattle.mysql_recorder.specs.Answers as spec;
+ghost use Rattle.mysql_recorder.specs.Output.{Answer, IsFront, IsWritten};
+ghost use Rattle.mysql_recorder.specs.Recorded.{Recorded, has_lost, layout, longest};
+
 use crate::error::RecordingError;
+use crate::output::write_front;
 use crate::recording::Recording;
 use bitflags::Flags;
+use mysql_conversation::KindName;
 use mysql_fields::Layout;
 use mysql_replies::SessionCapabilities;
 use mysql_wire::{CapabilityFlags, MariadbCapabilities};
-use std::alloc::Global;
+use std::alloc::{AllocError, Global};
 use std::io::{Read, Write};
 
 /// The longest payload, where the call names none: 64 MiB, as `max_allowed_packet` is by default.
@@ -17,6 +24,9 @@ const WAITING: usize = 4096;
 
 const USAGE: &[u8] =
     b"usage: mypackets conversation [MAX] [caps=CAPS] [mariadb=CAPS] [--json] [--sum]\n";
+
+/// What is written where an allocation fails.
+const OUT_OF_MEMORY: &[u8] = b"refused: Memory\n";
 
 /// What is asked for.
 #[derive(Clone, Copy)]
@@ -30,7 +40,9 @@ struct Call {
 }
 
 /// The call that the words after the command's name give, unless it is a bad one.
-fn call_of(words: &[String]) -> Option<Call> {
+fn call_of(words: &[String]) -> Option<Call>
+    ensures { OnSome result (length words.now ≤ 5) }
+{
     let mut call = Call {
         layout: Layout::Lines,
         longest: LONGEST,
@@ -81,75 +93,231 @@ fn agreed_of(caps: Option<u32>, mariadb: u32) -> Option<SessionCapabilities> {
 /// | 3 | a read or a write failed |
 ///
 /// It keeps no more of the input than a payload of each side and the commands that wait.
-pub fn run<R: Read, W: Write>(
-    alloc: Global,
-    words: &[String],
-    reader: &mut R,
-    writer: &mut W,
-) -> u8 {
+pub fn run<R: Read, W: Write>(alloc: Global, words: &[String], reader: &mut R, writer: &mut W) -> u8
+    ensures { spec.IsRun KindName.ALL (length words.now) (R.remaining reader.old) (R.remaining reader.new) (W.contents writer.old) (W.contents writer.new) result }
+{
     let Some(call) = call_of(words) else {
         return end(writer, USAGE, 2);
     };
-    let mut recording = Recording::new(alloc, call.layout, call.longest, WAITING);
-    if let Some(agreed) = call.agreed {
-        recording = recording.taken_up(agreed);
-    }
+    let mut recording = begun(alloc, call);
+    show(
+        alloc,
+        call.layout,
+        call.sums,
+        &mut recording,
+        reader,
+        writer,
+    )
+}
+
+/// The recording that is asked for, of which nothing has come.
+fn begun(alloc: Global, call: Call) -> Recording
+    ensures recorded { call.agreed ≡ None → Recorded result [] [] }
+    ensures layout { layout result ≡ call.layout }
+    ensures longest { longest result ≡ call.longest }
+{
+    let recording = opened(alloc, call);
     if call.sums {
-        recording = recording.with_sums();
+        recording.with_sums()
+    } else {
+        recording
     }
+}
+
+/// The same without sums.
+fn opened(alloc: Global, call: Call) -> Recording
+    ensures recorded { call.agreed ≡ None → Recorded result [] [] }
+    ensures layout { layout result ≡ call.layout }
+    ensures longest { longest result ≡ call.longest }
+{
+    let recording = Recording::new(alloc, call.layout, call.longest, WAITING);
+    match call.agreed {
+        Some(agreed) => recording.taken_up(agreed),
+        None => recording,
+    }
+}
+
+/// Shows what comes, and answers the status.
+fn show<R: Read, W: Write>(
+    alloc: Global,
+    shown_in: Layout,
+    sums: bool,
+    recording: &mut Recording,
+    reader: &mut R,
+    writer: &mut W,
+) -> u8
+    requires { layout recording.old ≡ shown_in }
+    ensures answer { spec.IsAnswered KindName.ALL shown_in (longest recording.old) sums (Recorded recording.old [] []) (R.remaining reader.old) (R.remaining reader.new) (W.contents writer.old) (W.contents writer.new) result }
+{
     let mut chunk = [0u8; 16384];
     for _ in 0..u64::MAX {
         let Ok(count) = reader.read(&mut chunk) else {
             return 3;
         };
-        let mut out = String::new(alloc);
-        let taken = match count {
-            0 => recording.finish(&mut out),
-            count => recording.take(&chunk[..count], &mut out),
-        };
-        if writer.write_all(out.as_bytes()).is_err() {
-            return 3;
-        }
-        if let Err(error) = taken {
-            let status = refuse(alloc, call.layout, &error, writer);
-            return end_with_sums(alloc, &recording, writer, status);
-        }
         if count == 0 {
-            let status = u8::from(recording.has_lost());
-            return end_with_sums(alloc, &recording, writer, status);
+            return finish(alloc, shown_in, sums, recording, writer);
+        }
+        let ended = take(alloc, shown_in, sums, recording, &chunk[..count], writer);
+        if let Some(status) = ended {
+            return status;
         }
     }
     3
 }
 
-/// Writes the sums, where they are asked for, and answers the status; 3 where the write failed.
-fn end_with_sums<W: Write>(alloc: Global, recording: &Recording, writer: &mut W, status: u8) -> u8 {
+/// Takes a piece of the input, and writes what it says. It answers the status where it goes no further.
+fn take<W: Write>(
+    alloc: Global,
+    shown_in: Layout,
+    sums: bool,
+    recording: &mut Recording,
+    piece: &[u8],
+    writer: &mut W,
+) -> Option<u8>
+    ensures goes { result ≡ None → spec.PieceGoesOn KindName.ALL piece.now recording.old recording.new (W.contents writer.old) (W.contents writer.new) }
+    ensures ends { IfSome result (λ status. spec.PieceEnds KindName.ALL shown_in sums piece.now recording.old recording.new (W.contents writer.old) (W.contents writer.new) status) }
+{
     let mut out = String::new(alloc);
-    match recording.append_sums(&mut out) {
-        Ok(()) => end(writer, out.as_bytes(), status),
-        Err(_) => end(writer, b"refused: Memory\n", 1),
+    let taken = recording.take(piece, &mut out);
+    let is_written = write_front(writer, out.as_bytes());
+    if is_written {
+        match taken {
+            Ok(()) => None,
+            Err(error) => Some(end_refused(alloc, shown_in, sums, recording, error, writer)),
+        }
+    } else {
+        Some(3)
     }
 }
 
-/// Writes the text, and answers the status; 3 where the write failed.
-fn end<W: Write>(writer: &mut W, text: &[u8], status: u8) -> u8 {
-    match writer.write_all(text) {
-        Ok(()) => status,
-        Err(_) => 3,
+/// Says that the input is at its end, and answers the status.
+fn finish<W: Write>(
+    alloc: Global,
+    shown_in: Layout,
+    sums: bool,
+    recording: &mut Recording,
+    writer: &mut W,
+) -> u8
+    ensures { spec.InputEnds KindName.ALL shown_in sums recording.old recording.new (W.contents writer.old) (W.contents writer.new) result }
+{
+    let mut out = String::new(alloc);
+    let finished = recording.finish(&mut out);
+    let is_written = write_front(writer, out.as_bytes());
+    if is_written {
+        match finished {
+            Ok(()) => {
+                let status = lost_status(recording);
+                end_with_sums(alloc, sums, recording, writer, status)
+            }
+            Err(error) => end_refused(alloc, shown_in, sums, recording, error, writer),
+        }
+    } else {
+        3
     }
 }
 
-/// Writes why the recording goes no further. A packet that doesn't come has said so itself.
-fn refuse<W: Write>(alloc: Global, layout: Layout, error: &RecordingError, writer: &mut W) -> u8 {
-    if let RecordingError::Refused(_) = error {
-        return 1;
+/// The status of an input that is read to its end.
+fn lost_status(recording: &Recording) -> u8
+    ensures { result ≡ spec.lost_status (has_lost recording.now) }
+{
+    if recording.has_lost() { 1 } else { 0 }
+}
+
+/// Writes why the recording goes no further, and then the sums, where they are asked for, and answers the status.
+fn end_refused<W: Write>(
+    alloc: Global,
+    shown_in: Layout,
+    sums: bool,
+    recording: &Recording,
+    error: RecordingError,
+    writer: &mut W,
+) -> u8
+    ensures { spec.IsErrorWritten shown_in sums error [] (W.contents writer.old) (W.contents writer.new) result }
+{
+    let is_written = write_error(alloc, shown_in, error, writer);
+    if is_written {
+        end_with_sums(alloc, sums, recording, writer, 1)
+    } else {
+        3
     }
-    let text = match layout {
-        Layout::Lines => format!(in alloc; "refused: {error}\n"),
-        Layout::Json => format!(in alloc; "{{\"refused\":\"{error}\"}}\n"),
+}
+
+/// Writes why the recording goes no further; whether all of it is written. A packet that doesn't come has said so itself.
+fn write_error<W: Write>(
+    alloc: Global,
+    shown_in: Layout,
+    error: RecordingError,
+    writer: &mut W,
+) -> bool
+    ensures { (line : List ℕ) × spec.SaysError shown_in error line × IsFront result line (W.contents writer.old) (W.contents writer.new) }
+{
+    let Some(name) = name_of(error) else {
+        return true;
     };
-    match text {
-        Ok(text) => end(writer, text.as_bytes(), 1),
-        Err(_) => end(writer, b"refused: Memory\n", 1),
+    match error_line(alloc, shown_in, name) {
+        Ok(line) => write_front(writer, line.as_bytes()),
+        Err(_) => write_front(writer, OUT_OF_MEMORY),
     }
+}
+
+/// The name of an error, but for a packet that doesn't come.
+fn name_of(error: RecordingError) -> Option<&'static str>
+    ensures { MatchOption result (spec.error_name error ≡ None) (λ name. spec.error_name error ≡ Some name.now) }
+{
+    match error {
+        RecordingError::Memory => Some("Memory"),
+        RecordingError::Line => Some("InvalidInput"),
+        RecordingError::OutOfOrder => Some("OutOfOrder"),
+        RecordingError::TooLong => Some("TooLong"),
+        RecordingError::Missing => Some("Missing"),
+        RecordingError::Refused(_) => None,
+    }
+}
+
+/// The line that says why the recording goes no further.
+fn error_line(alloc: Global, shown_in: Layout, name: &str) -> Result<String, AllocError>
+    ensures { IfOk result (λ line. string_bytes line ≡ spec.error_line shown_in name.now) }
+{
+    match shown_in {
+        Layout::Lines => joined(alloc, "refused: ", name, "\n"),
+        Layout::Json => joined(alloc, "{\"refused\":\"", name, "\"}\n"),
+    }
+}
+
+fn joined(alloc: Global, front: &str, name: &str, back: &str) -> Result<String, AllocError>
+    ensures { IfOk result (λ text. string_bytes text ≡ front.now ++ name.now ++ back.now) }
+{
+    let mut text = String::new(alloc);
+    text.push_str(front)?;
+    text.push_str(name)?;
+    text.push_str(back)?;
+    Ok(text)
+}
+
+/// Writes the sums, where they are asked for, and answers the status; 3 where the write failed.
+fn end_with_sums<W: Write>(
+    alloc: Global,
+    sums: bool,
+    recording: &Recording,
+    writer: &mut W,
+    status: u8,
+) -> u8
+    ensures { (answer : Answer) × spec.EndsWith sums [] status answer × IsWritten answer (W.contents writer.old) (W.contents writer.new) result }
+{
+    if sums {
+        let mut out = String::new(alloc);
+        match recording.append_sums(&mut out) {
+            Ok(()) => end(writer, out.as_bytes(), status),
+            Err(_) => end(writer, OUT_OF_MEMORY, 1),
+        }
+    } else {
+        status
+    }
+}
+
+/// Writes the text, and answers the status, or 3 where a write failed: a front of the text is written then.
+fn end<W: Write>(writer: &mut W, text: &[u8], status: u8) -> u8
+    ensures { IsWritten (record { text = text.now; status = status }) (W.contents writer.old) (W.contents writer.new) result }
+{
+    if write_front(writer, text) { status } else { 3 }
 }

@@ -161,6 +161,8 @@ impl Recording {
     /// Says that the input is at its end, and appends how much of each stream is passed over that is still out of step.
     pub fn finish(&mut self, out: &mut String) -> Result<(), RecordingError>
         ensures finishes { OnOk result (spec.Finishes self.old self.new (string_bytes out.old) (string_bytes out.new)) }
+        ensures lost { spec.has_lost self.old ≡ true → spec.has_lost self.new ≡ true }
+        ensures refused { IfErr result (λ e. TextStops KindName.ALL self.old e (string_bytes out.old) (string_bytes out.new)) }
         ensures loses { TextLoses result KindName.ALL (Unit {0}) self.old self.new (string_bytes out.old) (string_bytes out.new) }
         ensures text { OnOk result (Stays (string_bytes out.old) (string_bytes out.new)) }
     {

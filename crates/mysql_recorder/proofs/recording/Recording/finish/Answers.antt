@@ -1,10 +1,12 @@
-use Rattle.std.proofs.Common.{Ok, Err, refl, sym, subst, string_bytes}
+use Rattle.std.proofs.Common.{◌≡◌, Ok, Err, IfErr, refl, sym, subst, string_bytes}
 use Rattle.std.proofs.lemmas.Result.{err_from_is_err_and}
 use Rattle.mysql_conversation.specs.declared.kind_name.TheConstants.KindName.{ALL}
 use Rattle.mysql_recorder.specs.Losses.{TextLoses}
 use Rattle.mysql_recorder.proofs.Losses.{end_loses, then_loses}
 use Rattle.mysql_recorder.proofs.Seen.{finishes}
 use Rattle.mysql_recorder.proofs.Stays.{stays_then}
+use Rattle.mysql_recorder.proofs.Stopped.{text_stops}
+use Rattle.mysql_recorder.specs.Stops.{TextStops}
 use Rattle.mysql_recorder.proofs.recording.Recording.finish.Goals as goal
 
 pub returns-clause-finishes : goal.returns-clause-finishes
@@ -33,3 +35,11 @@ returns-in_err-say_unheard-clause-loses c =
     (then_loses c.end_line.result (Err p.0) ALL (Unit {0}) c.args.self.now c.end_line.new.self c.end_line.new.self (string_bytes c.args.out.now) (string_bytes c.end_line.new.out) (string_bytes c.say_unheard.new.out)
     (end_loses c.end_line.result ALL (Unit {0}) c.args.self.now c.end_line.new.self (string_bytes c.args.out.now) (string_bytes c.end_line.new.out) c.end_line.ensures.loses tt)
     refl (λ m h. tt))
+
+pub returns-in_err-end_line-clause-refused : goal.returns-in_err-end_line-clause-refused
+returns-in_err-end_line-clause-refused c =
+    let p = err_from_is_err_and c.from_residual.result c.from_residual.ensures.1 in
+    let same : c.in_err-end_line.field-0.0 ≡ p.0 = cc p.2 in
+    subst (λ r. IfErr r (λ e. TextStops ALL c.args.self.now e (string_bytes c.args.out.now) (string_bytes c.end_line.new.out))) (sym p.1)
+    (subst (λ e. TextStops ALL c.args.self.now e (string_bytes c.args.out.now) (string_bytes c.end_line.new.out)) same
+    (text_stops (Err c.in_err-end_line.field-0.0) ALL c.args.self.now (string_bytes c.args.out.now) (string_bytes c.end_line.new.out) c.in_err-end_line.ensures.refused))

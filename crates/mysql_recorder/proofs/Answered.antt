@@ -1,0 +1,476 @@
+-- What the program makes of a recording, piece by piece.
+use Rattle.std.proofs.Common.{◌≡◌, ◌⊎◌, inl, inr, take, ℕ, Bool, true, false, List, [], ◌∷◌, ◌++◌, Option, Some, None, Result, Ok, Err, OnOk, MatchResult, refl, sym, ap, subst, ◌∙◌, append_assoc, append-nil}
+use Rattle.std.proofs.KnownBytes.{Appends-nil, Appends-trans, Consumes-kept, Consumes-nil, Consumes-trans}
+use Rattle.std.specs.Io.KnownBytes.{Appends, Consumes, IsAtEnd, Keeps}
+use Rattle.mysql_conversation.specs.Pipelined.{Numbered}
+use Rattle.mysql_conversation.specs.declared.kind.Side.{Side}
+use Rattle.mysql_conversation.specs.declared.kind_name.KindName.{KindName}
+use Rattle.mysql_conversation.specs.declared.pipeline.Refusal.{Refusal}
+use Rattle.mysql_fields.specs.Entries.{Stays}
+use Rattle.mysql_fields.specs.declared.entry.Layout.{Layout}
+use Rattle.mysql_recorder.specs.Answers.{BeginsMade, Ends, EndsWith, error_line, error_name, FailsIn, GoesNoFurther, HasLost, InputEnds, IsAnswer, IsAnswered, IsCutOff, IsDone, IsErrorWritten, IsLineEnd, IsMade, IsRefused, lost_status, LostIn, memory_line, PieceEnds, PieceGoesOn, RefusedIn, SaysError, SaysName, Shows, Takes}
+use Rattle.mysql_recorder.specs.Losses.{BreaksIn, IsAtFeed, IsLost, Loses, LosesAfter, LosesIn, TextLoses}
+use Rattle.mysql_recorder.specs.Output.{Answer, IsWritten}
+use Rattle.mysql_recorder.specs.Recorded as recorded
+use Rattle.mysql_recorder.specs.Recorded.{Recorded, IsShown}
+use Rattle.mysql_recorder.specs.Refusals.{IfRefused}
+use Rattle.mysql_recorder.specs.Refused.{ShowsRefused}
+use Rattle.mysql_recorder.specs.Shown as shown
+use Rattle.mysql_recorder.specs.Shown.{Entry, entry_of, Item, Writes}
+use Rattle.mysql_recorder.specs.Stops.{Stops, StopsAfter, StopsIn, TextStops}
+use Rattle.mysql_recorder.specs.declared.error.RecordingError.{RecordingError}
+use Rattle.mysql_recorder.specs.declared.error.RecordingError.TheVariants as error
+use Rattle.mysql_recorder.specs.declared.recording.Recording.{Recording}
+use Rattle.mysql_recorder.proofs.Frames.{writes_then}
+use Rattle.mysql_recorder.proofs.Losses.{feed_more, is_lost_where}
+use Rattle.mysql_recorder.proofs.Outputs.{cut_after, cut_longer, written_after}
+use Rattle.mysql_recorder.proofs.Seen.{recorded_shown}
+use Rattle.mysql_recorder.proofs.Stays.{stays_same, stays_then}
+
+-- ---- the same after a text that stands before it
+
+is_after : (w a b more : List ℕ) → b ≡ a ++ more → w ++ b ≡ (w ++ a) ++ more
+is_after w a b more e = ap (λ (l : List ℕ). w ++ l) e ∙ sym (append_assoc w a more)
+
+stays_after : (w a b : List ℕ) → Stays a b → Stays (w ++ a) (w ++ b)
+stays_after w a b h = (h.0, is_after w a b h.0 h.1)
+
+appends_after : (w : List ℕ) (layout : Layout) (e : Entry) (a b : List ℕ) → shown.Appends layout e a b → shown.Appends layout e (w ++ a) (w ++ b)
+appends_after w layout e a b h = (h.0, λ none. is_after w a b _ (h.1 none), (h.2.0, is_after w a b _ h.2.1))
+
+writes_after : (w : List ℕ) (layout : Layout) (xs : List Item) (a b : List ℕ) → Writes layout xs a b → Writes layout xs (w ++ a) (w ++ b)
+writes_after w layout [] a b h = ap (λ (l : List ℕ). w ++ l) h
+writes_after w layout (x ∷ xs) a b h = (w ++ h.0, appends_after w layout (entry_of x) a h.0 h.1, writes_after w layout xs h.0 b h.2)
+
+refused_after : (w : List ℕ) (all : List KindName) (layout : Layout) (side : Side) (sequence : ℕ) (payload : List ℕ) (items : List Numbered) (why : Refusal) (a b : List ℕ)
+    → ShowsRefused all layout side sequence payload items why a b → ShowsRefused all layout side sequence payload items why (w ++ a) (w ++ b)
+refused_after w all layout side sequence payload items why a b h = (h.0, h.1, h.2, is_after w a b _ h.3, h.4)
+
+stops_in_after : (w : List ℕ) (all : List KindName) (layout : Layout) (side : Side) (bytes : List ℕ) (items : List Item) (why : Refusal) (a b : List ℕ)
+    → StopsIn all layout side bytes items why a b → StopsIn all layout side bytes items why (w ++ a) (w ++ b)
+stops_in_after w all layout side bytes items why a b h =
+    (h.0, h.1, h.2, h.3, h.4, h.5, w ++ h.6, h.7, h.8, h.9, writes_after w layout h.0 a h.6 h.10, h.11, refused_after w all layout side h.1 h.2 _ why h.6 b h.12)
+
+stops_after_after : (w : List ℕ) (all : List KindName) (layout : Layout) (text : List ℕ) (items : List Item) (why : Refusal) (a b : List ℕ)
+    → StopsAfter all layout text items why a b → StopsAfter all layout text items why (w ++ a) (w ++ b)
+stops_after_after w all layout text items why a b h = record { side = h.side; bytes = h.bytes; shown = h.shown; stops = stops_in_after w all layout h.side _ items why a b h.stops }
+
+loses_in_after : (w : List ℕ) (all : List KindName) (layout : Layout) (limit : ℕ) (side : Side) (bytes : List ℕ) (items : List Item) (a b : List ℕ)
+    → LosesIn all layout limit side bytes items a b → LosesIn all layout limit side bytes items (w ++ a) (w ++ b)
+loses_in_after w all layout limit side bytes items a b (inl h) = inl (h.0, h.1, h.2, h.3, writes_after w layout h.0 a b h.4, h.5, h.6)
+loses_in_after w all layout limit side bytes items a b (inr h) = inr (h.0, stops_in_after w all layout side bytes items h.0 a b h.1)
+
+lost_after : (w : List ℕ) (all : List KindName) (layout : Layout) (limit : ℕ) (ends : Type 0) (text : List ℕ) (items : List Item) (a b : List ℕ)
+    → IsLost all layout limit ends text items a b → IsLost all layout limit ends text items (w ++ a) (w ++ b)
+lost_after w all layout limit ends text items a b (inl h) = inl (record { side = h.side; bytes = h.bytes; shown = h.shown; loses = loses_in_after w all layout limit h.side _ items a b h.loses })
+lost_after w all layout limit ends text items a b (inr h) = inr (h.0, h.1, ap (λ (l : List ℕ). w ++ l) h.2)
+
+-- these entries, and then those
+writes_more : (layout : Layout) (xs ys : List Item) (w t : List ℕ) → Writes layout xs [] w → Writes layout ys [] t → Writes layout (xs ++ ys) [] (w ++ t)
+writes_more layout xs ys w t h g = writes_then layout xs ys [] w (w ++ t) h (subst (λ l. Writes layout ys l (w ++ t)) (append-nil w) (writes_after w layout ys [] t g))
+
+-- ---- amid an input
+
+-- of this input what is shown stands there, and the recording stands after it
+abbrev pub IsAmid : List KindName → Layout → ℕ → Recording → List ℕ → List ℕ → Type 0
+IsAmid all layout limit r input text =
+    ((items : List Item) × Recorded r input items × Writes layout items [] text) ⊎ ((recorded.has_lost r ≡ true) × LostIn all layout limit IsAtFeed input text)
+
+pub amid_made : (all : List KindName) (layout : Layout) (limit : ℕ) (r : Recording) (x w : List ℕ) → IsAmid all layout limit r x w → IsMade all layout limit x w
+amid_made all layout limit r x w (inl h) = let seen = recorded_shown r x h.0 h.1 in inl (seen.0, (h.0, seen.1, h.2))
+amid_made all layout limit r x w (inr h) = inr h.1
+
+lost_more : (all : List KindName) (layout : Layout) (limit : ℕ) (x p w t : List ℕ) → LostIn all layout limit IsAtFeed x w → LostIn all layout limit IsAtFeed (x ++ p) (w ++ t)
+lost_more all layout limit x p w t l = (
+  l.0,
+  l.1 ++ p,
+  l.2,
+  l.3,
+  l.4,
+  ap (λ (b : List ℕ). b ++ p) l.5 ∙ append_assoc l.0 l.1 p,
+  l.6,
+  is_lost_where all layout limit (IsAtFeed l.1) (IsAtFeed (l.1 ++ p)) l.0 l.2 l.3 l.4 (feed_more l.1 p) l.7,
+  stays_then l.4 w (w ++ t) l.8 (t, refl),
+)
+
+lost_ends : (all : List KindName) (layout : Layout) (limit : ℕ) (x w t : List ℕ) → LostIn all layout limit IsAtFeed x w → LostIn all layout limit IsLineEnd x (w ++ t)
+lost_ends all layout limit x w t l =
+    (l.0, l.1, l.2, l.3, l.4, l.5, l.6, is_lost_where all layout limit (IsAtFeed l.1) (IsLineEnd l.1) l.0 l.2 l.3 l.4 (λ f. inl f) l.7, stays_then l.4 w (w ++ t) l.8 (t, refl))
+
+-- something is lost in a piece; what is shown up to there is followed by what stays of it
+lost_here : (r : Result (Unit {0}) RecordingError) (all : List KindName) (old new : Recording) (x p w t : List ℕ) (items : List Item)
+    → Recorded old x items → Writes (recorded.layout old) items [] w → Loses r all p old new [] t → recorded.has_lost new ≡ true
+    → (mid : List ℕ) × OnOk r (Stays mid t) × ((text : List ℕ) → Stays mid text → LostIn all (recorded.layout old) (recorded.longest old) IsAtFeed (x ++ p) (w ++ text))
+lost_here r all old new x p w t items h writes loses lost =
+    let l = loses lost x items h in (
+      l.4,
+      l.8,
+      λ text stays. (
+        x ++ l.0,
+        l.1,
+        items ++ l.2,
+        w ++ l.3,
+        w ++ l.4,
+        is_after x l.0 p l.1 l.5,
+        writes_more (recorded.layout old) items l.2 w l.3 writes l.6,
+        lost_after w all (recorded.layout old) (recorded.longest old) (IsAtFeed l.1) (x ++ l.0) (items ++ l.2) l.3 l.4 l.7,
+        stays_after w l.4 text stays,
+      ),
+    )
+
+amid_here : (all : List KindName) (old new : Recording) (x p w t : List ℕ) → Takes (Ok tt) all p old new t
+    → IsAmid all (recorded.layout old) (recorded.longest old) old x w → IsAmid all (recorded.layout old) (recorded.longest old) new (x ++ p) (w ++ t)
+amid_here all old new x p w t takes (inl h) =
+    elim (takes.goes x h.0 h.1) as (λ _. IsAmid all (recorded.layout old) (recorded.longest old) new (x ++ p) (w ++ t)) [
+      | inl e ↦ (let l = lost_here (Ok tt) all old new x p w t h.0 h.1 h.2 takes.loses e in inr (e, l.2 t l.1))
+      | inr f ↦ inl (h.0 ++ f.0, f.1, writes_more (recorded.layout old) h.0 f.0 w t h.2 f.2)
+    ]
+amid_here all old new x p w t takes (inr h) = inr (takes.lost h.0, lost_more all (recorded.layout old) (recorded.longest old) x p w t h.1)
+
+pub amid_more : (all : List KindName) (layout : Layout) (limit : ℕ) (old new : Recording) (x p w t : List ℕ) → recorded.layout old ≡ layout → recorded.longest old ≡ limit
+    → Takes (Ok tt) all p old new t → IsAmid all layout limit old x w → IsAmid all layout limit new (x ++ p) (w ++ t)
+amid_more all layout limit old new x p w t same long takes =
+    subst (λ s. IsAmid all s limit old x w → IsAmid all s limit new (x ++ p) (w ++ t)) same
+    (subst (λ n. IsAmid all (recorded.layout old) n old x w → IsAmid all (recorded.layout old) n new (x ++ p) (w ++ t)) long (amid_here all old new x p w t takes))
+
+pub amid_none : (all : List KindName) (layout : Layout) (limit : ℕ) (r : Recording) → Recorded r [] [] → IsAmid all layout limit r [] []
+amid_none all layout limit r h = inl ([], h, refl)
+
+-- ---- answers
+
+pub ends_plain : (sums : Bool) (text : List ℕ) (status : ℕ) → EndsWith sums text status (record { text = text; status = status })
+ends_plain true text status = inl ([], sym (append-nil text), refl)
+ends_plain false text status = (refl, refl)
+
+pub ends_after : (sums : Bool) (w text : List ℕ) (status : ℕ) (answer : Answer) → EndsWith sums text status answer
+    → EndsWith sums (w ++ text) status (record { text = w ++ answer.text; status = answer.status })
+ends_after true w text status answer (inl h) = inl (h.0, is_after w text answer.text h.0 h.1, h.2)
+ends_after true w text status answer (inr h) = inr (is_after w text answer.text _ h.0, h.1)
+ends_after false w text status answer h = (ap (λ (l : List ℕ). w ++ l) h.0, h.1)
+
+whatever : (e : RecordingError) (P : Type 0) → P → IfRefused e (λ why. P)
+whatever (error.Refused why) P h = h
+whatever error.Memory P h = tt
+whatever error.Line P h = tt
+whatever error.OutOfOrder P h = tt
+whatever error.TooLong P h = tt
+whatever error.Missing P h = tt
+
+line_named : (layout : Layout) (name : Option (List ℕ)) → (line : List ℕ) × SaysName layout name line
+line_named layout (Some name) = (error_line layout name, inl refl)
+line_named layout None = ([], refl)
+
+line_for : (layout : Layout) (e : RecordingError) → (line : List ℕ) × SaysError layout e line
+line_for layout e = line_named layout (error_name e)
+
+-- the first three
+done : (all : List KindName) (layout : Layout) (limit : ℕ) (sums : Bool) (at_end : Type 0) (input : List ℕ) (answer : Answer) → at_end → IsDone layout sums input answer
+    → IsAnswer all layout limit sums at_end input answer
+done all layout limit sums at_end input answer e h = inl (e, h)
+
+lost : (all : List KindName) (layout : Layout) (limit : ℕ) (sums : Bool) (at_end : Type 0) (input : List ℕ) (answer : Answer) → at_end → HasLost all layout limit sums input answer
+    → IsAnswer all layout limit sums at_end input answer
+lost all layout limit sums at_end input answer e h = inr (inl (e, h))
+
+refused : (all : List KindName) (layout : Layout) (limit : ℕ) (sums : Bool) (at_end : Type 0) (input : List ℕ) (answer : Answer) → IsRefused all layout sums input answer
+    → IsAnswer all layout limit sums at_end input answer
+refused all layout limit sums at_end input answer h = inr (inr (inl h))
+
+no_further : (all : List KindName) (layout : Layout) (limit : ℕ) (sums : Bool) (at_end : Type 0) (input : List ℕ) (answer : Answer) → GoesNoFurther all layout limit sums input answer
+    → IsAnswer all layout limit sums at_end input answer
+no_further all layout limit sums at_end input answer h = inr (inr (inr (inl h)))
+
+pub cut_off : (all : List KindName) (layout : Layout) (limit : ℕ) (sums : Bool) (at_end : Type 0) (r : Recording) (x w : List ℕ) → IsAmid all layout limit r x w
+    → IsAnswer all layout limit sums at_end x (record { text = w; status = 3 })
+cut_off all layout limit sums at_end r x w h = inr (inr (inr (inr (record { made = amid_made all layout limit r x w h; status = refl }))))
+
+-- what is shown of a front of it
+begins_made : (all : List KindName) (layout : Layout) (limit : ℕ) (r : Recording) (x p w t : List ℕ) → IsAmid all layout limit r x w → BeginsMade all layout limit (x ++ p) (w ++ t)
+begins_made all layout limit r x p w t h = (x, p, w, refl, amid_made all layout limit r x w h, (t, refl))
+
+-- after something is lost
+after_lost : (all : List KindName) (layout : Layout) (limit : ℕ) (sums : Bool) (at_end : Type 0) (r : Recording) (x p w t text line : List ℕ) (e : RecordingError) (answer : Answer)
+    → IsAmid all layout limit r x w → LostIn all layout limit IsAtFeed (x ++ p) text → SaysError layout e line → EndsWith sums ((w ++ t) ++ line) 1 answer
+    → IsAnswer all layout limit sums at_end (x ++ p) answer
+after_lost all layout limit sums at_end r x p w t text line e answer h l says ends =
+    no_further all layout limit sums at_end (x ++ p) answer (record {
+      why = e;
+      shown = w ++ t;
+      line = line;
+      begins = begins_made all layout limit r x p w t h;
+      lost = whatever e ((m : List ℕ) × LostIn all layout limit IsAtFeed (x ++ p) m) (text, l);
+      says = says;
+      ends = ends;
+    })
+
+-- for another reason
+for_another : (all : List KindName) (layout : Layout) (limit : ℕ) (sums : Bool) (at_end : Type 0) (r : Recording) (x p w t line : List ℕ) (e : RecordingError) (answer : Answer)
+    → IsAmid all layout limit r x w → ((P : Refusal → Type 0) → IfRefused e P) → SaysError layout e line → EndsWith sums ((w ++ t) ++ line) 1 answer
+    → IsAnswer all layout limit sums at_end (x ++ p) answer
+for_another all layout limit sums at_end r x p w t line e answer h other says ends =
+    no_further all layout limit sums at_end (x ++ p) answer (record {
+      why = e;
+      shown = w ++ t;
+      line = line;
+      begins = begins_made all layout limit r x p w t h;
+      lost = other (λ why. (m : List ℕ) × LostIn all layout limit IsAtFeed (x ++ p) m);
+      says = says;
+      ends = ends;
+    })
+
+-- a packet doesn't come, or it is for another reason
+stopped : (all : List KindName) (layout : Layout) (limit : ℕ) (sums : Bool) (at_end : Type 0) (r : Recording) (x p w t line : List ℕ) (e : RecordingError) (answer : Answer)
+    → IsAmid all layout limit r x w → IfRefused e (λ why. RefusedIn all layout why (x ++ p) (w ++ t)) → SaysError layout e line → EndsWith sums ((w ++ t) ++ line) 1 answer
+    → IsAnswer all layout limit sums at_end (x ++ p) answer
+stopped all layout limit sums at_end r x p w t line (error.Refused why) answer h stops says ends =
+    refused all layout limit sums at_end (x ++ p) answer (record {
+      why = why;
+      shown = w ++ t;
+      stops = stops;
+      ends = subst (λ l. EndsWith sums l 1 answer) (ap (λ (l : List ℕ). (w ++ t) ++ l) says ∙ append-nil (w ++ t)) ends;
+    })
+stopped all layout limit sums at_end r x p w t line error.Memory answer h stops says ends =
+    for_another all layout limit sums at_end r x p w t line error.Memory answer h (λ P. tt) says ends
+stopped all layout limit sums at_end r x p w t line error.Line answer h stops says ends =
+    for_another all layout limit sums at_end r x p w t line error.Line answer h (λ P. tt) says ends
+stopped all layout limit sums at_end r x p w t line error.OutOfOrder answer h stops says ends =
+    for_another all layout limit sums at_end r x p w t line error.OutOfOrder answer h (λ P. tt) says ends
+stopped all layout limit sums at_end r x p w t line error.TooLong answer h stops says ends =
+    for_another all layout limit sums at_end r x p w t line error.TooLong answer h (λ P. tt) says ends
+stopped all layout limit sums at_end r x p w t line error.Missing answer h stops says ends =
+    for_another all layout limit sums at_end r x p w t line error.Missing answer h (λ P. tt) says ends
+
+-- of what stops amid a piece
+piece_refused : (all : List KindName) (layout : Layout) (e : RecordingError) (x p w t : List ℕ) (items : List Item) → Writes layout items [] w
+    → IfRefused e (λ why. (front : List ℕ) × (back : List ℕ) × (here : List Item) × (mid : List ℕ) × (p ≡ front ++ back)
+    × Writes layout here [] mid × StopsAfter all layout (x ++ front) (items ++ here) why mid t)
+    → IfRefused e (λ why. RefusedIn all layout why (x ++ p) (w ++ t))
+piece_refused all layout (error.Refused why) x p w t items writes s =
+    (x ++ s.0, s.1, items ++ s.2, w ++ s.3, is_after x s.0 p s.1 s.4, writes_more layout items s.2 w s.3 writes s.5, stops_after_after w all layout (x ++ s.0) (items ++ s.2) why s.3 t s.6)
+piece_refused all layout error.Memory x p w t items writes s = tt
+piece_refused all layout error.Line x p w t items writes s = tt
+piece_refused all layout error.OutOfOrder x p w t items writes s = tt
+piece_refused all layout error.TooLong x p w t items writes s = tt
+piece_refused all layout error.Missing x p w t items writes s = tt
+
+end_refused : (all : List KindName) (layout : Layout) (e : RecordingError) (x w t : List ℕ) (items : List Item) → Writes layout items [] w
+    → IfRefused e (λ why. StopsAfter all layout x items why [] t) → IfRefused e (λ why. RefusedIn all layout why (x ++ []) (w ++ t))
+end_refused all layout (error.Refused why) x w t items writes s =
+    (x, [], items, w, refl, writes, subst (λ l. StopsAfter all layout x items why l (w ++ t)) (append-nil w) (stops_after_after w all layout x items why [] t s))
+end_refused all layout error.Memory x w t items writes s = tt
+end_refused all layout error.Line x w t items writes s = tt
+end_refused all layout error.OutOfOrder x w t items writes s = tt
+end_refused all layout error.TooLong x w t items writes s = tt
+end_refused all layout error.Missing x w t items writes s = tt
+
+piece_stops : (all : List KindName) (sums : Bool) (at_end : Type 0) (old new : Recording) (x p w t line : List ℕ) (e : RecordingError) (answer : Answer) → Takes (Err e) all p old new t
+    → IsAmid all (recorded.layout old) (recorded.longest old) old x w → SaysError (recorded.layout old) e line → EndsWith sums ((w ++ t) ++ line) 1 answer
+    → IsAnswer all (recorded.layout old) (recorded.longest old) sums at_end (x ++ p) answer
+piece_stops all sums at_end old new x p w t line e answer takes (inl h) says ends =
+    let amid : IsAmid all (recorded.layout old) (recorded.longest old) old x w = inl h in
+    elim (takes.refused x h.0 h.1) as (λ _. IsAnswer all (recorded.layout old) (recorded.longest old) sums at_end (x ++ p) answer) [
+      | inl lost_now ↦ (let l = lost_here (Err e) all old new x p w t h.0 h.1 h.2 takes.loses lost_now in
+          after_lost all (recorded.layout old) (recorded.longest old) sums at_end old x p w t (w ++ l.0) line e answer amid (l.2 l.0 (stays_same l.0)) says ends)
+      | inr s ↦ stopped all (recorded.layout old) (recorded.longest old) sums at_end old x p w t line e answer amid (piece_refused all (recorded.layout old) e x p w t h.0 h.2 s) says ends
+    ]
+piece_stops all sums at_end old new x p w t line e answer takes (inr h) says ends =
+    after_lost all (recorded.layout old) (recorded.longest old) sums at_end old x p w t (w ++ t) line e answer (inr h) (lost_more all (recorded.layout old) (recorded.longest old) x p w t h.1) says ends
+
+end_stops : (all : List KindName) (sums : Bool) (at_end : Type 0) (old new : Recording) (x w t line : List ℕ) (e : RecordingError) (answer : Answer) → Ends (Err e) all old new t
+    → IsAmid all (recorded.layout old) (recorded.longest old) old x w → SaysError (recorded.layout old) e line → EndsWith sums ((w ++ t) ++ line) 1 answer
+    → IsAnswer all (recorded.layout old) (recorded.longest old) sums at_end (x ++ []) answer
+end_stops all sums at_end old new x w t line e answer takes (inl h) says ends =
+    stopped all (recorded.layout old) (recorded.longest old) sums at_end old x [] w t line e answer (inl h) (end_refused all (recorded.layout old) e x w t h.0 h.2 (takes.refused x h.0 h.1)) says ends
+end_stops all sums at_end old new x w t line e answer takes (inr h) says ends =
+    after_lost all (recorded.layout old) (recorded.longest old) sums at_end old x [] w t (w ++ t) line e answer (inr h) (lost_more all (recorded.layout old) (recorded.longest old) x [] w t h.1) says ends
+
+-- the input is at its end
+no_more : (all : List KindName) (old new : Recording) (x w t : List ℕ) (items : List Item) → Recorded old x items → Writes (recorded.layout old) items [] w
+    → Ends (Ok tt) all old new t → recorded.has_lost new ≡ true → LostIn all (recorded.layout old) (recorded.longest old) IsLineEnd x (w ++ t)
+no_more all old new x w t items h writes says lost_now =
+    let l = says.loses lost_now x items h in (
+      x,
+      [],
+      items,
+      w,
+      w ++ l.0,
+      sym (append-nil x),
+      writes,
+      subst (λ s. IsLost all (recorded.layout old) (recorded.longest old) (IsLineEnd []) x items s (w ++ l.0)) (append-nil w)
+          (lost_after w all (recorded.layout old) (recorded.longest old) (IsLineEnd []) x items [] l.0
+          (is_lost_where all (recorded.layout old) (recorded.longest old) (Unit {0}) (IsLineEnd []) x items [] l.0 (λ u. inr refl) l.1)),
+      stays_after w l.0 t l.2,
+    )
+
+finished : (all : List KindName) (sums has_lost : Bool) (at_end : Type 0) (old new : Recording) (x w t : List ℕ) (answer : Answer) → Ends (Ok tt) all old new t → recorded.has_lost new ≡ has_lost → at_end
+    → IsAmid all (recorded.layout old) (recorded.longest old) old x w → EndsWith sums (w ++ t) (lost_status has_lost) answer
+    → IsAnswer all (recorded.layout old) (recorded.longest old) sums at_end x answer
+finished all sums true at_end old new x w t answer says is here (inl h) ends =
+    lost all (recorded.layout old) (recorded.longest old) sums at_end x answer here (record { shown = w ++ t; lost = no_more all old new x w t h.0 h.1 h.2 says is; ends = ends })
+finished all sums false at_end old new x w t answer says is here (inl h) ends =
+    elim (says.finishes x h.0 h.1) as (λ _. IsAnswer all (recorded.layout old) (recorded.longest old) sums at_end x answer) [
+      | inl lost_now ↦ absurd (let no : true ≡ false = sym lost_now ∙ is in cc)
+      | inr f ↦ done all (recorded.layout old) (recorded.longest old) sums at_end x answer here
+          (record { shown = w ++ t; shows = (h.0 ++ f.0, f.1, writes_more (recorded.layout old) h.0 f.0 w t h.2 f.2); ends = ends })
+    ]
+finished all sums true at_end old new x w t answer says is here (inr h) ends =
+    lost all (recorded.layout old) (recorded.longest old) sums at_end x answer here (record { shown = w ++ t; lost = lost_ends all (recorded.layout old) (recorded.longest old) x w t h.1; ends = ends })
+finished all sums false at_end old new x w t answer says is here (inr h) ends = absurd (let no : true ≡ false = sym (says.lost h.0) ∙ is in cc)
+
+-- ---- what is written of it
+
+-- An answer that is written, where it is amid this input it is that of this one.
+pub record IsGiven (all : List KindName) (layout : Layout) (limit : ℕ) (sums : Bool) (at_end : Type 0) (r : Recording) (x w input : List ℕ) (old new : Option (List ℕ)) (status : ℕ) : Type 0 where
+  pub answer : Answer
+  pub answers : IsAmid all layout limit r x w → IsAnswer all layout limit sums at_end input answer
+  pub written : IsWritten answer old new status
+
+error_given : (all : List KindName) (sums : Bool) (at_end : Type 0) (r : Recording) (x w t input : List ℕ) (e : RecordingError) (a b c : Option (List ℕ)) (status : ℕ) → Appends a b w
+    → ((line : List ℕ) (answer : Answer) → IsAmid all (recorded.layout r) (recorded.longest r) r x w → SaysError (recorded.layout r) e line → EndsWith sums ((w ++ t) ++ line) 1 answer
+    → IsAnswer all (recorded.layout r) (recorded.longest r) sums at_end input answer)
+    → FailsIn t b c status ⊎ IsErrorWritten (recorded.layout r) sums e t b c status
+    → IsGiven all (recorded.layout r) (recorded.longest r) sums at_end r x w input a c status
+error_given all sums at_end r x w t input e a b c status first stops (inl fails) =
+    let line = line_for (recorded.layout r) e in
+    let answer : Answer = record { text = (w ++ t) ++ line.0; status = 1 } in
+    record {
+      answer = answer;
+      answers = λ h. stops line.0 answer h line.1 (ends_plain sums ((w ++ t) ++ line.0) 1);
+      written = inr ((fails.0.0 ++ line.0, cut_longer (w ++ t) fails.0.0 line.0 a c (cut_after w t fails.0.0 a b c first fails.0.1)), fails.1);
+    }
+error_given all sums at_end r x w t input e a b c status first stops (inr h) =
+    record {
+      answer = record { text = w ++ h.1.text; status = h.1.status };
+      answers = λ amid. stops h.0 (record { text = w ++ h.1.text; status = h.1.status }) amid h.2
+          (subst (λ l. EndsWith sums l 1 (record { text = w ++ h.1.text; status = h.1.status })) (sym (append_assoc w t h.0)) (ends_after sums w (t ++ h.0) 1 h.1 h.3));
+      written = written_after w h.1 a b c status first h.4;
+    }
+
+piece_given : (r : Result (Unit {0}) RecordingError) (all : List KindName) (sums : Bool) (at_end : Type 0) (old new : Recording) (x p w t : List ℕ) (a b c : Option (List ℕ)) (status : ℕ) → Appends a b w
+    → Takes r all p old new t → FailsIn t b c status ⊎ MatchResult r (λ _. ⊥) (λ e. IsErrorWritten (recorded.layout old) sums e t b c status)
+    → IsGiven all (recorded.layout old) (recorded.longest old) sums at_end old x w (x ++ p) a c status
+piece_given (Ok u) all sums at_end old new x p w t a b c status first takes (inl fails) = record {
+  answer = record { text = w ++ t; status = 3 };
+  answers = λ h. cut_off all (recorded.layout old) (recorded.longest old) sums at_end new (x ++ p) (w ++ t) (amid_here all old new x p w t takes h);
+  written = inr ((fails.0.0, cut_after w t fails.0.0 a b c first fails.0.1), fails.1);
+}
+piece_given (Ok u) all sums at_end old new x p w t a b c status first takes (inr never) = absurd never
+piece_given (Err e) all sums at_end old new x p w t a b c status first takes ends =
+    error_given all sums at_end old x w t (x ++ p) e a b c status first (λ line answer h says with. piece_stops all sums at_end old new x p w t line e answer takes h says with) ends
+
+end_given : (r : Result (Unit {0}) RecordingError) (all : List KindName) (sums : Bool) (at_end : Type 0) (old new : Recording) (x w t : List ℕ) (a b c : Option (List ℕ)) (status : ℕ) → Appends a b w
+    → Ends r all old new t → at_end
+    → FailsIn t b c status ⊎ MatchResult r
+    (λ _. (answer : Answer) × EndsWith sums t (lost_status (recorded.has_lost new)) answer × IsWritten answer b c status)
+    (λ e. IsErrorWritten (recorded.layout old) sums e t b c status)
+    → IsGiven all (recorded.layout old) (recorded.longest old) sums at_end old x w x a c status
+end_given (Ok u) all sums at_end old new x w t a b c status first says here (inl fails) = record {
+  answer = record { text = w ++ t; status = lost_status (recorded.has_lost new) };
+  answers = λ h. finished all sums (recorded.has_lost new) at_end old new x w t _ says refl here h (ends_plain sums (w ++ t) (lost_status (recorded.has_lost new)));
+  written = inr ((fails.0.0, cut_after w t fails.0.0 a b c first fails.0.1), fails.1);
+}
+end_given (Ok u) all sums at_end old new x w t a b c status first says here (inr h) = record {
+  answer = record { text = w ++ h.0.text; status = h.0.status };
+  answers = λ amid. finished all sums (recorded.has_lost new) at_end old new x w t _ says refl here amid (ends_after sums w t (lost_status (recorded.has_lost new)) h.0 h.1);
+  written = written_after w h.0 a b c status first h.2;
+}
+end_given (Err e) all sums at_end old new x w t a b c status first says here ends =
+    error_given all sums at_end old x w t x e a b c status first
+    (λ line answer h error with. subst (λ i. IsAnswer all (recorded.layout old) (recorded.longest old) sums at_end i answer) (append-nil x) (end_stops all sums at_end old new x w t line e answer says h error with)) ends
+
+-- ---- the program
+
+piece_in : (all : List KindName) (layout : Layout) (limit : ℕ) (sums : Bool) (at_end : Type 0) (old new : Recording) (x p w : List ℕ) (a b c : Option (List ℕ)) (status : ℕ)
+    → recorded.layout old ≡ layout → recorded.longest old ≡ limit → Appends a b w → PieceEnds all layout sums p old new b c status
+    → IsGiven all layout limit sums at_end old x w (x ++ p) a c status
+piece_in all layout limit sums at_end old new x p w a b c status same long first =
+    subst (λ s. PieceEnds all s sums p old new b c status → IsGiven all s limit sums at_end old x w (x ++ p) a c status) same
+    (subst (λ n. PieceEnds all (recorded.layout old) sums p old new b c status → IsGiven all (recorded.layout old) n sums at_end old x w (x ++ p) a c status) long
+    (λ h. piece_given h.taken all sums at_end old new x p w h.text a b c status first h.takes h.ends))
+
+end_in : (all : List KindName) (layout : Layout) (limit : ℕ) (sums : Bool) (at_end : Type 0) (old new : Recording) (x w : List ℕ) (a b c : Option (List ℕ)) (status : ℕ)
+    → recorded.layout old ≡ layout → recorded.longest old ≡ limit → at_end → Appends a b w → InputEnds all layout sums old new b c status
+    → IsGiven all layout limit sums at_end old x w x a c status
+end_in all layout limit sums at_end old new x w a b c status same long here first =
+    subst (λ s. InputEnds all s sums old new b c status → IsGiven all s limit sums at_end old x w x a c status) same
+    (subst (λ n. InputEnds all (recorded.layout old) sums old new b c status → IsGiven all (recorded.layout old) n sums at_end old x w x a c status) long
+    (λ h. end_given h.finished all sums at_end old new x w h.text a b c status first h.says here h.ends))
+
+-- A reader gave an input, and what is made of it is written.
+pub record IsFed (all : List KindName) (layout : Layout) (limit : ℕ) (from : Type 0) (r : Recording) (before after old new : Option (List ℕ)) : Type 0 where
+  pub input : List ℕ
+  pub text : List ℕ
+  pub read : Consumes before after input
+  pub written : Appends old new text
+  pub amid : from → IsAmid all layout limit r input text
+  pub layout_is : recorded.layout r ≡ layout
+  pub longest_is : recorded.longest r ≡ limit
+
+pub fed_none : (all : List KindName) (layout : Layout) (limit : ℕ) (r : Recording) (before old : Option (List ℕ)) → recorded.layout r ≡ layout → recorded.longest r ≡ limit
+    → IsFed all layout limit (Recorded r [] []) r before before old old
+fed_none all layout limit r before old same long =
+    record { input = []; text = []; read = Consumes-nil before; written = Appends-nil old; amid = λ h. amid_none all layout limit r h; layout_is = same; longest_is = long }
+
+pub fed_more : (all : List KindName) (layout : Layout) (limit : ℕ) (from : Type 0) (old new : Recording) (p : List ℕ) (before mid after a b c : Option (List ℕ))
+    → IsFed all layout limit from old before mid a b → Consumes mid after p → PieceGoesOn all p old new b c → IsFed all layout limit from new before after a c
+fed_more all layout limit from old new p before mid after a b c fed read h = record {
+  input = fed.input ++ p;
+  text = fed.text ++ h.text;
+  read = Consumes-trans before mid after fed.input p fed.read read;
+  written = Appends-trans a b c fed.text h.text fed.written h.written;
+  amid = λ f. amid_more all layout limit old new fed.input p fed.text h.text fed.layout_is fed.longest_is h.takes (fed.amid f);
+  layout_is = h.takes.layout ∙ fed.layout_is;
+  longest_is = h.takes.longest ∙ fed.longest_is;
+}
+
+pub piece_answered : (all : List KindName) (layout : Layout) (limit : ℕ) (sums : Bool) (from : Type 0) (old new : Recording) (p : List ℕ) (before mid after a b c : Option (List ℕ)) (status : ℕ)
+    → IsFed all layout limit from old before mid a b → Consumes mid after p → PieceEnds all layout sums p old new b c status → IsAnswered all layout limit sums from before after a c status
+piece_answered all layout limit sums from old new p before mid after a b c status fed read h =
+    let given = piece_in all layout limit sums (IsAtEnd after) old new fed.input p fed.text a b c status fed.layout_is fed.longest_is fed.written h in
+    record {
+      input = fed.input ++ p;
+      read = Consumes-trans before mid after fed.input p fed.read read;
+      answer = given.answer;
+      answers = λ f. given.answers (fed.amid f);
+      written = given.written;
+    }
+
+pub end_answered : (all : List KindName) (layout : Layout) (limit : ℕ) (sums : Bool) (from : Type 0) (old new : Recording) (chunk : List ℕ) (n : ℕ) (before mid after a b c : Option (List ℕ)) (status : ℕ)
+    → IsFed all layout limit from old before mid a b → Consumes mid after (take n chunk) → n ≡ 0 → IsAtEnd after → InputEnds all layout sums old new b c status
+    → IsAnswered all layout limit sums from before after a c status
+end_answered all layout limit sums from old new chunk n before mid after a b c status fed read none here h =
+    let given = end_in all layout limit sums (IsAtEnd after) old new fed.input fed.text a b c status fed.layout_is fed.longest_is here fed.written h in
+    record {
+      input = fed.input;
+      read = subst (Consumes before after) (append-nil fed.input) (Consumes-trans before mid after fed.input [] fed.read (subst (λ k. Consumes mid after (take k chunk)) none read));
+      answer = given.answer;
+      answers = λ f. given.answers (fed.amid f);
+      written = given.written;
+    }
+
+-- a read fails, or no more is read
+pub no_more_read : (all : List KindName) (layout : Layout) (limit : ℕ) (sums : Bool) (from : Type 0) (r : Recording) (before mid after a b : Option (List ℕ))
+    → IsFed all layout limit from r before mid a b → Keeps mid after → IsAnswered all layout limit sums from before after a b 3
+no_more_read all layout limit sums from r before mid after a b fed kept = record {
+  input = fed.input;
+  read = Consumes-kept before mid after fed.input fed.read kept;
+  answer = record { text = fed.text; status = 3 };
+  answers = λ f. cut_off all layout limit sums (IsAtEnd after) r fed.input fed.text (fed.amid f);
+  written = inl (fed.written, refl);
+}
+
+pub says_name : (layout : Layout) (e : RecordingError) (name line : List ℕ) → error_name e ≡ Some name → (line ≡ error_line layout name) ⊎ (line ≡ memory_line) → SaysError layout e line
+says_name layout e name line is h = subst (λ n. SaysName layout n line) (sym is) h
+
+pub says_none : (layout : Layout) (e : RecordingError) → error_name e ≡ None → SaysError layout e []
+says_none layout e is = subst (λ n. SaysName layout n []) (sym is) refl
+
+pub answered_from : (all : List KindName) (layout : Layout) (limit was : ℕ) (sums : Bool) (from to : Type 0) (before after old new : Option (List ℕ)) (status : ℕ) → was ≡ limit → (to → from)
+    → IsAnswered all layout was sums from before after old new status → IsAnswered all layout limit sums to before after old new status
+answered_from all layout limit was sums from to before after old new status e f h = record {
+  input = h.input;
+  read = h.read;
+  answer = h.answer;
+  answers = λ t. subst (λ n. IsAnswer all layout n sums (IsAtEnd after) h.input h.answer) e (h.answers (f t));
+  written = h.written;
+}

@@ -1,0 +1,11 @@
+use Rattle.std.proofs.Common.{[]}
+use Rattle.mysql_conversation.specs.declared.kind_name.TheConstants.KindName.{ALL}
+use Rattle.mysql_recorder.specs.Recorded.{Recorded, longest}
+use Rattle.mysql_recorder.proofs.Answered.{IsFed}
+use Rattle.mysql_recorder.proofs.program.show.Given as goal
+
+-- the reader gave an input, and what is made of it is written
+abbrev pub invariant-loop : goal.invariant-loop
+invariant-loop g l =
+    IsFed ALL l.shown_in (longest l.fn.recording) (Recorded l.fn.recording [] []) l.recording
+    (g.R.Read.remaining l.fn.reader) (g.R.Read.remaining l.reader) (g.W.Write.contents l.fn.writer) (g.W.Write.contents l.writer)
