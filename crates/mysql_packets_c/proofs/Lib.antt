@@ -5,6 +5,7 @@ pub mod Answers
 pub mod Changes
 pub mod MergedNames
 pub mod Mixed
+pub mod BinaryRows
 pub mod BulkRows
 pub mod BulkRequests
 pub mod Executions
