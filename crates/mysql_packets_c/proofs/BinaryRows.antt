@@ -1,8 +1,10 @@
 -- Binary rows, whose values are counted one after another.
 use Rattle.std.proofs.Common.{◌≡◌, ◌<◌, ◌≤◌, ◌+◌, ◌∷◌, ℕ, zero, suc, Bool, true, false, ◌&&◌, List, [], length, drop, get_or, refl, sym, ap, ◌∙◌, arith, add-one}
+use Rattle.std.proofs.lemmas.Bool.{and_parts}
 use Rattle.std.specs.List.{list_all}
 use Rattle.mysql_prepared.specs.BinaryRow.{takes, takes_row}
 use Rattle.mysql_prepared.proofs.RowBytes.{integer-saturated}
+use Rattle.mysql_packets_c.proofs.BulkRows.{swapped}
 use Rattle.mysql_packets_c.specs.ColumnType.{type_of, unsigned_of}
 use Rattle.mysql_packets_c.specs.BinaryRow.{takes_value}
 use Rattle.mysql_packets_c.specs.Rows.{row_fits}
@@ -16,16 +18,6 @@ no_column = record { column_type = 0; is_unsigned = 0 }
 
 abbrev pub no_value : CValue
 no_value = record { kind = 0; is_negative = 0; month = 0; day = 0; hour = 0; minute = 0; second = 0; reserved = 0; micros = 0; days = 0; number = 0; bytes = record { ref_ptr = (0, 0); now = [] } }
-
-swapped : (a b c d : Bool) → ((a && b) && (c && d)) ≡ ((a && c) && (b && d))
-swapped true true c d = by c d
-  where
-    by : (c d : Bool) → (c && d) ≡ (c && (true && d))
-    by true d = refl
-    by false d = refl
-swapped true false true d = refl
-swapped true false false d = refl
-swapped false b c d = refl
 
 -- the next value of a row
 pub fits-from : (columns : List CColumnType) (values : List CValue) (i : ℕ) (c : CColumnType) (v : CValue) → length columns ≡ length values → i < length values
@@ -49,22 +41,17 @@ fits-end (c ∷ columns) [] i same past = absurd (omega (arith, same))
 fits-end (c ∷ columns) (v ∷ values) zero same past = absurd (omega (arith, past))
 fits-end (c ∷ columns) (v ∷ values) (suc i) same past = fits-end columns values i (omega (arith, same)) (omega (arith, past))
 
-both : (a b : Bool) → (a && b) ≡ true → (a ≡ true) × (b ≡ true)
-both true true h = (refl, refl)
-both true false h = absurd cc
-both false b h = absurd cc
-
 -- values of a row that fits
 pub are-values : (columns : List CColumnType) (values : List CValue) → row_fits columns values ≡ true → list_all is_value values ≡ true
-are-values columns values h = (both (list_all is_value values) (takes_row type_of unsigned_of columns (values_contents values)) h).0
+are-values columns values h = (and_parts (list_all is_value values) (takes_row type_of unsigned_of columns (values_contents values)) h).0
 
 -- there is one for each column
 pub as-many : (columns : List CColumnType) (values : List CValue) → row_fits columns values ≡ true → length columns ≡ length values
 as-many [] [] h = refl
-as-many [] (v ∷ values) h = let none : false ≡ true = (both (list_all is_value (v ∷ values)) false h).1 in absurd cc
+as-many [] (v ∷ values) h = let none : false ≡ true = (and_parts (list_all is_value (v ∷ values)) false h).1 in absurd cc
 as-many (c ∷ columns) [] h = absurd cc
 as-many (c ∷ columns) (v ∷ values) h =
-    let rest = (both (takes_value c v) (row_fits columns values) (sym (swapped (is_value v) (list_all is_value values) (takes (type_of c) (unsigned_of c) (value_content v)) (takes_row type_of unsigned_of columns (values_contents values))) ∙ h)).1 in
+    let rest = (and_parts (takes_value c v) (row_fits columns values) (sym (swapped (is_value v) (list_all is_value values) (takes (type_of c) (unsigned_of c) (value_content v)) (takes_row type_of unsigned_of columns (values_contents values))) ∙ h)).1 in
     ap suc (as-many columns values rest)
 
 pub ruleset binary_rows = (fits-from, fits-end, as-many, integer-saturated)

@@ -13,7 +13,6 @@ pub mod SidHeld
 pub mod WrittenSids
 pub mod SomeZero
 pub mod HandshakeFit
-pub mod RefusedRow
 pub mod WrittenRows
 pub mod Logins
 pub mod AttributeKinds
