@@ -1,5 +1,6 @@
 -- Rows that are counted one after another.
 use Rattle.std.proofs.Common.{◌≡◌, ◌≢◌, ◌<◌, ◌≤◌, ◌+◌, ◌*◌, ◌++◌, ◌∷◌, ◌-◌, ◌^◌, ℕ, zero, suc, Bool, true, false, ◌&&◌, List, [], length, map, take, drop, Option, Some, None, refl, sym, subst, ap, ◌∙◌, arith, inl, inr, ◌⊎◌, get_or, min, add-one, append_assoc, if◌then◌else◌, sum_by}
+use Rattle.std.proofs.lemmas.Bool.{and_parts}
 use Rattle.std.proofs.lemmas.List.{append-nil, drop-drop, take-map, drop-map, length-drop, length-map, length-take-le, nil_from_length}
 use Rattle.std.proofs.lemmas.List.{map-append, take_more, take_all}
 use Rattle.std.proofs.lemmas.List.Elements.{All-nil, All-push}
@@ -32,7 +33,7 @@ first-refused columns = rw (prefix-map columns, length-map columns declared_type
 
 -- ---- one value more of a row
 
-swapped : (a b c d : Bool) → ((a && b) && (c && d)) ≡ ((a && c) && (b && d))
+pub swapped : (a b c d : Bool) → ((a && b) && (c && d)) ≡ ((a && c) && (b && d))
 swapped true true c d = by c d
   where
     by : (c d : Bool) → (c && d) ≡ (c && (true && d))
@@ -141,11 +142,6 @@ none-there s columns values code refused some none =
 
 -- ---- one row more
 
-both : (a b : Bool) → (a && b) ≡ true → (a ≡ true) × (b ≡ true)
-both true true h = (refl, refl)
-both true false h = absurd cc
-both false b h = absurd cc
-
 -- the bytes of the rows and of one more
 size-next : (call : BulkCall) (columns n : ℕ) (values : List CValue)
     → sum_by row_size (first_rows columns n values ++ values_contents (row_at columns n values) ∷ []) ≡ sum_by row_size (first_rows columns n values) + row_size (values_contents (row_at columns n values))
@@ -175,7 +171,7 @@ pub row-counted : (call : BulkCall) (rows n len longer : ℕ) (values : List CVa
 row-counted call rows n len longer values whole lt h taken is within =
     let columns = length call.columns.now in
     let row = row_at columns n values in
-    let parts = both (list_all is_value row) (spell_row (declared_types call.columns.now) (values_contents row)) taken in
+    let parts = and_parts (list_all is_value row) (spell_row (declared_types call.columns.now) (values_contents row)) taken in
     let next = first-next columns n values in
     let size : sum_by row_size (first_rows columns (n + 1) values) ≡ sum_by row_size (first_rows columns n values) + row_size (values_contents row) = ap (sum_by row_size) next ∙ size-next call columns n values in
     let total : longer ≡ 7 + 2 * columns + sum_by row_size (first_rows columns (n + 1) values) = omega (arith, is, h.size, size) in
@@ -193,7 +189,7 @@ row-past : (call : BulkCall) (rows n len : ℕ) (values : List CValue) → lengt
 row-past call rows n len values whole lt h taken past =
     let columns = length call.columns.now in
     let row = row_at columns n values in
-    let parts = both (list_all is_value row) (spell_row (declared_types call.columns.now) (values_contents row)) taken in
+    let parts = and_parts (list_all is_value row) (spell_row (declared_types call.columns.now) (values_contents row)) taken in
     let long = row-length columns rows n values whole lt in
     let size = size-next call columns n values in
     record {

@@ -5,6 +5,7 @@ pub mod Answers
 pub mod Changes
 pub mod MergedNames
 pub mod Mixed
+pub mod BinaryRows
 pub mod BulkRows
 pub mod BulkRequests
 pub mod Executions
@@ -12,7 +13,6 @@ pub mod SidHeld
 pub mod WrittenSids
 pub mod SomeZero
 pub mod HandshakeFit
-pub mod RefusedRow
 pub mod WrittenRows
 pub mod Logins
 pub mod AttributeKinds

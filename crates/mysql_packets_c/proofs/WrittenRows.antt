@@ -2,20 +2,14 @@
 use Rattle.std.proofs.Common.{if◌then◌else◌, ◌≡◌, ◌≢◌, ◌<◌, ◌≤◌, ◌-◌, ◌^◌, ◌++◌, ◌∷◌, ℕ, List, [], Bool, true, false, ◌&&◌, IsTrue, length, drop, refl, sym, subst, ap, ◌∙◌, arith}
 use Rattle.std.specs.List.{flat_map, list_all}
 use Rattle.std.proofs.lemmas.List.Folds.{flat_map-map}
-use Rattle.mysql_prepared.specs.BinaryRow.{RefusesRow, takes_row}
 use Rattle.mysql_prepared.specs.ExecuteParam.{contents}
-use Rattle.mysql_prepared.specs.declared.binary_row.BinaryRowError.{BinaryRowError}
-use Rattle.mysql_prepared.specs.declared.binary_row.BinaryRowError.TheVariants as error
 use Rattle.mysql_prepared.specs.TextRow.{text_cell_bytes, text_row_bytes}
 use Rattle.mysql_wire.specs.Writing.{saturated}
 use Rattle.mysql_values.specs.Value.{Content, NULL}
 use Rattle.mysql_packets_c.specs.Execution.{param}
 use Rattle.mysql_packets_c.specs.Output.{PutsSuch, PutsSuchUnlessTooLong}
-use Rattle.mysql_packets_c.proofs.RefusedRow.{count-refused, place-refused}
-use Rattle.mysql_packets_c.specs.ColumnType.{type_of, unsigned_of}
-use Rattle.mysql_packets_c.specs.Rows.{cell_of, cells_of, row_fits}
+use Rattle.mysql_packets_c.specs.Rows.{cell_of, cells_of}
 use Rattle.mysql_packets_c.specs.Value.{is_value, value_content, values_contents}
-use Rattle.mysql_packets_c.specs.declared.rows.CColumnType.{CColumnType}
 use Rattle.mysql_packets_c.specs.declared.value.CValue.{CValue}
 
 -- the cells of a text row are those of its values
@@ -34,24 +28,6 @@ values-sent [] h = refl
 values-sent (v ∷ values) h =
     let both = both-parts (is_value v) (list_all is_value values) h in
     ap (λ (b : Bool). (if b then value_content v else NULL) ∷ contents param values) both.0 ∙ ap (λ (l : List Content). value_content v ∷ l) (values-sent values both.1)
-
--- ---- a row that is taken or refused
-
-pub row-taken : (columns : List CColumnType) (values : List CValue) → list_all is_value values ≡ true → takes_row type_of unsigned_of columns (contents param values) ≡ true → row_fits columns values ≡ true
-row-taken columns values all taken =
-    ap (λ (b : Bool). b && takes_row type_of unsigned_of columns (values_contents values)) all
-    ∙ ap (takes_row type_of unsigned_of columns) (sym (values-sent values all)) ∙ taken
-
-not-taken : (columns : List CColumnType) (held : List Content) (e : BinaryRowError) → e ≢ error.Memory → RefusesRow type_of unsigned_of columns held e → takes_row type_of unsigned_of columns held ≡ false
-not-taken columns held error.Count other h = count-refused columns held h
-not-taken columns held (error.Value place) other h = place-refused columns held place h.1.refused
-not-taken columns held error.Memory other h = absurd (other refl)
-
-pub row-refused : (columns : List CColumnType) (values : List CValue) (e : BinaryRowError) → list_all is_value values ≡ true → e ≢ error.Memory → RefusesRow type_of unsigned_of columns (contents param values) e
-    → row_fits columns values ≡ false
-row-refused columns values e all other h =
-    ap (λ (b : Bool). b && takes_row type_of unsigned_of columns (values_contents values)) all
-    ∙ ap (takes_row type_of unsigned_of columns) (sym (values-sent values all)) ∙ not-taken columns (contents param values) e other h
 
 -- what a writer answers of a count
 pub answered : (Such : List ℕ → Type 0) (count code : ℕ) (old new : List ℕ) (written : ℕ)

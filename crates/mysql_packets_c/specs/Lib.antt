@@ -1,6 +1,7 @@
 pub mod Attributes
 pub mod AuthMoreData
 pub mod AuthSwitch
+pub mod BinaryRow
 pub mod Bulk
 pub mod BulkCut
 pub mod BulkHead

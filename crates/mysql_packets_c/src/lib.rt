@@ -8,6 +8,7 @@ mod attributes;
 mod auth_more_data;
 mod auth_next_factor;
 mod auth_switch;
+mod binary_row;
 mod bulk;
 mod bulk_cut;
 mod bulk_head;

@@ -10,12 +10,11 @@ ghost use Rattle.mysql_packets_c.specs.Output.{PutsUnlessTooLong};
 ghost use Rattle.mysql_packets_c.specs.Rows as spec;
 ghost use Rattle.mysql_packets_c.specs.Rows.{Fills, FillsPlaces, RowInto, TakesRow};
 
+use crate::binary_row::{put_row, row_len};
 use crate::code::{BUFFER_TOO_SMALL, INVALID_INPUT, OK, code_of};
 use crate::output::{answer_count, put_packet};
-use crate::value::{CValue, are_values, put_ref};
-use mysql_prepared::{
-    BinaryRowView, ItemForm, Items, TextRowView, TypedColumn, write_binary_row_to_slice,
-};
+use crate::value::{CValue, put_ref};
+use mysql_prepared::{BinaryRowView, ItemForm, Items, TextRowView, TypedColumn};
 use mysql_values::ServerSide;
 use mysql_wire::{Buffer, BytesRepr, ColumnType, ConstValue, Fault, LenEnc, ParseBuf};
 use std::alloc::Global;
@@ -239,15 +238,13 @@ pub extern "C" fn myp_write_binary_row(
     ensures refused { IsFalse (spec.row_fits columns.now values.now) → (result ≡ 3) × (out.new ≡ out.old) × (written.new ≡ 0) }
     ensures value { IsTrue (spec.row_fits columns.now values.now) → spec.PutsRow columns.now values.now result out.old out.new written.new }
 {
-    if !are_values(values) {
+    let Some(len) = row_len(columns, values) else {
         *written = 0;
         return INVALID_INPUT;
+    };
+    // (no slice has `usize::MAX` bytes)
+    if len <= out.len() {
+        put_row(columns, values, &mut out[..len]);
     }
-    match write_binary_row_to_slice(columns, values, out) {
-        Ok(len) => answer_count(len, out.len(), written),
-        Err(_) => {
-            *written = 0;
-            INVALID_INPUT
-        }
-    }
+    answer_count(len, out.len(), written)
 }

@@ -1,53 +1,58 @@
-use Rattle.std.proofs.Common.{◌≡◌, ◌≢◌, Err, ap, ◌<◌, ◌^◌, List, length, true, false, subst, sym, ◌∙◌, arith}
-use Rattle.std.specs.List.{list_all}
+use Rattle.std.proofs.Common.{◌≡◌, ◌<◌, ◌≤◌, ◌^◌, ◌++◌, ℕ, List, length, drop, subst, sym, ap, ◌∙◌, arith}
+use Rattle.std.proofs.lemmas.List.{length-take-le}
+use Rattle.mysql_wire.specs.Writing.{saturated}
 use Rattle.mysql_prepared.specs.BinaryRow.{IsRowBytes, row_len}
-use Rattle.mysql_prepared.specs.ExecuteParam.{contents}
-use Rattle.mysql_prepared.specs.declared.binary_row.BinaryRowError.TheVariants as error
 use Rattle.mysql_values.specs.Value.{Content}
-use Rattle.mysql_packets_c.proofs.WrittenRows.{answered-unless, row-refused, row-taken, values-sent}
 use Rattle.mysql_packets_c.specs.ColumnType.{type_of, unsigned_of}
-use Rattle.mysql_packets_c.specs.Execution.{param}
-use Rattle.mysql_packets_c.specs.Output.{PutsSuchUnlessTooLong}
-use Rattle.mysql_packets_c.specs.Rows.{row_fits}
-use Rattle.mysql_packets_c.specs.Value.{is_value}
+use Rattle.mysql_packets_c.specs.Value.{values_contents}
+use Rattle.mysql_packets_c.proofs.BinaryRows.{are-values, as-many}
+use Rattle.mysql_packets_c.proofs.WrittenRows.{answered-unless, values-sent}
 use Rattle.mysql_packets_c.proofs.rows.myp_write_binary_row.Goals as goal
+use Rattle.mysql_packets_c.proofs.rows.myp_write_binary_row.Goals.{then-len-out, else-len-out}
 
-pub returns-in-Ok-clause-refused : goal.returns-in-Ok-clause-refused
-returns-in-Ok-clause-refused c = λ h.
-    let all : list_all is_value c.args.values.now ≡ true = cc (c.are_values.ensures, c.if-not-are_values.false) in
-    let fits = row-taken c.args.columns.now c.args.values.now all c.in-Ok.ensures.taken in
-    let refused : row_fits c.args.columns.now c.args.values.now ≡ false = h in
-    let both : true ≡ false = sym fits ∙ refused in
-    absurd cc
+pub put_row-requires-clause-sent : goal.put_row-requires-clause-sent
+put_row-requires-clause-sent c = values-sent c.args.values.now (are-values c.args.columns.now c.args.values.now c.in-Some.ensures.0)
 
-pub returns-in-Ok-clause-value : goal.returns-in-Ok-clause-value
-returns-in-Ok-clause-value c = λ h.
+pub put_row-requires-clause-same : goal.put_row-requires-clause-same
+put_row-requires-clause-same c = as-many c.args.columns.now c.args.values.now c.in-Some.ensures.0
+
+pub put_row-requires-clause-len : goal.put_row-requires-clause-len
+unfolding saturated
+put_row-requires-clause-len c =
     let columns = c.args.columns.now in
     let values = c.args.values.now in
+    let sent = values-sent values (are-values columns values c.in-Some.ensures.0) in
+    let below : length c.args.out.now < 2 ^ 63 = omega arith in
+    let whole : c.in-Some.len ≡ row_len type_of unsigned_of columns (values_contents values) = omega (arith, c.in-Some.ensures.1, c.if-len-out.true, below) in
+    length-take-le c.in-Some.len c.args.out.now c.if-len-out.true ∙ whole ∙ ap (row_len type_of unsigned_of columns) (sym sent)
+
+pub returns-clause-value : goal.returns-clause-value
+returns-clause-value c = λ h.
+    let columns = c.args.columns.now in
+    let values = c.args.values.now in
+    let len = c.in-Some.len in
     let old = c.args.out.now in
-    let new = c.write_binary_row_to_slice.new.out in
+    let new = c.if-len-out.out in
     let code = c.answer_count.result in
     let written = c.answer_count.new.written in
-    let all : list_all is_value values ≡ true = cc (c.are_values.ensures, c.if-not-are_values.false) in
-    let same : length new ≡ length old = c.write_binary_row_to_slice.auto.out in
+    let sent = values-sent values (are-values columns values c.in-Some.ensures.0) in
+    let same : length new ≡ length old = c.if-len-out.auto.out in
     let below : length old < 2 ^ 63 = omega arith in
-    subst
-    (λ (vs : List Content). PutsSuchUnlessTooLong (IsRowBytes type_of unsigned_of columns vs) (row_len type_of unsigned_of columns vs) code old new written)
-    (values-sent values all)
-    (
-    answered-unless (IsRowBytes type_of unsigned_of columns (contents param values)) (row_len type_of unsigned_of columns (contents param values)) c.in-Ok.len code old new written
-    c.in-Ok.ensures.len below c.in-Ok.ensures.written c.in-Ok.ensures.small
+    let wrote : (len ≤ length old → (bytes : List ℕ) × IsRowBytes type_of unsigned_of columns (values_contents values) bytes × (new ≡ bytes ++ drop len old)) × (length old < len → new ≡ old) =
+    elim c.if-len-out.branch [
+      | then-len-out w ↦ (
+        λ fits. (
+          w.put_row.new.out,
+          subst (λ (vs : List Content). IsRowBytes type_of unsigned_of columns vs w.put_row.new.out) sent w.put_row.ensures,
+          w.out-is,
+        ),
+        λ past. absurd (omega (arith, past, w.if-len-out.true)),
+      )
+      | else-len-out w ↦ (λ fits. absurd (omega (arith, fits, w.if-len-out.false)), λ past. w.out-is)
+    ] in
+    answered-unless (IsRowBytes type_of unsigned_of columns (values_contents values)) (row_len type_of unsigned_of columns (values_contents values)) len code old new written
+    c.in-Some.ensures.1 below wrote.0 wrote.1
     (λ few fits. c.answer_count.ensures.fits few (omega (arith, fits, same)))
     (λ few past. c.answer_count.ensures.small few (omega (arith, past, same)))
     c.answer_count.ensures.count
     c.answer_count.ensures.too_long
-    )
-
-pub returns-in-Err-clause-value : goal.returns-in-Err-clause-value
-returns-in-Err-clause-value c = λ h.
-    let all : list_all is_value c.args.values.now ≡ true = cc (c.are_values.ensures, c.if-not-are_values.false) in
-    let other : c.in-Err.field-0 ≢ error.Memory = λ h. c.in-Err.ensures.no_memory (ap Err h) in
-    let refused = row-refused c.args.columns.now c.args.values.now c.in-Err.field-0 all other c.in-Err.ensures.refused in
-    let fits : row_fits c.args.columns.now c.args.values.now ≡ true = h in
-    let both : true ≡ false = sym fits ∙ refused in
-    absurd cc

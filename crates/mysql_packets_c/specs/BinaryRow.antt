@@ -1,0 +1,15 @@
+-- A binary row, value by value.
+use Rattle.std.specs.Prelude.{ℕ, List, Bool, ◌&&◌}
+use Rattle.mysql_prepared.specs.BinaryRow.{bin_in, takes}
+use Rattle.mysql_packets_c.specs.ColumnType.{type_of, unsigned_of}
+use Rattle.mysql_packets_c.specs.Value.{value_content, is_value}
+use Rattle.mysql_packets_c.specs.declared.rows.CColumnType.{CColumnType}
+use Rattle.mysql_packets_c.specs.declared.value.CValue.{CValue}
+
+-- it is a value, which the column takes
+abbrev pub takes_value : CColumnType → CValue → Bool
+takes_value column value = is_value value && takes (type_of column) (unsigned_of column) (value_content value)
+
+-- its bytes, in the column's width
+abbrev pub cell_in : CColumnType → CValue → List ℕ
+cell_in column value = bin_in (type_of column) (value_content value)

@@ -1,0 +1,305 @@
+//! Binary rows that are written: each value is looked at once as they are counted, and once as they are written.
+#![tactic(auto, using(crate::proofs::BinaryRows::binary_rows))]
+
+ghost use Rattle.std.specs.Prelude.{◌≡◌, ◌≢◌, ◌+◌, ◌*◌, ◌++◌, ◌<◌, ◌≤◌, ◌^◌, ℕ, MatchOption, drop, false, length, replicate, true};
+ghost use Rattle.mysql_wire.specs.Writing.{saturated};
+ghost use Rattle.mysql_prepared.specs.BinaryRow.{IsRowBytes, bin_in, takes, values_bytes};
+ghost use Rattle.mysql_prepared.specs.BinaryRow as row;
+ghost use Rattle.mysql_prepared.specs.Bitmap.{bytes_for, cell};
+ghost use Rattle.mysql_prepared.specs.ExecuteParam.{contents, value_of};
+ghost use Rattle.mysql_prepared.specs.NullMarks.{MarksNulls, is_null};
+ghost use Rattle.mysql_values.specs.Value.{Bytes, Int};
+ghost use Rattle.mysql_values.specs.ValueRef.{ref_content};
+ghost use Rattle.mysql_packets_c.specs.BinaryRow.{cell_in, takes_value};
+ghost use Rattle.mysql_packets_c.specs.ColumnType.{type_of, unsigned_of};
+ghost use Rattle.mysql_packets_c.specs.Execution.{param};
+ghost use Rattle.mysql_packets_c.specs.Rows as spec;
+ghost use Rattle.mysql_packets_c.specs.Value.{value_content, values_contents};
+
+use crate::rows::CColumnType;
+use crate::value::{CValue, to_ref};
+use mysql_prepared::{AsExecuteParam, NullBitmap, TypedColumn};
+use mysql_values::{ServerSide, ValueRef};
+use mysql_wire::{Buffer, BytesRepr, ColumnType, LenEnc, MySerialize};
+
+/// How many bytes a value takes in a column of the type, or `usize::MAX` where that is less. `None` where the column does not take
+/// it.
+#[inline(always)]
+fn taken_len(column_type: ColumnType, is_unsigned: bool, value: ValueRef<'_>) -> Option<usize>
+    ensures { MatchOption result (takes column_type is_unsigned (ref_content value.entry) ≡ false) (λ n. (takes column_type is_unsigned (ref_content value.entry) ≡ true) × (n ≡ saturated (length (bin_in column_type (ref_content value.entry))))) }
+{
+    if !value.is_taken_by(column_type, is_unsigned) {
+        return None;
+    }
+    Some(value.cell_len(column_type))
+}
+
+/// The same of an integer.
+#[inline(always)]
+fn integer_len(column_type: ColumnType, is_unsigned: bool, n: i64) -> Option<usize>
+    ensures { MatchOption result (takes column_type is_unsigned (Int n) ≡ false) (λ size. (takes column_type is_unsigned (Int n) ≡ true) × (size ≡ saturated (length (bin_in column_type (Int n))))) }
+{
+    if let ColumnType::MYSQL_TYPE_LONGLONG = column_type {
+        return if is_unsigned { None } else { Some(8) };
+    }
+    taken_len(column_type, is_unsigned, ValueRef::Int(n))
+}
+
+/// The same of a byte string.
+#[inline(always)]
+fn string_len(column_type: ColumnType, is_unsigned: bool, bytes: &[u8]) -> Option<usize>
+    ensures { MatchOption result (takes column_type is_unsigned (Bytes bytes.now) ≡ false) (λ size. (takes column_type is_unsigned (Bytes bytes.now) ≡ true) × (size ≡ saturated (length (bin_in column_type (Bytes bytes.now))))) }
+{
+    if !ValueRef::Bytes(bytes).is_taken_by(column_type, is_unsigned) {
+        return None;
+    }
+    Some(<LenEnc as BytesRepr>::written_len(bytes))
+}
+
+/// The same of a value of any kind, which may be none.
+// (by a call, so that what counts numbers and strings stays small enough to be in line)
+#[inline(never)]
+fn any_len(column: &CColumnType, value: &CValue<'_>) -> Option<usize>
+    ensures { MatchOption result (takes_value column.now value.now ≡ false) (λ n. (takes_value column.now value.now ≡ true) × (n ≡ saturated (length (cell_in column.now value.now)))) }
+{
+    taken_len(column.value_type(), column.is_unsigned(), to_ref(value)?)
+}
+
+/// The same of a value, by its kind.
+#[inline(always)]
+#[tactic(auto, unfolding(crate::specs::Value::value_content))]
+fn cell_len(column: &CColumnType, value: &CValue<'_>) -> Option<usize>
+    ensures { MatchOption result (takes_value column.now value.now ≡ false) (λ n. (takes_value column.now value.now ≡ true) × (n ≡ saturated (length (cell_in column.now value.now)))) }
+{
+    match value.kind {
+        0 => taken_len(column.value_type(), column.is_unsigned(), ValueRef::NULL),
+        1 => string_len(column.value_type(), column.is_unsigned(), value.bytes),
+        2 => integer_len(
+            column.value_type(),
+            column.is_unsigned(),
+            value.number.cast_signed(),
+        ),
+        3 => taken_len(
+            column.value_type(),
+            column.is_unsigned(),
+            ValueRef::UInt(value.number),
+        ),
+        _ => any_len(column, value),
+    }
+}
+
+/// The same of all values of a row, of which there is one for each column.
+fn values_len(columns: &[CColumnType], values: &[CValue<'_>]) -> Option<usize>
+    requires { length columns.now ≡ length values.now }
+    ensures { MatchOption result (spec.row_fits columns.now values.now ≡ false) (λ n. (spec.row_fits columns.now values.now ≡ true) × (n ≡ saturated (length (values_bytes type_of unsigned_of columns.now (values_contents values.now))))) }
+{
+    let mut len: usize = 0;
+    for place in 0..values.len() {
+        len = len.saturating_add(cell_len(&columns[place], &values[place])?);
+    }
+    Some(len)
+}
+
+/// How many bytes a row takes, or `usize::MAX` where that is less. `None` where a value is none, or its column does not take it, or
+/// there is not a value for each column.
+pub(crate) fn row_len(columns: &[CColumnType], values: &[CValue<'_>]) -> Option<usize>
+    requires { length values.now < 2 ^ 63 }
+    ensures { MatchOption result (spec.row_fits columns.now values.now ≡ false) (λ n. (spec.row_fits columns.now values.now ≡ true) × (n ≡ saturated (row.row_len type_of unsigned_of columns.now (values_contents values.now)))) }
+{
+    if columns.len() != values.len() {
+        return None;
+    }
+    let front = 1 + NullBitmap::<ServerSide>::bitmap_len(values.len());
+    Some(values_len(columns, values)?.saturating_add(front))
+}
+
+/// Sets one bit of a bitmap.
+#[inline(always)]
+fn set_bit(bytes: &mut [u8], at: usize, bit: usize)
+    requires at { at < length bytes.old }
+    requires bit { bit < 8 }
+    ensures len { length bytes.new ≡ length bytes.old }
+    ensures this { cell bytes.new (at * 8 + bit) ≡ 1 }
+    ensures others { (j : ℕ) → j ≢ at * 8 + bit → cell bytes.new j ≡ cell bytes.old j }
+{
+    bytes[at] |= 1u8 << bit;
+}
+
+/// Whether what the value holds is NULL.
+#[inline(always)]
+#[tactic(auto, unfolding(crate::specs::Value::value_content))]
+fn holds_null(value: &CValue<'_>) -> bool
+    ensures { result ≡ is_null (value_content value.now) }
+{
+    match value.kind {
+        1 | 2 | 3 | 4 | 5 | 6 | 7 => false,
+        _ => true,
+    }
+}
+
+/// Sets the bits of the values that are NULL in a bitmap in which none is set.
+fn mark_nulls(values: &[CValue<'_>], nulls: &mut [u8])
+    requires count { length values.now < 2 ^ 63 }
+    requires len { length nulls.old ≡ bytes_for 2 (length values.now) }
+    requires clear { nulls.old ≡ replicate (bytes_for 2 (length values.now)) 0 }
+    ensures { MarksNulls 2 (values_contents values.now) nulls.new }
+{
+    for (i, value) in values.iter().enumerate() {
+        if holds_null(value) {
+            let place = i + 2;
+            set_bit(nulls, place / 8, place % 8);
+        }
+    }
+}
+
+/// Writes that bitmap over as many bytes as it has.
+fn put_nulls(values: &[CValue<'_>], nulls: &mut [u8])
+    requires sent { contents param values.now ≡ values_contents values.now }
+    requires count { length values.now < 2 ^ 63 }
+    requires len { length nulls.old ≡ bytes_for 2 (length values.now) }
+    ensures { MarksNulls 2 (contents param values.now) nulls.new }
+{
+    nulls.fill(0);
+    mark_nulls(values, nulls);
+}
+
+/// Writes a value of any kind in its column's width, for which there is capacity.
+// (by a call, so that what writes numbers and strings stays small enough to be in line)
+#[inline(never)]
+fn append_any<O: Buffer>(column: &CColumnType, value: &CValue<'_>, out: &mut O)
+    requires { length (O.held out.old) + length (bin_in (type_of column.now) (value_of (param value.now))) ≤ O.capacity out.old }
+    ensures items { O.held out.new ≡ O.held out.old ++ bin_in (type_of column.now) (value_of (param value.now)) }
+    ensures after { O.after out.new ≡ drop (length (bin_in (type_of column.now) (value_of (param value.now)))) (O.after out.old) }
+    ensures capacity { O.capacity out.old ≤ O.capacity out.new }
+    ensures kept { O.kept out.new ≡ O.kept out.old }
+{
+    value.append_cell(column.value_type(), out);
+}
+
+/// Writes an integer of eight bytes, for which there is capacity.
+// (with the buffer in a variable of its own, so that its bytes are one store)
+#[inline(always)]
+fn append_eight<O: Buffer>(n: i64, out: &mut O)
+    requires { length (O.held out.old) + length (bin_in ColumnType.MYSQL_TYPE_LONGLONG (Int n)) ≤ O.capacity out.old }
+    ensures items { O.held out.new ≡ O.held out.old ++ bin_in ColumnType.MYSQL_TYPE_LONGLONG (Int n) }
+    ensures after { O.after out.new ≡ drop (length (bin_in ColumnType.MYSQL_TYPE_LONGLONG (Int n))) (O.after out.old) }
+    ensures capacity { O.capacity out.old ≤ O.capacity out.new }
+    ensures kept { O.kept out.new ≡ O.kept out.old }
+{
+    let mut taken = out.taken();
+    ValueRef::Int(n).append_cell(ColumnType::MYSQL_TYPE_LONGLONG, &mut taken);
+    *out = taken;
+}
+
+/// Writes an integer in its column's width, for which there is capacity.
+#[inline(always)]
+#[tactic(auto, unfolding(crate::specs::Value::value_content))]
+fn append_integer<O: Buffer>(column: &CColumnType, value: &CValue<'_>, out: &mut O)
+    requires capacity { length (O.held out.old) + length (bin_in (type_of column.now) (value_of (param value.now))) ≤ O.capacity out.old }
+    requires integer { value.now.kind ≡ 2 }
+    ensures items { O.held out.new ≡ O.held out.old ++ bin_in (type_of column.now) (value_of (param value.now)) }
+    ensures after { O.after out.new ≡ drop (length (bin_in (type_of column.now) (value_of (param value.now)))) (O.after out.old) }
+    ensures capacity { O.capacity out.old ≤ O.capacity out.new }
+    ensures kept { O.kept out.new ≡ O.kept out.old }
+{
+    match column.value_type() {
+        ColumnType::MYSQL_TYPE_LONGLONG => append_eight(value.number.cast_signed(), out),
+        _ => append_any(column, value, out),
+    }
+}
+
+/// Writes a value in its column's width, for which there is capacity.
+#[inline(always)]
+#[tactic(auto, unfolding(crate::specs::Value::value_content))]
+fn append_cell<O: Buffer>(column: &CColumnType, value: &CValue<'_>, out: &mut O)
+    requires { length (O.held out.old) + length (bin_in (type_of column.now) (value_of (param value.now))) ≤ O.capacity out.old }
+    ensures items { O.held out.new ≡ O.held out.old ++ bin_in (type_of column.now) (value_of (param value.now)) }
+    ensures after { O.after out.new ≡ drop (length (bin_in (type_of column.now) (value_of (param value.now)))) (O.after out.old) }
+    ensures capacity { O.capacity out.old ≤ O.capacity out.new }
+    ensures kept { O.kept out.new ≡ O.kept out.old }
+{
+    match value.kind {
+        1 => ValueRef::Bytes(value.bytes).append(out),
+        2 => append_integer(column, value, out),
+        _ => append_any(column, value, out),
+    }
+}
+
+/// Writes the values of a row, each in its column's width, for which there is capacity.
+// (the buffer is moved to a local one, whose place in memory no write to its bytes can change: so those of a number are one
+// store)
+fn append_values<O: Buffer>(columns: &[CColumnType], values: &[CValue<'_>], out: &mut O)
+    requires same { length columns.now ≡ length values.now }
+    requires capacity { length (O.held out.old) + length (values_bytes type_of unsigned_of columns.now (contents param values.now)) ≤ O.capacity out.old }
+    ensures items { O.held out.new ≡ O.held out.old ++ values_bytes type_of unsigned_of columns.now (contents param values.now) }
+    ensures after { O.after out.new ≡ drop (length (values_bytes type_of unsigned_of columns.now (contents param values.now))) (O.after out.old) }
+    ensures capacity { O.capacity out.old ≤ O.capacity out.new }
+    ensures kept { O.kept out.new ≡ O.kept out.old }
+{
+    let mut bytes = out.taken();
+    for place in 0..values.len() {
+        append_cell(&columns[place], &values[place], &mut bytes);
+    }
+    *out = bytes;
+}
+
+/// The values of a row, one for each column, whose bytes were counted.
+#[derive(Drop)]
+struct CountedValues<'r, 'a> {
+    columns: &'r [CColumnType],
+    values: &'r [CValue<'a>],
+    len: usize,
+    ghost same: { length columns.now ≡ length values.now },
+    ghost exact: { len ≡ length (values_bytes type_of unsigned_of columns.now (contents param values.now)) },
+}
+
+impl MySerialize for CountedValues<'_, '_> {
+    ghost use Rattle.mysql_prepared.specs.BinaryRow.{values_bytes};
+    ghost use Rattle.mysql_prepared.specs.ExecuteParam.{contents};
+    ghost use Rattle.mysql_packets_c.specs.BinaryRow.{cell_in, takes_value};
+    ghost use Rattle.mysql_packets_c.specs.ColumnType.{type_of, unsigned_of};
+    ghost use Rattle.mysql_packets_c.specs.Execution.{param};
+
+    ghost bytes = { λ r. values_bytes type_of unsigned_of r.columns.now (contents param r.values.now) };
+
+    #[inline(always)]
+    #[tactic(auto, unfolding(mysql_wire::specs::Writing::saturated))]
+    fn defined_len(&self) -> usize {
+        self.len
+    }
+
+    #[inline(always)]
+    fn append<O: Buffer>(&self, out: &mut O) {
+        append_values(self.columns, self.values, out);
+    }
+}
+
+/// Writes the values of a row over as many bytes as they take.
+#[inline(always)]
+fn put_values(columns: &[CColumnType], values: &[CValue<'_>], out: &mut [u8])
+    requires same { length columns.now ≡ length values.now }
+    requires len { length out.old ≡ length (values_bytes type_of unsigned_of columns.now (contents param values.now)) }
+    ensures { out.new ≡ values_bytes type_of unsigned_of columns.now (contents param values.now) }
+{
+    let counted = CountedValues {
+        columns,
+        values,
+        len: out.len(),
+    };
+    let _len = counted.write_to_slice(out).unwrap();
+}
+
+/// Writes a row over as many bytes as it takes.
+pub(crate) fn put_row(columns: &[CColumnType], values: &[CValue<'_>], out: &mut [u8])
+    requires sent { contents param values.now ≡ values_contents values.now }
+    requires same { length columns.now ≡ length values.now }
+    requires count { length values.now < 2 ^ 63 }
+    requires len { length out.old ≡ row.row_len type_of unsigned_of columns.now (contents param values.now) }
+    ensures { IsRowBytes type_of unsigned_of columns.now (contents param values.now) out.new }
+{
+    let (first, after) = out.split_at_mut(1);
+    first.fill(0);
+    let (nulls, rest) = after.split_at_mut(NullBitmap::<ServerSide>::bitmap_len(values.len()));
+    put_nulls(values, nulls);
+    put_values(columns, values, rest);
+}
