@@ -578,9 +578,16 @@ uint32_t myp_write_query(const uint8_t *text, size_t len, uint32_t capabilities,
 /* Writes COM_STMT_CLOSE, of 5 bytes. MYP_BUFFER_TOO_SMALL. */
 uint32_t myp_write_close(uint32_t statement_id, uint8_t *out, size_t size, size_t *written);
 
+/* Initializer: MYP_LONG_DATA_INIT. */
+typedef struct myp_long_data {
+    myp_bytes content;
+    uint32_t statement_id;
+    uint16_t param_index; /* the first being 0 */
+} myp_long_data;
+#define MYP_LONG_DATA_INIT { MYP_BYTES_INIT, 0, 0 }
+
 /* Writes COM_STMT_SEND_LONG_DATA: seven bytes, and some bytes of one parameter, the first being 0. MYP_BUFFER_TOO_SMALL. */
-uint32_t myp_write_long_data(uint32_t statement_id, uint16_t param_index, const uint8_t *content, size_t len, uint8_t *out,
-                             size_t size, size_t *written);
+uint32_t myp_write_long_data(const myp_long_data *part, uint8_t *out, size_t size, size_t *written);
 
 /* Writes COM_STMT_EXECUTE with the values, the types of their kinds (LONGLONG, FLOAT, DOUBLE, VAR_STRING of MYP_BYTES, DATETIME, TIME,
  * NULL), and no cursor; whether a date has its ranges is the server's to say. *as_long_data is 1 where byte strings are left out,
@@ -643,47 +650,54 @@ typedef struct myp_attribute {
 /* Where attributes stand that are none. */
 static const myp_attribute myp_no_attribute = MYP_ATTRIBUTE_INIT;
 
-/* What is there is said by has_database, has_auth_plugin and has_attributes (any number but 0), which set or clear their flags in
- * what is written, whatever capabilities has: MYP_CLIENT_CONNECT_WITH_DB, MYP_CLIENT_PLUGIN_AUTH, MYP_CLIENT_CONNECT_ATTRS. The other
- * flags are the caller's: MYP_CLIENT_PROTOCOL_41 and MYP_CLIENT_SECURE_CONNECTION at least, and none that the handshake hasn't. Initializer: MYP_LOGIN_INIT. */
+/* A login. What was not sent is empty. What is written sets or clears the flags of what has_database, has_auth_plugin_name and
+ * has_attributes (any number but 0) say, whatever capabilities has: MYP_CLIENT_CONNECT_WITH_DB, MYP_CLIENT_PLUGIN_AUTH, MYP_CLIENT_CONNECT_ATTRS.
+ * The other flags are the caller's: MYP_CLIENT_PROTOCOL_41 and MYP_CLIENT_SECURE_CONNECTION at least, and none that the handshake hasn't.
+ * Initializer: MYP_LOGIN_INIT. */
 typedef struct myp_login {
     myp_bytes user;
     myp_bytes auth_response; /* what the plugin answers to the nonce: 255 bytes of it without MYP_CLIENT_PLUGIN_AUTH_LENENC_CLIENT_DATA */
     myp_bytes database;
     myp_bytes auth_plugin_name;
-    const myp_attribute *attributes;
-    size_t n_attributes;
+    myp_bytes attributes; /* of a login that was read: myp_next_attribute goes over them; what is written does not look at them */
+    size_t used;          /* the same */
     uint32_t capabilities;
     uint32_t mariadb_capabilities;
     uint32_t max_packet_size;
     uint8_t collation;
-    uint8_t has_database;
-    uint8_t has_auth_plugin;
+    uint8_t has_database;         /* 1 where it was sent, else 0; so the next two */
+    uint8_t has_auth_plugin_name;
     uint8_t has_attributes;
 } myp_login;
-#define MYP_LOGIN_INIT { MYP_BYTES_INIT, MYP_BYTES_INIT, MYP_BYTES_INIT, MYP_BYTES_INIT, &myp_no_attribute, 0, 0, 0, 0, 0, 0, 0, 0 }
+#define MYP_LOGIN_INIT \
+    { MYP_BYTES_INIT, MYP_BYTES_INIT, MYP_BYTES_INIT, MYP_BYTES_INIT, MYP_BYTES_INIT, 0, 0, 0, 0, 0, 0, 0, 0 }
 
-/* Writes Protocol::HandshakeResponse41; of a name what stands before its first zero. MYP_INVALID_INPUT of attributes that are
- * not UTF-8, and *written is 0; MYP_BUFFER_TOO_SMALL; MYP_NO_MEMORY of strings that no memory holds together, and *written is 0. Each
- * attribute is compared with those before it. */
-uint32_t myp_write_login(const myp_login *login, uint8_t *out, size_t size, size_t *written);
+/* Writes Protocol::HandshakeResponse41 with these attributes, where has_attributes is set; of a name what stands before its first
+ * zero. MYP_INVALID_INPUT of attributes that are sent and not UTF-8, and *written is 0; MYP_BUFFER_TOO_SMALL; MYP_NO_MEMORY of strings that
+ * no memory holds together, and *written is 0. Each attribute is compared with those before it. */
+uint32_t myp_write_login(const myp_login *login, const myp_attribute *attributes, size_t n_attributes, uint8_t *out, size_t size,
+                         size_t *written);
 
-/* Initializer: MYP_CHANGE_USER_INIT. */
+/* A change of user. What was not sent is empty or 0. The initializer, MYP_CHANGE_USER_INIT, has a character set. */
 typedef struct myp_change_user {
     myp_bytes user;
-    myp_bytes auth_plugin_data; /* what the plugin answers to the nonce, of at most 255 bytes: more are not written */
+    myp_bytes auth_response; /* what the plugin answers to the nonce, of at most 255 bytes: more are not written */
     myp_bytes database;
     myp_bytes auth_plugin_name;
-    const myp_attribute *attributes;
-    size_t n_attributes;
-    uint16_t character_set;
+    myp_bytes attributes; /* of a change that was read: myp_next_attribute goes over them; what is written does not look at them */
+    size_t used;          /* the same */
+    uint16_t character_set;       /* the collation's number */
+    uint8_t has_character_set;    /* 1 where it is sent, else 0, and then the plugin and the attributes are not sent either */
+    uint8_t has_auth_plugin_name; /* 1 where it was sent, else 0; so the next one; what is written does not look at them */
+    uint8_t has_attributes;
 } myp_change_user;
-#define MYP_CHANGE_USER_INIT { MYP_BYTES_INIT, MYP_BYTES_INIT, MYP_BYTES_INIT, MYP_BYTES_INIT, &myp_no_attribute, 0, 0 }
+#define MYP_CHANGE_USER_INIT { MYP_BYTES_INIT, MYP_BYTES_INIT, MYP_BYTES_INIT, MYP_BYTES_INIT, MYP_BYTES_INIT, 0, 0, 1, 0, 0 }
 
 /* Writes COM_CHANGE_USER by what both sides can do: the plugin's name under MYP_CLIENT_PLUGIN_AUTH, the attributes under
  * MYP_CLIENT_CONNECT_ATTRS. Of a name what stands before its first zero. MYP_INVALID_INPUT of attributes that are sent and not UTF-8, and
  * *written is 0; MYP_BUFFER_TOO_SMALL; MYP_NO_MEMORY as of myp_write_login. */
-uint32_t myp_write_change_user(const myp_change_user *change, uint32_t capabilities, uint8_t *out, size_t size, size_t *written);
+uint32_t myp_write_change_user(const myp_change_user *change, const myp_attribute *attributes, size_t n_attributes,
+                               uint32_t capabilities, uint8_t *out, size_t size, size_t *written);
 
 /* Writes the request for the server's RSA key of caching_sha2_password, of one byte. MYP_BUFFER_TOO_SMALL. */
 uint32_t myp_write_public_key_request(uint8_t *out, size_t size, size_t *written);
@@ -695,8 +709,8 @@ uint32_t myp_scramble_native(const uint8_t *password, size_t len, const uint8_t 
 
 /* ---- replication */
 
-/* Initializer: MYP_REPLICA_INIT. What a replica says of itself; a source lists it in SHOW REPLICAS. */
-typedef struct myp_replica {
+/* Initializer: MYP_REGISTER_REPLICA_INIT. What a replica says of itself; a source lists it in SHOW REPLICAS. */
+typedef struct myp_register_replica {
     myp_bytes hostname;
     myp_bytes user;
     myp_bytes password;
@@ -705,24 +719,45 @@ typedef struct myp_replica {
     uint32_t replication_rank; /* servers ignore it */
     uint32_t master_id;        /* mostly 0 */
     uint16_t port;
-} myp_replica;
-#define MYP_REPLICA_INIT { MYP_BYTES_INIT, MYP_BYTES_INIT, MYP_BYTES_INIT, 0, 0, 0, 0, 0 }
+} myp_register_replica;
+#define MYP_REGISTER_REPLICA_INIT { MYP_BYTES_INIT, MYP_BYTES_INIT, MYP_BYTES_INIT, 0, 0, 0, 0, 0 }
 
 /* Writes COM_REGISTER_SLAVE. Of hostname, user and password the first 255 bytes are written. MYP_BUFFER_TOO_SMALL. */
-uint32_t myp_write_register_replica(const myp_replica *replica, uint8_t *out, size_t size, size_t *written);
+uint32_t myp_write_register_replica(const myp_register_replica *replica, uint8_t *out, size_t size, size_t *written);
+
+/* Initializer: MYP_DUMP_INIT. */
+typedef struct myp_dump {
+    myp_bytes file_name;
+    uint32_t server_id;
+    uint32_t position;
+    uint16_t flags; /* of enum myp_dump_flag */
+} myp_dump;
+#define MYP_DUMP_INIT { MYP_BYTES_INIT, 0, 0, 0 }
 
 /* Writes COM_BINLOG_DUMP, with flags of enum myp_dump_flag. MYP_BUFFER_TOO_SMALL. */
-uint32_t myp_write_dump(uint32_t server_id, uint16_t flags, const uint8_t *file_name, size_t file_name_len, uint32_t position,
-                        uint8_t *out, size_t size, size_t *written);
+uint32_t myp_write_dump(const myp_dump *dump, uint8_t *out, size_t size, size_t *written);
+
+/* Initializer: MYP_TABLE_DUMP_INIT. */
+typedef struct myp_table_dump {
+    myp_bytes database;
+    myp_bytes table;
+    size_t used; /* of a request that was read; what is written does not look at it */
+} myp_table_dump;
+#define MYP_TABLE_DUMP_INIT { MYP_BYTES_INIT, MYP_BYTES_INIT, 0 }
 
 /* Writes COM_TABLE_DUMP. Of each name the first 255 bytes are written. MYP_BUFFER_TOO_SMALL. */
-uint32_t myp_write_table_dump(const uint8_t *database, size_t database_len, const uint8_t *table, size_t table_len,
-                              uint8_t *out, size_t size, size_t *written);
+uint32_t myp_write_table_dump(const myp_table_dump *dump, uint8_t *out, size_t size, size_t *written);
+
+/* Initializer: MYP_SEMI_SYNC_ACK_INIT. */
+typedef struct myp_semi_sync_ack {
+    myp_bytes file_name;
+    uint64_t position; /* after the event */
+} myp_semi_sync_ack;
+#define MYP_SEMI_SYNC_ACK_INIT { MYP_BYTES_INIT, 0 }
 
 /* Writes the acknowledgement of semi-synchronous replication: the position after the event, in the binary log of that name.
  * MYP_BUFFER_TOO_SMALL. */
-uint32_t myp_write_semi_sync_ack(uint64_t position, const uint8_t *file_name, size_t file_name_len, uint8_t *out, size_t size,
-                                 size_t *written);
+uint32_t myp_write_semi_sync_ack(const myp_semi_sync_ack *ack, uint8_t *out, size_t size, size_t *written);
 
 enum myp_stream_kind {
     MYP_STREAM_EVENT = 0,
@@ -771,17 +806,28 @@ uint32_t myp_sid_from_text(const uint8_t *text, size_t len, myp_sid *out, myp_in
  * MYP_INVALID_INPUT of a tag that is none, and *written is 0; MYP_BUFFER_TOO_SMALL; MYP_NO_MEMORY, which the text takes, and *written is 0. */
 uint32_t myp_sids_to_text(const myp_sid *sids, size_t n, uint8_t *out, size_t size, size_t *written);
 
+/* Initializer: MYP_GTID_DUMP_INIT. */
+typedef struct myp_gtid_dump {
+    myp_bytes file_name;
+    myp_bytes sids;    /* of a request that was read, n_sids of them: myp_next_sid goes over them; what is written does not look at them */
+    uint64_t n_sids;   /* the same */
+    uint64_t position;
+    size_t used;       /* the same */
+    uint32_t server_id;
+    uint16_t flags;    /* of enum myp_dump_flag */
+    uint8_t is_tagged; /* 1 where the sids that were read are in the form with tags, else 0; what is written does not look at it */
+} myp_gtid_dump;
+#define MYP_GTID_DUMP_INIT { MYP_BYTES_INIT, MYP_BYTES_INIT, 0, 0, 0, 0, 0, 0 }
+
 /* Writes COM_BINLOG_DUMP_GTID: the replica has the transactions of these sids. MYP_DUMP_THROUGH_GTID is written where there is
  * a sid, and else not, whatever flags has. MYP_INVALID_INPUT of a tag that is none, and *written is 0; MYP_BUFFER_TOO_SMALL;
  * MYP_NO_MEMORY of names and intervals that no memory holds together, and *written is 0. */
-uint32_t myp_write_gtid_dump(uint32_t server_id, uint16_t flags, const uint8_t *file_name, size_t file_name_len,
-                             uint64_t position, const myp_sid *sids, size_t n, uint8_t *out, size_t size, size_t *written);
+uint32_t myp_write_gtid_dump(const myp_gtid_dump *dump, const myp_sid *sids, size_t n, uint8_t *out, size_t size, size_t *written);
 
 /* Writes COM_BINLOG_DUMP_GTID with the sids of the text of a GTID set, as @@gtid_executed has it; its flags as myp_write_gtid_dump. The sids of
  * the text are then those of the request, which myp_read_gtid_dump reads. MYP_INVALID_DATA of another text, and *written is 0;
  * MYP_BUFFER_TOO_SMALL; MYP_NO_MEMORY, which the sids take, and *written is 0. */
-uint32_t myp_gtid_dump_from_text(uint32_t server_id, uint16_t flags, const uint8_t *file_name, size_t file_name_len, uint64_t position,
-                                 const uint8_t *text, size_t text_len, uint8_t *out, size_t size, size_t *written);
+uint32_t myp_gtid_dump_from_text(const myp_gtid_dump *dump, const uint8_t *text, size_t len, uint8_t *out, size_t size, size_t *written);
 
 /* ---- what a server reads */
 
@@ -789,47 +835,13 @@ uint32_t myp_gtid_dump_from_text(uint32_t server_id, uint16_t flags, const uint8
  * capabilities has MYP_CLIENT_SSL. */
 uint32_t myp_read_ssl_request(const uint8_t *packet, size_t len, myp_ssl_request *out);
 
-/* Initializer: MYP_LOGIN_REQUEST_INIT. What was not sent is empty. */
-typedef struct myp_login_request {
-    myp_bytes user;
-    myp_bytes auth_response;
-    myp_bytes database;
-    myp_bytes auth_plugin_name;
-    myp_bytes attributes; /* keys and values: myp_next_attribute goes over them */
-    size_t used;
-    uint32_t capabilities;
-    uint32_t mariadb_capabilities;
-    uint32_t max_packet_size;
-    uint8_t collation;
-    uint8_t has_database;         /* 1 where it was sent, else 0; so the next two */
-    uint8_t has_auth_plugin_name;
-    uint8_t has_attributes;
-} myp_login_request;
-#define MYP_LOGIN_REQUEST_INIT \
-    { MYP_BYTES_INIT, MYP_BYTES_INIT, MYP_BYTES_INIT, MYP_BYTES_INIT, MYP_BYTES_INIT, 0, 0, 0, 0, 0, 0, 0, 0 }
-
 /* Reads Protocol::HandshakeResponse41, by the capabilities that stand in it. MYP_UNEXPECTED_EOF where a field is cut;
  * MYP_INVALID_DATA of a bad length. */
-uint32_t myp_read_login_request(const uint8_t *packet, size_t len, myp_login_request *out);
+uint32_t myp_read_login(const uint8_t *packet, size_t len, myp_login *out);
 
 /* Takes the next attribute off the front of *rest, which begins as the attributes of a login. Of a key that comes again the
  * last value counts. MYP_END where no byte is left; MYP_UNEXPECTED_EOF; MYP_INVALID_DATA of a bad length. */
 uint32_t myp_next_attribute(myp_bytes *rest, myp_bytes *name, myp_bytes *value);
-
-/* Initializer: MYP_CHANGE_USER_REQUEST_INIT. What was not sent is empty or 0. */
-typedef struct myp_change_user_request {
-    myp_bytes user;
-    myp_bytes auth_response;
-    myp_bytes database;
-    myp_bytes auth_plugin_name;
-    myp_bytes attributes; /* keys and values: myp_next_attribute goes over them */
-    size_t used;
-    uint16_t character_set;       /* the collation's number */
-    uint8_t has_character_set;    /* 1 where it was sent, else 0; so the next two, which are not sent without it */
-    uint8_t has_auth_plugin_name;
-    uint8_t has_attributes;
-} myp_change_user_request;
-#define MYP_CHANGE_USER_REQUEST_INIT { MYP_BYTES_INIT, MYP_BYTES_INIT, MYP_BYTES_INIT, MYP_BYTES_INIT, MYP_BYTES_INIT, 0, 0, 0, 0, 0 }
 
 /* Reads the request for the server's RSA key of caching_sha2_password, the byte 02. MYP_INVALID_DATA of another byte;
  * MYP_UNEXPECTED_EOF of no byte. */
@@ -838,7 +850,7 @@ uint32_t myp_read_public_key_request(const uint8_t *packet, size_t len, size_t *
 /* Reads COM_CHANGE_USER, by what both sides can do: the plugin under MYP_CLIENT_PLUGIN_AUTH, the attributes under
  * MYP_CLIENT_CONNECT_ATTRS. MYP_UNEXPECTED_EOF where a field is cut; MYP_INVALID_DATA of another first byte than
  * MYP_COM_CHANGE_USER, or of a bad length. */
-uint32_t myp_read_change_user_request(const uint8_t *packet, size_t len, uint32_t capabilities, myp_change_user_request *out);
+uint32_t myp_read_change_user(const uint8_t *packet, size_t len, uint32_t capabilities, myp_change_user *out);
 
 /* Reads a command by what both sides can do: attributes of a query under MYP_CLIENT_QUERY_ATTRIBUTES. Each is read whole, those that have their
  * own calls too, but for what stands after the head of an execution. MYP_UNEXPECTED_EOF of no byte, or where a field is cut;
@@ -860,14 +872,6 @@ uint32_t myp_read_query_attribute(const uint8_t *packet, size_t len, size_t plac
 
 /* Reads COM_STMT_CLOSE, of 5 bytes. MYP_UNEXPECTED_EOF of fewer; MYP_INVALID_DATA of another first byte than MYP_COM_STMT_CLOSE. */
 uint32_t myp_read_close(const uint8_t *packet, size_t len, uint32_t *statement_id);
-
-/* Initializer: MYP_LONG_DATA_INIT. */
-typedef struct myp_long_data {
-    myp_bytes content;
-    uint32_t statement_id;
-    uint16_t param_index; /* the first being 0 */
-} myp_long_data;
-#define MYP_LONG_DATA_INIT { MYP_BYTES_INIT, 0, 0 }
 
 /* Reads COM_STMT_SEND_LONG_DATA: seven bytes, and some bytes of one parameter to the end. A server joins what it gets for a
  * parameter. MYP_UNEXPECTED_EOF of fewer than seven bytes; MYP_INVALID_DATA of another first byte than MYP_COM_STMT_SEND_LONG_DATA. */
@@ -1006,56 +1010,19 @@ uint32_t myp_write_stream_packet(const myp_stream_packet *packet, uint8_t is_sem
 
 /* ---- what a source of binary logs reads */
 
-/* Initializer: MYP_DUMP_INIT. */
-typedef struct myp_dump {
-    myp_bytes file_name;
-    uint32_t server_id;
-    uint32_t position;
-    uint16_t flags; /* of enum myp_dump_flag */
-} myp_dump;
-#define MYP_DUMP_INIT { MYP_BYTES_INIT, 0, 0, 0 }
-
 /* Reads COM_BINLOG_DUMP: 11 bytes, and the file's name to the end. MYP_UNEXPECTED_EOF of fewer than 11 bytes;
  * MYP_INVALID_DATA of another first byte than MYP_COM_BINLOG_DUMP. */
 uint32_t myp_read_dump(const uint8_t *packet, size_t len, myp_dump *out);
 
-/* Initializer: MYP_TABLE_DUMP_INIT. */
-typedef struct myp_table_dump {
-    myp_bytes database;
-    myp_bytes table;
-    size_t used;
-} myp_table_dump;
-#define MYP_TABLE_DUMP_INIT { MYP_BYTES_INIT, MYP_BYTES_INIT, 0 }
-
 /* Reads COM_TABLE_DUMP. MYP_UNEXPECTED_EOF where a field is cut; MYP_INVALID_DATA of another first byte than MYP_COM_TABLE_DUMP. */
 uint32_t myp_read_table_dump(const uint8_t *packet, size_t len, myp_table_dump *out);
-
-/* Initializer: MYP_SEMI_SYNC_ACK_INIT. */
-typedef struct myp_semi_sync_ack {
-    myp_bytes file_name;
-    uint64_t position; /* after the event */
-} myp_semi_sync_ack;
-#define MYP_SEMI_SYNC_ACK_INIT { MYP_BYTES_INIT, 0 }
 
 /* Reads the acknowledgement of semi-synchronous replication: ef, the position in eight bytes, and the log's name to the end.
  * MYP_UNEXPECTED_EOF of fewer than 9 bytes; MYP_INVALID_DATA of another first byte. */
 uint32_t myp_read_semi_sync_ack(const uint8_t *packet, size_t len, myp_semi_sync_ack *out);
 
 /* Reads COM_REGISTER_SLAVE. MYP_UNEXPECTED_EOF where a field is cut; MYP_INVALID_DATA of another first byte than MYP_COM_REGISTER_SLAVE. */
-uint32_t myp_read_register_replica(const uint8_t *packet, size_t len, myp_replica *out);
-
-/* Initializer: MYP_GTID_DUMP_INIT. */
-typedef struct myp_gtid_dump {
-    myp_bytes file_name;
-    myp_bytes sids;    /* n_sids of them: myp_next_sid goes over them */
-    uint64_t n_sids;
-    uint64_t position;
-    size_t used;
-    uint32_t server_id;
-    uint16_t flags;    /* of enum myp_dump_flag */
-    uint8_t is_tagged; /* 1 where the sids are in the form with tags, else 0 */
-} myp_gtid_dump;
-#define MYP_GTID_DUMP_INIT { MYP_BYTES_INIT, MYP_BYTES_INIT, 0, 0, 0, 0, 0, 0 }
+uint32_t myp_read_register_replica(const uint8_t *packet, size_t len, myp_register_replica *out);
 
 /* Reads COM_BINLOG_DUMP_GTID, and looks at each sid. Bytes after the last sid of the block are not looked at.
  * MYP_UNEXPECTED_EOF where a field or a sid is cut; MYP_INVALID_DATA of another first byte than MYP_COM_BINLOG_DUMP_GTID, or of a bad tag. */

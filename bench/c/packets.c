@@ -190,6 +190,24 @@ static uint64_t binary_row(const uint8_t *p, size_t n)
     return myp_read_binary_row(p, n, types, COLUMNS, row, COLUMNS, &used) ? 0 : used;
 }
 
+/* the numbers and the strings copied out of the packet, as libmariadb does it */
+static uint64_t binary_row_copied(const uint8_t *p, size_t n)
+{
+    static int64_t numbers[5];
+    static char texts[5][24];
+    static size_t lengths[5];
+    size_t used = 0;
+    if (myp_read_binary_row(p, n, types, COLUMNS, row, COLUMNS, &used))
+        return 0;
+    for (int i = 0; i < 5; i++) {
+        memcpy(&numbers[i], &row[i].number, sizeof numbers[i]);
+        lengths[i] = row[5 + i].bytes.len;
+        if (lengths[i] <= sizeof texts[i])
+            memcpy(texts[i], row[5 + i].bytes.data, lengths[i]);
+    }
+    return 1 + (uint64_t)numbers[0] % 2 + lengths[4] + (uint64_t)texts[4][0] % 2;
+}
+
 static uint64_t text_row(const uint8_t *p, size_t n)
 {
     size_t used = 0;
@@ -320,7 +338,8 @@ static const struct operation {
 } operations[] = {
     { "statement", put_statement, statement }, { "column", put_column, column }, { "ok", put_ok, ok },
     { "ok_changes", put_ok_changes, ok_changes }, { "error", put_error, error }, { "handshake", put_handshake, handshake },
-    { "binary_row", put_binary_row, binary_row }, { "text_row", put_text_row, text_row }, { "execution", put_ten_numbers, execution },
+    { "binary_row", put_binary_row, binary_row }, { "binary_row_copied", put_binary_row, binary_row_copied },
+    { "text_row", put_text_row, text_row }, { "execution", put_ten_numbers, execution },
     { "header_written", put_statement, header_written }, { "close_written", put_statement, close_written }, { "error_written", put_error, error_written },
     { "binary_row_written", put_binary_row, binary_row_written }, { "text_row_written", put_text_row, text_row_written },
     { "ok_written", put_ok_changes, ok_written }, { "header_length", put_statement, header_length },
@@ -342,13 +361,35 @@ __attribute__((noinline)) uint64_t measured(uint64_t (*run)(const uint8_t *, siz
     return sum;
 }
 
-/* a number, 20 bytes and NULL in each row, in one request; with no buffer, how many bytes it takes */
+/* what a caller has of a row: a number and 20 bytes */
+struct bulk_row {
+    int64_t number;
+    char text[20];
+};
+
+/* the array of values that a bulk request wants: a number, 20 bytes and NULL in each row */
+static void fill_values(const struct bulk_row *rows, size_t count, myp_value *values)
+{
+    static const myp_value none = MYP_VALUE_INIT;
+    for (size_t i = 0; i < count; i++, values += 3) {
+        values[0] = myp_int(rows[i].number), values[1] = myp_text(rows[i].text, sizeof rows[i].text), values[2] = none;
+    }
+}
+
+/* these in one request; with no buffer, how many bytes it takes */
 __attribute__((noinline)) uint64_t measured_bulk(const myp_value *values, size_t rows, uint8_t *out, size_t size)
 {
     static const myp_column_type of[3] = { { MYP_TYPE_LONGLONG, 0 }, { MYP_TYPE_VAR_STRING, 0 }, { MYP_TYPE_LONGLONG, 0 } };
     size_t written = 0, taken = 0;
     uint32_t code = myp_write_bulk(1, 0, 1 << 24, of, 3, values, 3 * rows, out, size, &written, &taken);
     return code == (size ? MYP_OK : MYP_BUFFER_TOO_SMALL) && taken == (size ? rows : 0) ? written : 0;
+}
+
+/* the same, with the array of values */
+__attribute__((noinline)) uint64_t measured_rows(const struct bulk_row *rows, size_t count, myp_value *values, uint8_t *out, size_t size)
+{
+    fill_values(rows, count, values);
+    return measured_bulk(values, count, out, size);
 }
 
 int main(int argc, char **argv)
@@ -359,24 +400,24 @@ int main(int argc, char **argv)
     size_t count = strtoul(argv[2], NULL, 10);
     for (int i = 0; i < COLUMNS; i++)
         row[i] = (myp_value)MYP_VALUE_INIT;
-    if (!strcmp(argv[1], "bulk") || !strcmp(argv[1], "bulk_length")) {
+    if (!strncmp(argv[1], "bulk", 4)) {
         static const char text[] = "abcdefghijklmnopqrstuvwxyzabcdefghijklmnop";
         size_t size = 64 * count + 64;
+        struct bulk_row *rows = malloc(count * sizeof *rows);
         myp_value *values = malloc(3 * count * sizeof *values);
         uint8_t *out = malloc(size);
-        if (!values || !out)
+        if (!rows || !values || !out)
             return 1;
-        for (size_t i = 0; i < 3 * count; i++) {
-            values[i] = (myp_value)MYP_VALUE_INIT;
-            if (i % 3 == 0)
-                values[i].kind = MYP_INT, values[i].number = varied();
-            else if (i % 3 == 1)
-                values[i].kind = MYP_BYTES, values[i].bytes = (myp_bytes){ (const uint8_t *)text + varied() % 20, 20 };
-        }
+        for (size_t i = 0; i < count; i++)
+            rows[i].number = (int64_t)varied(), memcpy(rows[i].text, text + varied() % 20, sizeof rows[i].text);
+        fill_values(rows, count, values);
 #ifdef ALLOCATIONS
         before = blocks;
 #endif
-        sum = strcmp(argv[1], "bulk") ? measured_bulk(values, count, NULL, 0) : measured_bulk(values, count, out, size);
+        if (!strcmp(argv[1], "bulk_from_rows"))
+            sum = measured_rows(rows, count, values, out, size);
+        else
+            sum = strcmp(argv[1], "bulk") ? measured_bulk(values, count, NULL, 0) : measured_bulk(values, count, out, size);
     }
     for (size_t i = 0; i < sizeof operations / sizeof *operations; i++)
         if (!strcmp(argv[1], operations[i].name)) {

@@ -126,9 +126,9 @@ static void log_in(const char *user, const char *password, const char *schema)
     login.user = bytes_of(user);
     login.auth_response = (myp_bytes){ answer, answer_length };
     login.database = bytes_of(schema), login.has_database = 1;
-    login.auth_plugin_name = bytes_of("mysql_native_password"), login.has_auth_plugin = 1;
+    login.auth_plugin_name = bytes_of("mysql_native_password"), login.has_auth_plugin_name = 1;
     login.capabilities = capabilities, login.mariadb_capabilities = mariadb_capabilities, login.max_packet_size = 1 << 24, login.collation = 45;
-    check(myp_write_login(&login, out + HEADER, SIZE, &length), "login");
+    check(myp_write_login(&login, NULL, 0, out + HEADER, SIZE, &length), "login");
     send_payload(length);
     receive_ok();
 }

@@ -150,8 +150,8 @@ static int take_greeting(const side *server, uint8_t sequence_id, myp_bytes payl
 
 static void take_login(uint8_t sequence_id, myp_bytes payload)
 {
-    myp_login_request login = MYP_LOGIN_REQUEST_INIT;
-    if (myp_read_login_request(payload.data, payload.len, &login) != MYP_OK)
+    myp_login login = MYP_LOGIN_INIT;
+    if (myp_read_login(payload.data, payload.len, &login) != MYP_OK)
         stop("the client sends no login");
     printf("> %u login", sequence_id);
     print_text(login.user.data, login.user.len);

@@ -198,8 +198,10 @@ static void commands(void)
     CHECK(myp_write_command(&bad, out, sizeof out, &n) == MYP_INVALID_INPUT && n == 0);
     CHECK(myp_write_close(0x01020304, out, sizeof out, &n) == MYP_OK && n == 5 && !memcmp(out, "\x19\x04\x03\x02\x01", 5));
     CHECK(myp_write_close(1, out, 4, &n) == MYP_BUFFER_TOO_SMALL && n == 5 && out[1] == 4);
-    CHECK(myp_write_long_data(5, 2, (const uint8_t *)"abc", 3, out, sizeof out, &n) == MYP_OK && n == 10 && !memcmp(out, "\x18\x05\0\0\0\x02\0abc", 10));
-    CHECK(myp_write_long_data(5, 2, (const uint8_t *)"", 0, out, 6, &n) == MYP_BUFFER_TOO_SMALL && n == 7);
+    myp_long_data data = { { (const uint8_t *)"abc", 3 }, 5, 2 };
+    CHECK(myp_write_long_data(&data, out, sizeof out, &n) == MYP_OK && n == 10 && !memcmp(out, "\x18\x05\0\0\0\x02\0abc", 10));
+    data.content.len = 0;
+    CHECK(myp_write_long_data(&data, out, 6, &n) == MYP_BUFFER_TOO_SMALL && n == 7);
 }
 
 /* NULL with a length of 0 is an empty string or list, as an argument and in a struct */
@@ -215,15 +217,16 @@ static void nulls(void)
     CHECK(myp_reply_kind(NULL, 0, &kind) == MYP_UNEXPECTED_EOF && kind == 7);
     CHECK(myp_next_change(&rest, &change) == MYP_END && myp_next_variable(&rest, &name, &value) == MYP_END);
     CHECK(myp_write_execute(1, NULL, 0, out, sizeof out, &n, &as_long_data) == MYP_OK && n == 10);
-    CHECK(myp_write_long_data(1, 2, NULL, 0, out, sizeof out, &n) == MYP_OK && n == 7);
+    const myp_long_data data = { null, 1, 2 };
+    CHECK(myp_write_long_data(&data, out, sizeof out, &n) == MYP_OK && n == 7);
     CHECK(myp_write_close(1, NULL, 0, &n) == MYP_BUFFER_TOO_SMALL && n == 5);
     CHECK(myp_scramble_native(NULL, 0, (const uint8_t *)"aaaaaaaaaaaaaaaaaaaa", 20, out, sizeof out, &n) == MYP_OK && n == 0);
     CHECK(myp_write_bulk(1, 0, 64, NULL, 0, NULL, 0, out, sizeof out, &n, &rows) == MYP_INVALID_INPUT && rows == 0);
     CHECK(myp_write_text_row(NULL, 0, out, sizeof out, &n) == MYP_OK && n == 0);
     myp_login login = MYP_LOGIN_INIT, other = MYP_LOGIN_INIT;
-    other.user = other.auth_response = other.database = other.auth_plugin_name = null, other.attributes = NULL;
+    other.user = other.auth_response = other.database = other.auth_plugin_name = other.attributes = null;
     other.has_database = login.has_database = other.has_attributes = login.has_attributes = 1;
-    CHECK(myp_write_login(&login, out, sizeof out, &n) == MYP_OK && myp_write_login(&other, again, sizeof again, &m) == MYP_OK && n == m && !memcmp(out, again, n));
+    CHECK(myp_write_login(&login, &myp_no_attribute, 0, out, sizeof out, &n) == MYP_OK && myp_write_login(&other, NULL, 0, again, sizeof again, &m) == MYP_OK && n == m && !memcmp(out, again, n));
     myp_ok ok = MYP_OK_INIT, empty = MYP_OK_INIT;
     empty.info = empty.session_state = null;
     CHECK(myp_write_ok(&ok, MYP_OK_COMMON, 0, out, sizeof out, &n) == MYP_OK && myp_write_ok(&empty, MYP_OK_COMMON, 0, again, sizeof again, &m) == MYP_OK && n == m && !memcmp(out, again, n));
@@ -243,10 +246,10 @@ int main(void)
     CHECK(myp_version() == MYP_VERSION && !strcmp(myp_error_text(MYP_OK), "done") && !strcmp(myp_error_text(MYP_END), "nothing is left"));
     CHECK(sizeof(myp_bytes) == 16 && sizeof(myp_value) == 40 && sizeof(myp_column_type) == 2 && sizeof(myp_header) == 8);
     CHECK(sizeof(myp_column) == 104 && sizeof(myp_ok) == 64 && sizeof(myp_error) == 56 && sizeof(myp_handshake) == 88 && sizeof(myp_statement) == 24 && sizeof(myp_column_count) == 24);
-    CHECK(sizeof(myp_change) == 56 && sizeof(myp_login) == 96 && sizeof(myp_change_user) == 88 && sizeof(myp_ssl_request) == 16 && sizeof(myp_attribute) == 32 && sizeof(myp_bulk_rule) == 16);
-    CHECK(sizeof(myp_replica) == 72 && sizeof(myp_interval) == 16 && sizeof(myp_sid) == 72 && sizeof(myp_ssl_request) == 16 && sizeof(myp_login_request) == 104);
+    CHECK(sizeof(myp_change) == 56 && sizeof(myp_login) == 104 && sizeof(myp_change_user) == 96 && sizeof(myp_ssl_request) == 16 && sizeof(myp_attribute) == 32 && sizeof(myp_bulk_rule) == 16);
+    CHECK(sizeof(myp_register_replica) == 72 && sizeof(myp_interval) == 16 && sizeof(myp_sid) == 72 && sizeof(myp_ssl_request) == 16);
     CHECK(sizeof(myp_server_version) == 6 && sizeof(myp_extended_column) == 128 && sizeof(myp_column_attribute) == 24 && sizeof(myp_stream_packet) == 24 && sizeof(myp_table_dump) == 40 && sizeof(myp_semi_sync_ack) == 24 && sizeof(myp_command) == 56 && sizeof(myp_bulk_head) == 24 && sizeof(myp_query_attribute) == 64);
-    CHECK(sizeof(myp_long_data) == 24 && sizeof(myp_execution_head) == 16 && sizeof(myp_param) == 3 && sizeof(myp_change_user_request) == 96 && sizeof(myp_dump) == 32 && sizeof(myp_gtid_dump) == 64 && sizeof(myp_sid_places) == 56 && sizeof(myp_execution) == 16 && sizeof(myp_conversation) == 32 && sizeof(myp_packet) == 16 && sizeof(myp_frame) == 24);
+    CHECK(sizeof(myp_long_data) == 24 && sizeof(myp_execution_head) == 16 && sizeof(myp_param) == 3 && sizeof(myp_dump) == 32 && sizeof(myp_gtid_dump) == 64 && sizeof(myp_sid_places) == 56 && sizeof(myp_execution) == 16 && sizeof(myp_conversation) == 32 && sizeof(myp_packet) == 16 && sizeof(myp_frame) == 24);
     headers();
     replies();
     conversations();

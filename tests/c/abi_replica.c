@@ -5,12 +5,12 @@ static void replicas(void)
 {
     uint8_t out[600], is[600];
     size_t n = 9, len;
-    myp_replica r = MYP_REPLICA_INIT;
+    myp_register_replica r = MYP_REGISTER_REPLICA_INIT;
     r.server_id = 7, r.port = 3306, r.hostname = (myp_bytes){ (const uint8_t *)"h", 1 };
     len = hex(is, "150700000001680000ea0c0000000000000000"); /* replication.txt: registration */
     CHECK(myp_write_register_replica(&r, out, sizeof out, &n) == MYP_OK && n == len && !memcmp(out, is, len));
     CHECK(myp_write_register_replica(&r, out, len - 1, &n) == MYP_BUFFER_TOO_SMALL && n == len && !memcmp(out, is, len));
-    r = (myp_replica)MYP_REPLICA_INIT;
+    r = (myp_register_replica)MYP_REGISTER_REPLICA_INIT;
     r.server_id = 1, r.port = 0x17, r.replication_rank = 2, r.master_id = 3; /* commands.txt: its first row */
     len = hex(is, "1501000000000000170002000000" "03000000");
     CHECK(myp_write_register_replica(&r, out, sizeof out, &n) == MYP_OK && n == len && !memcmp(out, is, len));
@@ -19,15 +19,22 @@ static void replicas(void)
     r.user = (myp_bytes){ many, 300 };
     CHECK(myp_write_register_replica(&r, out, sizeof out, &n) == MYP_OK && n == 18 + 255 && out[6] == 255 && out[262] == 0);
     len = hex(is, "12040000000100070000006d62696e2e303030303031"); /* the protocol's page: position, flags, replica, file */
-    CHECK(myp_write_dump(7, MYP_DUMP_NON_BLOCK, (const uint8_t *)"mbin.000001", 11, 4, out, sizeof out, &n) == MYP_OK && n == len && !memcmp(out, is, len));
-    CHECK(myp_write_dump(7, 0, (const uint8_t *)"", 0, 4, out, 10, &n) == MYP_BUFFER_TOO_SMALL && n == 11 && out[5] == 1);
+    myp_dump d = { { (const uint8_t *)"mbin.000001", 11 }, 7, 4, MYP_DUMP_NON_BLOCK };
+    CHECK(myp_write_dump(&d, out, sizeof out, &n) == MYP_OK && n == len && !memcmp(out, is, len));
+    d.file_name.len = 0, d.flags = 0;
+    CHECK(myp_write_dump(&d, out, 10, &n) == MYP_BUFFER_TOO_SMALL && n == 11 && out[5] == 1);
     len = hex(is, "130264620174"); /* commands.txt: a request for a table */
-    CHECK(myp_write_table_dump((const uint8_t *)"db", 2, (const uint8_t *)"t", 1, out, sizeof out, &n) == MYP_OK && n == len && !memcmp(out, is, len));
-    CHECK(myp_write_table_dump(many, 256, many, 300, out, sizeof out, &n) == MYP_OK && n == 513 && out[1] == 255 && out[257] == 255);
-    CHECK(myp_write_table_dump(many, 1, many, 1, out, 4, &n) == MYP_BUFFER_TOO_SMALL && n == 5);
+    myp_table_dump t = { { (const uint8_t *)"db", 2 }, { (const uint8_t *)"t", 1 }, 0 };
+    CHECK(myp_write_table_dump(&t, out, sizeof out, &n) == MYP_OK && n == len && !memcmp(out, is, len));
+    t = (myp_table_dump){ { many, 256 }, { many, 300 }, 0 };
+    CHECK(myp_write_table_dump(&t, out, sizeof out, &n) == MYP_OK && n == 513 && out[1] == 255 && out[257] == 255);
+    t.database.len = t.table.len = 1;
+    CHECK(myp_write_table_dump(&t, out, 4, &n) == MYP_BUFFER_TOO_SMALL && n == 5);
     len = hex(is, "ef96650000000000006d62696e2e303030303031"); /* commands.txt: captured acknowledgement */
-    CHECK(myp_write_semi_sync_ack(0x6596, (const uint8_t *)"mbin.000001", 11, out, sizeof out, &n) == MYP_OK && n == len && !memcmp(out, is, len));
-    CHECK(myp_write_semi_sync_ack(4, (const uint8_t *)"b.1", 3, out, 11, &n) == MYP_BUFFER_TOO_SMALL && n == 12);
+    myp_semi_sync_ack a = { { (const uint8_t *)"mbin.000001", 11 }, 0x6596 };
+    CHECK(myp_write_semi_sync_ack(&a, out, sizeof out, &n) == MYP_OK && n == len && !memcmp(out, is, len));
+    a.file_name.len = 3, a.position = 4;
+    CHECK(myp_write_semi_sync_ack(&a, out, 11, &n) == MYP_BUFFER_TOO_SMALL && n == 12);
 }
 
 static void sids(void)
@@ -49,14 +56,17 @@ static void sids(void)
     CHECK(myp_sid_from_text((const uint8_t *)"3E11FA47-71CA-11E1-9E33-C80AA9429562:\xff:1", 40, s, places, 4, &count) == MYP_INVALID_DATA && s[0].n_intervals == 1);
     s[1].n_intervals = 1; /* replication.txt: dump by sets */
     len = hex(is, "1e04002a0000000000000004000000000000005d00000000020000000000013e11fa4771ca11e19e33c80aa942956206617070010000000000000001000000000000006400000000000000a0b1c2d3e4f56789abcdef012345678900010000000000000001000000000000003200000000000000");
-    CHECK(myp_write_gtid_dump(42, 0, (const uint8_t *)"", 0, 4, s, 2, out, sizeof out, &n) == MYP_OK && n == len && !memcmp(out, is, len));
-    CHECK(myp_write_gtid_dump(42, 0, (const uint8_t *)"", 0, 4, s, 2, out, len - 1, &n) == MYP_BUFFER_TOO_SMALL && n == len);
+    myp_gtid_dump d = MYP_GTID_DUMP_INIT;
+    d.server_id = 42, d.position = 4;
+    CHECK(myp_write_gtid_dump(&d, s, 2, out, sizeof out, &n) == MYP_OK && n == len && !memcmp(out, is, len));
+    CHECK(myp_write_gtid_dump(&d, s, 2, out, len - 1, &n) == MYP_BUFFER_TOO_SMALL && n == len);
     len = hex(is, "1e01000700000003000000622e310500000001000000080000000000000000000000"); /* without sids */
-    CHECK(myp_write_gtid_dump(7, MYP_DUMP_NON_BLOCK | MYP_DUMP_THROUGH_GTID, (const uint8_t *)"b.1", 3, 4294967301u, s, 0, out, sizeof out, &n) == MYP_OK && n == len && !memcmp(out, is, len));
+    d.server_id = 7, d.flags = MYP_DUMP_NON_BLOCK | MYP_DUMP_THROUGH_GTID, d.file_name = (myp_bytes){ (const uint8_t *)"b.1", 3 }, d.position = 4294967301u;
+    CHECK(myp_write_gtid_dump(&d, s, 0, out, sizeof out, &n) == MYP_OK && n == len && !memcmp(out, is, len));
     s[0].tag[0] = 'A';
-    CHECK(myp_write_gtid_dump(42, 0, (const uint8_t *)"", 0, 4, s, 2, out, sizeof out, &n) == MYP_INVALID_INPUT && n == 0 && !memcmp(out, is, len));
+    CHECK(myp_write_gtid_dump(&d, s, 2, out, sizeof out, &n) == MYP_INVALID_INPUT && n == 0 && !memcmp(out, is, len));
     s[0].tag[0] = 'a', s[0].tag_length = 33;
-    CHECK(myp_write_gtid_dump(42, 0, (const uint8_t *)"", 0, 4, s, 1, out, sizeof out, &n) == MYP_INVALID_INPUT && n == 0);
+    CHECK(myp_write_gtid_dump(&d, s, 1, out, sizeof out, &n) == MYP_INVALID_INPUT && n == 0);
 }
 
 /* gtid_sets.txt: @@gtid_executed of a server, and dumps with it */
@@ -66,7 +76,9 @@ static void texts(void)
     static const char spaced[] = "11111111-1111-1111-1111-111111111111 : tAg : 4 , ", plain[] = "11111111-1111-1111-1111-111111111111:tag:4";
     uint8_t packet[400], out[400];
     size_t n = 7, len = 0, count = 0;
-    CHECK(myp_gtid_dump_from_text(7, MYP_DUMP_NON_BLOCK, (const uint8_t *)"b.1", 3, 4, (const uint8_t *)set, sizeof set - 1, packet, sizeof packet, &len) == MYP_OK);
+    myp_gtid_dump d = MYP_GTID_DUMP_INIT;
+    d.server_id = 7, d.flags = MYP_DUMP_NON_BLOCK, d.file_name = (myp_bytes){ (const uint8_t *)"b.1", 3 }, d.position = 4;
+    CHECK(myp_gtid_dump_from_text(&d, (const uint8_t *)set, sizeof set - 1, packet, sizeof packet, &len) == MYP_OK);
     myp_gtid_dump g = MYP_GTID_DUMP_INIT;
     myp_sid_places s = MYP_SID_PLACES_INIT;
     CHECK(myp_read_gtid_dump(packet, len, &g) == MYP_OK && g.server_id == 7 && g.flags == (MYP_DUMP_NON_BLOCK | MYP_DUMP_THROUGH_GTID) && IS(g.file_name, "b.1") && g.position == 4 && g.n_sids == 4 && g.is_tagged == 1);
@@ -75,11 +87,13 @@ static void texts(void)
     CHECK(myp_gtid_dump_to_text(packet, len, out, sizeof out, &n) == MYP_OK && n == sizeof set - 1 && !memcmp(out, set, n));
     CHECK(myp_gtid_dump_to_text(packet, len, out, n - 1, &n) == MYP_BUFFER_TOO_SMALL && n == sizeof set - 1);
     CHECK(myp_gtid_dump_to_text(packet, len - 1, out, sizeof out, &n) == MYP_UNEXPECTED_EOF && n == 0 && (n = 1) && myp_gtid_dump_to_text(packet + 1, len - 1, out, sizeof out, &n) == MYP_INVALID_DATA && n == 0);
-    CHECK(myp_gtid_dump_from_text(7, MYP_DUMP_NON_BLOCK, (const uint8_t *)"b.1", 3, 4, (const uint8_t *)set, sizeof set - 1, out, len - 1, &n) == MYP_BUFFER_TOO_SMALL && n == len);
-    CHECK(myp_gtid_dump_from_text(7, 0, NULL, 0, 4, (const uint8_t *)spaced, sizeof spaced - 1, packet, sizeof packet, &len) == MYP_OK && myp_gtid_dump_to_text(packet, len, out, sizeof out, &n) == MYP_OK && n == sizeof plain - 1 && !memcmp(out, plain, n));
-    CHECK(myp_gtid_dump_from_text(7, MYP_DUMP_THROUGH_GTID, NULL, 0, 4, NULL, 0, packet, sizeof packet, &len) == MYP_OK && myp_read_gtid_dump(packet, len, &g) == MYP_OK && g.n_sids == 0 && g.flags == 0 && myp_gtid_dump_to_text(packet, len, out, sizeof out, &n) == MYP_OK && n == 0);
-    CHECK(myp_gtid_dump_from_text(7, 0, NULL, 0, 4, (const uint8_t *)"11111111-1111-1111-1111-111111111111:0", 38, packet, sizeof packet, &len) == MYP_INVALID_DATA && len == 0);
-    CHECK(myp_gtid_dump_from_text(7, 0, NULL, 0, 4, (const uint8_t *)"\xff", 1, packet, sizeof packet, &len) == MYP_INVALID_DATA && len == 0);
+    CHECK(myp_gtid_dump_from_text(&d, (const uint8_t *)set, sizeof set - 1, out, len - 1, &n) == MYP_BUFFER_TOO_SMALL && n == len);
+    d.flags = 0, d.file_name = (myp_bytes)MYP_BYTES_INIT;
+    CHECK(myp_gtid_dump_from_text(&d, (const uint8_t *)spaced, sizeof spaced - 1, packet, sizeof packet, &len) == MYP_OK && myp_gtid_dump_to_text(packet, len, out, sizeof out, &n) == MYP_OK && n == sizeof plain - 1 && !memcmp(out, plain, n));
+    d.flags = MYP_DUMP_THROUGH_GTID;
+    CHECK(myp_gtid_dump_from_text(&d, NULL, 0, packet, sizeof packet, &len) == MYP_OK && myp_read_gtid_dump(packet, len, &g) == MYP_OK && g.n_sids == 0 && g.flags == 0 && myp_gtid_dump_to_text(packet, len, out, sizeof out, &n) == MYP_OK && n == 0);
+    CHECK(myp_gtid_dump_from_text(&d, (const uint8_t *)"11111111-1111-1111-1111-111111111111:0", 38, packet, sizeof packet, &len) == MYP_INVALID_DATA && len == 0);
+    CHECK(myp_gtid_dump_from_text(&d, (const uint8_t *)"\xff", 1, packet, sizeof packet, &len) == MYP_INVALID_DATA && len == 0);
     myp_interval places[2] = { MYP_INTERVAL_INIT, MYP_INTERVAL_INIT };
     myp_sid held[2] = { MYP_SID_INIT, MYP_SID_INIT };
     static const char one[] = "3E11FA47-71CA-11E1-9E33-C80AA9429562:app:1-99:200", lower[] = "3e11fa47-71ca-11e1-9e33-c80aa9429562:app:1-99:200";
@@ -143,8 +157,8 @@ static void served(void)
     static const char attributes[] = "\x08\x01" "a\x01" "b\x02" "cd\0";
     memcpy(p + len, attributes, sizeof attributes - 1);
     len += sizeof attributes - 1;
-    myp_login_request r = MYP_LOGIN_REQUEST_INIT;
-    CHECK(myp_read_login_request(p, len, &r) == MYP_OK && IS(r.user, "root") && r.auth_response.len == 0 && IS(r.database, "mydb") && IS(r.auth_plugin_name, "mysql_native_password"));
+    myp_login r = MYP_LOGIN_INIT;
+    CHECK(myp_read_login(p, len, &r) == MYP_OK && IS(r.user, "root") && r.auth_response.len == 0 && IS(r.database, "mydb") && IS(r.auth_plugin_name, "mysql_native_password"));
     CHECK(r.has_database == 1 && r.has_auth_plugin_name == 1 && r.has_attributes == 1 && r.attributes.data == p + len - 8 && r.attributes.len == 8 && r.used == len && r.collation == 45 && r.max_packet_size == 0x1000000);
     myp_bytes rest = r.attributes, name = MYP_BYTES_INIT, value = MYP_BYTES_INIT;
     CHECK(myp_next_attribute(&rest, &name, &value) == MYP_OK && IS(name, "a") && IS(value, "b") && rest.len == 4);
@@ -152,9 +166,9 @@ static void served(void)
     CHECK(myp_next_attribute(&rest, &name, &value) == MYP_END && IS(name, "cd"));
     rest = (myp_bytes){ r.attributes.data, 3 };
     CHECK(myp_next_attribute(&rest, &name, &value) == MYP_UNEXPECTED_EOF && IS(name, "cd") && rest.len == 3);
-    CHECK(myp_read_login_request(p, len - 1, &r) == MYP_UNEXPECTED_EOF && myp_read_login_request(p, 31, &r) == MYP_UNEXPECTED_EOF && IS(r.user, "root"));
+    CHECK(myp_read_login(p, len - 1, &r) == MYP_UNEXPECTED_EOF && myp_read_login(p, 31, &r) == MYP_UNEXPECTED_EOF && IS(r.user, "root"));
     len = hex(p, "05a2ae81000000012d0000000000000000000000000000000000000000000000726f6f7400006d7973716c5f6e61746976655f70617373776f726400"); /* a response of 60 bytes */
-    CHECK(myp_read_login_request(p, len, &r) == MYP_OK && r.has_database == 0 && r.database.len == 0 && r.has_attributes == 0 && r.capabilities == 2175705605u && r.used == 60);
+    CHECK(myp_read_login(p, len, &r) == MYP_OK && r.has_database == 0 && r.database.len == 0 && r.has_attributes == 0 && r.capabilities == 2175705605u && r.used == 60);
 }
 
 static void executions(void)
@@ -208,7 +222,7 @@ static void dumps(void)
     CHECK(myp_read_semi_sync_ack(p, 8, &a) == MYP_UNEXPECTED_EOF && myp_read_semi_sync_ack(p + 1, len - 1, &a) == MYP_INVALID_DATA && a.position == 0x6596);
     CHECK(myp_read_semi_sync_ack(p, 9, &a) == MYP_OK && a.file_name.len == 0);
     len = hex(p, "154d000000107665632d686f73742e6578616d706c6500009f0f0000000000000000"); /* replication.txt: captured registration */
-    myp_replica r = MYP_REPLICA_INIT;
+    myp_register_replica r = MYP_REGISTER_REPLICA_INIT;
     CHECK(myp_read_register_replica(p, len, &r) == MYP_OK && r.server_id == 77 && IS(r.hostname, "vec-host.example") && r.user.len == 0 && r.password.len == 0 && r.port == 3999 && r.replication_rank == 0 && r.master_id == 0 && r.used == len);
     CHECK(myp_read_register_replica(p, 22, &r) == MYP_UNEXPECTED_EOF && myp_read_register_replica(p + 1, len - 1, &r) == MYP_INVALID_DATA && r.port == 3999);
     /* replication.txt: dump by sets */
@@ -267,14 +281,14 @@ static void changes(void)
     uint8_t p[100];
     size_t len = hex(p, "11750002010264000201636c69656e745f656432353531390004016b0176"); /* changes.txt: the same, read */
     uint32_t both = MYP_CLIENT_PLUGIN_AUTH | MYP_CLIENT_CONNECT_ATTRS;
-    myp_change_user_request c = MYP_CHANGE_USER_REQUEST_INIT;
-    CHECK(myp_read_change_user_request(p, len, both, &c) == MYP_OK && IS(c.user, "u") && IS(c.auth_response, "\x01\x02") && IS(c.database, "d") && c.has_character_set == 1 && c.character_set == 258);
+    myp_change_user c = MYP_CHANGE_USER_INIT;
+    CHECK(myp_read_change_user(p, len, both, &c) == MYP_OK && IS(c.user, "u") && IS(c.auth_response, "\x01\x02") && IS(c.database, "d") && c.has_character_set == 1 && c.character_set == 258);
     CHECK(c.has_auth_plugin_name == 1 && IS(c.auth_plugin_name, "client_ed25519") && c.has_attributes == 1 && c.attributes.data == p + 26 && c.attributes.len == 4 && c.used == len);
-    CHECK(myp_read_change_user_request(p, len - 1, both, &c) == MYP_UNEXPECTED_EOF && myp_read_change_user_request(p + 1, len - 1, both, &c) == MYP_INVALID_DATA && c.character_set == 258);
+    CHECK(myp_read_change_user(p, len - 1, both, &c) == MYP_UNEXPECTED_EOF && myp_read_change_user(p + 1, len - 1, both, &c) == MYP_INVALID_DATA && c.character_set == 258);
     len = hex(p, "11726f6f740000"); /* connections.txt: cut in its database */
-    CHECK(myp_read_change_user_request(p, len, MYP_CLIENT_CONNECT_ATTRS, &c) == MYP_UNEXPECTED_EOF && c.character_set == 258 && c.user.len == 1);
+    CHECK(myp_read_change_user(p, len, MYP_CLIENT_CONNECT_ATTRS, &c) == MYP_UNEXPECTED_EOF && c.character_set == 258 && c.user.len == 1);
     len = hex(p, "11726f6f74000000"); /* nothing after the database */
-    CHECK(myp_read_change_user_request(p, len, both, &c) == MYP_OK && IS(c.user, "root") && c.database.len == 0 && c.has_character_set == 0 && c.has_auth_plugin_name == 0 && c.has_attributes == 0);
+    CHECK(myp_read_change_user(p, len, both, &c) == MYP_OK && IS(c.user, "root") && c.database.len == 0 && c.has_character_set == 0 && c.has_auth_plugin_name == 0 && c.has_attributes == 0);
 }
 
 void replica_checks(void)

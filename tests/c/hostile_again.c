@@ -134,11 +134,11 @@ static void write_replication(const uint8_t *p, size_t len)
             && t.kind == s.kind && t.wants_ack == s.wants_ack && SAME(t.content, s.content));
     myp_table_dump d = MYP_TABLE_DUMP_INIT, e = MYP_TABLE_DUMP_INIT;
     if (!myp_read_table_dump(p, len, &d))
-        must("table dump, written", !myp_write_table_dump(d.database.data, d.database.len, d.table.data, d.table.len, sent, sizeof sent, &n)
+        must("table dump, written", !myp_write_table_dump(&d, sent, sizeof sent, &n)
             && !myp_read_table_dump(sent, n, &e) && SAME(e.database, d.database) && SAME(e.table, d.table) && e.used == n);
     myp_semi_sync_ack a = MYP_SEMI_SYNC_ACK_INIT, b = MYP_SEMI_SYNC_ACK_INIT;
     if (!myp_read_semi_sync_ack(p, len, &a))
-        must("acknowledgement, written", !myp_write_semi_sync_ack(a.position, a.file_name.data, a.file_name.len, sent, sizeof sent, &n)
+        must("acknowledgement, written", !myp_write_semi_sync_ack(&a, sent, sizeof sent, &n)
             && !myp_read_semi_sync_ack(sent, n, &b) && b.position == a.position && SAME(b.file_name, a.file_name));
 }
 

@@ -38,13 +38,13 @@ static void read_served(const uint8_t *p, size_t len)
     myp_ssl_request q;
     memset(&q, 7, sizeof q);
     CALL(q, myp_read_ssl_request(p, len, &q));
-    myp_login_request r;
+    myp_login r;
     memset(&r, 7, sizeof r), r.user = r.auth_response = r.database = r.auth_plugin_name = r.attributes = nothing;
-    CALL(r, myp_read_login_request(p, len, &r));
+    CALL(r, myp_read_login(p, len, &r));
     place("user", r.user), place("response", r.auth_response), place("database", r.database), place("plugin", r.auth_plugin_name), place("attributes", r.attributes);
-    myp_change_user_request u;
+    myp_change_user u;
     memset(&u, 7, sizeof u), u.user = u.auth_response = u.database = u.auth_plugin_name = u.attributes = nothing;
-    CALL(u, myp_read_change_user_request(p, len, capabilities, &u));
+    CALL(u, myp_read_change_user(p, len, capabilities, &u));
     place("user", u.user), place("response", u.auth_response), place("database", u.database), place("plugin", u.auth_plugin_name), place("attributes", u.attributes);
     struct { myp_bytes rest, name, value; } a = { r.attributes, nothing, nothing };
     while (a.rest.len) {
@@ -95,7 +95,7 @@ static void read_replica(const uint8_t *p, size_t len)
     memset(&a, 7, sizeof a), a.file_name = nothing;
     CALL(a, myp_read_semi_sync_ack(p, len, &a));
     place("file", a.file_name);
-    myp_replica r;
+    myp_register_replica r;
     memset(&r, 7, sizeof r), r.hostname = r.user = r.password = nothing;
     CALL(r, myp_read_register_replica(p, len, &r));
     place("host", r.hostname), place("user", r.user), place("password", r.password);
@@ -109,7 +109,9 @@ static void read_replica(const uint8_t *p, size_t len)
     done++, refused += code != 0;
     if (code > MYP_INVALID_DATA || (code && written))
         lost("myp_gtid_dump_to_text", code);
-    code = myp_gtid_dump_from_text(1, 0, p, len, 4, p, len, shown, sizeof shown, &written);
+    myp_gtid_dump given = MYP_GTID_DUMP_INIT;
+    given.file_name = (myp_bytes){ p, len };
+    code = myp_gtid_dump_from_text(&given, p, len, shown, sizeof shown, &written);
     done++, refused += code != 0;
     if (code && (code != MYP_INVALID_DATA || written))
         lost("myp_gtid_dump_from_text", code);

@@ -120,7 +120,8 @@ static void commands(void)
     EACH(0, (code = myp_read_query_attribute(query, sizeof query, 0, &a), n = a.name.len, code));
     EACH(0, myp_write_header(5, 1, out, sizeof out, &n));
     EACH(0, myp_write_close(1, out, sizeof out, &n));
-    EACH(0, myp_write_long_data(5, 2, (const uint8_t *)"abc", 3, out, sizeof out, &n));
+    static const myp_long_data data = { TEXT("abc"), 5, 2 };
+    EACH(0, myp_write_long_data(&data, out, sizeof out, &n));
 }
 
 /* what a client and a replica say, and what a server reads with memory */
@@ -135,34 +136,39 @@ static void requests(void)
     size_t rows = 0;
     myp_value v[4] = { myp_int(1), myp_text("a", 1), myp_int(2), myp_text("bc", 2) };
     myp_login l = MYP_LOGIN_INIT;
-    l.user = text, l.auth_plugin_name = text, l.has_auth_plugin = 1, l.attributes = attributes, l.n_attributes = 2, l.has_attributes = 1;
+    l.user = text, l.auth_plugin_name = text, l.has_auth_plugin_name = 1, l.has_attributes = 1;
     myp_change_user c = MYP_CHANGE_USER_INIT;
-    c.user = text, c.auth_plugin_name = text, c.attributes = attributes, c.n_attributes = 2;
+    c.user = text, c.auth_plugin_name = text;
     myp_sid sid = MYP_SID_INIT;
     sid.intervals = intervals, sid.n_intervals = 2, sid.tag[0] = 'a', sid.tag_length = 1;
     myp_ssl_request r = MYP_SSL_REQUEST_INIT;
-    myp_replica replica = MYP_REPLICA_INIT;
+    myp_register_replica replica = MYP_REGISTER_REPLICA_INIT;
     EACH(0, myp_write_execute(1, v, 4, out, sizeof out, &n, &as_long_data));
     EACH(0, myp_write_bulk(1, 0, 1 << 20, types, 2, v, 4, out, sizeof out, &n, &rows));
-    EACH(0, myp_write_login(&l, out, sizeof out, &n));
-    EACH(0, myp_write_change_user(&c, MYP_CLIENT_PLUGIN_AUTH | MYP_CLIENT_CONNECT_ATTRS, out, sizeof out, &n));
+    EACH(0, myp_write_login(&l, attributes, 2, out, sizeof out, &n));
+    EACH(0, myp_write_change_user(&c, attributes, 2, MYP_CLIENT_PLUGIN_AUTH | MYP_CLIENT_CONNECT_ATTRS, out, sizeof out, &n));
     EACH(0, myp_write_ssl_request(&r, out, sizeof out, &n));
     EACH(0, myp_write_public_key_request(out, sizeof out, &n));
     EACH(0, myp_write_register_replica(&replica, out, sizeof out, &n));
-    EACH(0, myp_write_dump(1, 0, text.data, text.len, 4, out, sizeof out, &n));
-    EACH(0, myp_write_table_dump(text.data, text.len, text.data, text.len, out, sizeof out, &n));
-    EACH(0, myp_write_semi_sync_ack(4, text.data, text.len, out, sizeof out, &n));
+    static const myp_dump by_position = { TEXT("some bytes"), 1, 4, 0 };
+    EACH(0, myp_write_dump(&by_position, out, sizeof out, &n));
+    static const myp_table_dump of_table = { TEXT("some bytes"), TEXT("some bytes"), 0 };
+    EACH(0, myp_write_table_dump(&of_table, out, sizeof out, &n));
+    static const myp_semi_sync_ack ack = { TEXT("some bytes"), 4 };
+    EACH(0, myp_write_semi_sync_ack(&ack, out, sizeof out, &n));
+    myp_gtid_dump by_gtid = MYP_GTID_DUMP_INIT;
+    by_gtid.file_name = text, by_gtid.server_id = 1, by_gtid.position = 4;
     static const myp_stream_packet event = { TEXT("some bytes"), MYP_STREAM_EVENT, 1 };
     EACH(0, myp_write_stream_packet(&event, 1, out, sizeof out, &n));
-    EACH(0, myp_write_gtid_dump(1, 0, text.data, text.len, 4, &sid, 1, out, sizeof out, &n));
+    EACH(0, myp_write_gtid_dump(&by_gtid, &sid, 1, out, sizeof out, &n));
     myp_interval places[4] = { MYP_INTERVAL_INIT, MYP_INTERVAL_INIT, MYP_INTERVAL_INIT, MYP_INTERVAL_INIT };
     SOME(myp_sid_from_text((const uint8_t *)"3e11fa47-71ca-11e1-9e33-c80aa9429562:1-5:7", 42, &sid, places, 4, &n));
     SOME(myp_sids_to_text(&sid, 1, out, sizeof out, &n));
     static const char set[] = "3e11fa47-71ca-11e1-9e33-c80aa9429562:1-8:app:1-3:5-6";
-    SOME(myp_gtid_dump_from_text(1, 0, text.data, text.len, 4, (const uint8_t *)set, sizeof set - 1, out, sizeof out, &n));
+    SOME(myp_gtid_dump_from_text(&by_gtid, (const uint8_t *)set, sizeof set - 1, out, sizeof out, &n));
     static uint8_t dump[256];
     size_t len = 0;
-    refuse = 0, check("myp_write_gtid_dump", myp_write_gtid_dump(1, 0, text.data, text.len, 4, &sid, 1, dump, sizeof dump, &len) == MYP_OK);
+    refuse = 0, check("myp_write_gtid_dump", myp_write_gtid_dump(&by_gtid, &sid, 1, dump, sizeof dump, &len) == MYP_OK);
     SOME(myp_gtid_dump_to_text(dump, len, out, sizeof out, &n));
     /* (a refused execution that is read leaves the struct: `used` in the place of what is written) */
     static const myp_param params[] = { { MYP_TYPE_LONGLONG, 0, 0 }, { MYP_TYPE_LONGLONG, 0, 0 } };

@@ -95,7 +95,7 @@ def inside():
     expect("nonce", (hello.nonce[:8], len(hello.nonce)), (b"H.Mv,t)k", 20))
     session.agree(hello, session.wanted() | p.MYP_CLIENT_SESSION_TRACK)
     login = session.write_login(hello, "me", "secret", "live")
-    read = p.read("myp_read_login_request", login, into="myp_login_request")
+    read = p.read("myp_read_login", login, into="myp_login")
     expect("login", (p.text(read.user), p.text(read.database), read.capabilities), (b"me", b"live", session.capabilities))
     done = session.read_ok(ok)
     expect("login's OK packet", (done.status & 2, done.changes), (2, (my.Change(1, b"live", ()),)))

@@ -74,7 +74,7 @@ counted "$top/tests/c/release.sh"
 # C++ takes the header too
 if command -v c++ >"$work/log"; then
     printf '#include <mysql_packets.h>\nint main() { myp_login l = MYP_LOGIN_INIT; myp_sid s = MYP_SID_INIT; myp_value v = myp_text("a", 1);\n%s\n' \
-        'return (int)(l.n_attributes + s.n_intervals + v.bytes.len - 1 + myp_version() - MYP_VERSION); }' >"$work/plus.cc"
+        'return (int)(l.used + s.n_intervals + v.bytes.len - 1 + myp_version() - MYP_VERSION); }' >"$work/plus.cc"
     expect 'C++' c++ -Wall -Wextra -Werror -I "$prefix/include" -o "$work/plus" "$work/plus.cc" "$prefix/lib/libmysql_packets.a"
     expect 'C++' "$work/plus"
 fi

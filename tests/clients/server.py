@@ -130,7 +130,7 @@ class Session(socketserver.BaseRequestHandler):
         self.send(p.write("myp_write_handshake", p.new(
             "myp_handshake", protocol_version=10, server_version=b"8.0.40-served", connection_id=7, scramble_1=NONCE[:8], scramble_2=NONCE[8:] + b"\0",
             auth_plugin_name=b"mysql_native_password", capabilities=offered, status_flags=p.MYP_SERVER_STATUS_AUTOCOMMIT, default_collation=45)), "handshake")
-        said = p.read("myp_read_login_request", self.receive("login"), into="myp_login_request")
+        said = p.read("myp_read_login", self.receive("login"), into="myp_login")
         self.capabilities = offered & said.capabilities
         self.deprecates_eof = bool(self.capabilities & p.MYP_CLIENT_DEPRECATE_EOF)
         wanted = p.write("myp_scramble_native", PASSWORD, NONCE)

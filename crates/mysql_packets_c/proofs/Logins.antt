@@ -11,19 +11,20 @@ use Rattle.mysql_packets_c.specs.Attributes.{merged_pairs}
 use Rattle.mysql_packets_c.specs.ChangeUser.{change_of, change_with, sends_attributes}
 use Rattle.mysql_packets_c.specs.Given.{if_set, is_set}
 use Rattle.mysql_packets_c.specs.Login.{with_attributes}
+use Rattle.mysql_packets_c.specs.declared.attributes.CAttribute.{CAttribute}
 use Rattle.mysql_packets_c.specs.declared.change_user.CChangeUser.{CChangeUser}
 use Rattle.mysql_packets_c.specs.declared.login.CLogin.{CLogin}
 
-ends : (n : ℕ) (c : CChangeUser) (pairs : List Attribute) → change_user.bytes (change_with n c None) ++ (attributes.bytes pairs ++ []) ≡ change_user.bytes (change_with n c (Some pairs))
+ends : (n : ℕ) (c : CChangeUser) (pairs : List Attribute) → sends_attributes n c ≡ true → change_user.bytes (change_with n c None) ++ (attributes.bytes pairs ++ []) ≡ change_user.bytes (change_with n c (Some pairs))
 unfolding change_user last_part more_data sent_attributes
 ends n c pairs = simp (append-nil, append_assoc)
 
-pub change-ends : (n : ℕ) (c : CChangeUser) → sends_attributes n ≡ true
-    → change_user.bytes (change_with n c None) ++ (attributes.bytes (merged_pairs c.attributes.now) ++ []) ≡ change_user.bytes (change_of n c)
-change-ends n c sent = ends n c (merged_pairs c.attributes.now) ∙ ap (λ (b : Bool). change_user.bytes (change_with n c (if b then Some (merged_pairs c.attributes.now) else None))) (sym sent)
+pub change-ends : (n : ℕ) (c : CChangeUser) (given : List CAttribute) → sends_attributes n c ≡ true
+    → change_user.bytes (change_with n c None) ++ (attributes.bytes (merged_pairs given) ++ []) ≡ change_user.bytes (change_of n given c)
+change-ends n c given sent = ends n c (merged_pairs given) sent ∙ ap (λ (b : Bool). change_user.bytes (change_with n c (if b then Some (merged_pairs given) else None))) (sym sent)
 
-pub change-without : (n : ℕ) (c : CChangeUser) → sends_attributes n ≡ false → change_of n c ≡ change_with n c None
-change-without n c none = ap (λ (b : Bool). change_with n c (if b then Some (merged_pairs c.attributes.now) else None)) none
+pub change-without : (n : ℕ) (c : CChangeUser) (given : List CAttribute) → sends_attributes n c ≡ false → change_of n given c ≡ change_with n c None
+change-without n c given none = ap (λ (b : Bool). change_with n c (if b then Some (merged_pairs given) else None)) none
 
 pub ruleset changes = (change-ends, change-without)
 
@@ -31,15 +32,17 @@ pub ruleset changes = (change-ends, change-without)
 set-is : (n : ℕ) → n ≢ 0 → is_set n ≡ true
 set-is n some = ap not (ne_eqb n 0 some)
 
-pub login-ends : (c : CLogin) (p : HandshakeResponse) → c.has_attributes ≢ 0 → before_attributes p ++ (attributes.bytes (merged_pairs c.attributes.now) ++ []) ≡ handshake_response.bytes (with_attributes c p)
-login-ends c p some =
-    let pairs = merged_pairs c.attributes.now in
+pub login-ends : (c : CLogin) (given : List CAttribute) (p : HandshakeResponse) → c.has_attributes ≢ 0
+    → before_attributes p ++ (attributes.bytes (merged_pairs given) ++ []) ≡ handshake_response.bytes (with_attributes c given p)
+login-ends c given p some =
+    let pairs = merged_pairs given in
     ap (λ (l : List ℕ). before_attributes p ++ l) (append-nil (attributes.bytes pairs)) ∙ sym (response-ends p pairs)
     ∙ ap (λ (b : Bool). handshake_response.bytes (record p { connect_attributes = if b then Some pairs else None })) (sym (set-is c.has_attributes some))
 
-pub login-without : (c : CLogin) (p : HandshakeResponse) → c.has_attributes ≡ 0 → connect_attributes p ≡ if_set c.has_attributes [] → with_attributes c p ≡ p
-login-without c p none is =
+pub login-without : (c : CLogin) (given : List CAttribute) (p : HandshakeResponse) → c.has_attributes ≡ 0 → connect_attributes p ≡ if_set c.has_attributes []
+    → with_attributes c given p ≡ p
+login-without c given p none is =
     let empty : connect_attributes p ≡ None = is ∙ ap (λ (n : ℕ). if_set n []) none in
-    ap (λ (a : Option (List Attribute)). record p { connect_attributes = a }) (ap (λ (n : ℕ). if_set n (merged_pairs c.attributes.now)) none ∙ sym empty)
+    ap (λ (a : Option (List Attribute)). record p { connect_attributes = a }) (ap (λ (n : ℕ). if_set n (merged_pairs given)) none ∙ sym empty)
 
 pub ruleset logins = (login-ends, login-without)

@@ -4,6 +4,10 @@ use Rattle.mysql_repl.specs.BinlogDump as dump
 use Rattle.mysql_repl.specs.declared.binlog_dump.ComBinlogDump.{ComBinlogDump}
 use Rattle.mysql_packets_c.specs.declared.dump.CDump.{CDump}
 
+-- the request of these fields
+abbrev pub request_of : CDump → ComBinlogDump
+request_of c = dump.dump_of c.server_id c.position c.flags c.file_name.now
+
 pub record IsDump (p : ComBinlogDump) (rest : List ℕ) (out : CDump) : Type 0 where
   pub file_name : out.file_name.now ≡ dump.filename p
   pub server_id : out.server_id ≡ dump.server_id p

@@ -11,10 +11,10 @@ use Rattle.mysql_packets_c.specs.Input.{used_of}
 use Rattle.mysql_packets_c.specs.Output.{PutsUnlessTooLong}
 use Rattle.mysql_packets_c.specs.declared.gtid_dump.CGtidDump.{CGtidDump}
 
--- the request of these; BINLOG_THROUGH_GTID is set exactly if there is a sid
-abbrev pub dump_with : (server_id flags : ℕ) (file_name : List ℕ) (position : ℕ) → List Sid → ComBinlogDumpGtid
-dump_with server_id flags file_name position sids =
-    dump.with_sids sids (dump.with_pos position (dump.with_filename file_name (dump.with_flags flags (dump.dump_of server_id 0 0 [] []))))
+-- the request of these fields and sids; BINLOG_THROUGH_GTID is set exactly if there is a sid
+abbrev pub dump_with : CGtidDump → List Sid → ComBinlogDumpGtid
+dump_with c sids =
+    dump.with_sids sids (dump.with_pos c.position (dump.with_filename c.file_name.now (dump.with_flags c.flags (dump.dump_of c.server_id 0 0 [] []))))
 
 -- the request's bytes are written; where a tag is none, nothing is, and the code is 3
 abbrev pub PutsDump : Option (List Sid) → (List Sid → ComBinlogDumpGtid) → (code : ℕ) (old new : List ℕ) (written : ℕ) → Type 0

@@ -9,34 +9,34 @@ use Rattle.mysql_wire.specs.Flags.{has}
 use Rattle.mysql_packets_c.specs.Attributes.{attributes_in, are_texts, merged_pairs}
 use Rattle.mysql_packets_c.specs.Given.{SaysSent, if_set, is_set}
 use Rattle.mysql_packets_c.specs.Input.{used_of}
+use Rattle.mysql_packets_c.specs.declared.attributes.CAttribute.{CAttribute}
 use Rattle.mysql_packets_c.specs.declared.login.CLogin.{CLogin}
-use Rattle.mysql_packets_c.specs.declared.login.CLoginRequest.{CLoginRequest}
 
 -- the attributes that are sent are UTF-8
-abbrev pub login_texts : CLogin → Bool
-login_texts c = (c.has_attributes == 0) || are_texts c.attributes.now
+abbrev pub login_texts : CLogin → List CAttribute → Bool
+login_texts c given = (c.has_attributes == 0) || are_texts given
 
--- the flags of what is there are set by what is there, and the others are as they are handed in
-pub record IsLogin (c : CLogin) (p : HandshakeResponse) : Type 0 where
+-- the login of these fields and attributes: the flags of what is there are set by what is there, and the others are as they are handed in
+pub record IsLogin (c : CLogin) (given : List CAttribute) (p : HandshakeResponse) : Type 0 where
   pub user : response.user p ≡ c.user.now
   pub auth_response : response.scramble_buf p ≡ c.auth_response.now
   pub database : response.db_name p ≡ if_set c.has_database c.database.now
-  pub auth_plugin : response.auth_plugin p ≡ if_set c.has_auth_plugin (plugin_of c.auth_plugin_name.now)
-  pub attributes : response.connect_attributes p ≡ if_set c.has_attributes (merged_pairs c.attributes.now)
+  pub auth_plugin : response.auth_plugin p ≡ if_set c.has_auth_plugin_name (plugin_of c.auth_plugin_name.now)
+  pub attributes : response.connect_attributes p ≡ if_set c.has_attributes (merged_pairs given)
   pub max_packet_size : response.max_packet_size p ≡ c.max_packet_size
   pub collation : response.collation p ≡ c.collation
   pub mariadb_capabilities : (response.mariadb_ext_capabilities p).0 ≡ c.mariadb_capabilities
   pub database_flag : has (response.capabilities p).0 CLIENT_CONNECT_WITH_DB ≡ is_set c.has_database
-  pub plugin_flag : has (response.capabilities p).0 CLIENT_PLUGIN_AUTH ≡ is_set c.has_auth_plugin
+  pub plugin_flag : has (response.capabilities p).0 CLIENT_PLUGIN_AUTH ≡ is_set c.has_auth_plugin_name
   pub attributes_flag : has (response.capabilities p).0 CLIENT_CONNECT_ATTRS ≡ is_set c.has_attributes
   pub other_flags : (i : ℕ) → i < 32 → i ≢ 3 → i ≢ 19 → i ≢ 20 → bit_at (response.capabilities p).0 i ≡ bit_at c.capabilities i
 
--- the response with the attributes of the login
-abbrev pub with_attributes : CLogin → HandshakeResponse → HandshakeResponse
-with_attributes c p = record p { connect_attributes = if_set c.has_attributes (merged_pairs c.attributes.now) }
+-- the response with the attributes, where some are sent
+abbrev pub with_attributes : CLogin → List CAttribute → HandshakeResponse → HandshakeResponse
+with_attributes c given p = record p { connect_attributes = if_set c.has_attributes (merged_pairs given) }
 
 -- what was not sent is empty
-pub record IsLoginRequest (packet : List ℕ) (p : HandshakeResponse) (rest : List ℕ) (out : CLoginRequest) : Type 0 where
+pub record HoldsLogin (packet : List ℕ) (p : HandshakeResponse) (rest : List ℕ) (out : CLogin) : Type 0 where
   pub user : out.user.now ≡ response.user p
   pub auth_response : out.auth_response.now ≡ response.scramble_buf p
   pub database : if_set out.has_database out.database.now ≡ response.db_name p

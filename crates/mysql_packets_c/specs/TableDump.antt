@@ -5,6 +5,10 @@ use Rattle.mysql_repl.specs.declared.table_dump.ComTableDump.{ComTableDump}
 use Rattle.mysql_packets_c.specs.Input.{used_of}
 use Rattle.mysql_packets_c.specs.declared.table_dump.CTableDump.{CTableDump}
 
+-- the request of these fields
+abbrev pub request_of : CTableDump → ComTableDump
+request_of c = dump.dump_of c.database.now c.table.now
+
 pub record IsTableDump (packet : List ℕ) (p : ComTableDump) (rest : List ℕ) (out : CTableDump) : Type 0 where
   pub database : out.database.now ≡ dump.database p
   pub table : out.table.now ≡ dump.table p

@@ -23,10 +23,10 @@ use mysql_wire::{CapabilityFlags, parts};
 use std::alloc::Global;
 use std::borrow::CowSlice;
 
-/// `myp_change_user_request`.
+/// `myp_change_user`.
 #[repr(C)]
 #[derive(Drop)]
-pub struct CUserChange<'a> {
+pub struct CChangeUser<'a> {
     pub user: &'a [u8],
     pub auth_response: &'a [u8],
     pub database: &'a [u8],
@@ -40,7 +40,7 @@ pub struct CUserChange<'a> {
 }
 
 /// Puts more data, or that there is none.
-fn put_more_data<'a>(more: Option<&ComChangeUserMoreDataRef<'a>>, out: &mut CUserChange<'a>)
+fn put_more_data<'a>(more: Option<&ComChangeUserMoreDataRef<'a>>, out: &mut CChangeUser<'a>)
     ensures value { spec.more_held out.new ≡ option_map (λ more. more.now) more.entry }
     ensures says { spec.SaysMore out.new }
     ensures others { spec.KeepsOthers out.old out.new }
@@ -66,13 +66,13 @@ fn put_more_data<'a>(more: Option<&ComChangeUserMoreDataRef<'a>>, out: &mut CUse
 
 /// Reads `COM_CHANGE_USER`: 0; or 1 or 2, and the struct is as it was.
 #[unsafe(no_mangle)]
-pub extern "C" fn myp_read_change_user_request<'a>(
+pub extern "C" fn myp_read_change_user<'a>(
     alloc: Global,
     packet: &'a [u8],
     capabilities: u32,
-    out: &mut CUserChange<'a>,
+    out: &mut CChangeUser<'a>,
 ) -> u32
-    ensures value { ReadsInto (spec.IsUserChange packet.now) ((change_user.form (record { 0 = capabilities; 1 = record {} })).reads packet.now) result out.old out.new }
+    ensures value { ReadsInto (spec.HoldsChange packet.now) ((change_user.form (record { 0 = capabilities; 1 = record {} })).reads packet.now) result out.old out.new }
 {
     let capabilities = CapabilityFlags::from_bits_retain(capabilities);
     match read::<ComChangeUserRef<'a>>(alloc, packet, capabilities) {
@@ -88,18 +88,6 @@ pub extern "C" fn myp_read_change_user_request<'a>(
     }
 }
 
-/// `myp_change_user`.
-#[repr(C)]
-#[derive(Drop)]
-pub struct CChangeUser<'a> {
-    pub user: &'a [u8],
-    pub auth_plugin_data: &'a [u8],
-    pub database: &'a [u8],
-    pub auth_plugin_name: &'a [u8],
-    pub attributes: &'a [CAttribute<'a>],
-    pub character_set: u16,
-}
-
 /// The plugin, where a session names one.
 fn plugin_of<'a>(capabilities: CapabilityFlags, change: &CChangeUser<'a>) -> Option<AuthPlugin<'a>>
     ensures { result ≡ spec.named_plugin capabilities.0 change.now }
@@ -111,57 +99,72 @@ fn plugin_of<'a>(capabilities: CapabilityFlags, change: &CChangeUser<'a>) -> Opt
     }
 }
 
-/// Whether a session has attributes.
-fn sends_attributes(capabilities: CapabilityFlags) -> bool
-    ensures { result ≡ spec.sends_attributes capabilities.0 }
+/// Whether attributes are sent: a session has them, and more follows the schema.
+fn sends_attributes(capabilities: CapabilityFlags, change: &CChangeUser<'_>) -> bool
+    ensures { result ≡ spec.sends_attributes capabilities.0 change.now }
 {
-    capabilities.contains(CapabilityFlags::CLIENT_CONNECT_ATTRS)
+    change.has_character_set != 0 && capabilities.contains(CapabilityFlags::CLIENT_CONNECT_ATTRS)
 }
 
 /// Whether the attributes that are sent are UTF-8.
-fn change_texts(capabilities: CapabilityFlags, change: &CChangeUser<'_>) -> bool
-    ensures { result ≡ spec.change_texts capabilities.0 change.now }
+fn sends_texts(
+    capabilities: CapabilityFlags,
+    change: &CChangeUser<'_>,
+    attributes: &[CAttribute<'_>],
+) -> bool
+    ensures { result ≡ spec.change_texts capabilities.0 attributes.now change.now }
 {
-    !sends_attributes(capabilities) || are_texts(change.attributes)
+    !sends_attributes(capabilities, change) || are_texts(attributes)
+}
+
+/// What follows the schema, without attributes.
+fn more_data_of<'a>(
+    capabilities: CapabilityFlags,
+    change: &CChangeUser<'a>,
+) -> Option<ComChangeUserMoreData<'a>>
+    ensures { result ≡ spec.more_data_with capabilities.0 change.now None }
+{
+    if change.has_character_set == 0 {
+        return None;
+    }
+    let plugin = plugin_of(capabilities, change);
+    Some(ComChangeUserMoreData::new(change.character_set).with_auth_plugin(plugin))
 }
 
 /// The packet of a change, without attributes.
 fn packet_of<'a>(capabilities: CapabilityFlags, change: &CChangeUser<'a>) -> ComChangeUser<'a>
     ensures { result ≡ spec.change_with capabilities.0 change.now None }
 {
-    let more = ComChangeUserMoreData::new(change.character_set).with_auth_plugin(plugin_of(
-        capabilities,
-        change,
-    ));
     ComChangeUser::new()
         .with_user(Some(CowSlice::Borrowed(change.user)))
-        .with_auth_plugin_data(Some(CowSlice::Borrowed(change.auth_plugin_data)))
+        .with_auth_plugin_data(Some(CowSlice::Borrowed(change.auth_response)))
         .with_database(Some(CowSlice::Borrowed(change.database)))
-        .with_more_data(Some(more))
+        .with_more_data(more_data_of(capabilities, change))
 }
 
-/// Writes `COM_CHANGE_USER` by what both sides can do: 0; 5, and how many bytes it takes; 4; or 3 where attributes that are sent are not
-/// UTF-8.
+/// Writes `COM_CHANGE_USER` by what both sides can do, with these attributes: 0; 5, and how many bytes it takes; 4; or 3 where
+/// attributes that are sent are not UTF-8.
 #[tactic(auto, using(crate::proofs::Codes::codes, crate::proofs::Logins::changes))]
 #[unsafe(no_mangle)]
 pub extern "C" fn myp_write_change_user(
     change: &CChangeUser<'_>,
+    attributes: &[CAttribute<'_>],
     capabilities: u32,
     out: &mut [u8],
     written: &mut usize,
 ) -> u32
-    ensures refused { spec.change_texts capabilities change.now ≡ false → (result ≡ 3) × (out.new ≡ out.old) × (written.new ≡ 0) }
-    ensures value { spec.change_texts capabilities change.now ≡ true → PutsUnlessTooLong (change_user.bytes (change_of capabilities change.now)) result out.old out.new written.new }
+    ensures refused { spec.change_texts capabilities attributes.now change.now ≡ false → (result ≡ 3) × (out.new ≡ out.old) × (written.new ≡ 0) }
+    ensures value { spec.change_texts capabilities attributes.now change.now ≡ true → PutsUnlessTooLong (change_user.bytes (change_of capabilities attributes.now change.now)) result out.old out.new written.new }
 {
     let capabilities = capabilities_of(capabilities);
-    if !change_texts(capabilities, change) {
+    if !sends_texts(capabilities, change, attributes) {
         *written = 0;
         return INVALID_INPUT;
     }
     let before = packet_of(capabilities, change);
-    if !sends_attributes(capabilities) {
+    if !sends_attributes(capabilities, change) {
         return put_packet(&before, out, written);
     }
-    let attributes = WrittenAttributes(change.attributes);
+    let attributes = WrittenAttributes(attributes);
     put_packet(&parts!(before, attributes), out, written)
 }

@@ -2,9 +2,9 @@
 #![tactic(auto, using(crate::proofs::Codes::codes))]
 
 ghost use Rattle.std.specs.Prelude.{◌≡◌, ◌≢◌};
-ghost use Rattle.mysql_repl.specs.BinlogDump as dump;
+ghost use Rattle.mysql_repl.specs.BinlogDump.{binlog_dump};
 ghost use Rattle.mysql_packets_c.specs.Code.{ReadsInto};
-ghost use Rattle.mysql_packets_c.specs.Dump.{IsDump};
+ghost use Rattle.mysql_packets_c.specs.Dump.{IsDump, request_of};
 ghost use Rattle.mysql_packets_c.specs.Output.{Puts};
 
 use crate::code::{OK, code_of};
@@ -28,7 +28,7 @@ pub struct CDump<'a> {
 /// Reads `COM_BINLOG_DUMP`: 0; or 1 or 2, and the struct is as it was.
 #[unsafe(no_mangle)]
 pub extern "C" fn myp_read_dump<'a>(alloc: Global, packet: &'a [u8], out: &mut CDump<'a>) -> u32
-    ensures value { ReadsInto IsDump ((dump.binlog_dump.form tt).reads packet.now) result out.old out.new }
+    ensures value { ReadsInto IsDump ((binlog_dump.form tt).reads packet.now) result out.old out.new }
 {
     match read::<ComBinlogDumpRef<'a>>(alloc, packet, ()) {
         Ok((found, _used)) => {
@@ -45,19 +45,12 @@ pub extern "C" fn myp_read_dump<'a>(alloc: Global, packet: &'a [u8], out: &mut C
 /// Writes `COM_BINLOG_DUMP`: 0; 5, and how many bytes it takes.
 #[tactic(auto, using(crate::proofs::Codes::codes), unfolding(mysql_repl::specs::BinlogDump::binlog_dump, mysql_wire::specs::Writing::le_bytes))]
 #[unsafe(no_mangle)]
-pub extern "C" fn myp_write_dump(
-    server_id: u32,
-    flags: u16,
-    file_name: &[u8],
-    position: u32,
-    out: &mut [u8],
-    written: &mut usize,
-) -> u32
-    ensures { Puts (dump.binlog_dump.bytes (dump.dump_of server_id position flags file_name.now)) result out.old out.new written.new }
+pub extern "C" fn myp_write_dump(dump: &CDump<'_>, out: &mut [u8], written: &mut usize) -> u32
+    ensures { Puts (binlog_dump.bytes (request_of dump.now)) result out.old out.new written.new }
 {
-    let packet = ComBinlogDump::new(server_id)
-        .with_pos(position)
-        .with_flags(BinlogDumpFlags::from_bits_retain(flags))
-        .with_filename(CowSlice::Borrowed(file_name));
+    let packet = ComBinlogDump::new(dump.server_id)
+        .with_pos(dump.position)
+        .with_flags(BinlogDumpFlags::from_bits_retain(dump.flags))
+        .with_filename(CowSlice::Borrowed(dump.file_name));
     put_packet(&packet, out, written)
 }

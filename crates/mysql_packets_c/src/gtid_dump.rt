@@ -129,10 +129,7 @@ fn flags_of(bits: u16, sids: &[CSid<'_>]) -> BinlogDumpFlags
 /// The request of these fields.
 #[derive(Drop)]
 struct WrittenDump<'b, 'a> {
-    server_id: u32,
-    flags: u16,
-    file_name: &'b [u8],
-    position: u64,
+    dump: &'b CGtidDump<'b>,
     sids: &'b [CSid<'a>],
 }
 
@@ -142,16 +139,16 @@ impl Parts for WrittenDump<'_, '_> {
     ghost use Rattle.mysql_packets_c.specs.GtidDump.{dump_with};
     ghost use Rattle.mysql_packets_c.specs.Sid.{sids_or};
 
-    ghost bytes = { λ d. gtid_dump.bytes (dump_with d.server_id d.flags d.file_name.now d.position (sids_or d.sids.now)) };
+    ghost bytes = { λ d. gtid_dump.bytes (dump_with d.dump.now (sids_or d.sids.now)) };
 
     #[inline(always)]
     fn put<S: Sink>(&self, sink: &mut S) {
         let header = ComBinlogDumpGtidHeader::new();
-        let flags = Const::<BinlogDumpFlags, LeU16>::new(flags_of(self.flags, self.sids));
-        let server_id = RawInt::<LeU32>::new(self.server_id);
+        let flags = Const::<BinlogDumpFlags, LeU16>::new(flags_of(self.dump.flags, self.sids));
+        let server_id = RawInt::<LeU32>::new(self.dump.server_id);
         let head = parts!(header, flags, server_id);
-        let file_name = RawBytes::<U32Bytes>::new(CowSlice::Borrowed(self.file_name));
-        let position = RawInt::<LeU64>::new(self.position);
+        let file_name = RawBytes::<U32Bytes>::new(CowSlice::Borrowed(self.dump.file_name));
+        let position = RawInt::<LeU64>::new(self.dump.position);
         let sids = WrittenSids(self.sids);
         sink.part(&parts!(head, file_name, position, sids));
     }
@@ -161,26 +158,16 @@ impl Parts for WrittenDump<'_, '_> {
 #[tactic(auto, using(crate::proofs::Codes::codes, crate::proofs::WrittenSids::held_sids))]
 #[unsafe(no_mangle)]
 pub extern "C" fn myp_write_gtid_dump(
-    server_id: u32,
-    flags: u16,
-    file_name: &[u8],
-    position: u64,
+    dump: &CGtidDump<'_>,
     sids: &[CSid<'_>],
     out: &mut [u8],
     written: &mut usize,
 ) -> u32
-    ensures value { PutsDump (spec.sids_held sids.now) (dump_with server_id flags file_name.now position) result out.old out.new written.new }
+    ensures value { PutsDump (spec.sids_held sids.now) (dump_with dump.now) result out.old out.new written.new }
 {
     if !are_tagged(sids) {
         *written = 0;
         return INVALID_INPUT;
     }
-    let packet = WrittenDump {
-        server_id,
-        flags,
-        file_name,
-        position,
-        sids,
-    };
-    put_packet(&packet, out, written)
+    put_packet(&WrittenDump { dump, sids }, out, written)
 }

@@ -4,6 +4,7 @@
 ghost use Rattle.std.specs.Prelude.{false, ◌≡◌, ◌≢◌, ℕ, Err, IfOk, List, None, Some, string_bytes};
 ghost use Rattle.std.specs.Str.{IsUtf8};
 ghost use Rattle.mysql_repl.specs.BinlogDumpGtid as dump;
+ghost use Rattle.mysql_repl.specs.BinlogDumpGtid.{with_sids};
 ghost use Rattle.mysql_repl.specs.GtidSetText.{read_sids, with_read_sids};
 ghost use Rattle.mysql_repl.specs.GtidSetWritten.{set_text};
 ghost use Rattle.mysql_repl.specs.declared.sid.Sid.{Sid};
@@ -13,7 +14,7 @@ ghost use Rattle.mysql_packets_c.specs.Output.{Puts};
 ghost use Rattle.mysql_packets_c.specs.Sid as spec;
 
 use crate::code::{INVALID_DATA, INVALID_INPUT, NO_MEMORY, code_of};
-use crate::gtid_dump::{are_tagged, tag_held};
+use crate::gtid_dump::{CGtidDump, are_tagged, tag_held};
 use crate::input::read;
 use crate::output::{put, put_packet};
 use crate::sid::{CInterval, CSid};
@@ -117,6 +118,16 @@ pub extern "C" fn myp_sids_to_text(
     put_text(text_of_sids(alloc, sids), out, written)
 }
 
+/// The request of these fields, without sids.
+fn request_of<'a>(dump: &CGtidDump<'a>) -> ComBinlogDumpGtid<'a>
+    ensures value { (list : List Sid) → dump_with dump.now list ≡ with_sids list result }
+{
+    ComBinlogDumpGtid::new(dump.server_id)
+        .with_flags(BinlogDumpFlags::from_bits_retain(dump.flags))
+        .with_filename(CowSlice::Borrowed(dump.file_name))
+        .with_pos(dump.position)
+}
+
 /// The request with the sids that a text spells, or the code of its refusal.
 fn dump_of_text<'a>(
     alloc: Global,
@@ -140,23 +151,16 @@ fn dump_of_text<'a>(
 #[unsafe(no_mangle)]
 pub extern "C" fn myp_gtid_dump_from_text(
     alloc: Global,
-    server_id: u32,
-    flags: u16,
-    file_name: &[u8],
-    position: u64,
+    dump: &CGtidDump<'_>,
     text: &[u8],
     out: &mut [u8],
     written: &mut usize,
 ) -> u32
     ensures memory { result ≡ 4 → (out.new ≡ out.old) × (written.new ≡ 0) }
     ensures bytes { (IsUtf8 text.now → ⊥) → Refuses 2 result out.old out.new written.new }
-    ensures value { IsUtf8 text.now → result ≢ 4 → PutsSpelled (read_sids text.now) (dump_with server_id flags file_name.now position) result out.old out.new written.new }
+    ensures value { IsUtf8 text.now → result ≢ 4 → PutsSpelled (read_sids text.now) (dump_with dump.now) result out.old out.new written.new }
 {
-    let dump = ComBinlogDumpGtid::new(server_id)
-        .with_flags(BinlogDumpFlags::from_bits_retain(flags))
-        .with_filename(CowSlice::Borrowed(file_name))
-        .with_pos(position);
-    match dump_of_text(alloc, dump, text) {
+    match dump_of_text(alloc, request_of(dump), text) {
         Ok(dump) => put_packet(&dump, out, written),
         Err(code) => {
             *written = 0;

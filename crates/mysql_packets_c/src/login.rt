@@ -3,7 +3,7 @@
 
 ghost use Rattle.std.specs.Cow.{cow_slice_items};
 ghost use Rattle.std.specs.Option.{option_map_or};
-ghost use Rattle.std.specs.Prelude.{false, ◌≡◌, map, option_map, true, []};
+ghost use Rattle.std.specs.Prelude.{false, ◌≡◌, map, option_map, true, [], List};
 ghost use Rattle.mysql_auth.specs.Attributes.{merged, text_pair};
 ghost use Rattle.mysql_auth.specs.AuthPlugin.{plugin_of};
 ghost use Rattle.mysql_auth.specs.HandshakeResponse.{connect_attributes, handshake_response};
@@ -11,8 +11,9 @@ ghost use Rattle.mysql_auth.specs.declared.handshake_response.HandshakeResponse.
 ghost use Rattle.mysql_packets_c.specs.Attributes.{attributes_in};
 ghost use Rattle.mysql_packets_c.specs.Code.{ReadsInto};
 ghost use Rattle.mysql_packets_c.specs.Given.{SaysSent, if_set};
-ghost use Rattle.mysql_packets_c.specs.Login.{IsLogin, IsLoginRequest, login_texts, with_attributes};
+ghost use Rattle.mysql_packets_c.specs.Login.{HoldsLogin, IsLogin, login_texts, with_attributes};
 ghost use Rattle.mysql_packets_c.specs.Output.{PutsUnlessTooLong};
+ghost use Rattle.mysql_packets_c.specs.declared.attributes.CAttribute.{CAttribute};
 
 use crate::attributes::{CAttribute, WrittenAttributes, are_texts};
 use crate::code::{INVALID_INPUT, OK, code_of};
@@ -25,10 +26,10 @@ use mysql_wire::{CapabilityFlags, MariadbCapabilities, parts};
 use std::alloc::Global;
 use std::borrow::CowSlice;
 
-/// `myp_login_request`.
+/// `myp_login`.
 #[repr(C)]
 #[derive(Drop)]
-pub struct CLoginRequest<'a> {
+pub struct CLogin<'a> {
     pub user: &'a [u8],
     pub auth_response: &'a [u8],
     pub database: &'a [u8],
@@ -68,12 +69,8 @@ pub(crate) fn sent_attributes<'a>(attributes: Option<ConnectAttributesRef<'a>>) 
 
 /// Reads `Protocol::HandshakeResponse41`: 0; or 1 or 2, and the struct is as it was.
 #[unsafe(no_mangle)]
-pub extern "C" fn myp_read_login_request<'a>(
-    alloc: Global,
-    packet: &'a [u8],
-    out: &mut CLoginRequest<'a>,
-) -> u32
-    ensures value { ReadsInto (IsLoginRequest packet.now) ((handshake_response.form tt).reads packet.now) result out.old out.new }
+pub extern "C" fn myp_read_login<'a>(alloc: Global, packet: &'a [u8], out: &mut CLogin<'a>) -> u32
+    ensures value { ReadsInto (HoldsLogin packet.now) ((handshake_response.form tt).reads packet.now) result out.old out.new }
 {
     match read::<HandshakeResponseRef<'a>>(alloc, packet, ()) {
         Ok((found, used)) => {
@@ -97,24 +94,6 @@ pub extern "C" fn myp_read_login_request<'a>(
         }
         Err(fault) => code_of(&fault),
     }
-}
-
-/// `myp_login`.
-#[repr(C)]
-#[derive(Drop)]
-pub struct CLogin<'a> {
-    pub user: &'a [u8],
-    pub auth_response: &'a [u8],
-    pub database: &'a [u8],
-    pub auth_plugin_name: &'a [u8],
-    pub attributes: &'a [CAttribute<'a>],
-    pub capabilities: u32,
-    pub mariadb_capabilities: u32,
-    pub max_packet_size: u32,
-    pub collation: u8,
-    pub has_database: u8,
-    pub has_auth_plugin: u8,
-    pub has_attributes: u8,
 }
 
 /// The database, where one is there.
@@ -154,7 +133,7 @@ fn empty_attributes(alloc: Global, is_there: u8) -> Option<IndexMap<String, Stri
 /// The packet of a login, whose attributes are empty where some are sent.
 #[tactic(auto, using(crate::proofs::Codes::codes, crate::proofs::Logins::logins))]
 fn response_of<'a>(alloc: Global, login: &CLogin<'a>) -> HandshakeResponse<'a>
-    ensures value { IsLogin login.now (with_attributes login.now result) }
+    ensures value { (given : List CAttribute) → IsLogin login.now given (with_attributes login.now given result) }
     ensures attributes { connect_attributes result ≡ if_set login.now.has_attributes [] }
 {
     let response = HandshakeResponse::new(
@@ -163,7 +142,7 @@ fn response_of<'a>(alloc: Global, login: &CLogin<'a>) -> HandshakeResponse<'a>
         (0, 0, 0),
         Some(CowSlice::Borrowed(login.user)),
         database_of(login),
-        plugin_named(login.has_auth_plugin, login.auth_plugin_name),
+        plugin_named(login.has_auth_plugin_name, login.auth_plugin_name),
         CapabilityFlags::from_bits_retain(login.capabilities),
         empty_attributes(alloc, login.has_attributes),
         login.max_packet_size,
@@ -177,25 +156,27 @@ fn response_of<'a>(alloc: Global, login: &CLogin<'a>) -> HandshakeResponse<'a>
 }
 
 /// Whether the attributes that are sent are UTF-8.
-fn login_texts(login: &CLogin<'_>) -> bool
-    ensures { result ≡ login_texts login.now }
+fn sends_texts(login: &CLogin<'_>, attributes: &[CAttribute<'_>]) -> bool
+    ensures { result ≡ login_texts login.now attributes.now }
 {
-    login.has_attributes == 0 || are_texts(login.attributes)
+    login.has_attributes == 0 || are_texts(attributes)
 }
 
-/// Writes `Protocol::HandshakeResponse41`: 0; 5, and how many bytes it takes; 4; or 3 where attributes are not UTF-8.
+/// Writes `Protocol::HandshakeResponse41` with these attributes, where some are sent: 0; 5, and how many bytes it takes; 4; or 3 where
+/// attributes are not UTF-8.
 #[tactic(auto, using(crate::proofs::Codes::codes, crate::proofs::Logins::logins))]
 #[unsafe(no_mangle)]
 pub extern "C" fn myp_write_login(
     alloc: Global,
     login: &CLogin<'_>,
+    attributes: &[CAttribute<'_>],
     out: &mut [u8],
     written: &mut usize,
 ) -> u32
-    ensures refused { login_texts login.now ≡ false → (result ≡ 3) × (out.new ≡ out.old) × (written.new ≡ 0) }
-    ensures value { login_texts login.now ≡ true → (p : HandshakeResponse) × IsLogin login.now p × PutsUnlessTooLong (handshake_response.bytes p) result out.old out.new written.new }
+    ensures refused { login_texts login.now attributes.now ≡ false → (result ≡ 3) × (out.new ≡ out.old) × (written.new ≡ 0) }
+    ensures value { login_texts login.now attributes.now ≡ true → (p : HandshakeResponse) × IsLogin login.now attributes.now p × PutsUnlessTooLong (handshake_response.bytes p) result out.old out.new written.new }
 {
-    if !login_texts(login) {
+    if !sends_texts(login, attributes) {
         *written = 0;
         return INVALID_INPUT;
     }
@@ -204,6 +185,6 @@ pub extern "C" fn myp_write_login(
         return put_packet(&response, out, written);
     }
     let before = response.before_attributes();
-    let attributes = WrittenAttributes(login.attributes);
+    let attributes = WrittenAttributes(attributes);
     put_packet(&parts!(before, attributes), out, written)
 }

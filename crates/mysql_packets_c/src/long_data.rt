@@ -2,9 +2,9 @@
 #![tactic(auto, using(crate::proofs::Codes::codes))]
 
 ghost use Rattle.std.specs.Prelude.{◌≡◌, ◌≢◌};
-ghost use Rattle.mysql_prepared.specs.LongData.{long_data, long_data_of};
+ghost use Rattle.mysql_prepared.specs.LongData.{long_data};
 ghost use Rattle.mysql_packets_c.specs.Code.{ReadsInto};
-ghost use Rattle.mysql_packets_c.specs.LongData.{IsLongData};
+ghost use Rattle.mysql_packets_c.specs.LongData.{IsLongData, packet_of};
 ghost use Rattle.mysql_packets_c.specs.Output.{Puts};
 
 use crate::code::{OK, code_of};
@@ -47,14 +47,16 @@ pub extern "C" fn myp_read_long_data<'a>(
 #[tactic(auto, using(crate::proofs::Codes::codes), unfolding(mysql_prepared::specs::LongData::long_data, mysql_wire::specs::Writing::le_bytes))]
 #[unsafe(no_mangle)]
 pub extern "C" fn myp_write_long_data(
-    statement_id: u32,
-    param_index: u16,
-    content: &[u8],
+    part: &CLongData<'_>,
     out: &mut [u8],
     written: &mut usize,
 ) -> u32
-    ensures { Puts (long_data.bytes (long_data_of statement_id param_index content.now)) result out.old out.new written.new }
+    ensures { Puts (long_data.bytes (packet_of part.now)) result out.old out.new written.new }
 {
-    let packet = ComStmtSendLongData::new(statement_id, param_index, CowSlice::Borrowed(content));
+    let packet = ComStmtSendLongData::new(
+        part.statement_id,
+        part.param_index,
+        CowSlice::Borrowed(part.content),
+    );
     put_packet(&packet, out, written)
 }

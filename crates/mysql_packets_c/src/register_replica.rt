@@ -14,7 +14,7 @@ use mysql_repl::{ComRegisterSlave, ComRegisterSlaveRef};
 use std::alloc::Global;
 use std::borrow::CowSlice;
 
-/// `myp_replica`.
+/// `myp_register_replica`.
 #[repr(C)]
 #[derive(Drop)]
 pub struct CReplica<'a> {

@@ -2,10 +2,10 @@
 #![tactic(auto, using(crate::proofs::Codes::codes))]
 
 ghost use Rattle.std.specs.Prelude.{◌≡◌, ◌≢◌};
-ghost use Rattle.mysql_repl.specs.SemiSyncAck as ack;
+ghost use Rattle.mysql_repl.specs.SemiSyncAck.{semi_sync_ack, size-semi_sync_ack};
 ghost use Rattle.mysql_packets_c.specs.Code.{ReadsInto};
 ghost use Rattle.mysql_packets_c.specs.Output.{Puts};
-ghost use Rattle.mysql_packets_c.specs.SemiSyncAck.{IsAck};
+ghost use Rattle.mysql_packets_c.specs.SemiSyncAck.{IsAck, acknowledgement_of};
 
 use crate::code::{OK, code_of};
 use crate::input::read;
@@ -48,7 +48,7 @@ impl<'de> MyDeserialize<'de> for SemiSyncAckRef<'de> {
 
     type Ctx = ();
 
-    ghost form = { ack.semi_sync_ack.form };
+    ghost form = { semi_sync_ack.form };
 
     fn deserialize<'s>(_ctx: (), buf: &mut ParseBuf<'de>) -> Result<Self, FaultOf<'s>> {
         let mut head: ParseBuf<'de> = buf.parse(9)?;
@@ -59,7 +59,7 @@ impl<'de> MyDeserialize<'de> for SemiSyncAckRef<'de> {
         })
     }
 
-    ghost size_is = { λ _. ack.size-semi_sync_ack };
+    ghost size_is = { λ _. size-semi_sync_ack };
 }
 
 /// Reads the acknowledgement of semi-synchronous replication: 0; or 1 or 2, and the struct is as it was.
@@ -69,7 +69,7 @@ pub extern "C" fn myp_read_semi_sync_ack<'a>(
     packet: &'a [u8],
     out: &mut CSemiSyncAck<'a>,
 ) -> u32
-    ensures value { ReadsInto IsAck ((ack.semi_sync_ack.form tt).reads packet.now) result out.old out.new }
+    ensures value { ReadsInto IsAck ((semi_sync_ack.form tt).reads packet.now) result out.old out.new }
 {
     match read::<SemiSyncAckRef<'a>>(alloc, packet, ()) {
         Ok((found, _used)) => {
@@ -85,13 +85,12 @@ pub extern "C" fn myp_read_semi_sync_ack<'a>(
 #[tactic(auto, using(crate::proofs::Codes::codes), unfolding(mysql_repl::specs::SemiSyncAck::semi_sync_ack, mysql_wire::specs::Writing::le_bytes))]
 #[unsafe(no_mangle)]
 pub extern "C" fn myp_write_semi_sync_ack(
-    position: u64,
-    file_name: &[u8],
+    ack: &CSemiSyncAck<'_>,
     out: &mut [u8],
     written: &mut usize,
 ) -> u32
-    ensures { Puts (ack.semi_sync_ack.bytes (ack.ack_of position file_name.now)) result out.old out.new written.new }
+    ensures { Puts (semi_sync_ack.bytes (acknowledgement_of ack.now)) result out.old out.new written.new }
 {
-    let packet = SemiSyncAckPacket::new(position, CowSlice::Borrowed(file_name));
+    let packet = SemiSyncAckPacket::new(ack.position, CowSlice::Borrowed(ack.file_name));
     put_packet(&packet, out, written)
 }

@@ -2,10 +2,10 @@
 #![tactic(auto, using(crate::proofs::Codes::codes))]
 
 ghost use Rattle.std.specs.Prelude.{◌≡◌, ◌≢◌};
-ghost use Rattle.mysql_repl.specs.TableDump as dump;
+ghost use Rattle.mysql_repl.specs.TableDump.{size-table_dump, table_dump};
 ghost use Rattle.mysql_packets_c.specs.Code.{ReadsInto};
 ghost use Rattle.mysql_packets_c.specs.Output.{PutsUnlessTooLong};
-ghost use Rattle.mysql_packets_c.specs.TableDump.{IsTableDump};
+ghost use Rattle.mysql_packets_c.specs.TableDump.{IsTableDump, request_of};
 
 use crate::code::{OK, code_of};
 use crate::input::read;
@@ -49,7 +49,7 @@ impl<'de> MyDeserialize<'de> for TableDumpRef<'de> {
 
     type Ctx = ();
 
-    ghost form = { dump.table_dump.form };
+    ghost form = { table_dump.form };
 
     fn deserialize<'s>(_ctx: (), buf: &mut ParseBuf<'de>) -> Result<Self, FaultOf<'s>> {
         let mut rest = buf.rest();
@@ -60,7 +60,7 @@ impl<'de> MyDeserialize<'de> for TableDumpRef<'de> {
         Ok(TableDumpRef { database, table })
     }
 
-    ghost size_is = { λ _. dump.size-table_dump };
+    ghost size_is = { λ _. size-table_dump };
 }
 
 /// Reads `COM_TABLE_DUMP`: 0; or 1 or 2, and the struct is as it was.
@@ -70,7 +70,7 @@ pub extern "C" fn myp_read_table_dump<'a>(
     packet: &'a [u8],
     out: &mut CTableDump<'a>,
 ) -> u32
-    ensures value { ReadsInto (IsTableDump packet.now) ((dump.table_dump.form tt).reads packet.now) result out.old out.new }
+    ensures value { ReadsInto (IsTableDump packet.now) ((table_dump.form tt).reads packet.now) result out.old out.new }
 {
     match read::<TableDumpRef<'a>>(alloc, packet, ()) {
         Ok((found, used)) => {
@@ -86,13 +86,14 @@ pub extern "C" fn myp_read_table_dump<'a>(
 /// Writes `COM_TABLE_DUMP`: 0; 5, and how many bytes it takes; or 4. Of a longer name the first 255 bytes are written.
 #[unsafe(no_mangle)]
 pub extern "C" fn myp_write_table_dump(
-    database: &[u8],
-    table: &[u8],
+    dump: &CTableDump<'_>,
     out: &mut [u8],
     written: &mut usize,
 ) -> u32
-    ensures { PutsUnlessTooLong (dump.table_dump.bytes (dump.dump_of database.now table.now)) result out.old out.new written.new }
+    ensures { PutsUnlessTooLong (table_dump.bytes (request_of dump.now)) result out.old out.new written.new }
 {
-    let packet = ComTableDump::new(CowSlice::Borrowed(database), CowSlice::Borrowed(table));
+    let database = CowSlice::Borrowed(dump.database);
+    let table = CowSlice::Borrowed(dump.table);
+    let packet = ComTableDump::new(database, table);
     put_packet(&packet, out, written)
 }

@@ -67,8 +67,8 @@ class Session:
         answer = p.write("myp_scramble_native", password.encode(), greeting.nonce) if password else b""
         return p.write("myp_write_login", p.new(
             "myp_login", user=user.encode(), auth_response=answer, database=database.encode(), has_database=int(bool(database)),
-            auth_plugin_name=b"mysql_native_password", has_auth_plugin=1, capabilities=self.capabilities,
-            mariadb_capabilities=self.mariadb_capabilities, max_packet_size=LIMIT, collation=collation))
+            auth_plugin_name=b"mysql_native_password", has_auth_plugin_name=1, capabilities=self.capabilities,
+            mariadb_capabilities=self.mariadb_capabilities, max_packet_size=LIMIT, collation=collation), p.array("myp_attribute", []))
 
     # ---- replies
 
@@ -147,7 +147,8 @@ class Session:
 
     def write_long_data(self, statement: Statement, param: int, content: "bytes | str") -> bytes:
         content = content.encode() if isinstance(content, str) else content
-        return self.library.write("myp_write_long_data", statement.statement_id, param, content, size=len(content) + 16)
+        data = self.library.new("myp_long_data", content=content, statement_id=statement.statement_id, param_index=param)
+        return self.library.write("myp_write_long_data", data, size=len(content) + 16)
 
     def write_close(self, statement: Statement) -> bytes:
         return self.library.write("myp_write_close", statement.statement_id)
@@ -157,7 +158,8 @@ class Session:
     def write_dump(self, server_id: int, gtid_set: str, file_name: str = "", position: int = 4) -> bytes:
         """The request for a binary log without the transactions of a set, as `@@gtid_executed` has it."""
         text = gtid_set.encode()
-        return self.library.write("myp_gtid_dump_from_text", server_id, 0, file_name.encode(), position, text, size=64 + 2 * len(text))
+        dump = self.library.new("myp_gtid_dump", file_name=file_name.encode(), server_id=server_id, position=position)
+        return self.library.write("myp_gtid_dump_from_text", dump, text, size=64 + 2 * len(text))
 
     def read_gtid_set(self, dump: bytes) -> str:
         """The set of such a request."""
