@@ -6,7 +6,6 @@ pub mod OkRefused
 pub mod HandshakeRefused
 pub mod Decimals
 pub mod Inputs
-pub mod Outputs
 pub mod Rows
 pub mod Types
 pub mod BulkAnswers

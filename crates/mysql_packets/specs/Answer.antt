@@ -5,12 +5,8 @@ use Rattle.mysql_wire.specs.declared.fault.FaultOf.TheVariants as fault
 use Rattle.mysql_wire.specs.declared.fault.FaultKind.{FaultKind}
 use Rattle.mysql_wire.specs.declared.fault.FaultKind.TheVariants as kind
 use Rattle.mysql_wire.specs.Reading.{Reading}
+pub use Rattle.mysql_output.specs.Output.{Answer}
 use Rattle.mysql_packets.specs.Lines.{line}
-
--- the text that is written, and the status
-pub record Answer : Type 0 where
-  pub text : List ℕ
-  pub status : ℕ
 
 -- all is done
 abbrev pub done : List ℕ → Answer

@@ -10,7 +10,6 @@ pub mod TypeWords
 pub mod BulkCall
 pub mod Lines
 pub mod Answer
-pub mod Output
 pub mod StmtLines
 pub mod Infile
 pub mod ColumnLines

@@ -1,11 +1,12 @@
 -- What the program answers to the words after its name.
 use Rattle.std.specs.Prelude.{◌≡◌, ◌⊎◌, ℕ, List, true, false, Option, Some, None}
+use Rattle.std.specs.Io.KnownBytes.{Keeps}
+use Rattle.mysql_output.specs.Output.{IsWritten}
 use Rattle.mysql_packets.specs.declared.command.Command.{Command}
 use Rattle.mysql_packets.specs.declared.command.Command.TheVariants as command
 use Rattle.mysql_packets.specs.Answer.{Answer, usage, out_of_memory}
 use Rattle.mysql_packets.specs.Command.{reads_input}
 use Rattle.mysql_packets.specs.Input.{GaveAll}
-use Rattle.mysql_packets.specs.Output.{IsWritten, IsUnread}
 use Rattle.mysql_packets.specs.StmtLines.{stmt_answer}
 use Rattle.mysql_packets.specs.Infile.{infile_answer}
 use Rattle.mysql_packets.specs.ColumnLines.{column_answer}
@@ -16,6 +17,10 @@ use Rattle.mysql_packets.specs.GtidSetLines.{gtid_set_answer}
 use Rattle.mysql_packets.specs.Ok.{ok_answer}
 use Rattle.mysql_packets.specs.Err.{err_answer}
 use Rattle.mysql_packets.specs.Bulk.{IsBulkAnswer}
+
+-- a read failed, which the status 3 says, and nothing was written
+abbrev pub IsUnread : Option (List ℕ) → Option (List ℕ) → ℕ → Type 0
+IsUnread old new status = Keeps old new × (status ≡ 3)
 
 -- the answer to a command on an input, which `bulk` alone looks at
 abbrev pub AnswersCommand : Command → List ℕ → Answer → Type 0

@@ -19,7 +19,6 @@ pub mod laws;
 mod lines;
 pub mod misc;
 pub mod observer;
-mod output;
 pub mod packets;
 pub mod params;
 mod parts;

@@ -1,16 +1,16 @@
 //! The program: what it writes for the words after its name, and its status.
 
 ghost use Rattle.std.specs.Prelude.{◌≡◌, IfOk, OnErr, Some, true, false, map, string_bytes};
+ghost use Rattle.mysql_output.specs.Output.{IsWritten};
 ghost use Rattle.mysql_packets.specs.Answer.{out_of_memory};
 ghost use Rattle.mysql_packets.specs.Command.{command_of, reads_input};
 ghost use Rattle.mysql_packets.specs.Input.{GaveAll};
-ghost use Rattle.mysql_packets.specs.Output.{IsWritten};
 ghost use Rattle.mysql_packets.specs.Program.{IsAnswered};
 
 use crate::answer::USAGE;
 use crate::command::Command;
 use crate::input::{InputError, read_input};
-use crate::output::write_front;
+use mysql_output::write_front;
 use std::alloc::Global;
 use std::io::{Read, Write};
 
@@ -26,7 +26,7 @@ use std::io::{Read, Write};
 /// The words are checked first, which takes no memory. `bulk` alone then reads: all of the input, before the first line
 /// is written, by at most 1,048,576 calls of `read`. An input that has not ended by then is a failed read. Where a
 /// allocation fails, the one line is `refused: Memory` and the status 1. Only a failed read or write gives 3.
-#[tactic(auto, using(crate::proofs::Outputs::keeps_same))]
+#[tactic(auto, using(mysql_output::proofs::Outputs::keeps_same))]
 pub fn run<R: Read, W: Write>(alloc: Global, args: &[String], reader: &mut R, writer: &mut W) -> u8
     ensures answer { IsAnswered (command_of (map string_bytes args.now)) (R.remaining reader.old) (R.remaining reader.new) (W.contents writer.old) (W.contents writer.new) result }
     ensures unread { reads_input (command_of (map string_bytes args.now)) ≡ false → reader.new ≡ reader.old }

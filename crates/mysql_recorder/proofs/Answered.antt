@@ -10,7 +10,7 @@ use Rattle.mysql_fields.specs.Entries.{Stays}
 use Rattle.mysql_fields.specs.declared.entry.Layout.{Layout}
 use Rattle.mysql_recorder.specs.Answers.{BeginsMade, Ends, EndsWith, error_line, error_name, FailsIn, GoesNoFurther, HasLost, InputEnds, IsAnswer, IsAnswered, IsCutOff, IsDone, IsErrorWritten, IsLineEnd, IsMade, IsRefused, lost_status, LostIn, memory_line, PieceEnds, PieceGoesOn, RefusedIn, SaysError, SaysName, Shows, Takes}
 use Rattle.mysql_recorder.specs.Losses.{BreaksIn, IsAtFeed, IsLost, Loses, LosesAfter, LosesIn, TextLoses}
-use Rattle.mysql_recorder.specs.Output.{Answer, IsWritten}
+use Rattle.mysql_output.specs.Output.{Answer, IsWritten}
 use Rattle.mysql_recorder.specs.Recorded as recorded
 use Rattle.mysql_recorder.specs.Recorded.{Recorded, IsShown}
 use Rattle.mysql_recorder.specs.Refusals.{IfRefused}
@@ -23,7 +23,7 @@ use Rattle.mysql_recorder.specs.declared.error.RecordingError.TheVariants as err
 use Rattle.mysql_recorder.specs.declared.recording.Recording.{Recording}
 use Rattle.mysql_recorder.proofs.Frames.{writes_then}
 use Rattle.mysql_recorder.proofs.Losses.{feed_more, is_lost_where}
-use Rattle.mysql_recorder.proofs.Outputs.{cut_after, cut_longer, written_after}
+use Rattle.mysql_output.proofs.Outputs.{cut_after, cut_longer, written_after}
 use Rattle.mysql_recorder.proofs.Seen.{recorded_shown}
 use Rattle.mysql_recorder.proofs.Stays.{stays_same, stays_then}
 

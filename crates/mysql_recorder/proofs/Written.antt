@@ -6,14 +6,14 @@ use Rattle.mysql_conversation.specs.declared.kind_name.KindName.{KindName}
 use Rattle.mysql_fields.specs.declared.entry.Layout.{Layout}
 use Rattle.mysql_recorder.specs.Answers.{Ends, EndsWith, FailsIn, InputEnds, IsErrorWritten, lost_status, PieceEnds, PieceGoesOn, SaysError, Takes}
 use Rattle.mysql_recorder.specs.Losses.{Loses, TextLoses}
-use Rattle.mysql_recorder.specs.Output.{Answer, IsCut, IsFront, IsWritten}
+use Rattle.mysql_output.specs.Output.{Answer, IsCut, IsFront, IsWritten}
 use Rattle.mysql_recorder.specs.Recorded as recorded
 use Rattle.mysql_recorder.specs.Recorded.{Finishes, GoesOn}
 use Rattle.mysql_recorder.specs.Stops.{Stops, TextStops}
 use Rattle.mysql_recorder.specs.declared.error.RecordingError.{RecordingError}
 use Rattle.mysql_recorder.specs.declared.recording.Recording.{Recording}
 use Rattle.mysql_recorder.proofs.Answered.{ends_after, ends_plain}
-use Rattle.mysql_recorder.proofs.Outputs.{written_after}
+use Rattle.mysql_output.proofs.Outputs.{written_after}
 
 all_of : (ok : Bool) (text : List ℕ) (a b : Option (List ℕ)) → ok ≡ true → IsFront ok text a b → Appends a b text
 all_of ok text a b is h = subst (λ k. IsFront k text a b) is h

@@ -8,7 +8,7 @@ use Rattle.mysql_fields.specs.declared.entry.Layout.{Layout}
 use Rattle.mysql_fields.specs.declared.entry.Layout.TheVariants as layout
 use Rattle.mysql_recorder.specs.Lines.{Heard}
 use Rattle.mysql_recorder.specs.Losses.{IsAtFeed, IsLost, Loses, TextLoses}
-use Rattle.mysql_recorder.specs.Output.{Answer, IsFront, IsWritten}
+use Rattle.mysql_output.specs.Output.{Answer, IsFront, IsWritten}
 use Rattle.mysql_recorder.specs.Recorded.{Finishes, GoesOn, IsShown, Recorded}
 use Rattle.mysql_recorder.specs.Recorded as recorded
 use Rattle.mysql_recorder.specs.Refusals.{IfRefused}

@@ -11,7 +11,6 @@ pub mod laws;
 mod line;
 mod loss;
 mod mark;
-mod output;
 mod packets;
 mod piece;
 mod prepared;

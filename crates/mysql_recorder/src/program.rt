@@ -2,15 +2,16 @@
 
 ghost use Rattle.std.specs.Prelude.{◌≡◌, ◌≤◌, ◌++◌, ℕ, length, List, OnSome, [], Option, Some, None, IfOk, IfSome, MatchOption, string_bytes};
 ghost use Rattle.mysql_recorder.specs.Answers as spec;
-ghost use Rattle.mysql_recorder.specs.Output.{Answer, IsFront, IsWritten};
+ghost use Rattle.mysql_output.specs.Output.{Answer, IsFront, IsWritten};
 ghost use Rattle.mysql_recorder.specs.Recorded.{Recorded, has_lost, layout, longest};
 
 use crate::error::RecordingError;
-use crate::output::write_front;
+
 use crate::recording::Recording;
 use bitflags::Flags;
 use mysql_conversation::KindName;
 use mysql_fields::Layout;
+use mysql_output::write_front;
 use mysql_replies::SessionCapabilities;
 use mysql_wire::{CapabilityFlags, MariadbCapabilities};
 use std::alloc::{AllocError, Global};

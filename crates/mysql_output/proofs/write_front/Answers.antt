@@ -1,6 +1,6 @@
 use Rattle.std.proofs.Common.{rules}
-use Rattle.mysql_packets.proofs.Outputs.{cut_none, cut_more, cut_keeps, cut_all}
-use Rattle.mysql_packets.proofs.output.write_front.Goals as goal
+use Rattle.mysql_output.proofs.Outputs.{cut_none, cut_more, cut_keeps, cut_all}
+use Rattle.mysql_output.proofs.write_front.Goals as goal
 
 pub loop-init : goal.loop-init
 loop-init g c = cut_none _ _

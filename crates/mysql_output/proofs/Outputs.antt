@@ -3,7 +3,7 @@ use Rattle.std.proofs.Common.{◌≡◌, ◌⊎◌, inl, inr, ◌∙◌, ◌-◌
 use Rattle.std.proofs.KnownBytes.{Appends-nil, Appends-trans, Appends-kept}
 use Rattle.std.proofs.lemmas.List.{take-append-drop, take_all, length-drop}
 use Rattle.std.specs.Io.KnownBytes.{Appends, Keeps}
-use Rattle.mysql_recorder.specs.Output.{Answer, IsCut, IsFront, IsWritten}
+use Rattle.mysql_output.specs.Output.{Answer, IsCut, IsFront, IsWritten}
 
 -- nothing is written yet
 pub cut_none : (text : List ℕ) (old : Option (List ℕ)) → IsCut text text old old
@@ -51,3 +51,8 @@ pub written_after : (w : List ℕ) (answer : Answer) (a b c : Option (List ℕ))
     → IsWritten (record { text = w ++ answer.text; status = answer.status }) a c status
 written_after w answer a b c status first (inl h) = inl (Appends-trans a b c w answer.text first h.0, h.1)
 written_after w answer a b c status first (inr h) = inr ((h.0.0, cut_after w answer.text h.0.0 a b c first h.0.1), h.1)
+
+-- a writer that nothing is written to holds what it held
+pub keeps_same : (old : Option (List ℕ)) → Keeps old old
+keeps_same None = tt
+keeps_same (Some xs) = refl

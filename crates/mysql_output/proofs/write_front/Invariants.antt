@@ -1,5 +1,5 @@
-use Rattle.mysql_packets.specs.Output.{IsCut}
-use Rattle.mysql_packets.proofs.output.write_front.Given as goal
+use Rattle.mysql_output.specs.Output.{IsCut}
+use Rattle.mysql_output.proofs.write_front.Given as goal
 
 -- what was written so far is the front, and the rest is not
 abbrev pub invariant-loop : goal.invariant-loop

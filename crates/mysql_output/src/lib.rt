@@ -1,16 +1,17 @@
-//! The program's output.
+//! What a program writes: a text to a writer that may take a part of it.
+#![tactic(auto)]
 
 ghost use Rattle.std.specs.Prelude.{◌≡◌, ◌≢◌, ◌==◌, Some, None, IfOk, IfErr, if◌then◌else◌};
 ghost use Rattle.std.specs.IoError.{error_kind};
 ghost use Rattle.std.specs.declared.io.ErrorKind.TheVariants as kind;
-ghost use Rattle.mysql_recorder.specs.Output.{IsFront, IsTaken};
+ghost use Rattle.mysql_output.specs.Output.{IsFront, IsTaken};
 
 use std::io::{ErrorKind, Result, Write};
 
 /// Writes the text, as far as the writer takes it; whether that was all of it.
 ///
 /// The library's `write_all` says nothing of what was written before a failure. This loop writes a front of the text.
-pub(crate) fn write_front<W: Write>(writer: &mut W, text: &[u8]) -> bool
+pub fn write_front<W: Write>(writer: &mut W, text: &[u8]) -> bool
     ensures front { IsFront result text.now (W.contents writer.old) (W.contents writer.new) }
 {
     let mut rest = text;

@@ -1,7 +1,11 @@
--- The program's output.
+-- What a program writes.
 use Rattle.std.specs.Prelude.{◌≡◌, ◌≤◌, ◌⊎◌, ℕ, List, ◌++◌, length, take, Option, Some, None, Bool, true, false}
 use Rattle.std.specs.Io.KnownBytes.{Appends, Keeps}
-use Rattle.mysql_packets.specs.Answer.{Answer}
+
+-- the text that is written, and the status
+pub record Answer : Type 0 where
+  pub text : List ℕ
+  pub status : ℕ
 
 -- a front of the text stands after what the writer held, and this rest of it is not written
 pub record IsCut (text rest : List ℕ) (old new : Option (List ℕ)) : Type 0 where
@@ -19,11 +23,7 @@ abbrev pub IsTaken : Option ℕ → List ℕ → Option (List ℕ) → Option (L
 IsTaken None text old new = Keeps old new
 IsTaken (Some count) text old new = (count ≤ length text) × Appends old new (take count text)
 
--- The lines of the answer stand after what the writer held, and its status is given;
--- or a write failed, which the status 3 says, and a front of the lines stands there.
+-- The text of the answer stands after what the writer held, and its status is given;
+-- or a write failed, which the status 3 says, and a front of the text stands there.
 abbrev pub IsWritten : Answer → Option (List ℕ) → Option (List ℕ) → ℕ → Type 0
 IsWritten answer old new status = (IsFront true answer.text old new × (status ≡ answer.status)) ⊎ (IsFront false answer.text old new × (status ≡ 3))
-
--- a read failed, which the status 3 says, and nothing was written
-abbrev pub IsUnread : Option (List ℕ) → Option (List ℕ) → ℕ → Type 0
-IsUnread old new status = Keeps old new × (status ≡ 3)
