@@ -1,23 +1,22 @@
 -- What the program makes of a recording, piece by piece.
-use Rattle.std.proofs.Common.{◌≡◌, ◌⊎◌, inl, inr, take, ℕ, Bool, true, false, List, [], ◌∷◌, ◌++◌, Option, Some, None, Result, Ok, Err, OnOk, MatchResult, refl, sym, ap, subst, ◌∙◌, append_assoc, append-nil}
-use Rattle.std.proofs.KnownBytes.{Appends-nil, Appends-trans, Consumes-kept, Consumes-nil, Consumes-trans}
-use Rattle.std.specs.Io.KnownBytes.{Appends, Consumes, IsAtEnd, Keeps}
+use Rattle.std.proofs.Common.{◌≡◌, ◌⊎◌, inl, inr, ℕ, Bool, true, false, List, [], ◌∷◌, ◌++◌, Option, Some, None, Result, Ok, Err, OnOk, MatchResult, refl, sym, ap, subst, ◌∙◌, append_assoc, append-nil}
+use Rattle.std.specs.Io.KnownBytes.{Appends}
 use Rattle.mysql_conversation.specs.Pipelined.{Numbered}
 use Rattle.mysql_conversation.specs.declared.kind.Side.{Side}
 use Rattle.mysql_conversation.specs.declared.kind_name.KindName.{KindName}
 use Rattle.mysql_conversation.specs.declared.pipeline.Refusal.{Refusal}
 use Rattle.mysql_fields.specs.Entries.{Stays}
 use Rattle.mysql_fields.specs.declared.entry.Layout.{Layout}
-use Rattle.mysql_recorder.specs.Answers.{BeginsMade, Ends, EndsWith, error_line, error_name, FailsIn, GoesNoFurther, HasLost, InputEnds, IsAnswer, IsAnswered, IsCutOff, IsDone, IsErrorWritten, IsLineEnd, IsMade, IsRefused, lost_status, LostIn, memory_line, PieceEnds, PieceGoesOn, RefusedIn, SaysError, SaysName, Shows, Takes}
-use Rattle.mysql_recorder.specs.Losses.{BreaksIn, IsAtFeed, IsLost, Loses, LosesAfter, LosesIn, TextLoses}
+use Rattle.mysql_recorder.specs.Answers.{BeginsMade, Ends, EndsWith, error_line, error_name, FailsIn, GoesNoFurther, HasLost, IsAnswer, IsDone, IsErrorWritten, IsLineEnd, IsMade, IsRefused, lost_status, LostIn, RefusedIn, SaysError, SaysName, Takes}
+use Rattle.mysql_recorder.specs.Losses.{IsAtFeed, IsLost, Loses, LosesIn}
 use Rattle.mysql_output.specs.Output.{Answer, IsWritten}
 use Rattle.mysql_recorder.specs.Recorded as recorded
-use Rattle.mysql_recorder.specs.Recorded.{Recorded, IsShown}
+use Rattle.mysql_recorder.specs.Recorded.{Recorded}
 use Rattle.mysql_recorder.specs.Refusals.{IfRefused}
 use Rattle.mysql_recorder.specs.Refused.{ShowsRefused}
 use Rattle.mysql_recorder.specs.Shown as shown
 use Rattle.mysql_recorder.specs.Shown.{Entry, entry_of, Item, Writes}
-use Rattle.mysql_recorder.specs.Stops.{Stops, StopsAfter, StopsIn, TextStops}
+use Rattle.mysql_recorder.specs.Stops.{StopsAfter, StopsIn}
 use Rattle.mysql_recorder.specs.declared.error.RecordingError.{RecordingError}
 use Rattle.mysql_recorder.specs.declared.error.RecordingError.TheVariants as error
 use Rattle.mysql_recorder.specs.declared.recording.Recording.{Recording}
@@ -346,7 +345,7 @@ error_given all sums at_end r x w t input e a b c status first stops (inr h) =
       written = written_after w h.1 a b c status first h.4;
     }
 
-piece_given : (r : Result (Unit {0}) RecordingError) (all : List KindName) (sums : Bool) (at_end : Type 0) (old new : Recording) (x p w t : List ℕ) (a b c : Option (List ℕ)) (status : ℕ) → Appends a b w
+pub piece_given : (r : Result (Unit {0}) RecordingError) (all : List KindName) (sums : Bool) (at_end : Type 0) (old new : Recording) (x p w t : List ℕ) (a b c : Option (List ℕ)) (status : ℕ) → Appends a b w
     → Takes r all p old new t → FailsIn t b c status ⊎ MatchResult r (λ _. ⊥) (λ e. IsErrorWritten (recorded.layout old) sums e t b c status)
     → IsGiven all (recorded.layout old) (recorded.longest old) sums at_end old x w (x ++ p) a c status
 piece_given (Ok u) all sums at_end old new x p w t a b c status first takes (inl fails) = record {
@@ -358,7 +357,7 @@ piece_given (Ok u) all sums at_end old new x p w t a b c status first takes (inr
 piece_given (Err e) all sums at_end old new x p w t a b c status first takes ends =
     error_given all sums at_end old x w t (x ++ p) e a b c status first (λ line answer h says with. piece_stops all sums at_end old new x p w t line e answer takes h says with) ends
 
-end_given : (r : Result (Unit {0}) RecordingError) (all : List KindName) (sums : Bool) (at_end : Type 0) (old new : Recording) (x w t : List ℕ) (a b c : Option (List ℕ)) (status : ℕ) → Appends a b w
+pub end_given : (r : Result (Unit {0}) RecordingError) (all : List KindName) (sums : Bool) (at_end : Type 0) (old new : Recording) (x w t : List ℕ) (a b c : Option (List ℕ)) (status : ℕ) → Appends a b w
     → Ends r all old new t → at_end
     → FailsIn t b c status ⊎ MatchResult r
     (λ _. (answer : Answer) × EndsWith sums t (lost_status (recorded.has_lost new)) answer × IsWritten answer b c status)
@@ -377,100 +376,3 @@ end_given (Ok u) all sums at_end old new x w t a b c status first says here (inr
 end_given (Err e) all sums at_end old new x w t a b c status first says here ends =
     error_given all sums at_end old x w t x e a b c status first
     (λ line answer h error with. subst (λ i. IsAnswer all (recorded.layout old) (recorded.longest old) sums at_end i answer) (append-nil x) (end_stops all sums at_end old new x w t line e answer says h error with)) ends
-
--- ---- the program
-
-piece_in : (all : List KindName) (layout : Layout) (limit : ℕ) (sums : Bool) (at_end : Type 0) (old new : Recording) (x p w : List ℕ) (a b c : Option (List ℕ)) (status : ℕ)
-    → recorded.layout old ≡ layout → recorded.longest old ≡ limit → Appends a b w → PieceEnds all layout sums p old new b c status
-    → IsGiven all layout limit sums at_end old x w (x ++ p) a c status
-piece_in all layout limit sums at_end old new x p w a b c status same long first =
-    subst (λ s. PieceEnds all s sums p old new b c status → IsGiven all s limit sums at_end old x w (x ++ p) a c status) same
-    (subst (λ n. PieceEnds all (recorded.layout old) sums p old new b c status → IsGiven all (recorded.layout old) n sums at_end old x w (x ++ p) a c status) long
-    (λ h. piece_given h.taken all sums at_end old new x p w h.text a b c status first h.takes h.ends))
-
-end_in : (all : List KindName) (layout : Layout) (limit : ℕ) (sums : Bool) (at_end : Type 0) (old new : Recording) (x w : List ℕ) (a b c : Option (List ℕ)) (status : ℕ)
-    → recorded.layout old ≡ layout → recorded.longest old ≡ limit → at_end → Appends a b w → InputEnds all layout sums old new b c status
-    → IsGiven all layout limit sums at_end old x w x a c status
-end_in all layout limit sums at_end old new x w a b c status same long here first =
-    subst (λ s. InputEnds all s sums old new b c status → IsGiven all s limit sums at_end old x w x a c status) same
-    (subst (λ n. InputEnds all (recorded.layout old) sums old new b c status → IsGiven all (recorded.layout old) n sums at_end old x w x a c status) long
-    (λ h. end_given h.finished all sums at_end old new x w h.text a b c status first h.says here h.ends))
-
--- A reader gave an input, and what is made of it is written.
-pub record IsFed (all : List KindName) (layout : Layout) (limit : ℕ) (from : Type 0) (r : Recording) (before after old new : Option (List ℕ)) : Type 0 where
-  pub input : List ℕ
-  pub text : List ℕ
-  pub read : Consumes before after input
-  pub written : Appends old new text
-  pub amid : from → IsAmid all layout limit r input text
-  pub layout_is : recorded.layout r ≡ layout
-  pub longest_is : recorded.longest r ≡ limit
-
-pub fed_none : (all : List KindName) (layout : Layout) (limit : ℕ) (r : Recording) (before old : Option (List ℕ)) → recorded.layout r ≡ layout → recorded.longest r ≡ limit
-    → IsFed all layout limit (Recorded r [] []) r before before old old
-fed_none all layout limit r before old same long =
-    record { input = []; text = []; read = Consumes-nil before; written = Appends-nil old; amid = λ h. amid_none all layout limit r h; layout_is = same; longest_is = long }
-
-pub fed_more : (all : List KindName) (layout : Layout) (limit : ℕ) (from : Type 0) (old new : Recording) (p : List ℕ) (before mid after a b c : Option (List ℕ))
-    → IsFed all layout limit from old before mid a b → Consumes mid after p → PieceGoesOn all p old new b c → IsFed all layout limit from new before after a c
-fed_more all layout limit from old new p before mid after a b c fed read h = record {
-  input = fed.input ++ p;
-  text = fed.text ++ h.text;
-  read = Consumes-trans before mid after fed.input p fed.read read;
-  written = Appends-trans a b c fed.text h.text fed.written h.written;
-  amid = λ f. amid_more all layout limit old new fed.input p fed.text h.text fed.layout_is fed.longest_is h.takes (fed.amid f);
-  layout_is = h.takes.layout ∙ fed.layout_is;
-  longest_is = h.takes.longest ∙ fed.longest_is;
-}
-
-pub piece_answered : (all : List KindName) (layout : Layout) (limit : ℕ) (sums : Bool) (from : Type 0) (old new : Recording) (p : List ℕ) (before mid after a b c : Option (List ℕ)) (status : ℕ)
-    → IsFed all layout limit from old before mid a b → Consumes mid after p → PieceEnds all layout sums p old new b c status → IsAnswered all layout limit sums from before after a c status
-piece_answered all layout limit sums from old new p before mid after a b c status fed read h =
-    let given = piece_in all layout limit sums (IsAtEnd after) old new fed.input p fed.text a b c status fed.layout_is fed.longest_is fed.written h in
-    record {
-      input = fed.input ++ p;
-      read = Consumes-trans before mid after fed.input p fed.read read;
-      answer = given.answer;
-      answers = λ f. given.answers (fed.amid f);
-      written = given.written;
-    }
-
-pub end_answered : (all : List KindName) (layout : Layout) (limit : ℕ) (sums : Bool) (from : Type 0) (old new : Recording) (chunk : List ℕ) (n : ℕ) (before mid after a b c : Option (List ℕ)) (status : ℕ)
-    → IsFed all layout limit from old before mid a b → Consumes mid after (take n chunk) → n ≡ 0 → IsAtEnd after → InputEnds all layout sums old new b c status
-    → IsAnswered all layout limit sums from before after a c status
-end_answered all layout limit sums from old new chunk n before mid after a b c status fed read none here h =
-    let given = end_in all layout limit sums (IsAtEnd after) old new fed.input fed.text a b c status fed.layout_is fed.longest_is here fed.written h in
-    record {
-      input = fed.input;
-      read = subst (Consumes before after) (append-nil fed.input) (Consumes-trans before mid after fed.input [] fed.read (subst (λ k. Consumes mid after (take k chunk)) none read));
-      answer = given.answer;
-      answers = λ f. given.answers (fed.amid f);
-      written = given.written;
-    }
-
--- a read fails, or no more is read
-pub no_more_read : (all : List KindName) (layout : Layout) (limit : ℕ) (sums : Bool) (from : Type 0) (r : Recording) (before mid after a b : Option (List ℕ))
-    → IsFed all layout limit from r before mid a b → Keeps mid after → IsAnswered all layout limit sums from before after a b 3
-no_more_read all layout limit sums from r before mid after a b fed kept = record {
-  input = fed.input;
-  read = Consumes-kept before mid after fed.input fed.read kept;
-  answer = record { text = fed.text; status = 3 };
-  answers = λ f. cut_off all layout limit sums (IsAtEnd after) r fed.input fed.text (fed.amid f);
-  written = inl (fed.written, refl);
-}
-
-pub says_name : (layout : Layout) (e : RecordingError) (name line : List ℕ) → error_name e ≡ Some name → (line ≡ error_line layout name) ⊎ (line ≡ memory_line) → SaysError layout e line
-says_name layout e name line is h = subst (λ n. SaysName layout n line) (sym is) h
-
-pub says_none : (layout : Layout) (e : RecordingError) → error_name e ≡ None → SaysError layout e []
-says_none layout e is = subst (λ n. SaysName layout n []) (sym is) refl
-
-pub answered_from : (all : List KindName) (layout : Layout) (limit was : ℕ) (sums : Bool) (from to : Type 0) (before after old new : Option (List ℕ)) (status : ℕ) → was ≡ limit → (to → from)
-    → IsAnswered all layout was sums from before after old new status → IsAnswered all layout limit sums to before after old new status
-answered_from all layout limit was sums from to before after old new status e f h = record {
-  input = h.input;
-  read = h.read;
-  answer = h.answer;
-  answers = λ t. subst (λ n. IsAnswer all layout n sums (IsAtEnd after) h.input h.answer) e (h.answers (f t));
-  written = h.written;
-}

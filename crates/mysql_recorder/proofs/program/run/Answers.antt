@@ -1,6 +1,6 @@
 use Rattle.std.proofs.Common.{Some, None, refl}
 use Rattle.mysql_conversation.specs.declared.kind_name.TheConstants.KindName.{ALL}
-use Rattle.mysql_recorder.proofs.Answered.{answered_from}
+use Rattle.mysql_recorder.proofs.Fed.{answered_from}
 use Rattle.mysql_recorder.proofs.program.run.Goals as goal
 
 pub returns-in_default : goal.returns-in_default

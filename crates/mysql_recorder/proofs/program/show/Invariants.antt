@@ -1,7 +1,7 @@
 use Rattle.std.proofs.Common.{[]}
 use Rattle.mysql_conversation.specs.declared.kind_name.TheConstants.KindName.{ALL}
 use Rattle.mysql_recorder.specs.Recorded.{Recorded, longest}
-use Rattle.mysql_recorder.proofs.Answered.{IsFed}
+use Rattle.mysql_recorder.proofs.Fed.{IsFed}
 use Rattle.mysql_recorder.proofs.program.show.Given as goal
 
 -- the reader gave an input, and what is made of it is written
