@@ -127,6 +127,16 @@ static void put_text_row(struct batch *b)
         put_string(b);
 }
 
+static void put_execution(struct batch *b)
+{
+    put_number(b, MYP_COM_STMT_EXECUTE, 1), put_number(b, 1, 4), put_number(b, 0, 1), put_number(b, 1, 4);
+    put_number(b, 0, 2), put_number(b, 1, 1);
+    for (int i = 0; i < COLUMNS; i++)
+        put_number(b, MYP_TYPE_LONGLONG, 2);
+    for (int i = 0; i < COLUMNS; i++)
+        put_number(b, varied(), 8);
+}
+
 static void put_ten_numbers(struct batch *b)
 {
     for (int i = 0; i < COLUMNS; i++)
@@ -212,6 +222,14 @@ static uint64_t text_row(const uint8_t *p, size_t n)
 {
     size_t used = 0;
     return myp_read_text_row(p, n, row, COLUMNS, &used) ? 0 : used;
+}
+
+static uint64_t execution_read(const uint8_t *p, size_t n)
+{
+    static const myp_param params[COLUMNS];
+    static myp_column_type sent[COLUMNS];
+    static myp_execution e = MYP_EXECUTION_INIT;
+    return myp_read_execution(p, n, params, COLUMNS, row, COLUMNS, sent, COLUMNS, &e) ? 0 : e.used;
 }
 
 static uint64_t execution(const uint8_t *p, size_t n)
@@ -339,7 +357,7 @@ static const struct operation {
     { "statement", put_statement, statement }, { "column", put_column, column }, { "ok", put_ok, ok },
     { "ok_changes", put_ok_changes, ok_changes }, { "error", put_error, error }, { "handshake", put_handshake, handshake },
     { "binary_row", put_binary_row, binary_row }, { "binary_row_copied", put_binary_row, binary_row_copied },
-    { "text_row", put_text_row, text_row }, { "execution", put_ten_numbers, execution },
+    { "execution_read", put_execution, execution_read }, { "text_row", put_text_row, text_row }, { "execution", put_ten_numbers, execution },
     { "header_written", put_statement, header_written }, { "close_written", put_statement, close_written }, { "error_written", put_error, error_written },
     { "binary_row_written", put_binary_row, binary_row_written }, { "text_row_written", put_text_row, text_row_written },
     { "ok_written", put_ok_changes, ok_written }, { "header_length", put_statement, header_length },
