@@ -196,6 +196,7 @@ pub use mysql_stmt::ComStmtSendLongDataHeader;
 pub use mysql_stmt::ComStmtSendLongDataRef;
 pub use mysql_stmt::Cursor;
 pub use mysql_stmt::ExecuteParam;
+pub use mysql_stmt::ExecuteParamsBytes;
 pub use mysql_stmt::ExecuteParamsView;
 pub use mysql_stmt::InvalidComStmtCloseHeader;
 pub use mysql_stmt::InvalidComStmtExecuteHeader;

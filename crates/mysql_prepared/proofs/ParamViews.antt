@@ -1,5 +1,5 @@
 -- An execution that is read parameter by parameter: one parameter, and what is read after it.
-use Rattle.std.proofs.Common.{◌≡◌, ◌≢◌, not, ◌∙◌, sym, ap, subst, suc, ℕ, ◌+◌, ◌-◌, ◌<◌, ◌==◌, ◌↔◌, List, [], ◌∷◌, Result, Ok, Err, Bool, true, false, IsTrue, IsFalse, length, refl, arith, eqb-true, eq-eqb}
+use Rattle.std.proofs.Common.{◌≡◌, ◌≢◌, not, ◌∙◌, sym, ap, subst, suc, ℕ, ◌+◌, ◌-◌, ◌<◌, ◌==◌, ◌↔◌, List, [], ◌∷◌, Result, Ok, Err, Bool, true, false, IsTrue, length, refl, arith, eqb-true, eq-eqb}
 use Rattle.mysql_wire.specs.declared.fault.FaultOf.{FaultOf}
 use Rattle.mysql_wire.specs.declared.fault.FaultOf.TheVariants as fault
 use Rattle.mysql_wire.specs.declared.fault.FaultKind.{FaultKind}
@@ -162,17 +162,23 @@ under p t = record { param_type = t; is_sent_ahead = p.is_sent_ahead }
 abbrev pub ReadsType : Bool → BoundParam → List ℕ → ParamType → List ℕ → Type 0
 ReadsType s p bytes t mid = (either s (param_type.form tt) (give p.param_type)).reads bytes ≡ Ok (t, mid)
 
-has-next : (s : Bool) (p : BoundParam) (ps : List BoundParam) (bytes : List ℕ) (t : ParamType) (mid : List ℕ) → ReadsType s p bytes t mid
-    → (IsTrue s → HasTypes (suc (length ps)) bytes) → IsTrue s → HasTypes (length ps) mid
-has-next true p ps bytes t mid h has is =
-    let f = first-type (length ps) bytes (has is) in
-    subst (λ (l : List ℕ). HasTypes (length ps) l) (done-rest f.t t f.mid mid (sym f.read ∙ h)) f.more
-has-next false p ps bytes t mid h has is = let f : IsTrue false = is in absurd cc
+has-next : (s : Bool) (p : BoundParam) (more : ℕ) (bytes : List ℕ) (t : ParamType) (mid : List ℕ) → ReadsType s p bytes t mid
+    → (IsTrue s → HasTypes (suc more) bytes) → IsTrue s → HasTypes more mid
+has-next true p more bytes t mid h has is =
+    let f = first-type more bytes (has is) in
+    subst (λ (l : List ℕ). HasTypes more l) (done-rest f.t t f.mid mid (sym f.read ∙ h)) f.more
+has-next false p more bytes t mid h has is = let f : IsTrue false = is in absurd cc
+
+-- the types of those after it are there
+pub goes-on : (s : Bool) (p : BoundParam) (left more : ℕ) (bytes types_at : List ℕ) (t : ParamType) (mid : List ℕ) → left ≡ suc more → (IsTrue s → HasTypes left bytes) → types_at ≡ bytes → ReadsType s p types_at t mid
+    → IsTrue s → HasTypes more mid
+goes-on s p left more bytes types_at t mid len has is h =
+    has-next s p more bytes t mid (subst (λ (l : List ℕ). ReadsType s p l t mid) is h) (subst (λ (n : ℕ). IsTrue s → HasTypes n bytes) len has)
 
 pub bound-next : (s : Bool) (p : BoundParam) (ps : List BoundParam) (bytes : List ℕ) (t : ParamType) (mid : List ℕ) → ReadsType s p bytes t mid
     → (IsTrue s → HasTypes (suc (length ps)) bytes) → bound_left s (p ∷ ps) bytes ≡ under p t ∷ bound_left s ps mid
 bound-next true p ps bytes t mid h has =
-    let e = types-next (length ps) bytes t mid h (has-next true p ps bytes t mid h has refl) in
+    let e = types-next (length ps) bytes t mid h (has-next true p (length ps) bytes t mid h has refl) in
     ap (λ (ts : List ParamType). under_types (p ∷ ps) ts) e
 bound-next false p ps bytes t mid h has = ap (λ (u : ParamType). under p u ∷ ps) (done-value p.param_type t bytes mid h)
 
@@ -209,38 +215,37 @@ module _ (nulls : List ℕ) (place : ℕ) (s : Bool) (p : BoundParam) (ps : List
   refuses-one (fault.InvalidData text) h has r = fails-so _ h has r
   refuses-one (fault.InvalidInput text) h has r = fails-so _ h has r
 
-  -- ---- the same as a view has it: these parameters begin with that one, and the buffers and the bit are what it has read of
-
-  pub has-of : (all : List BoundParam) → all ≡ p ∷ ps → (IsTrue s → HasTypes (length all) bytes) → IsTrue s → HasTypes (suc (length ps)) bytes
-  has-of all starts has = subst (λ (l : List BoundParam). IsTrue s → HasTypes (length l) bytes) starts has
+  -- ---- the same as it is read: so many are left, and the buffers and the bit are what is read of
 
   type-of : (types_at : List ℕ) → types_at ≡ bytes → ReadsType s p types_at t mid → ReadsType s p bytes t mid
   type-of types_at is h = subst (λ (l : List ℕ). ReadsType s p l t mid) is h
 
-  pub goes-on : (all : List BoundParam) (types_at : List ℕ) → all ≡ p ∷ ps → (IsTrue s → HasTypes (length all) bytes) → types_at ≡ bytes → ReadsType s p types_at t mid → IsTrue s → HasTypes (length ps) mid
-  goes-on all types_at starts has is h = has-next s p ps bytes t mid (type-of types_at is h) (has-of all starts has)
-
   null-test : (is_null : Bool) → IsTrue is_null ↔ (cell nulls (place + 0) ≡ 1) → is_null ≡ (cell nulls place == 1)
   null-test is_null h = let here : place + 0 ≡ place = omega arith in is-one is_null (cell nulls (place + 0)) h ∙ ap (λ (n : ℕ). cell nulls n == 1) here
 
-  module _ (all : List BoundParam) (types_at at : List ℕ) (is_null : Bool) (starts : all ≡ p ∷ ps) (has : IsTrue s → HasTypes (length all) bytes) (types_are : types_at ≡ bytes) (type : ReadsType s p types_at t mid)
+  module _ (left more : ℕ) (types_at at : List ℕ) (is_null : Bool) (len : suc (length ps) ≡ left) (others : length ps ≡ more) (has : IsTrue s → HasTypes left bytes) (types_are : types_at ≡ bytes) (type : ReadsType s p types_at t mid)
       (bit : IsTrue is_null ↔ (cell nulls (place + 0) ≡ 1)) (at_is : at ≡ buf) where
     abbrev pub before_all : ParamsLeft
-    before_all = params_left s (length all) nulls place (bound_left s all bytes) buf
+    before_all = params_left s left nulls place (bound_left s (p ∷ ps) bytes) buf
 
-    pub gives : (v : Param) (after : List ℕ) → (param_value p.is_sent_ahead is_null t).reads at ≡ Ok (v, after) → Gives before_all (t, v) (after_param after)
+    has-all : IsTrue s → HasTypes (suc (length ps)) bytes
+    has-all = subst (λ (n : ℕ). IsTrue s → HasTypes n bytes) (sym len) has
+
+    pub gives : (v : Param) (after : List ℕ) → (param_value p.is_sent_ahead is_null t).reads at ≡ Ok (v, after)
+        → Gives before_all (t, v) (params_left s more nulls (place + 1) (bound_left s ps mid) after)
     gives v after r =
         let P : Bool → List ℕ → Type 0 = λ b l. (param_value p.is_sent_ahead b t).reads l ≡ Ok (v, after) in
         let read = subst (P (cell nulls place == 1)) at_is (subst (λ (b : Bool). P b at) (null-test is_null bit) r) in
-        let Q : List BoundParam → Type 0 = λ l. Gives (params_left s (length l) nulls place (bound_left s l bytes) buf) (t, v) (after_param after) in
-        subst Q (sym starts) (gives-one v after (type-of types_at types_are type) (has-of all starts has) read)
+        let Q : ℕ → Type 0 = λ n. Gives (params_left s n nulls place (bound_left s (p ∷ ps) bytes) buf) (t, v) (after_param after) in
+        let R : ℕ → Type 0 = λ n. Gives before_all (t, v) (params_left s n nulls (place + 1) (bound_left s ps mid) after) in
+        subst R others (subst Q len (gives-one v after (type-of types_at types_are type) has-all read))
 
     pub refuses : (e : FaultOf) → Faults false e ((param_value p.is_sent_ahead is_null t).reads at) → RefusesParam e before_all
     refuses e r =
         let P : Bool → List ℕ → Type 0 = λ b l. Faults false e ((param_value p.is_sent_ahead b t).reads l) in
         let read = subst (P (cell nulls place == 1)) at_is (subst (λ (b : Bool). P b at) (null-test is_null bit) r) in
-        let Q : List BoundParam → Type 0 = λ l. RefusesParam e (params_left s (length l) nulls place (bound_left s l bytes) buf) in
-        subst Q (sym starts) (refuses-one e (type-of types_at types_are type) (has-of all starts has) read)
+        let Q : ℕ → Type 0 = λ n. RefusesParam e (params_left s n nulls place (bound_left s (p ∷ ps) bytes) buf) in
+        subst Q len (refuses-one e (type-of types_at types_are type) has-all read)
 
 pub skip-done : (count i : ℕ) (bytes : List ℕ) (all : Reading (Unit {0})) → count - i ≡ 0 → left_to_pass (count - i) bytes ≡ all → all ≡ Ok (tt, bytes)
 skip-done count i bytes all none r = sym r ∙ ap (λ (n : ℕ). left_to_pass n bytes) none ∙ all-passed bytes
@@ -252,16 +257,9 @@ bound-read : (s : Bool) (ps : List BoundParam) (bytes after : List ℕ) → (eit
 bound-read true ps bytes after h = let r = are-there (length ps) bytes after h in rw r.1 refl
 bound-read false ps bytes after h = ap (λ (l : List ℕ). Ok (ps, l)) (done-rest tt tt bytes after h)
 
-pub types-there : (s : Bool) (ps : List BoundParam) (bytes after : List ℕ) → (either s (passed_types (length ps)) (give tt)).reads bytes ≡ Ok (tt, after) → IsTrue s → HasTypes (length ps) bytes
-types-there true ps bytes after h is = let r = are-there (length ps) bytes after h in (r.0, after, r.1)
-types-there false ps bytes after h is = let f : IsTrue false = is in absurd cc
-
--- there are none, or some
-pub is-none : (b : Bool) (n : ℕ) → b ≡ (n == 0) → IsTrue b → n ≡ 0
-is-none b n e t = eqb-true n 0 (sym e ∙ t)
-
-pub is-some : (b : Bool) (n : ℕ) → b ≡ (n == 0) → IsFalse b → n ≢ 0
-is-some b n e f h = let g : false ≡ true = sym f ∙ e ∙ eq-eqb n 0 h in absurd cc
+pub types-there : (s : Bool) (count : ℕ) (bytes after : List ℕ) → (either s (passed_types count) (give tt)).reads bytes ≡ Ok (tt, after) → IsTrue s → HasTypes count bytes
+types-there true count bytes after h is = let r = are-there count bytes after h in (r.0, after, r.1)
+types-there false count bytes after h is = let f : IsTrue false = is in absurd cc
 
 then-so : (b : Bool) (n count : ℕ) (bytes rest : List ℕ) (x : Unit {0}) → (n == 0) ≡ b → n ≢ 0 → (passed_types count).reads bytes ≡ Ok (x, rest)
     → (either (not b) (passed_types count) (give tt)).reads bytes ≡ Ok (tt, rest)
@@ -287,15 +285,24 @@ module _ (ps : List BoundParam) (bytes : List ℕ) (nulls : Bitmap) (mid : List 
   abbrev pub sends : Bool
   sends = not (n.0 == 0)
 
-  pub begins-some : length ps ≢ 0 → (null_bitmap 0 (length ps)).reads bytes ≡ Ok (nulls, mid) → byte.reads mid ≡ Ok (n, tb)
+  begins-all : length ps ≢ 0 → (null_bitmap 0 (length ps)).reads bytes ≡ Ok (nulls, mid) → byte.reads mid ≡ Ok (n, tb)
       → (either sends (passed_types (length ps)) (give tt)).reads tb ≡ Ok (tt, after)
       → IsExecution ps bytes (params_left sends (length ps) nulls.bytes 0 (bound_left sends ps tb) after)
-  begins-some some a b c =
+  begins-all some a b c =
       let h : (front ps).reads bytes ≡ Ok (record { nulls = nulls.bytes; sends_types = sends; bound = bound_left sends ps tb }, after) =
       some-read ps bytes some ∙ rw (a, b, bound-read sends ps tb after c) refl in
       (record { nulls = nulls.bytes; sends_types = sends; bound = bound_left sends ps tb }, after, h, refl)
 
-pub begins-none : (ps : List BoundParam) (nulls bytes : List ℕ) → length ps ≡ 0 → IsExecution ps bytes (params_left false (length ps) nulls 0 ps bytes)
+  pub begins-some : (count : ℕ) → length ps ≡ count → count ≢ 0 → (null_bitmap 0 count).reads bytes ≡ Ok (nulls, mid) → byte.reads mid ≡ Ok (n, tb)
+      → (either sends (passed_types count) (give tt)).reads tb ≡ Ok (tt, after)
+      → IsExecution ps bytes (params_left sends count nulls.bytes 0 (bound_left sends ps tb) after)
+  begins-some count len =
+      let P : ℕ → Type 0 = λ k. k ≢ 0 → (null_bitmap 0 k).reads bytes ≡ Ok (nulls, mid) → byte.reads mid ≡ Ok (n, tb)
+      → (either sends (passed_types k) (give tt)).reads tb ≡ Ok (tt, after)
+      → IsExecution ps bytes (params_left sends k nulls.bytes 0 (bound_left sends ps tb) after) in
+      subst P len begins-all
+
+pub begins-none : (ps : List BoundParam) (nulls bytes : List ℕ) → length ps ≡ 0 → IsExecution ps bytes (params_left false 0 nulls 0 ps bytes)
 unfolding params_in
 begins-none [] nulls bytes e = (record { nulls = []; sends_types = false; bound = [] }, bytes, refl, refl)
 begins-none (p ∷ ps) nulls bytes e = absurd (omega (arith, e))

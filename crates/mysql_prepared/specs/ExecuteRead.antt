@@ -122,6 +122,20 @@ types_read (Err e) = []
 abbrev pub bound_left : (sends_types : Bool) → List BoundParam → (types_bytes : List ℕ) → List BoundParam
 bound_left sends_types params bytes = if sends_types then under_types params (types_read ((types (length params)).reads bytes)) else params
 
+-- what stands after the head, of which parameters are read: whether it sends types, how many parameters are left, the bitmap of
+-- NULLs, the place of the next one in it, the types of those that are left, and the bytes after the values that were read
+pub record ParamsBytes : Type 0 where
+  pub sends_types : Bool
+  pub left : ℕ
+  pub nulls : List ℕ
+  pub place : ℕ
+  pub types : List ℕ
+  pub values : List ℕ
+
+-- what is left of an execution where the server knows this of the parameters that are left
+abbrev pub left_of : ParamsBytes → List BoundParam → ParamsLeft
+left_of b params = params_left b.sends_types b.left b.nulls b.place (bound_left b.sends_types params b.types) b.values
+
 -- so many types are there
 abbrev pub HasTypes : ℕ → List ℕ → Type 0
 HasTypes count bytes = (ts : List ParamType) × (rest : List ℕ) × ((types count).reads bytes ≡ Ok (ts, rest))
@@ -158,6 +172,11 @@ abbrev pub GivesParam : ParamsLeft → Result (Option (ParamType × ExecuteParam
 GivesParam old (Ok (Some x)) new = Gives old (x.0, param_of x.1) new
 GivesParam old (Ok None) new = HasNoParam old × (new ≡ old)
 GivesParam old (Err e) new = RefusesParam e old × (new ≡ old)
+
+-- the first of the parameters that are left, of which the server knows this, or its fault
+abbrev pub GivesBound : ParamsBytes → BoundParam → List BoundParam → Result (ParamType × ExecuteParam) FaultOf → ParamsBytes → Type 0
+GivesBound old bound others (Ok x) new = Gives (left_of old (bound ∷ others)) (x.0, param_of x.1) (left_of new others)
+GivesBound old bound others (Err e) new = RefusesParam e (left_of old (bound ∷ others)) × (new ≡ old)
 
 -- what the parameter that was read holds
 abbrev pub param_read : Result ExecuteParam FaultOf → Result Param FaultOf

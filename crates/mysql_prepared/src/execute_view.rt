@@ -1,10 +1,11 @@
 //! The parameters of an execution, read one by one, without memory.
 
-ghost use Rattle.std.specs.Prelude.{false, ◌≡◌, Ok, length, IfOk, IfErr, IsTrue};
+ghost use Rattle.std.specs.Prelude.{false, ◌≡◌, ◌≢◌, ◌∷◌, List, Ok, length, IfOk, IfErr, IsTrue};
 ghost use Rattle.mysql_wire.specs.Reading.{Answers, Faults};
 ghost use Rattle.mysql_wire.specs.Form.{either, give};
 ghost use Rattle.mysql_values.specs.ParamType.{param_type};
-ghost use Rattle.mysql_prepared.specs.ExecuteRead.{GivesParam, HasNoParam, HasTypes, IsExecution, execute_params, param_read, param_value, params_of, passed_types};
+ghost use Rattle.mysql_prepared.specs.ExecuteRead.{GivesBound, GivesParam, HasNoParam, HasTypes, IsExecution, execute_params, left_of, param_read, param_value, params_of, passed_types};
+ghost use Rattle.mysql_prepared.specs.declared.execute_view.BoundParam.{BoundParam};
 
 use crate::execute_param::ExecuteParam;
 use crate::null_bitmap::NullBitmap;
@@ -69,6 +70,127 @@ fn read_param<'s, 'de>(
     Ok(ExecuteParam::Value(value))
 }
 
+/// What follows a [`ComStmtExecuteHead`](crate::ComStmtExecuteHead), which is read parameter by parameter: the caller passes what the
+/// server knows of each.
+///
+/// It is what [`ExecuteParamsView`] reads, for who has no list of [`BoundParam`]. It takes no memory, and the bytes of a value stay
+/// in the packet.
+///
+/// In a clause it is whether types are sent, how many parameters are left, the bitmap of NULLs, the place of the next parameter in
+/// it, the bytes of the types that are left, and the bytes after the values that were read.
+#[derive(Drop)]
+pub struct ExecuteParamsBytes<'a> {
+    buf: ParseBuf<'a>,
+    nulls: NullBitmap<'a, ClientSide>,
+    none: bool,
+    place: usize,
+    sends_types: bool,
+    types: ParseBuf<'a>,
+    left: usize,
+}
+
+impl<'a> Model for ExecuteParamsBytes<'a> {
+    ghost use Rattle.std.specs.Prelude.{IsTrue};
+    ghost use Rattle.mysql_prepared.specs.RowView.{HasBits};
+    ghost use Rattle.mysql_prepared.specs.ExecuteRead.{ParamsBytes, HasTypes};
+
+    ghost Value = { ParamsBytes };
+
+    ghost view = { λ r. record { sends_types = r.sends_types; left = r.left; nulls = r.nulls.bytes; place = r.place; types = r.types; values = r.buf } };
+
+    ghost invariant = { λ r. HasBits r.nulls.bytes 0 r.none r.place r.left × (IsTrue r.sends_types → HasTypes r.left r.types) };
+}
+
+impl<'a> ExecuteParamsBytes<'a> {
+    /// Reads what stands before the values, for so many parameters.
+    ///
+    /// Fewer bytes are `UnexpectedEof`, and a type that is none is `InvalidData`. An execution that sends no types is read under
+    /// those of an earlier one; where there was none, [`sends_types`](Self::sends_types) says so.
+    pub fn new<'s>(count: usize, buf: ParseBuf<'a>) -> Result<Self, FaultOf<'s>>
+        ensures left { IfOk result (λ bytes. bytes.left ≡ count) }
+        ensures read { (params : List BoundParam) → length params ≡ count → IfOk result (λ bytes. params_of (left_of bytes params) ≡ (execute_params params).reads buf.entry) }
+        ensures values { (params : List BoundParam) → length params ≡ count → IfOk result (λ bytes. IsExecution params buf.entry (left_of bytes params)) }
+        ensures fault { (params : List BoundParam) → length params ≡ count → IfErr result (λ e. Faults false e ((execute_params params).reads buf.entry)) }
+    {
+        if count == 0 {
+            return Ok(ExecuteParamsBytes {
+                types: buf.rest(),
+                buf,
+                nulls: NullBitmap::from_bytes(CowSlice::Borrowed(&[])),
+                none: true,
+                place: 0,
+                sends_types: false,
+                left: 0,
+            });
+        }
+        let mut rest = buf;
+        let nulls = NullBitmap::<'a, ClientSide>::deserialize(count, &mut rest)?;
+        let new_params_bound: RawInt<u8> = rest.parse(())?;
+        let sends_types = new_params_bound.0 != 0;
+        let types = rest.rest();
+        if sends_types {
+            skip_param_types(count, &mut rest)?;
+        }
+        let none = nulls.as_bytes().iter().all(|byte| *byte == 0);
+        Ok(ExecuteParamsBytes {
+            buf: rest,
+            nulls,
+            none,
+            place: 0,
+            sends_types,
+            types,
+            left: count,
+        })
+    }
+
+    /// Whether the execution sends types.
+    #[inline]
+    pub fn sends_types(&self) -> bool
+        ensures value { result ≡ self.now.sends_types }
+    {
+        self.sends_types
+    }
+
+    /// How many parameters are left.
+    #[inline]
+    pub fn left(&self) -> usize
+        ensures value { result ≡ self.now.left }
+    {
+        self.left
+    }
+
+    /// The bytes after the parameters that were read: after the last, those that the execution does not take.
+    #[inline]
+    pub fn rest(&self) -> ParseBuf<'a>
+        ensures value { result ≡ self.now.values }
+    {
+        self.buf.rest()
+    }
+
+    /// The next of the parameters that are left, of which the server knows this, with its type. After a refusal all is as it was.
+    ///
+    /// A server keeps the types for executions that send none.
+    #[inline]
+    pub fn next_param<'s>(
+        &mut self,
+        bound: BoundParam,
+    ) -> Result<(ParamType, ExecuteParam<'a>), FaultOf<'s>>
+        requires some { self.old.left ≢ 0 }
+        ensures value { (others : List BoundParam) → length (bound ∷ others) ≡ self.old.left → GivesBound self.old bound others result self.new }
+    {
+        let mut types = self.types.rest();
+        let param_type = next_type(self.sends_types, bound.param_type, &mut types);
+        let is_null = is_null_at(&self.nulls, self.none, self.place);
+        let mut rest = self.buf.rest();
+        let value = read_param(bound.is_sent_ahead, is_null, param_type, &mut rest)?;
+        self.buf = rest;
+        self.types = types;
+        self.left -= 1;
+        self.place += 1;
+        Ok((param_type, value))
+    }
+}
+
 /// The parameters of `COM_STMT_EXECUTE`, as a server reads them, one by one: what follows a
 /// [`ComStmtExecuteHead`](crate::ComStmtExecuteHead).
 ///
@@ -88,25 +210,19 @@ fn read_param<'s, 'de>(
 /// after the last, or the kind of the fault that ends them, and the bytes after those that were read.
 #[derive(Drop)]
 pub struct ExecuteParamsView<'a, 'c> {
-    buf: ParseBuf<'a>,
-    nulls: NullBitmap<'a, ClientSide>,
-    none: bool,
-    place: usize,
-    sends_types: bool,
-    types: ParseBuf<'a>,
+    bytes: ExecuteParamsBytes<'a>,
     params: &'c [BoundParam],
 }
 
 impl<'a, 'c> Model for ExecuteParamsView<'a, 'c> {
-    ghost use Rattle.std.specs.Prelude.{length, IsTrue};
-    ghost use Rattle.mysql_prepared.specs.RowView.{HasBits};
-    ghost use Rattle.mysql_prepared.specs.ExecuteRead.{ParamsLeft, HasTypes, params_left, bound_left};
+    ghost use Rattle.std.specs.Prelude.{length, ◌≡◌};
+    ghost use Rattle.mysql_prepared.specs.ExecuteRead.{ParamsLeft, left_of};
 
     ghost Value = { ParamsLeft };
 
-    ghost view = { λ r. params_left r.sends_types (length r.params.now) r.nulls.bytes r.place (bound_left r.sends_types r.params.now r.types) r.buf };
+    ghost view = { λ r. left_of r.bytes r.params.now };
 
-    ghost invariant = { λ r. HasBits r.nulls.bytes 0 r.none r.place (length r.params.now) × (IsTrue r.sends_types → HasTypes (length r.params.now) r.types) };
+    ghost invariant = { λ r. length r.params.now ≡ r.bytes.left };
 }
 
 impl<'a, 'c> ExecuteParamsView<'a, 'c> {
@@ -120,33 +236,8 @@ impl<'a, 'c> ExecuteParamsView<'a, 'c> {
         ensures values { IfOk result (IsExecution params.now buf.entry) }
         ensures fault { IfErr result (λ e. Faults false e ((execute_params params.now).reads buf.entry)) }
     {
-        if params.is_empty() {
-            return Ok(ExecuteParamsView {
-                types: buf.rest(),
-                buf,
-                nulls: NullBitmap::from_bytes(CowSlice::Borrowed(&[])),
-                none: true,
-                place: 0,
-                sends_types: false,
-                params,
-            });
-        }
-        let mut rest = buf;
-        let nulls = NullBitmap::<'a, ClientSide>::deserialize(params.len(), &mut rest)?;
-        let new_params_bound: RawInt<u8> = rest.parse(())?;
-        let sends_types = new_params_bound.0 != 0;
-        let types = rest.rest();
-        if sends_types {
-            skip_param_types(params.len(), &mut rest)?;
-        }
-        let none = nulls.as_bytes().iter().all(|byte| *byte == 0);
         Ok(ExecuteParamsView {
-            buf: rest,
-            nulls,
-            none,
-            place: 0,
-            sends_types,
-            types,
+            bytes: ExecuteParamsBytes::new(params.len(), buf)?,
             params,
         })
     }
@@ -156,7 +247,7 @@ impl<'a, 'c> ExecuteParamsView<'a, 'c> {
     pub fn sends_types(&self) -> bool
         ensures value { result ≡ self.now.sends_types }
     {
-        self.sends_types
+        self.bytes.sends_types()
     }
 
     /// How many parameters are left.
@@ -165,7 +256,7 @@ impl<'a, 'c> ExecuteParamsView<'a, 'c> {
         ensures value { result ≡ self.now.left }
         ensures done { result ≡ 0 → HasNoParam self.now }
     {
-        self.params.len()
+        self.bytes.left()
     }
 
     /// The bytes after the parameters that were read: after the last, those that the execution does not take.
@@ -174,7 +265,7 @@ impl<'a, 'c> ExecuteParamsView<'a, 'c> {
         ensures value { self.now.left ≡ 0 → self.now.end ≡ Ok result }
         ensures read { result ≡ self.now.rest }
     {
-        self.buf.rest()
+        self.bytes.rest()
     }
 
     /// The next parameter with its type, or none after the last. After a refusal the view is as it was.
@@ -187,15 +278,8 @@ impl<'a, 'c> ExecuteParamsView<'a, 'c> {
         let Some((param, params)) = self.params.split_first() else {
             return Ok(None);
         };
-        let mut types = self.types.rest();
-        let param_type = next_type(self.sends_types, param.param_type, &mut types);
-        let is_null = is_null_at(&self.nulls, self.none, self.place);
-        let mut rest = self.buf.rest();
-        let value = read_param(param.is_sent_ahead, is_null, param_type, &mut rest)?;
-        self.buf = rest;
-        self.types = types;
+        let pair = self.bytes.next_param(*param)?;
         self.params = params;
-        self.place += 1;
-        Ok(Some((param_type, value)))
+        Ok(Some(pair))
     }
 }

@@ -46,7 +46,7 @@ pub use execute::{
 };
 pub use execute_head::ComStmtExecuteHead;
 pub use execute_param::{AsExecuteParam, ExecuteParam, QueryAttribute};
-pub use execute_view::{BoundParam, ExecuteParamsView, skip_param_types};
+pub use execute_view::{BoundParam, ExecuteParamsBytes, ExecuteParamsView, skip_param_types};
 pub use execute_with_options::{ComStmtExecuteOptionsBuilder, ComStmtExecuteWithOptions, Cursor};
 pub use items::{ItemForm, Items};
 pub use long_data::{
