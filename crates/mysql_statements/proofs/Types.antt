@@ -38,7 +38,7 @@ module _ (init : List BoundParam) (start : List ℕ) (done : List BoundParam) (i
       ∙ ap (λ l. done ++ l) (sym (bound-next true p ps bytes t mid read (λ u. there))) ∙ all
 
   rest_there : HasTypes (length ps) mid
-  rest_there = goes-on [] 0 true p ps bytes [] t mid (p ∷ ps) bytes refl (λ u. there) refl read refl
+  rest_there = goes-on true p (suc (length ps)) (length ps) bytes bytes t mid refl (λ u. there) refl read refl
 
   counted : length (done ++ with_type t p ∷ []) ≡ i + 1
   counted = omega (arith, length-append done (with_type t p ∷ []), count)
