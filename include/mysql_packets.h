@@ -614,6 +614,29 @@ uint32_t myp_write_bulk(uint32_t statement_id, uint32_t flags, size_t max_allowe
                         size_t columns, const myp_value *values, size_t n_values, uint8_t *out, size_t size, size_t *written,
                         size_t *rows);
 
+/* Begins COM_STMT_BULK_EXECUTE for rows that come one by one: writes its head and the types, as myp_write_bulk does. MYP_INVALID_INPUT
+ * of no columns, of an unknown flag, and of a type that may not be declared, and *written is 0; MYP_BUFFER_TOO_SMALL. */
+uint32_t myp_begin_bulk(uint32_t statement_id, uint32_t flags, const myp_column_type *types, size_t columns, uint8_t *out, size_t size,
+                        size_t *written);
+
+/* Writes a row after the first `used` bytes of out, which myp_begin_bulk and this call wrote; *written is how many are used then, and may
+ * be where `used` comes from. In a buffer of max_allowed_packet - 4 bytes this sends rows in the fewest requests:
+ *     while ((code = myp_add_bulk_row(types, k, row, k, max, out, size, n, &n)) == MYP_ROW_TOO_LARGE && n > head)
+ *         send n bytes of out, and myp_begin_bulk(id, flags, types, k, out, size, &n);        where head = n after myp_begin_bulk
+ * MYP_ROW_TOO_LARGE where the request would have more than max_allowed_packet - 4 bytes: right after myp_begin_bulk the row fits no
+ * request. MYP_INVALID_INPUT where fewer bytes are used than a head has, or more than out has, where there is not a value for each
+ * column, of no columns, of a value that is none or that its type doesn't spell, or of max_allowed_packet below 4. After both, out and
+ * *written are as they were. MYP_BUFFER_TOO_SMALL: out is as it was, and *written is what it takes. It takes no memory. */
+uint32_t myp_add_bulk_row(const myp_column_type *types, size_t columns, const myp_value *row, size_t n_values, size_t max_allowed_packet,
+                          uint8_t *out, size_t size, size_t used, size_t *written);
+
+/* Answers the bytes of each row in a bulk request, for myp_bulk_cut_is_fewest: of each value one, and its own. The values stand row
+ * after row; sizes[i] is that of row i, UINT64_MAX where it is that or more, and *rows is how many there are. MYP_INVALID_INPUT as
+ * myp_write_bulk has it of types and values, and *rows is 0; MYP_BUFFER_TOO_SMALL where there are fewer places than rows. After both, the
+ * places are as they were. It takes no memory. */
+uint32_t myp_bulk_row_sizes(const myp_column_type *types, size_t columns, const myp_value *values, size_t n_values, uint64_t *sizes,
+                            size_t n_sizes, size_t *rows);
+
 /* Initializer: MYP_BULK_RULE_INIT, types in the first request alone and any number of rows. */
 typedef struct myp_bulk_rule {
     size_t max_rows;      /* the most rows of a request, where has_max_rows is not 0 */
@@ -900,6 +923,26 @@ typedef struct myp_bulk_head {
 /* Reads the seven bytes of COM_STMT_BULK_EXECUTE before its types and rows. MYP_UNEXPECTED_EOF of fewer; MYP_INVALID_DATA of another first
  * byte than MYP_COM_STMT_BULK_EXECUTE. */
 uint32_t myp_read_bulk_head(const uint8_t *packet, size_t len, myp_bulk_head *out);
+
+/* Takes the types of so many columns off the front of *rest, which begins as the rows of a head under MYP_SEND_TYPES_TO_SERVER; without it
+ * those of an earlier execution stand. MYP_UNEXPECTED_EOF of fewer bytes; MYP_INVALID_DATA of a byte that is no type: *rest is as it was, and
+ * the types before it may be set. */
+uint32_t myp_read_bulk_types(myp_bytes *rest, myp_column_type *types, size_t columns);
+
+/* How a value of a bulk row is given: each but the first is of MYP_NULL. */
+enum myp_indicator {
+    MYP_INDICATOR_NONE = 0,    /* as a value */
+    MYP_INDICATOR_NULL = 1,
+    MYP_INDICATOR_DEFAULT = 2, /* as the column's default */
+    MYP_INDICATOR_IGNORE = 3   /* the column is left as it is */
+};
+
+/* Takes the next row of a bulk execution off the front of *rest, which begins after the types: into the first values and the first
+ * indicators, one of each column. MYP_END where no byte is left, and MYP_BUFFER_TOO_SMALL where there are fewer values or indicators than
+ * columns: nothing is changed. MYP_UNEXPECTED_EOF; MYP_INVALID_DATA of another indicator, of a type that no value has, and of bytes without
+ * columns: *rest is as it was, and of the values and the indicators the first ones may be set. It takes no memory. */
+uint32_t myp_next_bulk_row(myp_bytes *rest, const myp_column_type *types, size_t columns, myp_value *values, size_t n_values,
+                           uint8_t *indicators, size_t n_indicators);
 
 /* A parameter, as a server knows it before an execution. */
 typedef struct myp_param {

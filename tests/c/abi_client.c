@@ -57,6 +57,84 @@ static void bulk(void)
     CHECK(myp_bulk_cut_is_fewest(&one, 27, 1, sizes, 5, few, 3, &yes) == MYP_OK && yes == 0);
 }
 
+static void sizes_of_rows(void)
+{
+    static const myp_column_type types[] = { { MYP_TYPE_LONGLONG, 0 }, { MYP_TYPE_VAR_STRING, 0 } }, tiny = { MYP_TYPE_TINY, 0 };
+    myp_value v[4] = { myp_int(1), myp_text("abc", 3), MYP_VALUE_INIT, MYP_VALUE_INIT }; /* of each value one byte, and its own: 1 + 8 + 1 + 4, 1 + 1 */
+    uint64_t sizes[3] = { 7, 7, 7 };
+    size_t rows = 9;
+    CHECK(myp_bulk_row_sizes(types, 2, v, 4, sizes, 3, &rows) == MYP_OK && rows == 2 && sizes[0] == 14 && sizes[1] == 2 && sizes[2] == 7);
+    CHECK(myp_bulk_row_sizes(types, 2, v, 0, sizes, 3, &rows) == MYP_OK && rows == 0 && sizes[0] == 14);
+    sizes[0] = 7;
+    CHECK(myp_bulk_row_sizes(types, 2, v, 4, sizes, 1, &rows) == MYP_BUFFER_TOO_SMALL && rows == 2 && sizes[0] == 7);
+    CHECK(myp_bulk_row_sizes(types, 2, v, 3, sizes, 3, &rows) == MYP_INVALID_INPUT && rows == 0 && sizes[0] == 7);
+    CHECK(myp_bulk_row_sizes(types, 0, v, 4, sizes, 3, &rows) == MYP_INVALID_INPUT && myp_bulk_row_sizes(&tiny, 1, v + 2, 2, sizes, 3, &rows) == MYP_INVALID_INPUT);
+    v[2].kind = MYP_BYTES;
+    CHECK(myp_bulk_row_sizes(types, 2, v, 4, sizes, 3, &rows) == MYP_INVALID_INPUT && rows == 0 && sizes[0] == 7);
+    v[2].kind = 8;
+    CHECK(myp_bulk_row_sizes(types, 2, v, 4, sizes, 3, &rows) == MYP_INVALID_INPUT && sizes[0] == 7);
+}
+
+static void bulk_by_row(void)
+{
+    static const myp_column_type number[] = { { MYP_TYPE_LONGLONG, 0 }, { MYP_TYPE_LONGLONG, 1 } }, tiny = { MYP_TYPE_TINY, 0 };
+    uint8_t out[64];
+    size_t n = 9;
+    myp_value one = myp_int(1), two = myp_int(2);
+    CHECK(myp_begin_bulk(1, 64, number, 2, out, sizeof out, &n) == MYP_OK && is_hex(out, n, "fa01000000c00008000880"));
+    CHECK(myp_begin_bulk(1, 0, number, 1, out, 8, &n) == MYP_BUFFER_TOO_SMALL && n == 9);
+    CHECK(myp_begin_bulk(1, 1, number, 1, out, sizeof out, &n) == MYP_INVALID_INPUT && n == 0);
+    CHECK(myp_begin_bulk(1, 0, number, 0, out, sizeof out, &n) == MYP_INVALID_INPUT && myp_begin_bulk(1, 0, &tiny, 1, out, sizeof out, &n) == MYP_INVALID_INPUT);
+    memset(out, 7, sizeof out);
+    CHECK(myp_begin_bulk(1, 0, number, 1, out, sizeof out, &n) == MYP_OK && is_hex(out, n, "fa0100000080000800"));
+    CHECK(myp_add_bulk_row(number, 1, &one, 1, 31, out, sizeof out, n, &n) == MYP_OK && is_hex(out, n, "fa0100000080000800000100000000000000") && out[18] == 7);
+    CHECK(myp_add_bulk_row(number, 1, &two, 1, 31, out, 26, n, &n) == MYP_BUFFER_TOO_SMALL && n == 27 && out[18] == 7);
+    n = 18;
+    CHECK(myp_add_bulk_row(number, 1, &two, 1, 30, out, sizeof out, n, &n) == MYP_ROW_TOO_LARGE && n == 18 && out[18] == 7);
+    CHECK(myp_add_bulk_row(number, 1, &two, 0, 31, out, sizeof out, n, &n) == MYP_INVALID_INPUT && myp_add_bulk_row(number, 0, &two, 1, 31, out, sizeof out, n, &n) == MYP_INVALID_INPUT && n == 18);
+    CHECK(myp_add_bulk_row(number, 1, &two, 1, 3, out, sizeof out, n, &n) == MYP_INVALID_INPUT && myp_add_bulk_row(number, 1, &two, 1, 31, out, sizeof out, 8, &n) == MYP_INVALID_INPUT);
+    CHECK(myp_add_bulk_row(number, 1, &two, 1, SIZE_MAX, out, sizeof out, sizeof out + 1, &n) == MYP_INVALID_INPUT && n == 18 && out[18] == 7);
+    two.kind = MYP_DOUBLE;
+    CHECK(myp_add_bulk_row(number, 1, &two, 1, 31, out, sizeof out, n, &n) == MYP_INVALID_INPUT && n == 18 && out[18] == 7);
+    two.kind = MYP_INT;
+    CHECK(myp_add_bulk_row(number, 1, &two, 1, 31, out, 27, n, &n) == MYP_OK && is_hex(out, n, "fa0100000080000800000100000000000000000200000000000000"));
+    two.kind = MYP_NULL;
+    CHECK(myp_add_bulk_row(number, 1, &two, 1, 32, out, sizeof out, n, &n) == MYP_OK && n == 28 && out[27] == 1 && out[28] == 7);
+}
+
+/* the requests of the loop that the header shows are those of myp_write_bulk, and they are the fewest */
+static void fewest(void)
+{
+    static const myp_column_type types[] = { { MYP_TYPE_LONGLONG, 1 }, { MYP_TYPE_BLOB, 0 } };
+    static const uint8_t some[40] = "bytes";
+    enum { ROWS = 50, MAX = 120 };
+    myp_value v[2 * ROWS];
+    for (unsigned i = 0; i < ROWS; i++) {
+        v[2 * i] = (myp_value)MYP_VALUE_INIT, v[2 * i + 1] = (myp_value)MYP_VALUE_INIT;
+        v[2 * i].kind = MYP_UINT, v[2 * i].number = i;
+        if (i % 3)
+            v[2 * i + 1].kind = MYP_BYTES, v[2 * i + 1].bytes.data = some, v[2 * i + 1].bytes.len = i * 7 % 41;
+    }
+    uint64_t sizes[ROWS];
+    size_t rows = 0, ends[ROWS], requests = 0, done = 0;
+    CHECK(myp_bulk_row_sizes(types, 2, v, 2 * ROWS, sizes, ROWS, &rows) == MYP_OK && rows == ROWS);
+    while (done < ROWS) {
+        uint8_t out[MAX - 4], same[MAX - 4];
+        size_t n = 0, other = 0, end = done;
+        CHECK(myp_write_bulk(5, 0, MAX, types, 2, v + 2 * done, 2 * (ROWS - done), out, sizeof out, &n, &rows) == MYP_OK && rows > 0);
+        CHECK(myp_begin_bulk(5, 0, types, 2, same, sizeof same, &other) == MYP_OK);
+        while (end < ROWS && myp_add_bulk_row(types, 2, v + 2 * end, 2, MAX, same, sizeof same, other, &other) == MYP_OK)
+            end++;
+        CHECK(end == done + rows && other == n && !memcmp(out, same, n));
+        if (end == done)
+            break;
+        ends[requests++] = done = end;
+    }
+    static const myp_bulk_rule always = { 0, 0, 1 };
+    uint8_t yes = 7;
+    CHECK(requests > 5 && myp_bulk_cut_is_fewest(&always, MAX - 4, 2, sizes, ROWS, ends, requests, &yes) == MYP_OK && yes == 1);
+}
+
 static void changes(void)
 {
     static const uint8_t state[] = "\x00\x0f\x0a" "autocommit\x03OFF\x01\x05\x04test\x02\x01" "1\x03\x04\x00\x02g1";
@@ -156,6 +234,9 @@ void client_checks(void)
 {
     executions();
     bulk();
+    sizes_of_rows();
+    bulk_by_row();
+    fewest();
     changes();
     logins();
     keys();

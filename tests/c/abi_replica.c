@@ -205,6 +205,56 @@ static void bulks(void)
     CHECK(myp_read_bulk_head(p, 7, &b) == MYP_OK && b.rows.len == 0);
 }
 
+static void bulk_rows(void)
+{
+    /* MariaDB's page: the head, of each parameter its type and a byte of flags, and row by row an indicator and, after 0, a value */
+    uint8_t p[64];
+    size_t len = hex(p, "fa010000008000" "0300" "fe00" "0880" "002a000000" "00026869" "00ffffffffffffffff" "01" "02" "03");
+    myp_bulk_head b = MYP_BULK_HEAD_INIT;
+    myp_column_type t[4] = { { 9, 9 }, { 9, 9 }, { 9, 9 }, { 9, 9 } };
+    CHECK(myp_read_bulk_head(p, len, &b) == MYP_OK && (b.flags & MYP_SEND_TYPES_TO_SERVER));
+    CHECK(myp_read_bulk_types(&b.rows, t, 3) == MYP_OK && b.rows.data == p + 13 && b.rows.len == len - 13 && t[0].column_type == MYP_TYPE_LONG && t[0].is_unsigned == 0
+          && t[1].column_type == MYP_TYPE_STRING && t[2].column_type == MYP_TYPE_LONGLONG && t[2].is_unsigned == 1 && t[3].column_type == 9);
+    myp_value v[4] = { MYP_VALUE_INIT, MYP_VALUE_INIT, MYP_VALUE_INIT, myp_int(9) };
+    uint8_t i[4] = { 7, 7, 7, 7 };
+    CHECK(myp_next_bulk_row(&b.rows, t, 3, v, 2, i, 4) == MYP_BUFFER_TOO_SMALL && myp_next_bulk_row(&b.rows, t, 3, v, 4, i, 2) == MYP_BUFFER_TOO_SMALL && b.rows.data == p + 13 && i[0] == 7);
+    CHECK(myp_next_bulk_row(&b.rows, t, 0, v, 4, i, 4) == MYP_INVALID_DATA && b.rows.data == p + 13);
+    CHECK(myp_next_bulk_row(&b.rows, t, 3, v, 4, i, 4) == MYP_OK && v[0].kind == MYP_INT && v[0].number == 42 && v[1].kind == MYP_BYTES && IS(v[1].bytes, "hi") && v[1].bytes.data == p + 20
+          && v[2].kind == MYP_UINT && v[2].number == UINT64_MAX && i[0] == MYP_INDICATOR_NONE && i[1] == MYP_INDICATOR_NONE && i[2] == MYP_INDICATOR_NONE && i[3] == 7 && v[3].number == 9);
+    myp_bytes last = b.rows;
+    CHECK(myp_next_bulk_row(&b.rows, t, 3, v, 3, i, 3) == MYP_OK && v[0].kind == MYP_NULL && v[1].kind == MYP_NULL && v[1].bytes.len == 0 && v[2].kind == MYP_NULL && v[2].number == 0
+          && i[0] == MYP_INDICATOR_NULL && i[1] == MYP_INDICATOR_DEFAULT && i[2] == MYP_INDICATOR_IGNORE && b.rows.len == 0);
+    CHECK(myp_next_bulk_row(&b.rows, t, 3, v, 3, i, 3) == MYP_END && myp_next_bulk_row(&b.rows, t, 0, v, 0, i, 0) == MYP_END && i[2] == MYP_INDICATOR_IGNORE);
+    b.rows = last, b.rows.len = 2; /* a row is cut off */
+    CHECK(myp_next_bulk_row(&b.rows, t, 3, v, 3, i, 3) == MYP_UNEXPECTED_EOF && b.rows.data == last.data && b.rows.len == 2);
+    b.rows = last, p[len - 3] = 4; /* no indicator */
+    CHECK(myp_next_bulk_row(&b.rows, t, 3, v, 3, i, 3) == MYP_INVALID_DATA && b.rows.len == 3);
+    p[len - 3] = 0, t[0].column_type = 100; /* no type */
+    CHECK(myp_next_bulk_row(&b.rows, t, 3, v, 3, i, 3) == MYP_INVALID_DATA && b.rows.len == 3);
+    CHECK(myp_read_bulk_head(p, len, &b) == MYP_OK);
+    b.rows.len = 5;
+    CHECK(myp_read_bulk_types(&b.rows, t, 3) == MYP_UNEXPECTED_EOF && b.rows.len == 5 && myp_read_bulk_types(&b.rows, t, 2) == MYP_OK && b.rows.len == 1);
+    p[9] = 100, b.rows.data = p + 7, b.rows.len = 6;
+    CHECK(myp_read_bulk_types(&b.rows, t, 3) == MYP_INVALID_DATA && b.rows.data == p + 7 && myp_read_bulk_types(&b.rows, t, 0) == MYP_OK && b.rows.data == p + 7);
+}
+
+/* rows that a client writes are those that a server reads */
+static void bulk_again(void)
+{
+    static const myp_column_type types[] = { { MYP_TYPE_LONGLONG, 0 }, { MYP_TYPE_DOUBLE, 0 }, { MYP_TYPE_BLOB, 0 } };
+    myp_value v[6] = { myp_int(-1), MYP_VALUE_INIT, myp_text("a text", 6), MYP_VALUE_INIT, MYP_VALUE_INIT, myp_text("", 0) }, w[3] = { MYP_VALUE_INIT, MYP_VALUE_INIT, MYP_VALUE_INIT };
+    v[4].kind = MYP_DOUBLE, v[4].number = UINT64_C(0x3ff8000000000000);
+    uint8_t out[100], i[3];
+    size_t n = 0, rows = 0;
+    CHECK(myp_write_bulk(3, 0, 1000, types, 3, v, 6, out, sizeof out, &n, &rows) == MYP_OK && rows == 2);
+    myp_bulk_head b = MYP_BULK_HEAD_INIT;
+    myp_column_type t[3];
+    CHECK(myp_read_bulk_head(out, n, &b) == MYP_OK && b.statement_id == 3 && myp_read_bulk_types(&b.rows, t, 3) == MYP_OK && !memcmp(t, types, sizeof t));
+    CHECK(myp_next_bulk_row(&b.rows, t, 3, w, 3, i, 3) == MYP_OK && w[0].kind == MYP_INT && w[0].number == UINT64_MAX && w[1].kind == MYP_NULL && i[1] == MYP_INDICATOR_NULL && IS(w[2].bytes, "a text"));
+    CHECK(myp_next_bulk_row(&b.rows, t, 3, w, 3, i, 3) == MYP_OK && w[0].kind == MYP_NULL && w[1].kind == MYP_DOUBLE && w[1].number == v[4].number && i[1] == MYP_INDICATOR_NONE && w[2].kind == MYP_BYTES && w[2].bytes.len == 0);
+    CHECK(myp_next_bulk_row(&b.rows, t, 3, w, 3, i, 3) == MYP_END);
+}
+
 static void dumps(void)
 {
     uint8_t p[200];
@@ -300,6 +350,8 @@ void replica_checks(void)
     served();
     executions();
     bulks();
+    bulk_rows();
+    bulk_again();
     dumps();
     streams();
     changes();

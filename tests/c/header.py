@@ -103,6 +103,8 @@ def numbers_of_the_library():
     found.update({f"MYP_{name}": int(value) for name, value in types})
     states = re.findall(r"^session_state_type_code variant\.(\w+) = (\d+)$", (WIRE / "SessionStateType.antt").read_text(), re.M)
     found.update({f"MYP_{name}": int(value) for name, value in states})
+    indicators = re.findall(r"^mariadb_bulk_indicator_code variant\.BULK_(INDICATOR_\w+) = (\d+)$", (WIRE / "MariadbBulkIndicator.antt").read_text(), re.M)
+    found.update({f"MYP_{name}": int(value) for name, value in indicators})
     packets = re.findall(r"^index name\.(\w+) = (\d+)$", KIND_NAMES.read_text(), re.M)
     found.update({f"MYP_PACKET_{re.sub('(?<!^)(?=[A-Z])', '_', name).upper()}": int(value) for name, value in packets})
     codes = re.findall(r"^pub\(crate\) const (\w+): u32 = (\d+);$", (CRATE / "code.rt").read_text(), re.M)

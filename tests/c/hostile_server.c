@@ -78,6 +78,22 @@ static void read_served(const uint8_t *p, size_t len)
     CALL(e, myp_read_execution(p, len, params, varied() % 7, v, 6, t, 6, &e));
     for (size_t i = 0; i < 6; i++)
         place("parameter", v[i].bytes);
+    struct { myp_bytes rest; } k = { b.rows };
+    size_t columns = varied() % 7;
+    uint8_t given[6] = { 0 };
+    CALL(k, myp_read_bulk_types(&k.rest, t, columns));
+    place("types", k.rest);
+    while (k.rest.len) {
+        size_t left = k.rest.len;
+        for (size_t i = 0; i < 6; i++)
+            v[i] = no_value;
+        CALL(k, myp_next_bulk_row(&k.rest, t, columns, v, 6, given, 6));
+        for (size_t i = 0; i < 6; i++)
+            place("a value of a bulk row", v[i].bytes);
+        place("rows", k.rest);
+        if (k.rest.len >= left)
+            break;
+    }
 }
 
 /* what a replica says */

@@ -145,6 +145,10 @@ static void requests(void)
     myp_register_replica replica = MYP_REGISTER_REPLICA_INIT;
     EACH(0, myp_write_execute(1, v, 4, out, sizeof out, &n, &as_long_data));
     EACH(0, myp_write_bulk(1, 0, 1 << 20, types, 2, v, 4, out, sizeof out, &n, &rows));
+    EACH(0, myp_begin_bulk(1, 0, types, 2, out, sizeof out, &n));
+    EACH(0, myp_add_bulk_row(types, 2, v, 2, 1 << 20, out, sizeof out, n, &n));
+    uint64_t sizes[2];
+    EACH(0, myp_bulk_row_sizes(types, 2, v, 4, sizes, 2, &n));
     EACH(0, myp_write_login(&l, attributes, 2, out, sizeof out, &n));
     EACH(0, myp_write_change_user(&c, attributes, 2, MYP_CLIENT_PLUGIN_AUTH | MYP_CLIENT_CONNECT_ATTRS, out, sizeof out, &n));
     EACH(0, myp_write_ssl_request(&r, out, sizeof out, &n));

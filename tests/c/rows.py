@@ -186,6 +186,8 @@ class Calls:
             return self.row(word, context, payload)
         if word == "com_execute":
             return self.execution(context, payload)
+        if word in ("bulk", "bulk_rows"):
+            return self.bulk(word, columns_of(context[0]), payload)
         if word in SINGLE:
             return self.single(word, payload)
         return self.struct(word, context, payload)
@@ -251,6 +253,29 @@ class Calls:
             words.append(f"{of.column_type}-{128 * of.is_unsigned}={'ahead' if ahead else value_word(p, value)}")
         return code, words, out.used, self.outside(payload, [it.bytes for it in list(values)[:count]])
 
+    def bulk(self, word, columns, payload):
+        """A bulk execution, of whose rows `bulk` reads the first one."""
+        p, head, count = self.packets, self.packets.new("myp_bulk_head"), len(columns)
+        code = p.dll.myp_read_bulk_head(payload.data, payload.len, ctypes.byref(head))
+        if code:
+            return code, [], None, ""
+        rest, words = head.rows, [f"stmt_id={head.statement_id}", f"bulk_flags={head.flags}"]
+        types = p.array("myp_column_type", [p.types["myp_column_type"](kind, int(bool(flags))) for kind, flags in columns])
+        values, indicators = p.array("myp_value", [p.new("myp_value") for _ in columns]), (ctypes.c_uint8 * max(count, 1))()
+        if head.flags & p.MYP_SEND_TYPES_TO_SERVER:
+            code = p.dll.myp_read_bulk_types(ctypes.byref(rest), types, count)
+            words += [] if code else [word for it in list(types)[:count] for word in (f"type={it.column_type}", f"flags={128 * it.is_unsigned}")]
+        rows, spans = [], []
+        while not code and not (word == "bulk" and (rows or not count)):
+            code = p.dll.myp_next_bulk_row(ctypes.byref(rest), types, count, values, count, indicators, count)
+            found = [] if code else list(values)[:count]
+            rows += [] if code else ["values=" + ",".join(value_word(p, it) for it in found)]
+            spans += [it.bytes for it in found]
+        if word == "bulk_rows":
+            return (0 if code == p.MYP_END else code), rows, payload.len - rest.len, self.outside(payload, [rest, *spans])
+        words += [*(rows or ["values=()"]), f"indicators={''.join(str(it) for it in list(indicators)[:count])}."]
+        return (p.MYP_UNEXPECTED_EOF if code == p.MYP_END else code), words, payload.len - rest.len, self.outside(payload, [rest, *spans])
+
     def outside(self, payload, spans):
         """What is wrong where a byte string lies outside of the packet."""
         first = ctypes.addressof(payload.data.contents)
@@ -281,7 +306,9 @@ def wrong(packets, calls, describer_, request, content):
     if request.startswith("gtid"):
         # (after the five fields of the dump, those of its sids in their order; the decoder has a text of the file's name more)
         wanted = [it for it in wanted if not it.startswith("filename_str=")]
-    if request.startswith(("row ", "row_text", "com_execute")):
+    if request.startswith("bulk "):
+        wanted = [f"flags={int(it[6:]) & 128}" if it.startswith("flags=") else it for it in wanted]
+    if request.startswith(("row ", "row_text", "com_execute", "bulk")):
         is_same = words == wanted
     elif request.startswith("gtid"):
         is_same = set(words[:5]) == set(wanted[:5]) and words[5:] == wanted[5:]
@@ -296,7 +323,7 @@ def wrong(packets, calls, describer_, request, content):
     return "" if used is None or used == len(content) - right.left else f"{used} bytes are used"
 
 
-READ = {*STRUCTS, *SINGLE, "row", "row_text", "com_execute"}
+READ = {*STRUCTS, *SINGLE, "row", "row_text", "com_execute", "bulk", "bulk_rows"}
 
 
 def rows_read():

@@ -110,7 +110,7 @@ rows_of-next a (suc n) values =
     let place : drop (n * a) (drop a values) ≡ drop (suc n * a) values = drop-drop (n * a) a values ∙ ap (λ k. drop k values) further in
     ap (λ rows. take a values ∷ rows) (later ∙ ap (λ row. rows_of a n (drop a values) ++ take a row ∷ []) place)
 
-first-next : (columns n : ℕ) (values : List CValue) → first_rows columns (n + 1) values ≡ first_rows columns n values ++ values_contents (row_at columns n values) ∷ []
+pub first-next : (columns n : ℕ) (values : List CValue) → first_rows columns (n + 1) values ≡ first_rows columns n values ++ values_contents (row_at columns n values) ∷ []
 first-next columns n values =
     let one : n + 1 ≡ suc n = omega arith in
     let row : take columns (drop (n * columns) (values_contents values)) ≡ values_contents (row_at columns n values) =

@@ -8,6 +8,9 @@ pub mod Mixed
 pub mod BinaryRows
 pub mod BulkRows
 pub mod BulkRequests
+pub mod BulkByRow
+pub mod BulkSizes
+pub mod ReadBulkRows
 pub mod Executions
 pub mod SidHeld
 pub mod WrittenSids

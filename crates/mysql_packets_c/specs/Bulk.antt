@@ -168,8 +168,11 @@ abbrev pub cell_bytes : CValue → List ℕ
 cell_bytes value = cell (value_of (param value))
 
 -- what stands before the values
+abbrev pub head_bytes : ℕ → ℕ → List CColumnType → List ℕ
+head_bytes statement_id flags types = head.bytes (record { stmt_id = statement_id; bulk_flags = request_flags true (flags == 64); types = declared_types types })
+
 abbrev pub head_with : BulkCall → List ℕ
-head_with call = head.bytes (record { stmt_id = call.statement_id; bulk_flags = request_flags true (call.flags == 64); types = declared_types call.columns.now })
+head_with call = head_bytes call.statement_id call.flags call.columns.now
 
 -- a request with these values
 abbrev pub request_with : BulkCall → List CValue → List ℕ

@@ -3,8 +3,11 @@ pub mod AuthMoreData
 pub mod AuthSwitch
 pub mod BinaryRow
 pub mod Bulk
+pub mod BulkByRow
 pub mod BulkCut
 pub mod BulkHead
+pub mod BulkRow
+pub mod BulkSizes
 pub mod ChangeUser
 pub mod Close
 pub mod Code

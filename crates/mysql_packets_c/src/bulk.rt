@@ -23,7 +23,7 @@ use mysql_wire::{
 };
 
 /// The flag that asks for the results of each row.
-const SEND_UNIT_RESULTS: u32 = 64;
+pub(crate) const SEND_UNIT_RESULTS: u32 = 64;
 
 /// What stands before a value.
 const INDICATOR_NONE: u8 = 0;
@@ -63,7 +63,7 @@ fn first_refused(columns: &[CColumnType]) -> Option<usize>
 }
 
 /// Whether the type of some column may not be declared.
-fn refuses_types(columns: &[CColumnType]) -> bool
+pub(crate) fn refuses_types(columns: &[CColumnType]) -> bool
     ensures { result ≡ is_some (spec.first_refused columns.now) }
 {
     first_refused(columns).is_some()
@@ -94,7 +94,7 @@ fn value_len(column: &CColumnType, value: &CValue<'_>) -> Option<usize>
 
 /// The same of a row, which has a value for each column.
 #[tactic(auto, using(crate::proofs::BulkRows::row_values), unfolding(mysql_wire::specs::Writing::saturated))]
-fn row_len(columns: &[CColumnType], row: &[CValue<'_>]) -> Option<usize>
+pub(crate) fn row_len(columns: &[CColumnType], row: &[CValue<'_>]) -> Option<usize>
     requires { length columns.now ≡ length row.now }
     ensures { MatchOption result (spec.takes_row columns.now row.now ≡ false) (λ n. (spec.takes_row columns.now row.now ≡ true) × (n ≡ saturated (row_size (values_contents row.now)))) }
 {
@@ -107,7 +107,7 @@ fn row_len(columns: &[CColumnType], row: &[CValue<'_>]) -> Option<usize>
 
 /// The row after so many others.
 #[tactic(auto, using(crate::proofs::BulkRows::row_places))]
-fn row_after<'s, 'a>(
+pub(crate) fn row_after<'s, 'a>(
     values: &'s [CValue<'a>],
     columns: usize,
     count: usize,
@@ -151,7 +151,7 @@ fn counted(call: &BulkCall<'_>, values: &[CValue<'_>], rows: usize) -> Result<(u
 
 /// Columns are written as the types that are declared for them.
 #[derive(Drop)]
-struct AsDeclaredTypes;
+pub(crate) struct AsDeclaredTypes;
 
 impl ItemForm<CColumnType> for AsDeclaredTypes {
     ghost use Rattle.mysql_values.specs.ParamType.{param_type};
@@ -193,7 +193,7 @@ fn append_cell<O: Buffer>(value: &CValue<'_>, out: &mut O)
 // (the buffer is moved to a local one, whose place in memory no write to its bytes can change: so those of a number are one
 // store)
 #[tactic(auto, using(mysql_wire::proofs::After::after))]
-fn append_cells<O: Buffer>(values: &[CValue<'_>], out: &mut O)
+pub(crate) fn append_cells<O: Buffer>(values: &[CValue<'_>], out: &mut O)
     requires { length (O.held out.old) + length (flat_map spec.cell_bytes values.now) ≤ O.capacity out.old }
     ensures items { O.held out.new ≡ O.held out.old ++ flat_map spec.cell_bytes values.now }
     ensures after { O.after out.new ≡ drop (length (flat_map spec.cell_bytes values.now)) (O.after out.old) }
@@ -208,7 +208,7 @@ fn append_cells<O: Buffer>(values: &[CValue<'_>], out: &mut O)
 }
 
 /// The flags of a request, which sends types.
-fn bulk_flags(flags: u32) -> StmtBulkExecuteFlags
+pub(crate) fn bulk_flags(flags: u32) -> StmtBulkExecuteFlags
     ensures { result ≡ request_flags true (flags == 64) }
 {
     if flags == SEND_UNIT_RESULTS {

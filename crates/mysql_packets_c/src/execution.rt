@@ -117,7 +117,7 @@ fn put_param<'a>(place: &mut CValue<'a>, param: ExecuteParam<'a>)
     }
 }
 
-fn type_held(param_type: ParamType) -> CColumnType
+pub(crate) fn type_held(param_type: ParamType) -> CColumnType
     ensures value { result ≡ spec.type_held param_type }
 {
     let is_unsigned = param_type.flags().contains(StmtExecuteParamFlags::UNSIGNED);

@@ -1,0 +1,180 @@
+//! A bulk request that is written row by row.
+#![tactic(auto, using(crate::proofs::BulkByRow::bulk_by_row))]
+
+ghost use Rattle.std.specs.List.{flat_map};
+ghost use Rattle.std.specs.Prelude.{◌≡◌, ◌+◌, ◌-◌, ◌++◌, ◌≤◌, ℕ, List, MatchOption, [], drop, false, length, take, true};
+ghost use Rattle.mysql_wire.specs.Writing.{saturated};
+ghost use Rattle.mysql_bulk.specs.Row.{row_size};
+ghost use Rattle.mysql_values.specs.Value.{Content};
+ghost use Rattle.mysql_packets_c.specs.Bulk.{cell_bytes, head_bytes, takes_row};
+ghost use Rattle.mysql_packets_c.specs.BulkByRow as spec;
+ghost use Rattle.mysql_packets_c.specs.Output.{Puts, PutsUnlessTooLong};
+ghost use Rattle.mysql_packets_c.specs.Value.{values_contents};
+
+use crate::bulk::{
+    AsDeclaredTypes, SEND_UNIT_RESULTS, append_cells, bulk_flags, refuses_types, row_len,
+};
+use crate::code::{BUFFER_TOO_SMALL, INVALID_INPUT, OK, ROW_TOO_LARGE};
+use crate::output::put_packet;
+use crate::rows::CColumnType;
+use crate::value::CValue;
+use mysql_bulk::ComStmtBulkExecuteHeader;
+use mysql_prepared::Items;
+use mysql_wire::{Buffer, Const, LeU16, LeU32, MySerialize, RawInt, StmtBulkExecuteFlags, parts};
+
+/// Whether a request with these flags may be begun.
+fn may_begin(flags: u32, types: &[CColumnType]) -> bool
+    ensures { result ≡ spec.may_begin flags types.now }
+{
+    if flags != 0 && flags != SEND_UNIT_RESULTS {
+        return false;
+    }
+    types.len() >= 1 && !refuses_types(types)
+}
+
+/// Writes what stands before the rows.
+#[tactic(auto, using(mysql_wire::proofs::Packets::packets, crate::proofs::BulkRequests::heads), unfolding(mysql_bulk::specs::Head::head))]
+fn put_head(
+    statement_id: u32,
+    flags: u32,
+    types: &[CColumnType],
+    out: &mut [u8],
+    written: &mut usize,
+) -> u32
+    ensures { PutsUnlessTooLong (head_bytes statement_id flags types.now) result out.old out.new written.new }
+{
+    let header = ComStmtBulkExecuteHeader::new();
+    let stmt_id = RawInt::<LeU32>::new(statement_id);
+    let bulk_flags = Const::<StmtBulkExecuteFlags, LeU16>::new(bulk_flags(flags));
+    let types = Items {
+        items: types,
+        form: AsDeclaredTypes,
+    };
+    put_packet(&parts!(header, stmt_id, bulk_flags, types), out, written)
+}
+
+/// Writes what stands before the rows of `COM_STMT_BULK_EXECUTE`: 0; 5, and how many bytes it takes; or 3 of another flag, of no column,
+/// or of a type that may not be declared.
+#[unsafe(no_mangle)]
+pub extern "C" fn myp_begin_bulk(
+    statement_id: u32,
+    flags: u32,
+    types: &[CColumnType],
+    out: &mut [u8],
+    written: &mut usize,
+) -> u32
+    ensures refused { spec.may_begin flags types.now ≡ false → (result ≡ 3) × (out.new ≡ out.old) × (written.new ≡ 0) }
+    ensures value { spec.may_begin flags types.now ≡ true → Puts (head_bytes statement_id flags types.now) result out.old out.new written.new }
+    ensures builder { result ≡ 0 → (max_allowed_packet : ℕ) → spec.HoldsRows statement_id flags max_allowed_packet types.now [] (take written.new out.new) }
+{
+    if !may_begin(flags, types) {
+        *written = 0;
+        return INVALID_INPUT;
+    }
+    put_head(statement_id, flags, types, out, written)
+}
+
+/// The values of a row, whose bytes were counted.
+#[derive(Drop)]
+struct CountedRow<'r, 'a> {
+    row: &'r [CValue<'a>],
+    len: usize,
+    ghost exact: { len ≡ length (flat_map cell_bytes row.now) },
+}
+
+impl MySerialize for CountedRow<'_, '_> {
+    ghost use Rattle.std.specs.List.{flat_map};
+    ghost use Rattle.mysql_packets_c.specs.Bulk.{cell_bytes};
+
+    ghost bytes = { λ r. flat_map cell_bytes r.row.now };
+
+    #[inline(always)]
+    #[tactic(auto, unfolding(mysql_wire::specs::Writing::saturated))]
+    fn defined_len(&self) -> usize {
+        self.len
+    }
+
+    #[inline(always)]
+    fn append<O: Buffer>(&self, out: &mut O) {
+        append_cells(self.row, out);
+    }
+}
+
+/// Writes the values of a row, each after its indicator, over as many bytes as they take.
+fn put_cells(row: &[CValue<'_>], out: &mut [u8])
+    requires len { length out.old ≡ length (flat_map cell_bytes row.now) }
+    ensures { out.new ≡ flat_map cell_bytes row.now }
+{
+    let counted = CountedRow {
+        row,
+        len: out.len(),
+    };
+    let _len = counted.write_to_slice(out).unwrap();
+}
+
+/// Writes them over so many bytes after those that are used.
+fn put_after(row: &[CValue<'_>], used: usize, more: usize, out: &mut [u8])
+    requires more { more ≡ length (flat_map cell_bytes row.now) }
+    requires fits { used + more ≤ length out.old }
+    ensures { out.new ≡ take used out.old ++ (flat_map cell_bytes row.now ++ drop (used + more) out.old) }
+{
+    let (_used, rest) = out.split_at_mut(used);
+    let (cells, _rest) = rest.split_at_mut(more);
+    put_cells(row, cells);
+}
+
+/// Whether a request of so many bytes may go on in a buffer of this length.
+fn may_add(max_allowed_packet: usize, used: usize, size: usize, types: &[CColumnType]) -> bool
+    ensures { result ≡ spec.may_add max_allowed_packet used size types.now }
+{
+    max_allowed_packet >= 4 && types.len() >= 1 && used >= 7 + 2 * types.len() && used <= size
+}
+
+/// The bytes of a row that may come next. `None` where there is not a value for each column, one is none, or its type does not spell
+/// it.
+fn added_len(types: &[CColumnType], row: &[CValue<'_>]) -> Option<usize>
+    ensures { MatchOption result (takes_row types.now row.now ≡ false) (λ n. (takes_row types.now row.now ≡ true) × (n ≡ saturated (row_size (values_contents row.now)))) }
+{
+    if types.len() != row.len() {
+        return None;
+    }
+    row_len(types, row)
+}
+
+/// Writes a row after the bytes of a request that `myp_begin_bulk` has begun, of which so many are used.
+///
+/// 0, and how many are used then; 5, and how many that would be; or 6 where a request may not be so long, and 3 where no request is
+/// begun there, there is not a value for each column, one is none or its type does not spell it: then the count is as it was too.
+#[unsafe(no_mangle)]
+pub extern "C" fn myp_add_bulk_row(
+    types: &[CColumnType],
+    row: &[CValue<'_>],
+    max_allowed_packet: usize,
+    out: &mut [u8],
+    used: usize,
+    written: &mut usize,
+) -> u32
+    ensures input { spec.may_add max_allowed_packet used (length out.old) types.now ≡ false → (result ≡ 3) × (out.new ≡ out.old) × (written.new ≡ written.old) }
+    ensures row { takes_row types.now row.now ≡ false → (result ≡ 3) × (out.new ≡ out.old) × (written.new ≡ written.old) }
+    ensures value { spec.may_add max_allowed_packet used (length out.old) types.now ≡ true → takes_row types.now row.now ≡ true
+        → spec.AddsRow (max_allowed_packet - 4) used row.now result out.old out.new written.old written.new }
+    ensures builder { (statement_id flags : ℕ) (rows : List (List Content)) → spec.HoldsRows statement_id flags max_allowed_packet types.now rows (take used out.old)
+        → spec.AddsAsBuilder statement_id flags max_allowed_packet types.now rows (values_contents row.now) result (take written.new out.new) }
+{
+    if !may_add(max_allowed_packet, used, out.len(), types) {
+        return INVALID_INPUT;
+    }
+    let Some(more) = added_len(types, row) else {
+        return INVALID_INPUT;
+    };
+    let longer = used.saturating_add(more);
+    if max_allowed_packet - 4 < longer {
+        return ROW_TOO_LARGE;
+    }
+    *written = longer;
+    if out.len() < longer {
+        return BUFFER_TOO_SMALL;
+    }
+    put_after(row, used, more, out);
+    OK
+}

@@ -1,0 +1,146 @@
+//! The types and the rows of a bulk execution, as a server reads them.
+#![tactic(auto, using(crate::proofs::ReadBulkRows::bulk_reads))]
+
+ghost use Rattle.std.specs.Prelude.{◌≡◌, ◌≢◌, ◌<◌, ◌≤◌, ◌⊎◌, IsOk, [], drop, false, length, map, take, true};
+ghost use Rattle.mysql_bulk.specs.HeadTypes.{types_block};
+ghost use Rattle.mysql_bulk.specs.ParamValue.{param_value};
+ghost use Rattle.mysql_bulk.specs.ReadRows.{row_of_columns};
+ghost use Rattle.mysql_values.specs.ParamType.{param_type};
+ghost use Rattle.mysql_wire.specs.Reading.{Answers};
+ghost use Rattle.mysql_wire.specs.Seq.{counted};
+ghost use Rattle.mysql_packets_c.specs.ColumnType.{type_of, unsigned_of};
+ghost use Rattle.mysql_packets_c.specs.BulkRow as spec;
+ghost use Rattle.mysql_packets_c.specs.Rows.{FillsPlaces};
+
+use crate::code::{BUFFER_TOO_SMALL, END, INVALID_DATA, OK, code_of};
+use crate::execution::type_held;
+use crate::rows::CColumnType;
+use crate::text::CBytes;
+use crate::value::{CValue, put_ref};
+use mysql_prepared::TypedColumn;
+use mysql_values::{ParamType, ValueRef, read_bin_ref};
+use mysql_wire::{Const, ConstValue, Fault, FaultOf, MariadbBulkIndicator, ParseBuf};
+use std::alloc::Global;
+
+/// Reads so many types of two bytes each.
+fn fill_block(types: &mut [CColumnType], block: &mut ParseBuf<'_>) -> Result<(), Fault>
+    ensures value { spec.ReadsTypes result types.new block.new ((counted (length types.old) (param_type.form tt)).reads block.old) }
+{
+    for place in 0..types.len() {
+        let param_type: ParamType = block.parse(())?;
+        types[place] = type_held(param_type);
+    }
+    Ok(())
+}
+
+/// Reads the types of as many columns as there are places, in a block.
+fn fill_types(types: &mut [CColumnType], buf: &mut ParseBuf<'_>) -> Result<(), Fault>
+    ensures value { spec.ReadsTypes result types.new buf.new ((types_block true (length types.old)).reads buf.old) }
+{
+    if buf.len() / 2 < types.len() {
+        return Err(FaultOf::UnexpectedEof);
+    }
+    let mut block: ParseBuf = buf.parse(2 * types.len())?;
+    fill_block(types, &mut block)
+}
+
+/// Takes the types of as many columns as there are places off the front of what stands after the head of a bulk execution: 0; or 1 or
+/// 2, and the bytes are as they were.
+#[unsafe(no_mangle)]
+pub extern "C" fn myp_read_bulk_types<'a>(
+    alloc: Global,
+    rest: &mut CBytes<'a>,
+    types: &mut [CColumnType],
+) -> u32
+    ensures value { spec.TypesInto ((types_block true (length types.old)).reads rest.old.bytes.now) result rest.old rest.new types.new }
+{
+    let mut buf = ParseBuf::new(alloc, rest.bytes);
+    match fill_types(types, &mut buf) {
+        Ok(()) => {
+            rest.bytes = buf.eat_all();
+            OK
+        }
+        Err(fault) => code_of(&fault),
+    }
+}
+
+/// Reads a value after its indicator. After another indicator than that of a value none follows.
+fn read_param<'s, 'a>(
+    column: &CColumnType,
+    buf: &mut ParseBuf<'a>,
+) -> Result<(MariadbBulkIndicator, ValueRef<'a>), FaultOf<'s>>
+    ensures value { Answers false (spec.param_read result) buf.new ((param_value (type_of column.now) (unsigned_of column.now)).reads buf.old) }
+{
+    let indicator: Const<MariadbBulkIndicator, u8> = buf.parse(())?;
+    let value = match indicator.0 {
+        MariadbBulkIndicator::BULK_INDICATOR_NONE => {
+            read_bin_ref(column.value_type(), column.is_unsigned(), buf)?
+        }
+        _ => ValueRef::NULL,
+    };
+    Ok((indicator.0, value))
+}
+
+/// Reads a value of each column into the first places, and how each is given.
+fn fill_row<'a>(
+    types: &[CColumnType],
+    buf: &mut ParseBuf<'a>,
+    values: &mut [CValue<'a>],
+    indicators: &mut [u8],
+) -> Result<(), Fault>
+    requires values { length types.now ≤ length values.old }
+    requires indicators { length types.now ≤ length indicators.old }
+    ensures value { spec.ReadsRow result (take (length types.now) values.new) (take (length types.now) indicators.new) buf.new ((spec.bulk_row types.now).reads buf.old) }
+    ensures places { FillsPlaces (length types.now) (IsOk result) values.old values.new }
+    ensures others { drop (length types.now) indicators.new ≡ drop (length types.now) indicators.old }
+{
+    for place in 0..types.len() {
+        let param = read_param(&types[place], buf)?;
+        put_ref(&mut values[place], param.1);
+        indicators[place] = param.0.code();
+    }
+    Ok(())
+}
+
+/// Takes the next row of a bulk execution off the front of the bytes after its types: a value of each column into the first places,
+/// and how each is given.
+///
+/// 0; 7 where no byte is left; 2 where bytes are left and there is no column; 5 where there are fewer places than columns; or 1 or 2,
+/// and the values and indicators before the faulty one are set. After another code than 0 the bytes are as they were. Places after
+/// those of the columns are as they were.
+#[unsafe(no_mangle)]
+pub extern "C" fn myp_next_bulk_row<'a>(
+    alloc: Global,
+    rest: &mut CBytes<'a>,
+    types: &[CColumnType],
+    values: &mut [CValue<'a>],
+    indicators: &mut [u8],
+) -> u32
+    ensures end { rest.old.bytes.now ≡ [] → (result ≡ 7) × (rest.new ≡ rest.old) × (values.new ≡ values.old) × (indicators.new ≡ indicators.old) }
+    ensures no_column { rest.old.bytes.now ≢ [] → types.now ≡ [] → (result ≡ 2) × (rest.new ≡ rest.old) × (values.new ≡ values.old) × (indicators.new ≡ indicators.old) }
+    ensures small { rest.old.bytes.now ≢ [] → (length values.old < length types.now) ⊎ (length indicators.old < length types.now) → (result ≡ 5) × (rest.new ≡ rest.old) × (values.new ≡ values.old) × (indicators.new ≡ indicators.old) }
+    ensures value { rest.old.bytes.now ≢ [] → types.now ≢ [] → length types.now ≤ length values.old → length types.now ≤ length indicators.old
+        → spec.RowInto ((spec.bulk_row types.now).reads rest.old.bytes.now) result rest.old rest.new (take (length types.now) values.new) (take (length types.now) indicators.new) }
+    ensures contents { rest.old.bytes.now ≢ [] → types.now ≢ [] → length types.now ≤ length values.old → length types.now ≤ length indicators.old
+        → spec.ContentsInto ((row_of_columns (map spec.column_of types.now)).reads rest.old.bytes.now) result (take (length types.now) values.new) rest.new.bytes.now }
+    ensures places { length types.now ≤ length values.old → length types.now ≤ length indicators.old → FillsPlaces (length types.now) (result ≡ 0) values.old values.new }
+    ensures other_indicators { drop (length types.now) indicators.new ≡ drop (length types.now) indicators.old }
+{
+    if rest.bytes.is_empty() {
+        return END;
+    }
+    if types.is_empty() {
+        return INVALID_DATA;
+    }
+    if values.len() < types.len() || indicators.len() < types.len() {
+        return BUFFER_TOO_SMALL;
+    }
+    let mut buf = ParseBuf::new(alloc, rest.bytes);
+    match fill_row(types, &mut buf, values, indicators) {
+        Ok(()) => {
+            rest.bytes = buf.eat_all();
+            OK
+        }
+        Err(fault) => code_of(&fault),
+    }
+}
