@@ -42,7 +42,7 @@ struct BulkCall<'a> {
 
 /// The type that is declared for a column.
 #[inline(always)]
-fn declared_type(column: &CColumnType) -> ParamType
+pub(crate) fn declared_type(column: &CColumnType) -> ParamType
     ensures { result ≡ spec.declared_type column.now }
 {
     let flags = if column.is_unsigned() {
@@ -151,7 +151,7 @@ fn counted(call: &BulkCall<'_>, values: &[CValue<'_>], rows: usize) -> Result<(u
 
 /// Columns are written as the types that are declared for them.
 #[derive(Drop)]
-struct AsDeclaredTypes;
+pub(crate) struct AsDeclaredTypes;
 
 impl ItemForm<CColumnType> for AsDeclaredTypes {
     ghost use Rattle.mysql_values.specs.ParamType.{param_type};
