@@ -572,8 +572,24 @@ typedef struct myp_command {
 uint32_t myp_write_command(const myp_command *command, uint8_t *out, size_t size, size_t *written);
 
 /* Writes COM_QUERY without attributes, by what both sides can do: under MYP_CLIENT_QUERY_ATTRIBUTES two bytes say that there are none.
- * MYP_BUFFER_TOO_SMALL. */
+ * Attributes are written by myp_write_query_with_attributes. MYP_BUFFER_TOO_SMALL. */
 uint32_t myp_write_query(const uint8_t *text, size_t len, uint32_t capabilities, uint8_t *out, size_t size, size_t *written);
+
+/* An attribute of a query. Where one is written, its type is that of its value's kind, and the last two fields are not looked at.
+ * Initializer: MYP_QUERY_ATTRIBUTE_INIT. */
+typedef struct myp_query_attribute {
+    myp_bytes name;
+    myp_value value;
+    uint8_t column_type; /* of enum myp_type, as it was sent */
+    uint8_t is_unsigned; /* 1 where it was sent as unsigned, else 0 */
+} myp_query_attribute;
+#define MYP_QUERY_ATTRIBUTE_INIT { MYP_BYTES_INIT, MYP_VALUE_INIT, 0, 0 }
+
+/* Writes COM_QUERY of a session with MYP_CLIENT_QUERY_ATTRIBUTES, with attributes before its text, of which there may be none.
+ * MYP_INVALID_INPUT where the value of an attribute is none, and *written is 0; MYP_BUFFER_TOO_SMALL; MYP_NO_MEMORY of strings that no
+ * memory holds together, and *written is 0. */
+uint32_t myp_write_query_with_attributes(const uint8_t *text, size_t len, const myp_query_attribute *attributes, size_t n, uint8_t *out,
+                                         size_t size, size_t *written);
 
 /* Writes COM_STMT_CLOSE, of 5 bytes. MYP_BUFFER_TOO_SMALL. */
 uint32_t myp_write_close(uint32_t statement_id, uint8_t *out, size_t size, size_t *written);
@@ -590,11 +606,38 @@ typedef struct myp_long_data {
 uint32_t myp_write_long_data(const myp_long_data *part, uint8_t *out, size_t size, size_t *written);
 
 /* Writes COM_STMT_EXECUTE with the values, the types of their kinds (LONGLONG, FLOAT, DOUBLE, VAR_STRING of MYP_BYTES, DATETIME, TIME,
- * NULL), and no cursor; whether a date has its ranges is the server's to say. *as_long_data is 1 where byte strings are left out,
- * since the request with them is past 16,777,215 bytes: each is sent ahead by myp_write_long_data. MYP_INVALID_INPUT of a
- * value that is none, and *written is 0; MYP_BUFFER_TOO_SMALL, and *as_long_data is set. */
+ * NULL), and no cursor; whether a date has its ranges is the server's to say. A cursor, chosen types and attributes have the calls
+ * below; a session with MYP_CLIENT_QUERY_ATTRIBUTES writes each execution by myp_write_execution_with_attributes. *as_long_data is 1
+ * where byte strings are left out, since the request with them is past 16,777,215 bytes: each is sent ahead by myp_write_long_data.
+ * MYP_INVALID_INPUT of a value that is none, and *written is 0; MYP_BUFFER_TOO_SMALL, and *as_long_data is set. */
 uint32_t myp_write_execute(uint32_t statement_id, const myp_value *values, size_t n, uint8_t *out, size_t size, size_t *written,
                            uint8_t *as_long_data);
+
+/* Which cursor an execution opens over its rows, which MYP_COM_STMT_FETCH asks for. Servers open the one that is read only. */
+enum myp_cursor { MYP_CURSOR_NONE = 0, MYP_CURSOR_READ_ONLY = 1, MYP_CURSOR_FOR_UPDATE = 2, MYP_CURSOR_SCROLLABLE = 4 };
+
+/* Writes COM_STMT_EXECUTE as myp_write_execute does, with a cursor of enum myp_cursor. MYP_INVALID_INPUT also of another cursor; then *written is 0,
+ * and *as_long_data as it was. */
+uint32_t myp_write_execution_with_cursor(uint32_t statement_id, uint32_t cursor, const myp_value *values, size_t n, uint8_t *out,
+                                         size_t size, size_t *written, uint8_t *as_long_data);
+
+/* Writes COM_STMT_EXECUTE with a cursor of enum myp_cursor, and each value under its type, of which there are as many: a number in as many bytes
+ * as the type has; a float of 4 bytes under MYP_TYPE_FLOAT, one of 8 under MYP_TYPE_DOUBLE; a date, without a time of day under MYP_TYPE_DATE; a
+ * span of time under MYP_TYPE_TIME; bytes under the types of strings; MYP_NULL under any. Where sends_types is 0, no types are sent: those passed
+ * are the ones that an earlier execution of the statement sent. *as_long_data is that of myp_write_execute. MYP_INVALID_INPUT of another
+ * cursor or another count of types, or of a value that is none or that its type doesn't spell, and *written is 0 and *as_long_data as it
+ * was; MYP_BUFFER_TOO_SMALL, and *as_long_data is set. */
+uint32_t myp_write_execution_with_types(uint32_t statement_id, uint32_t cursor, uint8_t sends_types, const myp_column_type *types,
+                                        size_t n_types, const myp_value *values, size_t n, uint8_t *out, size_t size, size_t *written,
+                                        uint8_t *as_long_data);
+
+/* Writes COM_STMT_EXECUTE of a session with MYP_CLIENT_QUERY_ATTRIBUTES, with a cursor of enum myp_cursor, and attributes of the query after the
+ * values, of which there may be none. *as_long_data is that of myp_write_execute; no attribute is left out. MYP_INVALID_INPUT of another
+ * cursor, or where a value or that of an attribute is none, and *written is 0 and *as_long_data as it was; MYP_BUFFER_TOO_SMALL, and
+ * *as_long_data is set; MYP_NO_MEMORY of strings that no memory holds together, and *written is 0. */
+uint32_t myp_write_execution_with_attributes(uint32_t statement_id, uint32_t cursor, const myp_value *values, size_t n,
+                                             const myp_query_attribute *attributes, size_t n_attributes, uint8_t *out, size_t size,
+                                             size_t *written, uint8_t *as_long_data);
 
 /* Flags of a bulk execution: myp_write_bulk is passed the first, and sets the second. */
 enum myp_bulk_flag {
@@ -879,15 +922,6 @@ uint32_t myp_read_change_user(const uint8_t *packet, size_t len, uint32_t capabi
  * own calls too, but for what stands after the head of an execution. MYP_UNEXPECTED_EOF of no byte, or where a field is cut;
  * MYP_INVALID_DATA of a bad length. */
 uint32_t myp_read_command(const uint8_t *packet, size_t len, uint32_t capabilities, myp_command *out);
-
-/* Initializer: MYP_QUERY_ATTRIBUTE_INIT. */
-typedef struct myp_query_attribute {
-    myp_bytes name;
-    myp_value value;
-    uint8_t column_type; /* of enum myp_type, as it was sent */
-    uint8_t is_unsigned; /* 1 where it was sent as unsigned, else 0 */
-} myp_query_attribute;
-#define MYP_QUERY_ATTRIBUTE_INIT { MYP_BYTES_INIT, MYP_VALUE_INIT, 0, 0 }
 
 /* Reads one attribute of a COM_QUERY of a session with MYP_CLIENT_QUERY_ATTRIBUTES, the first being at place 0. Each call reads the query anew.
  * MYP_END where there are fewer; MYP_UNEXPECTED_EOF and MYP_INVALID_DATA of what is no such query. */

@@ -1,6 +1,8 @@
 /* What a client says, and the rest of what it reads. */
 #include "abi.h"
 
+static uint8_t huge[16777198];
+
 static void executions(void)
 {
     uint8_t out[64], as_long_data = 7;
@@ -19,9 +21,91 @@ static void executions(void)
     CHECK(myp_write_execute(1, v, 6, out, sizeof out, &n, &as_long_data) == MYP_INVALID_INPUT);
     v[4].days = 0, v[5].kind = 8;
     CHECK(myp_write_execute(1, v, 6, out, sizeof out, &n, &as_long_data) == MYP_INVALID_INPUT && out[0] == 7);
-    static uint8_t huge[16777198];
     v[0].bytes.data = huge, v[0].bytes.len = sizeof huge;
     CHECK(myp_write_execute(1, v, 1, out, sizeof out, &n, &as_long_data) == MYP_OK && as_long_data == 1 && is_hex(out, n, "170100000000010000000001fd00"));
+}
+
+/* The example of the protocol's page on COM_STMT_EXECUTE is a VARCHAR that is "foo". */
+static void typed_executions(void)
+{
+    uint8_t out[64], as_long_data = 7;
+    size_t n = 9;
+    static const myp_column_type varchar = { MYP_TYPE_VARCHAR, 0 }, of[] = { { MYP_TYPE_TINY, 0 }, { MYP_TYPE_SHORT, 1 }, { MYP_TYPE_LONG, 0 }, { MYP_TYPE_BLOB, 0 } };
+    myp_value foo = myp_text("foo", 3), v[4] = { myp_int(-1), MYP_VALUE_INIT, myp_int(-2), MYP_VALUE_INIT };
+    v[1].kind = MYP_UINT, v[1].number = 65535;
+    CHECK(myp_write_execution_with_types(1, MYP_CURSOR_NONE, 1, &varchar, 1, &foo, 1, out, sizeof out, &n, &as_long_data) == MYP_OK && as_long_data == 0 && is_hex(out, n, "17010000000001000000" "00" "01" "0f00" "03666f6f"));
+    CHECK(myp_write_execution_with_types(1, MYP_CURSOR_NONE, 0, &varchar, 1, &foo, 1, out, sizeof out, &n, &as_long_data) == MYP_OK && is_hex(out, n, "17010000000001000000" "00" "00" "03666f6f"));
+    CHECK(myp_write_execution_with_types(5, MYP_CURSOR_READ_ONLY, 9, of, 4, v, 4, out, sizeof out, &n, &as_long_data) == MYP_OK && is_hex(out, n, "17050000000101000000" "08" "01" "010002800300fc00" "ff" "ffff" "feffffff"));
+    CHECK(myp_write_execution_with_types(5, MYP_CURSOR_FOR_UPDATE, 0, of, 4, v, 4, out, sizeof out, &n, &as_long_data) == MYP_OK && is_hex(out, n, "17050000000201000000" "08" "00" "ff" "ffff" "feffffff"));
+    CHECK(myp_write_execution_with_types(5, MYP_CURSOR_SCROLLABLE, 1, NULL, 0, NULL, 0, out, sizeof out, &n, &as_long_data) == MYP_OK && is_hex(out, n, "17050000000401000000"));
+    CHECK(myp_write_execution_with_types(1, 0, 1, &varchar, 1, &foo, 1, out, 17, &n, &as_long_data) == MYP_BUFFER_TOO_SMALL && n == 18 && as_long_data == 0);
+    out[0] = 7, as_long_data = 7;
+    CHECK(myp_write_execution_with_types(1, 3, 1, &varchar, 1, &foo, 1, out, sizeof out, &n, &as_long_data) == MYP_INVALID_INPUT && n == 0 && out[0] == 7 && as_long_data == 7);
+    CHECK(myp_write_execution_with_types(1, 0, 1, of, 4, v, 3, out, sizeof out, &n, &as_long_data) == MYP_INVALID_INPUT && n == 0 && out[0] == 7);
+    v[0].number = UINT64_C(128);
+    CHECK(myp_write_execution_with_types(1, 0, 1, of, 4, v, 4, out, sizeof out, &n, &as_long_data) == MYP_INVALID_INPUT && out[0] == 7);
+    v[0] = foo;
+    CHECK(myp_write_execution_with_types(1, 0, 0, of, 4, v, 4, out, sizeof out, &n, &as_long_data) == MYP_INVALID_INPUT && out[0] == 7);
+    v[0].kind = 8;
+    CHECK(myp_write_execution_with_types(1, 0, 1, of, 4, v, 4, out, sizeof out, &n, &as_long_data) == MYP_INVALID_INPUT && out[0] == 7 && as_long_data == 7);
+    v[0] = myp_int(1), v[3].kind = MYP_BYTES, v[3].bytes.data = huge, v[3].bytes.len = sizeof huge;
+    CHECK(myp_write_execution_with_types(5, 0, 1, of, 4, v, 4, out, sizeof out, &n, &as_long_data) == MYP_OK && as_long_data == 1 && is_hex(out, n, "17050000000001000000" "00" "01" "010002800300fc00" "01" "ffff" "feffffff"));
+}
+
+static void cursors(void)
+{
+    uint8_t out[64], as_long_data = 7;
+    size_t n = 9;
+    myp_value v[9] = { myp_int(5) };
+    CHECK(myp_write_execution_with_cursor(1, MYP_CURSOR_READ_ONLY, v, 1, out, sizeof out, &n, &as_long_data) == MYP_OK && as_long_data == 0 && is_hex(out, n, "17010000000101000000" "00" "01" "0800" "0500000000000000"));
+    CHECK(myp_write_execution_with_cursor(1, MYP_CURSOR_NONE, v, 1, out, sizeof out, &n, &as_long_data) == MYP_OK && is_hex(out, n, "17010000000001000000" "00" "01" "0800" "0500000000000000"));
+    CHECK(myp_write_execution_with_cursor(1, MYP_CURSOR_SCROLLABLE, NULL, 0, out, sizeof out, &n, &as_long_data) == MYP_OK && is_hex(out, n, "17010000000401000000"));
+    for (size_t i = 0; i < 9; i++)
+        v[i] = (myp_value)MYP_VALUE_INIT;
+    CHECK(myp_write_execution_with_cursor(1, MYP_CURSOR_FOR_UPDATE, v, 9, out, sizeof out, &n, &as_long_data) == MYP_OK && is_hex(out, n, "17010000000201000000" "ff01" "01" "060006000600060006000600060006000600"));
+    CHECK(myp_write_execution_with_cursor(1, MYP_CURSOR_FOR_UPDATE, v, 9, out, 30, &n, &as_long_data) == MYP_BUFFER_TOO_SMALL && n == 31 && as_long_data == 0);
+    out[0] = 7, as_long_data = 7;
+    CHECK(myp_write_execution_with_cursor(1, 8, v, 9, out, sizeof out, &n, &as_long_data) == MYP_INVALID_INPUT && n == 0 && out[0] == 7 && as_long_data == 7);
+    v[8].kind = 8;
+    CHECK(myp_write_execution_with_cursor(1, 0, v, 9, out, sizeof out, &n, &as_long_data) == MYP_INVALID_INPUT && n == 0 && out[0] == 7 && as_long_data == 7);
+}
+
+/* An attribute of a name and a value. */
+static myp_query_attribute attribute(const char *name, myp_value value)
+{
+    myp_query_attribute a = MYP_QUERY_ATTRIBUTE_INIT;
+    a.name.data = (const uint8_t *)name, a.name.len = strlen(name), a.value = value;
+    return a;
+}
+
+static void query_attributes(void)
+{
+    uint8_t out[128], as_long_data = 7;
+    size_t n = 9;
+    myp_value v[2] = { myp_int(5), myp_text("a", 1) }, none = MYP_VALUE_INIT;
+    myp_query_attribute a[3] = { attribute("n1", myp_text("v1", 2)), attribute("n2", myp_int(7)), attribute("n3", none) }, t = MYP_QUERY_ATTRIBUTE_INIT;
+    CHECK(myp_write_execution_with_attributes(1, MYP_CURSOR_NONE, v, 2, NULL, 0, out, sizeof out, &n, &as_long_data) == MYP_OK && as_long_data == 0
+        && is_hex(out, n, "17010000000801000000" "02" "00" "01" "080000" "fd0000" "0500000000000000" "0161"));
+    CHECK(myp_write_execution_with_attributes(1, MYP_CURSOR_READ_ONLY, v, 1, a, 3, out, sizeof out, &n, &as_long_data) == MYP_OK
+        && is_hex(out, n, "17010000000901000000" "04" "08" "01" "080000" "fd00026e31" "0800026e32" "0600026e33" "0500000000000000" "027631" "0700000000000000"));
+    CHECK(myp_write_execution_with_attributes(1, 0, NULL, 0, NULL, 0, out, sizeof out, &n, &as_long_data) == MYP_OK && is_hex(out, n, "17010000000801000000" "00"));
+    CHECK(myp_write_execution_with_attributes(1, 0, NULL, 0, a + 2, 1, out, sizeof out, &n, &as_long_data) == MYP_OK && is_hex(out, n, "17010000000801000000" "01" "01" "01" "0600026e33"));
+    CHECK(myp_write_execution_with_attributes(1, 0, NULL, 0, a + 2, 1, out, 17, &n, &as_long_data) == MYP_BUFFER_TOO_SMALL && n == 18);
+    CHECK(myp_write_query_with_attributes((const uint8_t *)"select 1", 8, a, 3, out, sizeof out, &n) == MYP_OK
+        && is_hex(out, n, "03" "03" "01" "04" "01" "fd00026e31" "0800026e32" "0600026e33" "027631" "0700000000000000" "73656c6563742031"));
+    for (size_t i = 0; i < 3; i++)
+        CHECK(myp_read_query_attribute(out, n, i, &t) == MYP_OK && t.name.len == 2 && !memcmp(t.name.data, a[i].name.data, 2) && t.value.kind == a[i].value.kind && t.value.number == a[i].value.number
+            && t.value.bytes.len == a[i].value.bytes.len && t.is_unsigned == 0);
+    myp_command c = MYP_COMMAND_INIT;
+    CHECK(myp_read_query_attribute(out, n, 3, &t) == MYP_END && myp_read_command(out, n, MYP_CLIENT_QUERY_ATTRIBUTES, &c) == MYP_OK && c.text.len == 8 && !memcmp(c.text.data, "select 1", 8));
+    CHECK(myp_write_query_with_attributes(NULL, 0, NULL, 0, out, sizeof out, &n) == MYP_OK && is_hex(out, n, "030001"));
+    CHECK(myp_write_query_with_attributes((const uint8_t *)"select 1", 8, a, 1, out, 20, &n) == MYP_BUFFER_TOO_SMALL && n == 21);
+    out[0] = 7, as_long_data = 7, a[1].value.kind = 8;
+    CHECK(myp_write_query_with_attributes((const uint8_t *)"select 1", 8, a, 3, out, sizeof out, &n) == MYP_INVALID_INPUT && n == 0 && out[0] == 7);
+    CHECK(myp_write_execution_with_attributes(1, 0, v, 2, a, 3, out, sizeof out, &n, &as_long_data) == MYP_INVALID_INPUT && n == 0 && out[0] == 7 && as_long_data == 7);
+    CHECK(myp_write_execution_with_attributes(1, 16, v, 2, a, 1, out, sizeof out, &n, &as_long_data) == MYP_INVALID_INPUT && n == 0 && out[0] == 7);
+    v[0].bytes.data = huge, v[0].bytes.len = sizeof huge, v[0].kind = MYP_BYTES;
+    CHECK(myp_write_execution_with_attributes(1, 0, v, 1, a, 1, out, sizeof out, &n, &as_long_data) == MYP_OK && as_long_data == 1 && is_hex(out, n, "17010000000801000000" "02" "00" "01" "fd0000" "fd00026e31" "027631"));
 }
 
 static void bulk(void)
@@ -233,6 +317,9 @@ static void keys(void)
 void client_checks(void)
 {
     executions();
+    typed_executions();
+    cursors();
+    query_attributes();
     bulk();
     sizes_of_rows();
     bulk_by_row();

@@ -124,6 +124,23 @@ static void write_commands(const uint8_t *p, size_t len)
             && d.rows == c.rows && d.used == n);
 }
 
+static void write_query(const uint8_t *p, size_t len)
+{
+    size_t n = 0, count = 0;
+    myp_command c = MYP_COMMAND_INIT, d = MYP_COMMAND_INIT;
+    myp_query_attribute a[8], b = MYP_QUERY_ATTRIBUTE_INIT;
+    for (size_t i = 0; i < 8; i++)
+        a[i] = b;
+    while (count < 8 && !myp_read_query_attribute(p, len, count, &a[count]))
+        count++;
+    if (myp_read_query_attribute(p, len, count, &b) != MYP_END || myp_read_command(p, len, MYP_CLIENT_QUERY_ATTRIBUTES, &c))
+        return;
+    must("query, written", !myp_write_query_with_attributes(c.text.data, c.text.len, a, count, sent, sizeof sent, &n)
+        && !myp_read_command(sent, n, MYP_CLIENT_QUERY_ATTRIBUTES, &d) && SAME(d.text, c.text) && myp_read_query_attribute(sent, n, count, &b) == MYP_END);
+    for (size_t i = 0; i < count; b.value.number = 0, i++)
+        must("attribute of a query, written", !myp_read_query_attribute(sent, n, i, &b) && SAME(b.name, a[i].name) && same_values(&b.value, &a[i].value, 1));
+}
+
 static void write_replication(const uint8_t *p, size_t len)
 {
     size_t n = 0;
@@ -146,6 +163,7 @@ void read_again(const uint8_t *p, size_t len, uint32_t capabilities)
 {
     write_replication(p, len);
     write_commands(p, len);
+    write_query(p, len);
     write_replies(p, len, capabilities);
     write_columns(p, len, capabilities);
     write_extended(p, len, capabilities);

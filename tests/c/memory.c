@@ -144,6 +144,12 @@ static void requests(void)
     myp_ssl_request r = MYP_SSL_REQUEST_INIT;
     myp_register_replica replica = MYP_REGISTER_REPLICA_INIT;
     EACH(0, myp_write_execute(1, v, 4, out, sizeof out, &n, &as_long_data));
+    static const myp_column_type four[] = { { MYP_TYPE_TINY, 0 }, { MYP_TYPE_STRING, 0 }, { MYP_TYPE_LONG, 1 }, { MYP_TYPE_BLOB, 0 } };
+    const myp_query_attribute named[2] = { { text, v[0], 0, 0 }, { text, v[1], 0, 0 } };
+    EACH(0, myp_write_execution_with_cursor(1, MYP_CURSOR_READ_ONLY, v, 4, out, sizeof out, &n, &as_long_data));
+    EACH(0, myp_write_execution_with_types(1, MYP_CURSOR_NONE, 1, four, 4, v, 4, out, sizeof out, &n, &as_long_data));
+    EACH(0, myp_write_execution_with_attributes(1, MYP_CURSOR_NONE, v, 4, named, 2, out, sizeof out, &n, &as_long_data));
+    EACH(0, myp_write_query_with_attributes(text.data, text.len, named, 2, out, sizeof out, &n));
     EACH(0, myp_write_bulk(1, 0, 1 << 20, types, 2, v, 4, out, sizeof out, &n, &rows));
     EACH(0, myp_begin_bulk(1, 0, types, 2, out, sizeof out, &n));
     EACH(0, myp_add_bulk_row(types, 2, v, 2, 1 << 20, out, sizeof out, n, &n));

@@ -22,3 +22,9 @@ pub mod AttributeKinds
 pub mod Versions
 pub mod GtidTexts
 pub mod QueryAttributes
+pub mod NullMarks
+pub mod SentValues
+pub mod SentAttributes
+pub mod ExecutionOptions
+pub mod QueryWithAttributes
+pub mod TypedExecutions

@@ -20,6 +20,7 @@ pub mod Conversation
 pub mod Dump
 pub mod ErrPacket
 pub mod Execution
+pub mod ExecutionOptions
 pub mod ExtendedColumn
 pub mod Given
 pub mod GtidDump
@@ -30,17 +31,21 @@ pub mod Input
 pub mod LocalInfile
 pub mod Login
 pub mod LongData
+pub mod NullMarks
 pub mod OkPacket
 pub mod Output
 pub mod Parsec
 pub mod PublicKey
 pub mod Query
 pub mod QueryAttribute
+pub mod QueryWithAttributes
 pub mod RegisterReplica
 pub mod Reply
 pub mod Rows
 pub mod Scramble
 pub mod SemiSyncAck
+pub mod SentExecution
+pub mod SentValue
 pub mod ServerVersion
 pub mod SessionChange
 pub mod Sid
@@ -50,4 +55,5 @@ pub mod StreamPacket
 pub mod StreamPlaces
 pub mod Supported
 pub mod TableDump
+pub mod TypedExecution
 pub mod Value

@@ -42,7 +42,7 @@ struct BulkCall<'a> {
 
 /// The type that is declared for a column.
 #[inline(always)]
-fn declared_type(column: &CColumnType) -> ParamType
+pub(crate) fn declared_type(column: &CColumnType) -> ParamType
     ensures { result ≡ spec.declared_type column.now }
 {
     let flags = if column.is_unsigned() {
