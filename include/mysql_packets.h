@@ -610,13 +610,13 @@ uint32_t myp_write_long_data(const myp_long_data *part, uint8_t *out, size_t siz
  * below; a session with MYP_CLIENT_QUERY_ATTRIBUTES writes each execution by myp_write_execution_with_attributes. *as_long_data is 1
  * where byte strings are left out, since the request with them is past 16,777,215 bytes: each is sent ahead by myp_write_long_data.
  * MYP_INVALID_INPUT of a value that is none, and *written is 0; MYP_BUFFER_TOO_SMALL, and *as_long_data is set. */
-uint32_t myp_write_execute(uint32_t statement_id, const myp_value *values, size_t n, uint8_t *out, size_t size, size_t *written,
+uint32_t myp_write_execution(uint32_t statement_id, const myp_value *values, size_t n, uint8_t *out, size_t size, size_t *written,
                            uint8_t *as_long_data);
 
 /* Which cursor an execution opens over its rows, which MYP_COM_STMT_FETCH asks for. Servers open the one that is read only. */
 enum myp_cursor { MYP_CURSOR_NONE = 0, MYP_CURSOR_READ_ONLY = 1, MYP_CURSOR_FOR_UPDATE = 2, MYP_CURSOR_SCROLLABLE = 4 };
 
-/* Writes COM_STMT_EXECUTE as myp_write_execute does, with a cursor of enum myp_cursor. MYP_INVALID_INPUT also of another cursor; then *written is 0,
+/* Writes COM_STMT_EXECUTE as myp_write_execution does, with a cursor of enum myp_cursor. MYP_INVALID_INPUT also of another cursor; then *written is 0,
  * and *as_long_data as it was. */
 uint32_t myp_write_execution_with_cursor(uint32_t statement_id, uint32_t cursor, const myp_value *values, size_t n, uint8_t *out,
                                          size_t size, size_t *written, uint8_t *as_long_data);
@@ -624,7 +624,7 @@ uint32_t myp_write_execution_with_cursor(uint32_t statement_id, uint32_t cursor,
 /* Writes COM_STMT_EXECUTE with a cursor of enum myp_cursor, and each value under its type, of which there are as many: a number in as many bytes
  * as the type has; a float of 4 bytes under MYP_TYPE_FLOAT, one of 8 under MYP_TYPE_DOUBLE; a date, without a time of day under MYP_TYPE_DATE; a
  * span of time under MYP_TYPE_TIME; bytes under the types of strings; MYP_NULL under any. Where sends_types is 0, no types are sent: those passed
- * are the ones that an earlier execution of the statement sent. *as_long_data is that of myp_write_execute. MYP_INVALID_INPUT of another
+ * are the ones that an earlier execution of the statement sent. *as_long_data is that of myp_write_execution. MYP_INVALID_INPUT of another
  * cursor or another count of types, or of a value that is none or that its type doesn't spell, and *written is 0 and *as_long_data as it
  * was; MYP_BUFFER_TOO_SMALL, and *as_long_data is set. */
 uint32_t myp_write_execution_with_types(uint32_t statement_id, uint32_t cursor, uint8_t sends_types, const myp_column_type *types,
@@ -632,7 +632,7 @@ uint32_t myp_write_execution_with_types(uint32_t statement_id, uint32_t cursor, 
                                         uint8_t *as_long_data);
 
 /* Writes COM_STMT_EXECUTE of a session with MYP_CLIENT_QUERY_ATTRIBUTES, with a cursor of enum myp_cursor, and attributes of the query after the
- * values, of which there may be none. *as_long_data is that of myp_write_execute; no attribute is left out. MYP_INVALID_INPUT of another
+ * values, of which there may be none. *as_long_data is that of myp_write_execution; no attribute is left out. MYP_INVALID_INPUT of another
  * cursor, or where a value or that of an attribute is none, and *written is 0 and *as_long_data as it was; MYP_BUFFER_TOO_SMALL, and
  * *as_long_data is set; MYP_NO_MEMORY of strings that no memory holds together, and *written is 0. */
 uint32_t myp_write_execution_with_attributes(uint32_t statement_id, uint32_t cursor, const myp_value *values, size_t n,

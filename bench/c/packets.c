@@ -240,7 +240,7 @@ static uint64_t execution(const uint8_t *p, size_t n)
     (void)n;
     for (int i = 0; i < COLUMNS; i++)
         row[i].kind = MYP_INT, memcpy(&row[i].number, p + 8 * i, 8);
-    return myp_write_execute(1, row, COLUMNS, out, sizeof out, &written, &as_long_data) ? 0 : written;
+    return myp_write_execution(1, row, COLUMNS, out, sizeof out, &written, &as_long_data) ? 0 : written;
 }
 
 /* ---- what is written */
@@ -346,7 +346,7 @@ static uint64_t execution_length(const uint8_t *p, size_t n)
     (void)n;
     for (int i = 0; i < COLUMNS; i++)
         row[i].kind = MYP_INT, memcpy(&row[i].number, p + 8 * i, 8);
-    return myp_write_execute(1, row, COLUMNS, NULL, 0, &written, &as_long_data) == MYP_BUFFER_TOO_SMALL ? written : 0;
+    return myp_write_execution(1, row, COLUMNS, NULL, 0, &written, &as_long_data) == MYP_BUFFER_TOO_SMALL ? written : 0;
 }
 
 static const struct operation {

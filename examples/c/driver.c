@@ -250,7 +250,7 @@ int main(int argc, char **argv)
     size_t length = 0;
     myp_value values[] = { myp_int(99990), myp_text("odd", 3) };
     uint32_t id = prepare("SELECT n, name, n / 2, TIMESTAMP '2024-02-29 01:02:03' FROM numbers WHERE n > ? AND name = ? ORDER BY n");
-    check(myp_write_execute(id, values, 2, out + HEADER, SIZE, &length, &as_long_data), "execution");
+    check(myp_write_execution(id, values, 2, out + HEADER, SIZE, &length, &as_long_data), "execution");
     sequence_id = 0;
     send_payload(length);
     show_result(1);

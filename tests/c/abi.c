@@ -216,7 +216,7 @@ static void nulls(void)
     myp_change change = MYP_CHANGE_INIT;
     CHECK(myp_reply_kind(NULL, 0, &kind) == MYP_UNEXPECTED_EOF && kind == 7);
     CHECK(myp_next_change(&rest, &change) == MYP_END && myp_next_variable(&rest, &name, &value) == MYP_END);
-    CHECK(myp_write_execute(1, NULL, 0, out, sizeof out, &n, &as_long_data) == MYP_OK && n == 10);
+    CHECK(myp_write_execution(1, NULL, 0, out, sizeof out, &n, &as_long_data) == MYP_OK && n == 10);
     const myp_long_data data = { null, 1, 2 };
     CHECK(myp_write_long_data(&data, out, sizeof out, &n) == MYP_OK && n == 7);
     CHECK(myp_write_close(1, NULL, 0, &n) == MYP_BUFFER_TOO_SMALL && n == 5);

@@ -9,20 +9,20 @@ static void executions(void)
     size_t n = 9;
     myp_value v[6] = { MYP_VALUE_INIT, MYP_VALUE_INIT, MYP_VALUE_INIT, MYP_VALUE_INIT, MYP_VALUE_INIT, MYP_VALUE_INIT };
     v[1].kind = MYP_INT, v[1].number = 1;
-    CHECK(myp_write_execute(1, v, 2, out, sizeof out, &n, &as_long_data) == MYP_OK && as_long_data == 0 && is_hex(out, n, "170100000000010000000101060008000100000000000000"));
-    CHECK(myp_write_execute(1, v, 0, out, sizeof out, &n, &as_long_data) == MYP_OK && is_hex(out, n, "17010000000001000000"));
-    CHECK(myp_write_execute(1, v, 2, out, 23, &n, &as_long_data) == MYP_BUFFER_TOO_SMALL && n == 24 && as_long_data == 0);
+    CHECK(myp_write_execution(1, v, 2, out, sizeof out, &n, &as_long_data) == MYP_OK && as_long_data == 0 && is_hex(out, n, "170100000000010000000101060008000100000000000000"));
+    CHECK(myp_write_execution(1, v, 0, out, sizeof out, &n, &as_long_data) == MYP_OK && is_hex(out, n, "17010000000001000000"));
+    CHECK(myp_write_execution(1, v, 2, out, 23, &n, &as_long_data) == MYP_BUFFER_TOO_SMALL && n == 24 && as_long_data == 0);
     v[0].kind = MYP_BYTES, v[1].kind = MYP_UINT, v[2].kind = MYP_FLOAT, v[2].number = 2, v[3].kind = MYP_DOUBLE, v[3].number = 3, v[4].kind = MYP_DATE, v[5].kind = MYP_TIME;
-    CHECK(myp_write_execute(1, v, 6, out, sizeof out, &n, &as_long_data) == MYP_OK && is_hex(out, n, "170100000000010000000001fd000880040005000c000b000001000000000000000200000003000000000000000000"));
+    CHECK(myp_write_execution(1, v, 6, out, sizeof out, &n, &as_long_data) == MYP_OK && is_hex(out, n, "170100000000010000000001fd000880040005000c000b000001000000000000000200000003000000000000000000"));
     out[0] = 7, as_long_data = 7;
     v[2].number = UINT64_C(1) << 32;
-    CHECK(myp_write_execute(1, v, 6, out, sizeof out, &n, &as_long_data) == MYP_INVALID_INPUT && n == 0 && as_long_data == 7 && out[0] == 7);
+    CHECK(myp_write_execution(1, v, 6, out, sizeof out, &n, &as_long_data) == MYP_INVALID_INPUT && n == 0 && as_long_data == 7 && out[0] == 7);
     v[2].number = 2, v[4].days = 65536;
-    CHECK(myp_write_execute(1, v, 6, out, sizeof out, &n, &as_long_data) == MYP_INVALID_INPUT);
+    CHECK(myp_write_execution(1, v, 6, out, sizeof out, &n, &as_long_data) == MYP_INVALID_INPUT);
     v[4].days = 0, v[5].kind = 8;
-    CHECK(myp_write_execute(1, v, 6, out, sizeof out, &n, &as_long_data) == MYP_INVALID_INPUT && out[0] == 7);
+    CHECK(myp_write_execution(1, v, 6, out, sizeof out, &n, &as_long_data) == MYP_INVALID_INPUT && out[0] == 7);
     v[0].bytes.data = huge, v[0].bytes.len = sizeof huge;
-    CHECK(myp_write_execute(1, v, 1, out, sizeof out, &n, &as_long_data) == MYP_OK && as_long_data == 1 && is_hex(out, n, "170100000000010000000001fd00"));
+    CHECK(myp_write_execution(1, v, 1, out, sizeof out, &n, &as_long_data) == MYP_OK && as_long_data == 1 && is_hex(out, n, "170100000000010000000001fd00"));
 }
 
 /* The example of the protocol's page on COM_STMT_EXECUTE is a VARCHAR that is "foo". */

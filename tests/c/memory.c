@@ -143,7 +143,7 @@ static void requests(void)
     sid.intervals = intervals, sid.n_intervals = 2, sid.tag[0] = 'a', sid.tag_length = 1;
     myp_ssl_request r = MYP_SSL_REQUEST_INIT;
     myp_register_replica replica = MYP_REGISTER_REPLICA_INIT;
-    EACH(0, myp_write_execute(1, v, 4, out, sizeof out, &n, &as_long_data));
+    EACH(0, myp_write_execution(1, v, 4, out, sizeof out, &n, &as_long_data));
     static const myp_column_type four[] = { { MYP_TYPE_TINY, 0 }, { MYP_TYPE_STRING, 0 }, { MYP_TYPE_LONG, 1 }, { MYP_TYPE_BLOB, 0 } };
     const myp_query_attribute named[2] = { { text, v[0], 0, 0 }, { text, v[1], 0, 0 } };
     EACH(0, myp_write_execution_with_cursor(1, MYP_CURSOR_READ_ONLY, v, 4, out, sizeof out, &n, &as_long_data));

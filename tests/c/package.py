@@ -132,9 +132,9 @@ def inside():
     # commands
     expect("query", session.write_query("select 1"), b"\x03select 1")
     expect("close", session.write_close(statement), b"\x19\x01\0\0\0")
-    expect("execution", session.write_execute(statement, ["foobar"]), [bytes.fromhex("170100000000010000000001fd0006666f6f626172")])
+    expect("execution", session.write_execution(statement, ["foobar"]), [bytes.fromhex("170100000000010000000001fd0006666f6f626172")])
     expect("long data", session.write_long_data(statement, 1, b"ab"), b"\x18\x01\0\0\0\x01\0ab")
-    large = session.write_execute(statement, [b"x" * (1 << 24), 1])
+    large = session.write_execution(statement, [b"x" * (1 << 24), 1])
     expect("an execution that is too large", [(it[0], len(it) > 1 << 24) for it in large], [(0x18, True), (0x17, False)])
     expect("bulk", [len(it) <= 1000 for it in session.write_bulk(statement, [(n, "x" * 100) for n in range(20)], 1004)], [True] * 3)
     expect("header", (session.write_header(5, 7), session.read_header(b"\5\0\0\7")), (b"\5\0\0\7", (5, 7)))

@@ -396,7 +396,7 @@ impl AsExecuteParam for CValue<'_> {
 /// Writes `COM_STMT_EXECUTE` with the values: 0; 5, and how many bytes it takes; 4; or 3 where one of them is no value, and then
 /// `as_long_data` is as it was.
 #[unsafe(no_mangle)]
-pub extern "C" fn myp_write_execute(
+pub extern "C" fn myp_write_execution(
     statement_id: u32,
     values: &[CValue<'_>],
     out: &mut [u8],

@@ -137,11 +137,11 @@ class Session:
         it = self.library.read("myp_read_statement", payload, into="myp_statement")
         return Statement(it.statement_id, it.num_columns, it.num_params, it.warning_count)
 
-    def write_execute(self, statement: Statement, values: Sequence[Value]) -> List[bytes]:
+    def write_execution(self, statement: Statement, values: Sequence[Value]) -> List[bytes]:
         """The commands of an execution: one, after which the answer comes, and before it the long data that it is too large with."""
         p, long_data = self.library, ctypes.c_uint8()
         held = p.array("myp_value", [p.value(it) for it in values])
-        request = p.write("myp_write_execute", statement.statement_id, held, after=[long_data])
+        request = p.write("myp_write_execution", statement.statement_id, held, after=[long_data])
         ahead = [it for it in enumerate(values) if long_data.value and isinstance(it[1], (bytes, str))]
         return [*(self.write_long_data(statement, place, it) for place, it in ahead), request]
 

@@ -3,7 +3,7 @@ use Rattle.mysql_prepared.specs.WrittenExecution.{IsExecutionBytes, execution_si
 use Rattle.mysql_packets_c.proofs.WrittenRows.{answered}
 use Rattle.mysql_packets_c.specs.Execution.{param}
 use Rattle.mysql_packets_c.specs.Output.{PutsSuch}
-use Rattle.mysql_packets_c.proofs.execution.myp_write_execute.Goals as goal
+use Rattle.mysql_packets_c.proofs.execution.myp_write_execution.Goals as goal
 
 pub returns-clause-value : goal.returns-clause-value
 returns-clause-value c = λ h.
