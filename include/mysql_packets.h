@@ -869,7 +869,8 @@ uint32_t myp_sid_from_text(const uint8_t *text, size_t len, myp_sid *out, myp_in
 
 /* Writes the text of a GTID set, as servers show one in @@gtid_executed: each sid's text after a comma and a newline but for the first,
  * and of one with a tag after one of the same uuid the tag and the intervals alone. The text of one sid is its own. It ends in no zero.
- * MYP_INVALID_INPUT of a tag that is none, and *written is 0; MYP_BUFFER_TOO_SMALL; MYP_NO_MEMORY, which the text takes, and *written is 0. */
+ * MYP_INVALID_INPUT of a tag that is none, and *written is 0; MYP_BUFFER_TOO_SMALL; MYP_NO_MEMORY of a text that no memory holds, and
+ * *written is 0. */
 uint32_t myp_sids_to_text(const myp_sid *sids, size_t n, uint8_t *out, size_t size, size_t *written);
 
 /* Initializer: MYP_GTID_DUMP_INIT. */
@@ -996,8 +997,8 @@ typedef struct myp_execution {
 
 /* Reads COM_STMT_EXECUTE of a session without MYP_CLIENT_QUERY_ATTRIBUTES: into the first values and the first types, one of
  * each parameter of the statement. A server keeps the types for an execution that sends none. What was sent ahead is
- * MYP_NULL. MYP_BUFFER_TOO_SMALL where there are fewer values or types than parameters, and MYP_NO_MEMORY, which n parameters
- * take: nothing is changed; MYP_UNEXPECTED_EOF and MYP_INVALID_DATA: of the values and the types the first ones may be set. */
+ * MYP_NULL. MYP_BUFFER_TOO_SMALL where there are fewer values or types than parameters: nothing is changed;
+ * MYP_UNEXPECTED_EOF and MYP_INVALID_DATA: of the values and the types the first ones may be set. */
 uint32_t myp_read_execution(const uint8_t *packet, size_t len, const myp_param *params, size_t n_params, myp_value *values,
                             size_t n_values, myp_column_type *types, size_t n_types, myp_execution *out);
 

@@ -173,18 +173,18 @@ static void requests(void)
     EACH(0, myp_write_gtid_dump(&by_gtid, &sid, 1, out, sizeof out, &n));
     myp_interval places[4] = { MYP_INTERVAL_INIT, MYP_INTERVAL_INIT, MYP_INTERVAL_INIT, MYP_INTERVAL_INIT };
     SOME(myp_sid_from_text((const uint8_t *)"3e11fa47-71ca-11e1-9e33-c80aa9429562:1-5:7", 42, &sid, places, 4, &n));
-    SOME(myp_sids_to_text(&sid, 1, out, sizeof out, &n));
+    EACH(0, myp_sids_to_text(&sid, 1, out, sizeof out, &n));
     static const char set[] = "3e11fa47-71ca-11e1-9e33-c80aa9429562:1-8:app:1-3:5-6";
     SOME(myp_gtid_dump_from_text(&by_gtid, (const uint8_t *)set, sizeof set - 1, out, sizeof out, &n));
     static uint8_t dump[256];
     size_t len = 0;
     refuse = 0, check("myp_write_gtid_dump", myp_write_gtid_dump(&by_gtid, &sid, 1, dump, sizeof dump, &len) == MYP_OK);
     SOME(myp_gtid_dump_to_text(dump, len, out, sizeof out, &n));
-    /* (a refused execution that is read leaves the struct: `used` in the place of what is written) */
+    /* (of an execution that is read, `used` stands in the place of what is written) */
     static const myp_param params[] = { { MYP_TYPE_LONGLONG, 0, 0 }, { MYP_TYPE_LONGLONG, 0, 0 } };
     myp_column_type found[2] = { { 0, 0 }, { 0, 0 } };
     myp_execution e = MYP_EXECUTION_INIT;
-    SOME((e.used = 0, code = myp_read_execution(execution, sizeof execution, params, 2, v, 4, found, 2, &e), n = e.used, code));
+    EACH(0, (code = myp_read_execution(execution, sizeof execution, params, 2, v, 4, found, 2, &e), n = e.used, code));
 }
 
 int main(void)

@@ -1,17 +1,18 @@
 -- What filling places gives of an execution.
 use Rattle.std.proofs.Common.{◌≡◌, ◌≢◌, ◌<◌, ◌≤◌, ◌-◌, ◌++◌, ◌∷◌, ◌+◌, ℕ, List, [], slice_set, Result, Ok, Err, Bool, length, drop, map, take, get_or, false, refl, sym, subst, ap, ◌∙◌, arith, if◌then◌else◌}
-use Rattle.std.proofs.lemmas.List.{append-nil, append_assoc, map-append, drop-drop, take_more, take_more_set}
+use Rattle.std.proofs.lemmas.List.{append-nil, append_assoc, drop-drop, drop_more, length-drop, length-map, take_more_set}
 use Rattle.mysql_wire.specs.declared.fault.FaultKind.{FaultKind}
 use Rattle.mysql_wire.specs.declared.fault.FaultKind.TheVariants as kind
 use Rattle.mysql_wire.specs.declared.fault.FaultOf.{FaultOf}
 use Rattle.mysql_wire.specs.declared.fault.FaultOf.TheVariants as fault
 use Rattle.mysql_wire.specs.Reading.{Reading, Faults}
-use Rattle.mysql_prepared.specs.ExecuteRead.{HasNoParam, IsExecution, ParamsLeft, RefusesParam, TypedParam, execute_params, front, params_of, params_to}
+use Rattle.mysql_prepared.specs.ExecuteRead.{Gives, HasNoParam, IsExecution, ParamsBytes, ParamsLeft, bound_left, RefusesParam, TypedParam, execute_params, front, left_of, params_of, params_to}
+use Rattle.mysql_prepared.proofs.ParamViews.{no-param, none-bound}
 use Rattle.mysql_prepared.specs.declared.execute_head.ComStmtExecuteHead.{ComStmtExecuteHead}
 use Rattle.mysql_prepared.specs.declared.execute_view.BoundParam.{BoundParam}
 use Rattle.mysql_packets_c.specs.Code.{fault_code, kind_code}
 use Rattle.mysql_packets_c.specs.Value.{value_content}
-use Rattle.mysql_packets_c.specs.Execution.{ExecutionInto, FillsParams, HoldsExecution, HoldsParams, ParamsInto, TakesParams, bound_list, bound_of, content_of, contents_of, sends_types, type_held, types_of}
+use Rattle.mysql_packets_c.specs.Execution.{ExecutionInto, FillsParams, HoldsExecution, HoldsParams, ParamsInto, TakesParams, bound_list, bound_of, content_of, contents_of, last_left, sends_types, type_held, types_of}
 use Rattle.mysql_packets_c.specs.declared.execution.CExecution.{CExecution}
 use Rattle.mysql_packets_c.specs.declared.execution.CParam.{CParam}
 use Rattle.mysql_packets_c.specs.declared.rows.CColumnType.{CColumnType}
@@ -144,13 +145,50 @@ fault-of-params packet params values types old h after fault.Memory read is f = 
 
 -- ---- what the server knows before
 
-pub one-bound : (list : List CParam) (i : ℕ) (x d : CParam) (y : BoundParam) (items : List BoundParam) → i < length list → x ≡ get_or list i d → y ≡ bound_of x → items ≡ bound_list (take i list)
-    → items ++ y ∷ [] ≡ bound_list (take (i + 1) list)
-one-bound list i x d y items lt is bound so_far =
-    ap (λ (l : List BoundParam). l ++ y ∷ []) so_far ∙ ap (λ (b : BoundParam). bound_list (take i list) ++ b ∷ []) (bound ∙ ap bound_of is)
-    ∙ sym (ap bound_list (take_more list i d lt) ∙ map-append bound_of (take i list) (get_or list i d ∷ []))
+list-at : (params : List CParam) (i n : ℕ) → n ≡ i → bound_list (drop i params) ≡ bound_list (drop n params)
+list-at params i n is = ap (λ (k : ℕ). bound_list (drop k params)) (sym is)
 
-pub ruleset bound = (one-bound)
+-- all are left
+pub all-left : (sent : ParamsBytes) (params : List CParam) → sent.left ≡ length params → last_left sent params ≡ left_of sent (bound_list params)
+all-left sent params len =
+    let none : length params - sent.left ≡ 0 = omega (arith, len) in
+    ap (λ (k : ℕ). left_of sent (bound_list (drop k params))) none
+
+-- no parameter is left
+pub none-left : (sent : ParamsBytes) (params : List CParam) → sent.left ≡ 0 → HasNoParam (last_left sent params) × ((last_left sent params).end ≡ Ok sent.values)
+none-left sent params none =
+    let n = length params - sent.left in
+    let ps = bound_list (drop n params) in
+    let empty : length ps ≡ 0 = length-map (drop n params) bound_of ∙ length-drop n params ∙ omega (arith, none) in
+    let past = no-param sent.nulls sent.place (bound_left sent.sends_types ps sent.types) sent.values (none-bound sent.sends_types ps sent.types empty) in
+    ((none, past.0), past.1)
+
+-- those after the parameter at this place
+abbrev pub others_at : List CParam → ℕ → List BoundParam
+others_at params i = bound_list (drop (i + 1) params)
+
+module _ (old : ParamsBytes) (params : List CParam) (i : ℕ) (x d : CParam) (y : BoundParam) (fits : i < length params) (left : i + old.left ≡ length params) (is : x ≡ get_or params i d) (bound : y ≡ bound_of x) where
+  -- as many are left
+  pub left-with : length (y ∷ others_at params i) ≡ old.left
+  left-with =
+      let len : length (others_at params i) ≡ length params - (i + 1) = length-map (drop (i + 1) params) bound_of ∙ length-drop (i + 1) params in
+      omega (arith, len, left, fits)
+
+  before-it : left_of old (y ∷ others_at params i) ≡ last_left old params
+  before-it =
+      let at : length params - old.left ≡ i = omega (arith, left) in
+      let first : bound_list (drop i params) ≡ y ∷ others_at params i = ap bound_list (drop_more params i d fits) ∙ ap (λ (b : BoundParam). b ∷ others_at params i) (sym (bound ∙ ap bound_of is)) in
+      ap (left_of old) (sym first ∙ list-at params i (length params - old.left) at)
+
+  pub one-given : (new : ParamsBytes) (pair : TypedParam) → Gives (left_of old (y ∷ others_at params i)) pair (left_of new (others_at params i)) → Gives (last_left old params) pair (last_left new params)
+  one-given new pair gives =
+      let at : length params - new.left ≡ i + 1 = omega (arith, left, gives.0) in
+      let after : left_of new (others_at params i) ≡ last_left new params = ap (left_of new) (list-at params (i + 1) (length params - new.left) at) in
+      let Q : ParamsLeft → Type 0 = λ l. Gives l pair (left_of new (others_at params i)) in
+      subst (λ (l : ParamsLeft). Gives (last_left old params) pair l) after (subst Q before-it gives)
+
+  pub none-given : (e : FaultOf) → RefusesParam e (left_of old (y ∷ others_at params i)) → RefusesParam e (last_left old params)
+  none-given e refused = subst (RefusesParam e) before-it refused
 
 pub ruleset fills = (one-content, one-type, one-set)
 

@@ -1,6 +1,5 @@
 -- What is answered of the texts of GTID sets.
 use Rattle.std.proofs.Common.{◌≡◌, ◌≢◌, ℕ, ◌<◌, ◌+◌, List, [], ◌∷◌, ◌++◌, length, take, get_or, Result, Ok, Err, Option, Some, None, Bool, true, false, refl, sym, subst, ap, ◌∙◌, ◌⊎◌, inl, inr}
-use Rattle.std.proofs.lemmas.List.{map-append, take_more}
 use Rattle.std.specs.List.{list_all}
 use Rattle.std.specs.Prelude.{is_some}
 use Rattle.mysql_packets_c.proofs.WrittenSids.{all-held, none-held}
@@ -18,13 +17,6 @@ use Rattle.mysql_packets_c.specs.GtidText.{PutsShown, PutsSpelled, Refuses, Spel
 use Rattle.mysql_packets_c.specs.Output.{Puts, PutsUnlessTooLong}
 use Rattle.mysql_packets_c.specs.Sid.{sid_or, sids_held, sids_or, tag_held}
 use Rattle.mysql_packets_c.specs.declared.sid.CSid.{CSid}
-
--- one sid more
-pub one-held : (held : List Sid) (list : List CSid) (i : ℕ) (s : Sid) (c d : CSid) → i < length list → c ≡ get_or list i d → s ≡ sid_or c → held ≡ sids_or (take i list)
-    → held ++ s ∷ [] ≡ sids_or (take (i + 1) list)
-one-held held list i s c d lt is same so_far =
-    ap (λ (l : List Sid). l ++ s ∷ []) so_far ∙ ap (λ (z : Sid). sids_or (take i list) ++ z ∷ []) (same ∙ ap sid_or is)
-    ∙ sym (ap sids_or (take_more list i d lt) ∙ map-append sid_or (take i list) (get_or list i d ∷ []))
 
 either_way : (b : Bool) → (b ≡ true) ⊎ (b ≡ false)
 either_way true = inl refl
@@ -67,4 +59,4 @@ shown-fault read (fault.InvalidData text) old h = subst (λ (r : _). PutsShown r
 shown-fault read (fault.InvalidInput text) old h = subst (λ (r : _). PutsShown r 3 old old 0) (sym h) (record { code = refl; buffer = refl; none = refl })
 shown-fault read fault.Memory old h = absurd cc
 
-pub ruleset texts = (one-held, held-are, spelled-put, spelled-refused, shown-put, shown-fault)
+pub ruleset texts = (held-are, spelled-put, spelled-refused, shown-put, shown-fault)

@@ -21,6 +21,7 @@ pub mod Logins
 pub mod AttributeKinds
 pub mod Versions
 pub mod GtidTexts
+pub mod SetTexts
 pub mod QueryAttributes
 pub mod NullMarks
 pub mod SentValues

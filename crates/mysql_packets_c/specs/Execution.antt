@@ -1,11 +1,11 @@
 -- An execution, as C has it.
 use Rattle.std.specs.List.{AllZip}
 use Rattle.std.specs.Option.{unwrap_or}
-use Rattle.std.specs.Prelude.{◌≡◌, ℕ, ◌-◌, ◌==◌, ◌++◌, Bool, false, not, if◌then◌else◌, List, drop, map, take, Result, Ok, Err, ◌<◌, ◌↔◌, IsTrue}
+use Rattle.std.specs.Prelude.{◌≡◌, ℕ, ◌-◌, ◌==◌, ◌++◌, Bool, false, not, if◌then◌else◌, List, drop, length, map, take, Result, Ok, Err, ◌<◌, ◌↔◌, IsTrue}
 use Rattle.mysql_prepared.specs.ExecuteHead as head
 use Rattle.mysql_prepared.specs.ExecuteParam.{Param, Sent, SentAhead}
 use Rattle.mysql_prepared.specs.Payload.{max_payload}
-use Rattle.mysql_prepared.specs.ExecuteRead.{Front, ParamsLeft, TypedParam, execute_params, front}
+use Rattle.mysql_prepared.specs.ExecuteRead.{Front, ParamsBytes, ParamsLeft, TypedParam, execute_params, front, left_of}
 use Rattle.mysql_prepared.specs.WrittenExecution.{IsExecutionBytes, execution_size}
 use Rattle.mysql_prepared.specs.declared.execute_head.ComStmtExecuteHead.{ComStmtExecuteHead}
 use Rattle.mysql_prepared.specs.declared.execute_view.BoundParam.{BoundParam}
@@ -49,6 +49,10 @@ bound_of p = record {
 
 abbrev pub bound_list : List CParam → List BoundParam
 bound_list params = map bound_of params
+
+-- what is left of an execution of these parameters, of which the last ones are left
+abbrev pub last_left : ParamsBytes → List CParam → ParamsLeft
+last_left sent params = left_of sent (bound_list (drop (length params - sent.left) params))
 
 -- ---- what is answered
 

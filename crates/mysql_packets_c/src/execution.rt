@@ -15,18 +15,18 @@ ghost use Rattle.mysql_packets_c.specs.Execution.{Executes};
 ghost use Rattle.mysql_packets_c.specs.Rows.{FillsPlaces};
 ghost use Rattle.mysql_packets_c.specs.Value.{Sets, value_content, is_value};
 
-use crate::code::{BUFFER_TOO_SMALL, INVALID_INPUT, NO_MEMORY, OK, code_of};
+use crate::code::{BUFFER_TOO_SMALL, INVALID_INPUT, OK, code_of};
 use crate::input::read;
 use crate::output::answer_count;
 use crate::rows::CColumnType;
 use crate::value::{CValue, are_values, is_value, put_ref, to_ref};
 use mysql_stmt::{
     AsExecuteParam, BoundParam, ComStmtExecuteHead, ComStmtExecuteRequestBuilder, ExecuteParam,
-    ExecuteParamsView,
+    ExecuteParamsBytes,
 };
 use mysql_values::{ParamType, ValueRef};
 use mysql_wire::{Buffer, ColumnType, ConstValue, Fault, Flags, ParseBuf, StmtExecuteParamFlags};
-use std::alloc::{AllocError, Global};
+use std::alloc::Global;
 
 /// `myp_execution_head`.
 #[repr(C)]
@@ -95,17 +95,6 @@ fn bound_of(param: &CParam) -> BoundParam
     }
 }
 
-#[tactic(auto, using(crate::proofs::Executions::bound))]
-fn bound_list(alloc: Global, params: &[CParam]) -> Result<Vec<BoundParam>, AllocError>
-    ensures value { IfOk result (λ v. v.items ≡ spec.bound_list params.now) }
-{
-    let mut bound = Vec::with_capacity(alloc, params.len())?;
-    for param in params {
-        bound.push(bound_of(param))?;
-    }
-    Ok(bound)
-}
-
 /// Puts a parameter into a value of the caller's. What was sent ahead is NULL.
 fn put_param<'a>(place: &mut CValue<'a>, param: ExecuteParam<'a>)
     ensures content { value_content place.new ≡ spec.content_of (param_of param.entry) }
@@ -127,23 +116,26 @@ pub(crate) fn type_held(param_type: ParamType) -> CColumnType
     }
 }
 
-/// Reads the parameters that are left into the first places.
+/// Reads all the parameters into the first places.
 #[tactic(auto, using(crate::proofs::Executions::fills))]
 fn fill_params<'a>(
-    view: &mut ExecuteParamsView<'a, '_>,
+    sent: &mut ExecuteParamsBytes<'a>,
+    params: &[CParam],
     values: &mut [CValue<'a>],
     types: &mut [CColumnType],
 ) -> Result<(), Fault>
-    requires values { view.old.left ≤ length values.old }
-    requires types { view.old.left ≤ length types.old }
-    ensures good { spec.FillsParams view.old view.new values.old values.new types.old types.new }
-    ensures all { OnOk result (HasNoParam view.new) }
-    ensures refused { IfErr result (λ e. RefusesParam e view.new) }
+    requires all { sent.old.left ≡ length params.now }
+    requires values { length params.now ≤ length values.old }
+    requires types { length params.now ≤ length types.old }
+    ensures good { spec.FillsParams (spec.last_left sent.old params.now) (spec.last_left sent.new params.now) values.old values.new types.old types.new }
+    ensures all { OnOk result (HasNoParam (spec.last_left sent.new params.now)) }
+    ensures refused { IfErr result (λ e. RefusesParam e (spec.last_left sent.new params.now)) }
 {
     let mut place = 0;
-    while let Some(pair) = view.next_param()? {
-        put_param(&mut values[place], pair.1);
-        types[place] = type_held(pair.0);
+    for param in params {
+        let (param_type, value) = sent.next_param(bound_of(param))?;
+        put_param(&mut values[place], value);
+        types[place] = type_held(param_type);
         place += 1;
     }
     Ok(())
@@ -151,27 +143,27 @@ fn fill_params<'a>(
 
 /// Reads parameters into the first places, and answers whether types are sent, and the bytes after them.
 fn params_into<'a>(
-    params: &[BoundParam],
+    params: &[CParam],
     buf: ParseBuf<'a>,
     values: &mut [CValue<'a>],
     types: &mut [CColumnType],
 ) -> Result<(bool, ParseBuf<'a>), Fault>
     requires values { length params.now ≤ length values.old }
     requires types { length params.now ≤ length types.old }
-    ensures value { spec.TakesParams params.now result (take (length params.now) values.new) (take (length params.now) types.new) buf.entry }
+    ensures value { spec.TakesParams (spec.bound_list params.now) result (take (length params.now) values.new) (take (length params.now) types.new) buf.entry }
     ensures places { FillsPlaces (length params.now) (IsOk result) values.old values.new }
     ensures other_types { drop (length params.now) types.new ≡ drop (length params.now) types.old }
 {
-    let mut view = ExecuteParamsView::new(params, buf)?;
-    let sends_types = view.sends_types();
-    fill_params(&mut view, values, types)?;
-    Ok((sends_types, view.rest()))
+    let mut sent = ExecuteParamsBytes::new(params.len(), buf)?;
+    let sends_types = sent.sends_types();
+    fill_params(&mut sent, params, values, types)?;
+    Ok((sends_types, sent.rest()))
 }
 
 /// Reads an execution of these parameters into the first places.
 fn execution_into<'a>(
     buf: &mut ParseBuf<'a>,
-    params: &[BoundParam],
+    params: &[CParam],
     values: &mut [CValue<'a>],
     types: &mut [CColumnType],
     out: &mut CExecution,
@@ -179,7 +171,7 @@ fn execution_into<'a>(
     requires values { length params.now ≤ length values.old }
     requires types { length params.now ≤ length types.old }
     ensures code { result ≢ 4 }
-    ensures value { spec.ExecutionInto buf.old params.now ((execute_head.form tt).reads buf.old) (take (length params.now) values.new) (take (length params.now) types.new) result out.old out.new }
+    ensures value { spec.ExecutionInto buf.old (spec.bound_list params.now) ((execute_head.form tt).reads buf.old) (take (length params.now) values.new) (take (length params.now) types.new) result out.old out.new }
     ensures places { FillsPlaces (length params.now) (result ≡ 0) values.old values.new }
     ensures other_types { drop (length params.now) types.new ≡ drop (length params.now) types.old }
 {
@@ -202,7 +194,7 @@ fn execution_into<'a>(
 
 /// Reads `COM_STMT_EXECUTE` into values and types, one of each parameter.
 ///
-/// 0; 5 where there are fewer places than parameters; 4; or 1 or 2, and the values and types before the faulty one are set. Places
+/// 0; 5 where there are fewer places than parameters; or 1 or 2, and the values and types before the faulty one are set. Places
 /// after those of the parameters are as they were.
 #[unsafe(no_mangle)]
 pub extern "C" fn myp_read_execution<'a>(
@@ -213,20 +205,17 @@ pub extern "C" fn myp_read_execution<'a>(
     types: &mut [CColumnType],
     out: &mut CExecution,
 ) -> u32
-    ensures memory { result ≡ 4 → (values.new ≡ values.old) × (types.new ≡ types.old) × (out.new ≡ out.old) }
+    ensures no_memory { result ≢ 4 }
     ensures small { (length values.old < length params.now) ⊎ (length types.old < length params.now) → (result ≡ 5) × (values.new ≡ values.old) × (types.new ≡ types.old) × (out.new ≡ out.old) }
-    ensures value { length params.now ≤ length values.old → length params.now ≤ length types.old → result ≢ 4 → spec.ExecutionInto packet.now (spec.bound_list params.now) ((execute_head.form tt).reads packet.now) (take (length params.now) values.new) (take (length params.now) types.new) result out.old out.new }
-    ensures places { length params.now ≤ length values.old → length params.now ≤ length types.old → result ≢ 4 → FillsPlaces (length params.now) (result ≡ 0) values.old values.new }
+    ensures value { length params.now ≤ length values.old → length params.now ≤ length types.old → spec.ExecutionInto packet.now (spec.bound_list params.now) ((execute_head.form tt).reads packet.now) (take (length params.now) values.new) (take (length params.now) types.new) result out.old out.new }
+    ensures places { length params.now ≤ length values.old → length params.now ≤ length types.old → FillsPlaces (length params.now) (result ≡ 0) values.old values.new }
     ensures other_types { length params.now ≤ length values.old → length params.now ≤ length types.old → drop (length params.now) types.new ≡ drop (length params.now) types.old }
 {
     if values.len() < params.len() || types.len() < params.len() {
         return BUFFER_TOO_SMALL;
     }
-    let Ok(bound) = bound_list(alloc, params) else {
-        return NO_MEMORY;
-    };
     let mut buf = ParseBuf::new(alloc, packet);
-    execution_into(&mut buf, bound.as_slice(), values, types, out)
+    execution_into(&mut buf, params, values, types, out)
 }
 
 /// Writes a number with the buffer in a variable of its own, so that its bytes are one store.

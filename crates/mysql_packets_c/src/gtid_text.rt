@@ -10,55 +10,22 @@ ghost use Rattle.mysql_repl.specs.GtidSetWritten.{set_text};
 ghost use Rattle.mysql_repl.specs.declared.sid.Sid.{Sid};
 ghost use Rattle.mysql_packets_c.specs.GtidDump.{dump_with};
 ghost use Rattle.mysql_packets_c.specs.GtidText.{PutsShown, PutsSpelled, Refuses, Spelled};
-ghost use Rattle.mysql_packets_c.specs.Output.{Puts};
+ghost use Rattle.mysql_packets_c.specs.Output.{Puts, PutsUnlessTooLong};
 ghost use Rattle.mysql_packets_c.specs.Sid as spec;
 
 use crate::code::{INVALID_DATA, INVALID_INPUT, NO_MEMORY, code_of};
-use crate::gtid_dump::{CGtidDump, are_tagged, tag_held};
+use crate::gtid_dump::{CGtidDump, are_tagged};
 use crate::input::read;
 use crate::output::{put, put_packet};
-use crate::sid::{CInterval, CSid};
+use crate::set_text::SetText;
+use crate::sid::CSid;
 use mysql_repl::{
-    BinlogDumpFlags, ComBinlogDumpGtid, ComBinlogDumpGtidRef, GnoInterval, GtidSetText, InvalidSid,
-    Sid, sids_from_text,
+    BinlogDumpFlags, ComBinlogDumpGtid, ComBinlogDumpGtidRef, GtidSetText, InvalidSid, Sid,
 };
 use mysql_wire::Flags;
 use std::alloc::{AllocError, Global};
 use std::borrow::CowSlice;
 use std::str;
-
-/// The intervals of a sid, copied.
-fn copied(alloc: Global, intervals: &[CInterval]) -> Result<Vec<GnoInterval>, AllocError>
-    ensures value { IfOk result (λ v. v.items ≡ spec.intervals_of intervals.now) }
-{
-    intervals
-        .iter()
-        .map(|interval| GnoInterval::new(interval.start, interval.end))
-        .collect(alloc)
-}
-
-/// A sid of the caller's, without a tag where that is none.
-fn sid_of<'b>(alloc: Global, sid: &'b CSid<'_>) -> Result<Sid<'b>, AllocError>
-    ensures value { IfOk result (λ s. s ≡ spec.sid_or sid.now) }
-{
-    let found = Sid::new(sid.uuid).with_intervals(copied(alloc, sid.intervals)?);
-    match tag_held(sid) {
-        Some(Some(tag)) => Ok(found.with_tag(tag)),
-        Some(None) => Ok(found),
-        None => Ok(found),
-    }
-}
-
-/// The sids of the caller's.
-fn sids_of<'b>(alloc: Global, sids: &'b [CSid<'_>]) -> Result<Vec<Sid<'b>>, AllocError>
-    ensures value { IfOk result (λ v. v.items ≡ spec.sids_or sids.now) }
-{
-    let mut held = Vec::new(alloc);
-    for sid in sids {
-        held.push(sid_of(alloc, sid)?)?;
-    }
-    Ok(held)
-}
 
 /// The text of sids.
 fn text_of(alloc: Global, sids: &[Sid<'_>]) -> Result<String, AllocError>
@@ -66,14 +33,6 @@ fn text_of(alloc: Global, sids: &[Sid<'_>]) -> Result<String, AllocError>
 {
     let set = GtidSetText(sids);
     format!(in alloc; "{set}")
-}
-
-/// The text of the sids of the caller's.
-fn text_of_sids(alloc: Global, sids: &[CSid<'_>]) -> Result<String, AllocError>
-    ensures value { IfOk result (λ text. string_bytes text ≡ set_text (spec.sids_or sids.now)) }
-{
-    let held = sids_of(alloc, sids)?;
-    text_of(alloc, &held)
 }
 
 /// The text of the sids of a request.
@@ -99,23 +58,17 @@ fn put_text(text: Result<String, AllocError>, out: &mut [u8], written: &mut usiz
 }
 
 /// Writes the text of sids: 0; 5, and how many bytes it takes; 4; or 3 of a tag that is none.
-#[tactic(auto, using(crate::proofs::Codes::codes, crate::proofs::WrittenSids::held_sids, crate::proofs::GtidTexts::texts))]
+#[tactic(auto, using(crate::proofs::WrittenSids::held_sids, crate::proofs::GtidTexts::texts))]
 #[unsafe(no_mangle)]
-pub extern "C" fn myp_sids_to_text(
-    alloc: Global,
-    sids: &[CSid<'_>],
-    out: &mut [u8],
-    written: &mut usize,
-) -> u32
+pub extern "C" fn myp_sids_to_text(sids: &[CSid<'_>], out: &mut [u8], written: &mut usize) -> u32
     ensures tags { spec.sids_held sids.now ≡ None → Refuses 3 result out.old out.new written.new }
-    ensures memory { result ≡ 4 → (out.new ≡ out.old) × (written.new ≡ 0) }
-    ensures value { result ≢ 4 → (list : List Sid) → spec.sids_held sids.now ≡ Some list → Puts (set_text list) result out.old out.new written.new }
+    ensures value { (list : List Sid) → spec.sids_held sids.now ≡ Some list → PutsUnlessTooLong (set_text list) result out.old out.new written.new }
 {
     if !are_tagged(sids) {
         *written = 0;
         return INVALID_INPUT;
     }
-    put_text(text_of_sids(alloc, sids), out, written)
+    put_packet(&SetText(sids), out, written)
 }
 
 /// The request of these fields, without sids.

@@ -55,6 +55,7 @@ mod sent_execution;
 mod sent_values;
 mod server_version;
 mod session_change;
+mod set_text;
 mod sid;
 mod sid_block;
 mod ssl_request;

@@ -39,7 +39,7 @@ impl ItemForm<CInterval> for AsIntervals {
 
 /// The bytes of a sid's tag; none where there is no tag, or where they are none.
 #[tactic(auto, using(crate::proofs::WrittenSids::tag_stands))]
-fn tag_place<'b>(sid: &'b CSid<'_>) -> &'b [u8]
+pub(crate) fn tag_place<'b>(sid: &'b CSid<'_>) -> &'b [u8]
     ensures { result.now ≡ tag_bytes (spec.tag_or sid.now) }
 {
     match tag_held(sid) {
@@ -49,7 +49,7 @@ fn tag_place<'b>(sid: &'b CSid<'_>) -> &'b [u8]
 }
 
 /// Whether a sid has a tag.
-fn has_tag(sid: &CSid<'_>) -> bool
+pub(crate) fn has_tag(sid: &CSid<'_>) -> bool
     ensures { result ≡ is_some (spec.tag_or sid.now) }
 {
     match tag_held(sid) {
