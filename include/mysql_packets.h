@@ -1107,7 +1107,7 @@ uint32_t myp_read_register_replica(const uint8_t *packet, size_t len, myp_regist
 uint32_t myp_read_gtid_dump(const uint8_t *packet, size_t len, myp_gtid_dump *out);
 
 /* Writes the text of the GTID set of a COM_BINLOG_DUMP_GTID, as myp_sids_to_text does. The codes of myp_read_gtid_dump, and *written is 0;
- * MYP_BUFFER_TOO_SMALL; MYP_NO_MEMORY, which the text takes, and *written is 0. */
+ * MYP_BUFFER_TOO_SMALL; MYP_NO_MEMORY of a text that no memory holds, and *written is 0. */
 uint32_t myp_gtid_dump_to_text(const uint8_t *packet, size_t len, uint8_t *out, size_t size, size_t *written);
 
 /* A sid of a packet. Initializer: MYP_SID_PLACES_INIT. */

@@ -179,7 +179,7 @@ static void requests(void)
     static uint8_t dump[256];
     size_t len = 0;
     refuse = 0, check("myp_write_gtid_dump", myp_write_gtid_dump(&by_gtid, &sid, 1, dump, sizeof dump, &len) == MYP_OK);
-    SOME(myp_gtid_dump_to_text(dump, len, out, sizeof out, &n));
+    EACH(0, myp_gtid_dump_to_text(dump, len, out, sizeof out, &n));
     /* (of an execution that is read, `used` stands in the place of what is written) */
     static const myp_param params[] = { { MYP_TYPE_LONGLONG, 0, 0 }, { MYP_TYPE_LONGLONG, 0, 0 } };
     myp_column_type found[2] = { { 0, 0 }, { 0, 0 } };

@@ -50,8 +50,8 @@ spelled-refused (Err x) dump dump_of code old h ne = refuses code old h ne
 
 -- the text of a request
 pub shown-put : (read : Reading ComBinlogDumpGtid) (p : ComBinlogDumpGtid) (rest : List ℕ) (code : ℕ) (old new : List ℕ) (written : ℕ)
-    → read ≡ Ok (p, rest) → (code ≢ 4 → Puts (set_text (sids p)) code old new written) → code ≢ 4 → PutsShown read code old new written
-shown-put read p rest code old new written e puts ne = subst (λ (r : _). PutsShown r code old new written) (sym e) (puts ne)
+    → read ≡ Ok (p, rest) → PutsUnlessTooLong (set_text (sids p)) code old new written → PutsShown read code old new written
+shown-put read p rest code old new written e puts = subst (λ (r : _). PutsShown r code old new written) (sym e) puts
 
 pub shown-fault : (read : Reading ComBinlogDumpGtid) (e : FaultOf) (old : List ℕ) → Faults false e read → PutsShown read (fault_code e) old old 0
 shown-fault read fault.UnexpectedEof old h = subst (λ (r : _). PutsShown r 1 old old 0) (sym h) (record { code = refl; buffer = refl; none = refl })

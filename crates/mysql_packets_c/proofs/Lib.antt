@@ -22,6 +22,7 @@ pub mod AttributeKinds
 pub mod Versions
 pub mod GtidTexts
 pub mod SetTexts
+pub mod SidsTexts
 pub mod QueryAttributes
 pub mod NullMarks
 pub mod SentValues

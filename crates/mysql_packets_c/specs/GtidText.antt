@@ -7,7 +7,7 @@ use Rattle.mysql_repl.specs.declared.sid.Sid.{Sid}
 use Rattle.mysql_repl.specs.declared.sid_text.InvalidSid.{InvalidSid}
 use Rattle.mysql_wire.specs.Reading.{Reading}
 use Rattle.mysql_packets_c.specs.Code.{kind_code}
-use Rattle.mysql_packets_c.specs.Output.{Puts}
+use Rattle.mysql_packets_c.specs.Output.{Puts, PutsUnlessTooLong}
 
 -- nothing is written, and the code says why
 pub record Refuses (number answer : ℕ) (old new : List ℕ) (written : ℕ) : Type 0 where
@@ -28,5 +28,5 @@ PutsSpelled (Err e) dump_of code old new written = Refuses 2 code old new writte
 
 -- the text of the sids of a request that was read; or the code of its first fault
 abbrev pub PutsShown : Reading ComBinlogDumpGtid → (code : ℕ) (old new : List ℕ) (written : ℕ) → Type 0
-PutsShown (Ok x) code old new written = Puts (set_text (sids x.0)) code old new written
+PutsShown (Ok x) code old new written = PutsUnlessTooLong (set_text (sids x.0)) code old new written
 PutsShown (Err k) code old new written = Refuses (kind_code k) code old new written

@@ -1,7 +1,7 @@
 //! The text of a GTID set.
 #![tactic(auto, using(crate::proofs::Codes::codes, crate::proofs::GtidTexts::texts))]
 
-ghost use Rattle.std.specs.Prelude.{false, ◌≡◌, ◌≢◌, ℕ, Err, IfOk, List, None, Some, string_bytes};
+ghost use Rattle.std.specs.Prelude.{false, ◌≡◌, ◌≢◌, Err, List, None, Some};
 ghost use Rattle.std.specs.Str.{IsUtf8};
 ghost use Rattle.mysql_repl.specs.BinlogDumpGtid as dump;
 ghost use Rattle.mysql_repl.specs.BinlogDumpGtid.{with_sids};
@@ -10,52 +10,21 @@ ghost use Rattle.mysql_repl.specs.GtidSetWritten.{set_text};
 ghost use Rattle.mysql_repl.specs.declared.sid.Sid.{Sid};
 ghost use Rattle.mysql_packets_c.specs.GtidDump.{dump_with};
 ghost use Rattle.mysql_packets_c.specs.GtidText.{PutsShown, PutsSpelled, Refuses, Spelled};
-ghost use Rattle.mysql_packets_c.specs.Output.{Puts, PutsUnlessTooLong};
+ghost use Rattle.mysql_packets_c.specs.Output.{PutsUnlessTooLong};
 ghost use Rattle.mysql_packets_c.specs.Sid as spec;
 
 use crate::code::{INVALID_DATA, INVALID_INPUT, NO_MEMORY, code_of};
 use crate::gtid_dump::{CGtidDump, are_tagged};
 use crate::input::read;
-use crate::output::{put, put_packet};
+use crate::output::put_packet;
 use crate::set_text::SetText;
 use crate::sid::CSid;
-use mysql_repl::{
-    BinlogDumpFlags, ComBinlogDumpGtid, ComBinlogDumpGtidRef, GtidSetText, InvalidSid, Sid,
-};
+use crate::sids_text::SidsText;
+use mysql_repl::{BinlogDumpFlags, ComBinlogDumpGtid, ComBinlogDumpGtidRef, InvalidSid};
 use mysql_wire::Flags;
-use std::alloc::{AllocError, Global};
+use std::alloc::Global;
 use std::borrow::CowSlice;
 use std::str;
-
-/// The text of sids.
-fn text_of(alloc: Global, sids: &[Sid<'_>]) -> Result<String, AllocError>
-    ensures value { IfOk result (λ text. string_bytes text ≡ set_text sids.now) }
-{
-    let set = GtidSetText(sids);
-    format!(in alloc; "{set}")
-}
-
-/// The text of the sids of a request.
-fn text_of_dump(alloc: Global, found: &ComBinlogDumpGtidRef<'_>) -> Result<String, AllocError>
-    ensures value { IfOk result (λ text. string_bytes text ≡ set_text (dump.sids found.now)) }
-{
-    let held = found.sids().to_vec(alloc)?;
-    text_of(alloc, &held)
-}
-
-/// Writes a text to the front of a buffer, or nothing where memory was refused.
-fn put_text(text: Result<String, AllocError>, out: &mut [u8], written: &mut usize) -> u32
-    ensures memory { result ≡ 4 → (out.new ≡ out.old) × (written.new ≡ 0) }
-    ensures value { (bytes : List ℕ) → IfOk text (λ t. string_bytes t ≡ bytes) → result ≢ 4 → Puts bytes result out.old out.new written.new }
-{
-    match text {
-        Ok(text) => put(text.as_bytes(), out, written),
-        Err(_) => {
-            *written = 0;
-            NO_MEMORY
-        }
-    }
-}
 
 /// Writes the text of sids: 0; 5, and how many bytes it takes; 4; or 3 of a tag that is none.
 #[tactic(auto, using(crate::proofs::WrittenSids::held_sids, crate::proofs::GtidTexts::texts))]
@@ -130,11 +99,10 @@ pub extern "C" fn myp_gtid_dump_to_text(
     out: &mut [u8],
     written: &mut usize,
 ) -> u32
-    ensures memory { result ≡ 4 → (out.new ≡ out.old) × (written.new ≡ 0) }
-    ensures value { result ≢ 4 → PutsShown ((dump.gtid_dump.form false).reads packet.now) result out.old out.new written.new }
+    ensures value { PutsShown ((dump.gtid_dump.form false).reads packet.now) result out.old out.new written.new }
 {
     match read::<ComBinlogDumpGtidRef<'_>>(alloc, packet, ()) {
-        Ok((found, _used)) => put_text(text_of_dump(alloc, &found), out, written),
+        Ok((found, _used)) => put_packet(&SidsText(found.sids()), out, written),
         Err(fault) => {
             *written = 0;
             code_of(&fault)

@@ -1,8 +1,7 @@
 //! The text of a GTID set, as it is written from the caller's structs.
 #![tactic(auto, using(mysql_wire::proofs::Packets::packets, crate::proofs::SetTexts::parts))]
 
-ghost use Rattle.std.specs.List.{flat_map};
-ghost use Rattle.std.specs.Prelude.{◌≡◌, option_map};
+ghost use Rattle.std.specs.Prelude.{◌≡◌};
 ghost use Rattle.mysql_repl.specs.GtidSetWritten as text;
 ghost use Rattle.mysql_packets_c.specs.Sid as spec;
 
@@ -36,7 +35,7 @@ impl MySerialize for Digits {
 
 /// A uuid in lower case, with hyphens.
 #[derive(Drop)]
-struct UuidText([u8; 16]);
+pub(crate) struct UuidText(pub(crate) [u8; 16]);
 
 #[tactic(auto, unfolding(mysql_wire::specs::Writing::saturated))]
 impl MySerialize for UuidText {
@@ -60,7 +59,7 @@ impl MySerialize for UuidText {
 }
 
 /// What stands between the words.
-fn words(bytes: &[u8]) -> RawBytes<'_, EofBytes>
+pub(crate) fn words(bytes: &[u8]) -> RawBytes<'_, EofBytes>
     ensures { result ≡ bytes.now }
 {
     RawBytes::new(CowSlice::Borrowed(bytes))
@@ -68,7 +67,7 @@ fn words(bytes: &[u8]) -> RawBytes<'_, EofBytes>
 
 /// An interval after its colon.
 #[derive(Drop)]
-struct IntervalText<'b>(&'b CInterval);
+pub(crate) struct IntervalText<'b>(pub(crate) &'b CInterval);
 
 impl Parts for IntervalText<'_> {
     ghost use Rattle.mysql_repl.specs.SidText.{interval_text};
