@@ -863,8 +863,8 @@ typedef struct myp_sid {
 #define MYP_SID_INIT { &myp_no_interval, 0, { 0 }, { 0 }, 0 }
 
 /* Reads the text of a sid: UUID:1-5:7, or with a tag UUID:tag:1-5:7. Its intervals are put into the first places, to which
- * out->intervals then points, and *count is how many they are. MYP_INVALID_DATA of another text, and MYP_NO_MEMORY: *count is
- * 0; MYP_BUFFER_TOO_SMALL where there are fewer places than *count, and nothing else is changed. */
+ * out->intervals then points, and *count is how many they are. MYP_INVALID_DATA of another text: *count is 0;
+ * MYP_BUFFER_TOO_SMALL where there are fewer places than *count, and nothing else is changed. It takes no memory. */
 uint32_t myp_sid_from_text(const uint8_t *text, size_t len, myp_sid *out, myp_interval *intervals, size_t n, size_t *count);
 
 /* Writes the text of a GTID set, as servers show one in @@gtid_executed: each sid's text after a comma and a newline but for the first,

@@ -53,6 +53,7 @@ static void sids(void)
     CHECK(places[1].start == 1 && places[1].end == 50 && places[2].start == 60 && places[2].end == 61 && places[3].end == 0);
     CHECK(myp_sid_from_text((const uint8_t *)one, 36, s, places, 4, &count) == MYP_INVALID_DATA && count == 0 && s[0].tag_length == 3);
     CHECK(myp_sid_from_text((const uint8_t *)"3E11FA47-71CA-11E1-9E33-C80AA9429562:4-3", 40, s, places, 4, &count) == MYP_INVALID_DATA && count == 0);
+    CHECK(myp_sid_from_text((const uint8_t *)"3E11FA47-71CA-11E1-9E33-C80AA9429562:7-8:4-3", 44, s, places, 4, &count) == MYP_INVALID_DATA && count == 0 && places[0].start == 1 && s[0].n_intervals == 1);
     CHECK(myp_sid_from_text((const uint8_t *)"3E11FA47-71CA-11E1-9E33-C80AA9429562:\xff:1", 40, s, places, 4, &count) == MYP_INVALID_DATA && s[0].n_intervals == 1);
     s[1].n_intervals = 1; /* replication.txt: dump by sets */
     len = hex(is, "1e04002a0000000000000004000000000000005d00000000020000000000013e11fa4771ca11e19e33c80aa942956206617070010000000000000001000000000000006400000000000000a0b1c2d3e4f56789abcdef012345678900010000000000000001000000000000003200000000000000");

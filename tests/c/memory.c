@@ -172,7 +172,7 @@ static void requests(void)
     EACH(0, myp_write_stream_packet(&event, 1, out, sizeof out, &n));
     EACH(0, myp_write_gtid_dump(&by_gtid, &sid, 1, out, sizeof out, &n));
     myp_interval places[4] = { MYP_INTERVAL_INIT, MYP_INTERVAL_INIT, MYP_INTERVAL_INIT, MYP_INTERVAL_INIT };
-    SOME(myp_sid_from_text((const uint8_t *)"3e11fa47-71ca-11e1-9e33-c80aa9429562:1-5:7", 42, &sid, places, 4, &n));
+    EACH(0, myp_sid_from_text((const uint8_t *)"3e11fa47-71ca-11e1-9e33-c80aa9429562:1-5:7", 42, &sid, places, 4, &n));
     EACH(0, myp_sids_to_text(&sid, 1, out, sizeof out, &n));
     static const char set[] = "3e11fa47-71ca-11e1-9e33-c80aa9429562:1-8:app:1-3:5-6";
     SOME(myp_gtid_dump_from_text(&by_gtid, (const uint8_t *)set, sizeof set - 1, out, sizeof out, &n));

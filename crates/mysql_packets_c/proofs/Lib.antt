@@ -23,6 +23,7 @@ pub mod Versions
 pub mod GtidTexts
 pub mod SetTexts
 pub mod SidsTexts
+pub mod SidsRead
 pub mod QueryAttributes
 pub mod NullMarks
 pub mod SentValues

@@ -1,16 +1,12 @@
 -- What structs tell of sids.
-use Rattle.std.proofs.Common.{◌≡◌, ℕ, ◌<◌, ◌≤◌, ◌+◌, List, [], ◌∷◌, ◌++◌, length, take, drop, get_or, slice_set, Option, Some, None, refl, sym, ap, ◌∙◌, arith}
-use Rattle.std.proofs.lemmas.List.{append-nil, append_assoc, drop_all, drop_more, map-append, take_more, take_more_set}
+use Rattle.std.proofs.Common.{◌≡◌, ℕ, ◌≤◌, List, [], ◌∷◌, length, take, Some, None, refl, sym, ap, ◌∙◌, arith}
 use Rattle.std.proofs.lemmas.Bool.{le-leb}
 use Rattle.std.specs.Str.{IsUtf8}
 use Rattle.mysql_repl.proofs.Tags.{bytes-not_utf8, bytes-fault, bytes-tag, nothing}
 use Rattle.mysql_repl.specs.Tag.{IsTag, tag_fault}
 use Rattle.mysql_repl.specs.TagString.{tag_of, tag_of-tag, tag-short}
-use Rattle.mysql_repl.specs.declared.sid.Sid.{Sid}
 use Rattle.mysql_repl.specs.declared.tag.InvalidTag.{InvalidTag}
-use Rattle.mysql_repl.specs.declared.gno_interval.GnoInterval.{GnoInterval}
-use Rattle.mysql_packets_c.specs.declared.sid.CInterval.{CInterval}
-use Rattle.mysql_packets_c.specs.Sid.{interval_of, intervals_of, tag_held, tag_in, sid_held, sids_held, with_first}
+use Rattle.mysql_packets_c.specs.Sid.{tag_held, tag_in}
 use Rattle.mysql_packets_c.specs.declared.sid.CSid.{CSid}
 
 -- ---- a tag among bytes
@@ -39,14 +35,6 @@ tag-place (b ∷ bytes) h = refl
 
 pub ruleset tag_places = (tag-place)
 
--- ---- intervals one by one
-
-pub one-placed : (list : List GnoInterval) (places : List CInterval) (i : ℕ) (x : CInterval) (y d : GnoInterval) → i < length list → i < length places → y ≡ get_or list i d → interval_of x ≡ y → intervals_of (take i places) ≡ take i list
-    → intervals_of (take (i + 1) (slice_set places i x)) ≡ take (i + 1) list
-one-placed list places i x y d lt fits is same so_far =
-    ap intervals_of (take_more_set places i x fits) ∙ map-append interval_of (take i places) (x ∷ [])
-    ∙ ap (λ (l : List GnoInterval). l ++ interval_of x ∷ []) so_far ∙ ap (λ (z : GnoInterval). take i list ++ z ∷ []) (same ∙ is) ∙ sym (take_more list i d lt)
-
 -- ---- a tag that is put
 
 pub tag-put : (out : CSid) (tag : List ℕ) → IsTag tag → out.tag_length ≡ length tag → take (length tag) out.tag ≡ tag → tag_held out ≡ Some (Some tag)
@@ -60,7 +48,5 @@ no-tag-put out n len none = rw (len, none) refl
 
 pub tag-fits : (tag : List ℕ) → IsTag tag → length tag ≤ 32
 tag-fits tag h = tag-short tag h
-
-pub ruleset intervals_put = (one-placed)
 
 pub ruleset tags_put = (tag-put, no-tag-put, tag-fits)

@@ -49,6 +49,7 @@ pub mod SentValue
 pub mod ServerVersion
 pub mod SessionChange
 pub mod Sid
+pub mod SidText
 pub mod SslRequest
 pub mod Statement
 pub mod StreamPacket

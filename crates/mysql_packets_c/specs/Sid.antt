@@ -1,5 +1,5 @@
 -- A server's transactions, as C has them.
-use Rattle.std.specs.Prelude.{◌≡◌, ℕ, ◌<◌, ◌≤◌, List, [], ◌∷◌, length, map, take, Option, Some, None, Result, Ok, Err, ◌⊎◌, if◌then◌else◌, nat_le}
+use Rattle.std.specs.Prelude.{◌≡◌, ℕ, ◌<◌, ◌≤◌, List, [], ◌∷◌, length, map, take, Option, Some, None, Result, Ok, Err, if◌then◌else◌, nat_le}
 use Rattle.std.specs.Option.{unwrap_or}
 use Rattle.mysql_repl.specs.GnoInterval as gno
 use Rattle.mysql_repl.specs.GnoInterval.{interval}
@@ -76,12 +76,6 @@ pub record RefusesText (answer : ℕ) (old new : CSid) (needed : ℕ) : Type 0 w
 abbrev pub SidInto : Result Sid InvalidSid → (places answer : ℕ) (old new : CSid) (needed : ℕ) → Type 0
 SidInto (Ok s) places answer old new needed = PutsSid s places answer old new needed
 SidInto (Err e) places answer old new needed = RefusesText answer old new needed
-
--- the sid that a text spells; or 2 of another text; or memory was refused
-abbrev pub TextRead : Result Sid ℕ → Result Sid InvalidSid → Type 0
-TextRead (Ok s) read = read ≡ Ok s
-TextRead (Err code) (Err e) = (code ≡ 2) ⊎ (code ≡ 4)
-TextRead (Err code) (Ok s) = code ≡ 4
 
 -- no bytes are no tag
 abbrev pub tag_in : List ℕ → Option (List ℕ)

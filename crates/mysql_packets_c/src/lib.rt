@@ -58,6 +58,7 @@ mod session_change;
 mod set_text;
 mod sid;
 mod sid_block;
+mod sid_text;
 mod sids_text;
 mod ssl_request;
 mod statement;

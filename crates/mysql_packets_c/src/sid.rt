@@ -1,18 +1,21 @@
 //! A server's transactions.
 #![tactic(auto, using(crate::proofs::Codes::codes))]
 
-ghost use Rattle.std.specs.Prelude.{[], ◌≡◌, ◌≢◌, ◌≤◌, length, option_map, take, Err, Some};
+ghost use Rattle.std.specs.Prelude.{[], ◌≡◌, ◌≢◌, ◌≤◌, length, option_map, take, Some};
 ghost use Rattle.std.specs.Str.{IsUtf8};
 ghost use Rattle.mysql_repl.specs.GnoInterval.{interval};
 ghost use Rattle.mysql_repl.specs.Sid as lib;
 ghost use Rattle.mysql_repl.specs.SidText.{read_sid};
+ghost use Rattle.mysql_repl.specs.declared.sid.Sid.{Sid};
 ghost use Rattle.mysql_packets_c.specs.Given.{is_set};
 ghost use Rattle.mysql_packets_c.specs.Sid as spec;
-ghost use Rattle.mysql_packets_c.specs.Sid.{PutsSid, RefusesText, SidInto, TextRead, intervals_of, tag_held};
+ghost use Rattle.mysql_packets_c.specs.Sid.{PutsSid, RefusesText, SidInto, tag_held};
+ghost use Rattle.mysql_packets_c.specs.SidText.{Tells};
 
-use crate::code::{BUFFER_TOO_SMALL, END, INVALID_DATA, NO_MEMORY, OK, code_of};
+use crate::code::{BUFFER_TOO_SMALL, END, INVALID_DATA, OK, code_of};
+use crate::sid_text::{SidText, put_intervals, sid_in};
 use crate::text::CBytes;
-use mysql_repl::{GnoInterval, InvalidSid, Sid, SidRef, Tag, TagRef};
+use mysql_repl::{GnoInterval, SidRef, Tag, TagRef};
 use mysql_wire::ParseBuf;
 use std::alloc::Global;
 use std::str;
@@ -117,23 +120,6 @@ pub struct CSid<'a> {
     pub tag_length: u8,
 }
 
-/// Puts intervals into the first places.
-#[tactic(auto, using(crate::proofs::SidHeld::intervals_put))]
-fn put_intervals(intervals: &[GnoInterval], places: &mut [CInterval])
-    requires { length intervals.now ≤ length places.old }
-    ensures len { length places.new ≡ length places.old }
-    ensures value { intervals_of (take (length intervals.now) places.new) ≡ intervals.now }
-{
-    let mut place = 0;
-    for interval in intervals {
-        places[place] = CInterval {
-            start: interval.start(),
-            end: interval.end(),
-        };
-        place += 1;
-    }
-}
-
 /// Puts a tag, or none, into a struct of the caller's.
 fn put_tag(tag: &[u8], out: &mut CSid<'_>)
     requires { length tag.now ≤ 32 }
@@ -162,60 +148,45 @@ fn put_optional_tag(tag: Option<&Tag<'_>>, out: &mut CSid<'_>)
 }
 
 /// Puts a sid into a struct of the caller's, and its intervals into places of the caller's.
+#[tactic(auto, using(crate::proofs::SidsRead::sids_found))]
 fn put_sid<'a>(
-    sid: &Sid<'_>,
+    found: &SidText<'_>,
     out: &mut CSid<'a>,
     places: &'a mut [CInterval],
     count: &mut usize,
 ) -> u32
-    ensures value { PutsSid sid.now (length places.old) result out.old out.new count.new }
+    ensures value { (s : Sid) → Tells found.now s → PutsSid s (length places.old) result out.old out.new count.new }
 {
-    let intervals = sid.intervals();
-    let n = intervals.len();
+    let n = found.count;
     *count = n;
     if places.len() < n {
         return BUFFER_TOO_SMALL;
     }
-    put_intervals(intervals, places);
+    put_intervals(found.intervals, places);
     out.intervals = &places[..n];
-    out.uuid = sid.uuid();
-    put_optional_tag(sid.tag(), out);
+    out.uuid = found.uuid;
+    put_optional_tag(found.tag.as_ref(), out);
     OK
 }
 
-/// The sid that a text spells, or the code of its refusal.
-fn sid_of_text(alloc: Global, text: &[u8]) -> Result<Sid<'static>, u32>
-    ensures bytes { (IsUtf8 text.now → ⊥) → result ≡ Err 2 }
-    ensures value { IsUtf8 text.now → TextRead result (read_sid text.now) }
-{
-    let Ok(text) = str::from_utf8(text) else {
-        return Err(INVALID_DATA);
-    };
-    match Sid::from_str(alloc, text) {
-        Ok(sid) => Ok(sid),
-        Err(InvalidSid::Memory) => Err(NO_MEMORY),
-        Err(_) => Err(INVALID_DATA),
-    }
-}
-
-/// Reads the text of a sid, and puts its intervals into the first places: 0; 2; 4; or 5, and how many places it takes.
+/// Reads the text of a sid, and puts its intervals into the first places: 0; 2; or 5, and how many places it takes.
+#[tactic(auto, using(crate::proofs::SidsRead::sids_found))]
 #[unsafe(no_mangle)]
 pub extern "C" fn myp_sid_from_text<'a>(
-    alloc: Global,
     text: &[u8],
     out: &mut CSid<'a>,
     intervals: &'a mut [CInterval],
     count: &mut usize,
 ) -> u32
-    ensures memory { result ≡ 4 → (out.new ≡ out.old) × (count.new ≡ 0) }
     ensures bytes { (IsUtf8 text.now → ⊥) → RefusesText result out.old out.new count.new }
-    ensures value { IsUtf8 text.now → result ≢ 4 → SidInto (read_sid text.now) (length intervals.old) result out.old out.new count.new }
+    ensures value { IsUtf8 text.now → SidInto (read_sid text.now) (length intervals.old) result out.old out.new count.new }
 {
-    match sid_of_text(alloc, text) {
-        Ok(sid) => put_sid(&sid, out, intervals, count),
-        Err(code) => {
-            *count = 0;
-            code
-        }
+    *count = 0;
+    let Ok(text) = str::from_utf8(text) else {
+        return INVALID_DATA;
+    };
+    match sid_in(text) {
+        Some(found) => put_sid(&found, out, intervals, count),
+        None => INVALID_DATA,
     }
 }
