@@ -6,7 +6,6 @@ ghost use Rattle.mysql_output.specs.Output.{Answer, IsFront, IsWritten};
 ghost use Rattle.mysql_recorder.specs.Recorded.{Recorded, has_lost, layout, longest};
 
 use crate::error::RecordingError;
-
 use crate::recording::Recording;
 use bitflags::Flags;
 use mysql_conversation::KindName;
