@@ -11,6 +11,7 @@ use Rattle.mysql_auth.specs.declared.ssl_request.SslRequest.{SslRequest}
 use Rattle.mysql_conversation.specs.Agreements.{Agreed, agreed_on, compresses}
 use Rattle.mysql_conversation.specs.KindName.{name_of}
 use Rattle.mysql_conversation.specs.Payloads.{first_is}
+use Rattle.mysql_conversation.specs.Piped as pipe
 use Rattle.mysql_conversation.specs.Piped.{PipeTaken, place}
 use Rattle.mysql_conversation.specs.Pipelined.{Numbered, IsPipelined}
 use Rattle.mysql_conversation.specs.declared.kind.Kind.{Kind}
@@ -97,6 +98,18 @@ TakenIn (phase.Commands p) items =
 
 abbrev pub SessionTaken : Session → List Numbered → Type 0
 SessionTaken s items = TakenIn s.phase items
+
+-- how many commands may wait: of the conversation, once the client has logged in
+abbrev pub limit_in : ℕ → Phase → ℕ
+limit_in n phase.Greeting = n
+limit_in n phase.Refused = n
+limit_in n (phase.Login server) = n
+limit_in n (phase.Encrypted server) = n
+limit_in n (phase.InTls server) = n
+limit_in n (phase.Commands p) = pipe.limit p
+
+abbrev pub limit : Session → ℕ
+limit s = limit_in s.limit s.phase
 
 -- a request to go on in TLS came, and nothing says that what comes is deciphered
 abbrev pub IsEncrypted : Session → Type 0

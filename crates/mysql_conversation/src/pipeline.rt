@@ -93,6 +93,13 @@ impl Pipeline {
         }
     }
 
+    /// As many commands may wait.
+    pub fn limit(&self) -> usize
+        ensures { result ≡ piped.limit self.now }
+    {
+        self.limit
+    }
+
     /// Whether the last exchange is over.
     pub fn is_at_rest(&self) -> bool
         ensures { (items : List Numbered) → PipeTaken self.now items → IsTrue result ↔ IsPipelined (piped.agreed self.now) (piped.opening self.now) items }

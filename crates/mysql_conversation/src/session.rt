@@ -1,6 +1,6 @@
 //! Whole sessions.
 
-ghost use Rattle.std.specs.Prelude.{◌≡◌, ◌↔◌, ◌⊎◌, ◌≤◌, ◌<◌, ◌-◌, ◌^◌, IfOk, IfErr, IfSome, IfNone, OnErr, IsTrue, List, [], ◌∷◌, ◌++◌, ℕ, true, false, None, Some, length, not, ◌&&◌};
+ghost use Rattle.std.specs.Prelude.{◌≡◌, ◌↔◌, ◌⊎◌, ◌≤◌, ◌<◌, ◌-◌, ◌^◌, IfOk, IfErr, IfSome, IfNone, OnErr, OnOk, IsTrue, List, [], ◌∷◌, ◌++◌, ℕ, true, false, None, Some, length, not, ◌&&◌};
 ghost use Rattle.mysql_auth.specs.declared.ssl_request.SslRequest as login_head;
 ghost use Rattle.mysql_conversation.specs.Agreements.{agreed_on, compresses};
 ghost use Rattle.mysql_conversation.specs.Payloads as payloads;
@@ -107,11 +107,22 @@ impl Session {
     /// One of which no packet has come, in which as many commands may wait as the limit.
     pub fn new(alloc: Global, limit: usize) -> Self
         ensures taken { SessionTaken result [] }
+        ensures limit { sessions.limit result ≡ limit }
     {
         Session {
             alloc,
             limit,
             phase: Phase::Greeting,
+        }
+    }
+
+    /// As many commands may wait.
+    pub fn limit(&self) -> usize
+        ensures { result ≡ sessions.limit self.now }
+    {
+        match &self.phase {
+            Phase::Commands(pipeline) => pipeline.limit(),
+            _ => self.limit,
         }
     }
 
@@ -154,6 +165,8 @@ impl Session {
     /// Says that what comes is deciphered, after a request to go on in TLS.
     pub fn decipher(&mut self)
         ensures stays { (items : List Numbered) → SessionTaken self.old items → SessionTaken self.new items }
+        ensures in_tls { IsEncrypted self.new → ⊥ }
+        ensures limit { sessions.limit self.new ≡ sessions.limit self.old }
     {
         if let Phase::Encrypted(server) = &self.phase {
             self.phase = Phase::InTls(*server);
@@ -177,6 +190,7 @@ impl Session {
         // What is refused as full, or for memory, comes here.
         ensures comes { IfErr result (λ why. (why ≡ refusal.Full) ⊎ (why ≡ refusal.Memory) → Comes self.old from payload.now) }
         ensures err { OnErr result ((items : List Numbered) → SessionTaken self.old items → SessionTaken self.new items) }
+        ensures limit { sessions.limit self.new ≡ sessions.limit self.old }
     {
         match &mut self.phase {
             Phase::Commands(pipeline) => pipeline.next(from, payload),
@@ -207,6 +221,7 @@ impl Session {
     fn greeted(&mut self, payload: &[u8]) -> Result<(Kind, u64), Refusal>
         ensures taken { IfOk result (λ x. (x.1 ≡ 0) × GreetedAs payload.now x.0 self.new.phase) }
         ensures refused { IfErr result (λ why. (why ≡ refusal.Unexpected) × (payloads.first_is 0xff payload.now ≡ false) × (greeting_at payload.now ≡ None)) }
+        ensures limit { OnOk result (sessions.limit self.new ≡ self.old.limit) }
         ensures err { OnErr result (self.new ≡ self.old) }
     {
         if first_is(0xff, payload) {
@@ -232,6 +247,7 @@ impl Session {
         ensures taken { IfOk result (λ x. (x.1 ≡ 0) × AnsweredAs server in_tls payload.now x.0 self.new.phase) }
         ensures refused { IfErr result (λ why. ((why ≡ refusal.Unexpected) × (login_at payload.now ≡ None))
             ⊎ ((why ≡ refusal.Compressed) × (head : login_head.SslRequest) × (login_at payload.now ≡ Some head) × (compresses (agreed_on server (client_of head)) ≡ true))) }
+        ensures limit { OnOk result (sessions.limit self.new ≡ self.old.limit) }
         ensures err { OnErr result (self.new ≡ self.old) }
     {
         let Some(head) = login(self.alloc, payload) else {

@@ -232,11 +232,20 @@ fn show_agreed(out: &mut Out, agreed: Option<SessionCapabilities>) {
     }
 }
 
+/// How many commands may wait, where that is not as it was asked for.
+fn show_other_limit(out: &mut Out, asked: usize, limit: usize) {
+    if limit != asked {
+        out.show("limit", limit);
+    }
+}
+
 /// A session.
 pub fn session(out: &mut Out, request: &Request<'_>) {
-    let mut session = Session::new(request.alloc, request.number(1) as usize);
+    let limit = request.number(1) as usize;
+    let mut session = Session::new(request.alloc, limit);
     take_all(out, request, &mut session, 2);
     out.show("at_rest", session.is_at_rest());
+    show_other_limit(out, limit, session.limit());
     show_agreed(out, session.agreed());
 }
 
@@ -264,15 +273,17 @@ fn opening_by(request: &Request<'_>) -> Opening {
 
 /// A conversation of frames, in which commands may come early.
 pub fn conversation(out: &mut Out, request: &Request<'_>) {
+    let limit = request.number(2) as usize;
     let mut pipeline = Pipeline::new(
         request.alloc,
         agreed_by(request, 3),
         opening_by(request),
-        request.number(2) as usize,
+        limit,
     );
     take_all(out, request, &mut pipeline, 5);
     out.show("at_rest", pipeline.is_at_rest());
     out.show("waiting", pipeline.waiting());
+    show_other_limit(out, limit, pipeline.limit());
 }
 
 /// A conversation of payloads, in which none may. After each packet it goes on from its state in plain numbers.
