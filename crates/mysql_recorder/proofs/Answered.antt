@@ -310,7 +310,7 @@ finished all sums false at_end old new x w t answer says is here (inl h) ends =
     elim (says.finishes x h.0 h.1) as (λ _. IsAnswer all (recorded.layout old) (recorded.longest old) sums at_end x answer) [
       | inl lost_now ↦ absurd (let no : true ≡ false = sym lost_now ∙ is in cc)
       | inr f ↦ done all (recorded.layout old) (recorded.longest old) sums at_end x answer here
-          (record { shown = w ++ t; shows = (h.0 ++ f.0, f.1, writes_more (recorded.layout old) h.0 f.0 w t h.2 f.2); ends = ends })
+          (record { shown = w ++ t; shows = (h.0 ++ f.0, f.1.shown, writes_more (recorded.layout old) h.0 f.0 w t h.2 f.2); ends = ends })
     ]
 finished all sums true at_end old new x w t answer says is here (inr h) ends =
     lost all (recorded.layout old) (recorded.longest old) sums at_end x answer here (record { shown = w ++ t; lost = lost_ends all (recorded.layout old) (recorded.longest old) x w t h.1; ends = ends })

@@ -1,5 +1,5 @@
 -- Where something is lost, step by step.
-use Rattle.std.proofs.Common.{◌≡◌, ◌≢◌, ◌⊎◌, inl, inr, ℕ, ◌+◌, ◌<◌, true, false, List, [], ◌∷◌, ◌++◌, Result, Ok, Err, IfOk, OnOk, IsErrOf, Some, None, refl, sym, ap, subst, ◌∙◌, append_assoc, append-nil, length, get_or, take, drop, drop-cons, take-append-drop, suc, add-one}
+use Rattle.std.proofs.Common.{◌≡◌, ◌≢◌, ◌⊎◌, inl, inr, ℕ, ◌+◌, ◌<◌, true, false, List, [], ◌∷◌, ◌++◌, Result, Ok, Err, IfOk, OnOk, Some, refl, sym, ap, subst, ◌∙◌, append_assoc, append-nil, length, get_or, take, drop, drop-cons, take-append-drop, suc, add-one}
 use Rattle.std.proofs.lemmas.List.{take_more}
 use Rattle.mysql_conversation.specs.declared.kind.Side.{Side}
 use Rattle.mysql_conversation.specs.declared.kind.Side.TheVariants as side
@@ -12,9 +12,9 @@ use Rattle.mysql_frames.specs.FrameReader.{HandsOut, NoneWhole, AllLonger}
 use Rattle.mysql_frames.specs.declared.error.FrameError.{FrameError}
 use Rattle.mysql_frames.specs.declared.error.FrameError.TheVariants as frame
 use Rattle.mysql_recorder.specs.Followed.{IsFollowed}
-use Rattle.mysql_recorder.specs.Frames.{Piece, joined, of_side}
-use Rattle.mysql_recorder.specs.Lines.{Heard, heard, AreLines, Line, text_of, said_by, Stands, Passes}
-use Rattle.mysql_recorder.specs.Losses.{IsNumberOf, AreNoFrames, AreTooLong, BreaksIn, LosesIn, PieceLosesIn, PieceLoses, LineLoses, LineEndLoses, LosesAfter, EndsInMark, IsLost, TextLoses, IsAtFeed, Loses}
+use Rattle.mysql_recorder.specs.Frames.{joined}
+use Rattle.mysql_recorder.specs.Lines.{Heard, text_of, said_by, Stands, Passes}
+use Rattle.mysql_recorder.specs.Losses.{IsNumberOf, AreNoFrames, AreTooLong, LosesIn, PieceLosesIn, PieceLoses, LineLoses, LineEndLoses, EndsInMark, IsLost, TextLoses, IsAtFeed, Loses}
 use Rattle.mysql_recorder.specs.Marks.{IsMark}
 use Rattle.mysql_recorder.specs.Recorded.{IsReadTo, IsShown, Recorded}
 use Rattle.mysql_recorder.specs.Recorded as recorded
@@ -22,15 +22,11 @@ use Rattle.mysql_recorder.specs.Refused.{ShowsRefused}
 use Rattle.mysql_recorder.specs.Shown.{Item, placed, Writes}
 use Rattle.mysql_recorder.specs.Sides.{IsAt, Reads, Stand, has_lost, layout, longest, passed_of}
 use Rattle.mysql_recorder.specs.Sides as sides
-use Rattle.mysql_recorder.specs.Stops.{StopsIn}
 use Rattle.mysql_recorder.specs.Streams.{as_sent}
 use Rattle.mysql_recorder.specs.declared.error.RecordingError.{RecordingError}
-use Rattle.mysql_recorder.specs.declared.line.Place.{Place}
 use Rattle.mysql_recorder.specs.declared.line.Place.TheVariants as place
 use Rattle.mysql_recorder.specs.declared.line.Said.TheVariants as says
 use Rattle.mysql_recorder.specs.declared.packets.Packets.{Packets}
-use Rattle.mysql_recorder.specs.declared.packets.Taken.{Taken}
-use Rattle.mysql_recorder.specs.declared.packets.Taken.TheVariants as taken_as
 use Rattle.mysql_recorder.specs.declared.piece.Came.{Came}
 use Rattle.mysql_recorder.specs.declared.piece.Came.TheVariants as came_as
 use Rattle.mysql_recorder.specs.declared.recording.Recording.{Recording}

@@ -1,5 +1,5 @@
 -- Marks of missing bytes.
-use Rattle.std.proofs.Common.{◌≡◌, ℕ, ◌<◌, ◌≤◌, zero, suc, List, [], ◌∷◌, length, drop, arith, refl, sym, ap, subst, ◌∙◌}
+use Rattle.std.proofs.Common.{◌≡◌, ℕ, ◌<◌, ◌≤◌, zero, suc, List, ◌∷◌, length, drop, arith, sym, ap, subst, ◌∙◌}
 use Rattle.mysql_recorder.specs.Marks.{BeginsWithDigits, IsMark, mark_end}
 
 -- what is shorter is after a digit at least

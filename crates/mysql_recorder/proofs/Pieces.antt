@@ -7,7 +7,7 @@ use Rattle.mysql_frames.specs.Frames.{Framed}
 use Rattle.mysql_recorder.specs.Followed.{IsFollowed}
 use Rattle.mysql_recorder.specs.Frames.{AreFrames, NoneComes, IsNumbered}
 use Rattle.mysql_recorder.specs.Shown.{Item, item, placed, Appends, entry_of}
-use Rattle.mysql_recorder.specs.Sides.{IsAt, Reads}
+use Rattle.mysql_recorder.specs.Sides.{Reads}
 use Rattle.mysql_recorder.specs.Streams.{as_sent}
 use Rattle.mysql_recorder.specs.Taken.{ShowsPacket}
 use Rattle.mysql_recorder.specs.declared.packets.Packets.{Packets}

@@ -4,7 +4,7 @@ use Rattle.mysql_conversation.specs.Session.{IsSessionBeginning}
 use Rattle.mysql_conversation.specs.declared.kind.Side.TheVariants as side
 use Rattle.mysql_recorder.specs.Frames.{AreFrames, Piece, joined, ComeIn, packets_of, bytes_of}
 use Rattle.mysql_recorder.specs.Lines.{Heard, heard}
-use Rattle.mysql_recorder.specs.Recorded.{Recorded, IsShown, Takes, Finishes, has_lost, layout}
+use Rattle.mysql_recorder.specs.Recorded.{Recorded, IsFinished, IsShown, Takes, Finishes, has_lost, layout}
 use Rattle.mysql_recorder.specs.Shown.{Item, Writes, placed}
 use Rattle.mysql_recorder.specs.Sides.{SaysNothing, piece}
 use Rattle.mysql_recorder.specs.declared.recording.Recording.{Recording}
@@ -30,21 +30,24 @@ server_packets pieces items client server h = of_server [] [] pieces items clien
 pub finishes : (old new : Recording) (before mid after : List ℕ) → Takes old new before mid → new.place ≡ old.place → SaysNothing new.sides mid after → Finishes old new before after
 finishes old new before mid after takes place nothing text items h =
     let p : Piece = piece old.line.side old.line.bytes.items in
-    elim (takes h.pieces items h.stand) as (λ _. (has_lost new ≡ true) ⊎ ((here : List Item) × IsShown text [] (items ++ here) × Writes (layout old) here before after)) [
+    elim (takes h.pieces items h.stand) as (λ _. (has_lost new ≡ true) ⊎ ((here : List Item) × IsFinished new text (items ++ here) × Writes (layout old) here before after)) [
       | inl e ↦ inl e
       | inr f ↦ inr (
         f.0,
         record {
-          at = old.place;
-          said = h.said;
-          pieces = h.pieces ++ p ∷ [];
-          client_left = new.sides.client.reader.held;
-          server_left = new.sides.server.reader.held;
-          read = h.read;
-          parts = h.waits ∙ sym (joined-append h.pieces p) ∙ sym (append-nil (joined (h.pieces ++ p ∷ [])));
-          packets = f.1.come;
-          client_none = f.1.client.none;
-          server_none = f.1.server.none;
+          shown = record {
+            at = old.place;
+            said = h.said;
+            pieces = h.pieces ++ p ∷ [];
+            client_left = new.sides.client.reader.held;
+            server_left = new.sides.server.reader.held;
+            read = h.read;
+            parts = h.waits ∙ sym (joined-append h.pieces p) ∙ sym (append-nil (joined (h.pieces ++ p ∷ [])));
+            packets = f.1.come;
+            client_none = f.1.client.none;
+            server_none = f.1.server.none;
+          };
+          stand = f.1;
         },
         subst (λ t. Writes (layout old) f.0 before t) (sym (nothing (h.pieces ++ p ∷ []) (items ++ f.0) f.1)) f.2,
       )

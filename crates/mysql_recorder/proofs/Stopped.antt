@@ -1,5 +1,5 @@
 -- A packet that doesn't come, step by step.
-use Rattle.std.proofs.Common.{◌≡◌, ◌≢◌, ◌⊎◌, inl, inr, ℕ, true, List, ◌++◌, None, Result, Ok, Err, IfOk, IfErr, OnOk, refl, sym, subst, ◌∙◌, take, drop, take-append-drop}
+use Rattle.std.proofs.Common.{◌≡◌, ◌≢◌, ◌⊎◌, inl, inr, ℕ, true, List, ◌++◌, Result, Ok, Err, IfOk, IfErr, OnOk, refl, sym, subst, ◌∙◌, take, drop, take-append-drop}
 use Rattle.mysql_conversation.specs.Agreements.{Agreed}
 use Rattle.mysql_conversation.specs.declared.kind.Side.{Side}
 use Rattle.mysql_conversation.specs.declared.kind.Side.TheVariants as side

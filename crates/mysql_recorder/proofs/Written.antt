@@ -1,12 +1,12 @@
 -- What the program's steps write.
-use Rattle.std.proofs.Common.{◌≡◌, ◌⊎◌, inl, inr, ℕ, Bool, true, false, List, [], ◌++◌, Option, Result, Ok, Err, OnOk, IfErr, MatchResult, refl, sym, subst, append-nil}
+use Rattle.std.proofs.Common.{◌≡◌, inl, inr, ℕ, Bool, true, false, List, [], ◌++◌, Option, Result, Ok, Err, OnOk, IfErr, refl, subst, append-nil}
 use Rattle.std.proofs.KnownBytes.{Appends-nil}
 use Rattle.std.specs.Io.KnownBytes.{Appends}
 use Rattle.mysql_conversation.specs.declared.kind_name.KindName.{KindName}
 use Rattle.mysql_fields.specs.declared.entry.Layout.{Layout}
-use Rattle.mysql_recorder.specs.Answers.{Ends, EndsWith, FailsIn, InputEnds, IsErrorWritten, lost_status, PieceEnds, PieceGoesOn, SaysError, Takes}
+use Rattle.mysql_recorder.specs.Answers.{Ends, EndsWith, InputEnds, IsErrorWritten, lost_status, PieceEnds, PieceGoesOn, SaysError, Takes}
 use Rattle.mysql_recorder.specs.Losses.{Loses, TextLoses}
-use Rattle.mysql_output.specs.Output.{Answer, IsCut, IsFront, IsWritten}
+use Rattle.mysql_output.specs.Output.{Answer, IsFront, IsWritten}
 use Rattle.mysql_recorder.specs.Recorded as recorded
 use Rattle.mysql_recorder.specs.Recorded.{Finishes, GoesOn}
 use Rattle.mysql_recorder.specs.Stops.{Stops, TextStops}

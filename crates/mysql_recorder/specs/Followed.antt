@@ -1,7 +1,15 @@
 -- What is followed of a connection.
-use Rattle.std.specs.Prelude.{◌≡◌, List}
+use Rattle.std.specs.Prelude.{◌≡◌, ◌⊎◌, ℕ, List, [], ◌∷◌}
+use Rattle.mysql_conversation.specs.Agreements.{Agreed}
+use Rattle.mysql_conversation.specs.Piped as pipe
+use Rattle.mysql_conversation.specs.Piped.{PipeTaken, place}
 use Rattle.mysql_conversation.specs.Pipelined.{Numbered}
+use Rattle.mysql_conversation.specs.Session as session
 use Rattle.mysql_conversation.specs.Session.{SessionTaken}
+use Rattle.mysql_conversation.specs.declared.kind.Kind.{Kind}
+use Rattle.mysql_conversation.specs.declared.kind.Opening.TheVariants.{Commands}
+use Rattle.mysql_conversation.specs.declared.kind.Side.TheVariants.{Client}
+use Rattle.mysql_conversation.specs.declared.pipeline.Pipeline.{Pipeline}
 use Rattle.mysql_conversation.specs.declared.session.Session.{Session}
 use Rattle.mysql_recorder.specs.declared.followed.Connection.{Connection}
 use Rattle.mysql_recorder.specs.declared.followed.Connection.TheVariants as connection
@@ -13,3 +21,22 @@ IsWhole c items = (s : Session) × (c ≡ connection.Whole s) × SessionTaken s 
 
 abbrev pub IsFollowed : Followed → List Numbered → Type 0
 IsFollowed f items = IsWhole f.connection items × (f.before ≡ 0)
+
+-- how many commands may wait
+abbrev pub limit_of : Connection → ℕ
+limit_of (connection.Whole s) = session.limit s
+limit_of (connection.TakenUp p agreed) = pipe.limit p
+
+abbrev pub may_wait : Followed → ℕ
+may_wait f = limit_of f.connection
+
+-- A connection that is taken up between two exchanges, under what both sides agreed on, and of which these packets came. Exchanges are
+-- counted on from this number.
+abbrev pub IsTakenUp : Followed → Agreed → List Numbered → ℕ → Type 0
+IsTakenUp f a items before =
+    (p : Pipeline) × (f.connection ≡ connection.TakenUp p a) × (pipe.agreed p ≡ a) × (pipe.opening p ≡ Commands) × PipeTaken p items × (f.before ≡ before)
+
+-- of it this command came, or nothing, where it is none
+abbrev pub IsTakenUpAfter : Followed → Agreed → List ℕ → ℕ → Type 0
+IsTakenUpAfter f a command before =
+    ((kind : Kind) × (number : ℕ) × IsTakenUp f a (place Client command kind number ∷ []) before) ⊎ IsTakenUp f a [] before

@@ -1,5 +1,6 @@
 -- What a recording has read, and shown.
 use Rattle.std.specs.Prelude.{◌≡◌, ◌⊎◌, ℕ, Bool, true, List, [], ◌∷◌, ◌++◌}
+use Rattle.mysql_conversation.specs.Agreements.{Agreed}
 use Rattle.mysql_fields.specs.declared.entry.Layout.{Layout}
 use Rattle.mysql_recorder.specs.Frames.{Piece, joined, ComeIn, NoneComes}
 use Rattle.mysql_recorder.specs.Lines.{AreLines, Heard, heard, IsRead, IsOfSide, Line, said_by, Stands, text_of}
@@ -15,6 +16,18 @@ layout r = sides.layout r.sides
 -- the longest payload
 abbrev pub longest : Recording → ℕ
 longest r = sides.longest r.sides
+
+-- how many commands may wait
+abbrev pub may_wait : Recording → ℕ
+may_wait r = sides.may_wait r.sides
+
+-- sums are asked for
+abbrev pub has_sums : Recording → Bool
+has_sums r = sides.has_sums r.sides
+
+-- the number of the last exchange that came
+abbrev pub last_exchange : Recording → ℕ
+last_exchange r = r.sides.packets.followed.last
 
 -- something is lost
 abbrev pub has_lost : Recording → Bool
@@ -35,6 +48,17 @@ pub record Recorded (r : Recording) (text : List ℕ) (items : List Item) : Type
   pub line : (r.line.bytes.items ≡ []) ⊎ IsOfSide r.line.side r.place
   pub untaken : r.line.is_untaken ≡ true → IsReadTo text r.place (joined pieces) (heard r.line.side r.line.bytes.items)
   pub stand : Stand r.sides pieces items
+
+-- these packets are a whole session, and of neither side a byte is held of a payload that is cut
+abbrev pub IsWhole : Recording → List Item → Type 0
+IsWhole r items = sides.IsWhole r.sides items
+
+-- From this place in the text on, the connection is taken up at its next command, under what both sides agreed on: both streams are out of
+-- step up to there. Exchanges are counted on.
+pub record IsTakenUp (old new : Recording) (agreed : Agreed) : Type 0 where
+  pub awaited : sides.IsTakenUp new.sides agreed (last_exchange old)
+  pub place : new.place ≡ old.place
+  pub line : new.line ≡ old.line
 
 -- after this text something is lost, or it is read too, and an entry for each of its packets is appended
 abbrev pub GoesOn : List ℕ → Recording → Recording → List ℕ → List ℕ → Type 0
@@ -60,7 +84,12 @@ pub record IsShown (text : List ℕ) (waits : List Heard) (items : List Item) : 
   pub client_none : NoneComes client_left
   pub server_none : NoneComes server_left
 
+-- The text was read to its end, and these packets of it are shown; what is left of either stream is held.
+pub record IsFinished (r : Recording) (text : List ℕ) (items : List Item) : Type 0 where
+  pub shown : IsShown text [] items
+  pub stand : Stand r.sides shown.pieces items
+
 -- at the end of the text something is lost, or an entry is appended for each packet that is left of it
 abbrev pub Finishes : Recording → Recording → List ℕ → List ℕ → Type 0
 Finishes old new before after = (text : List ℕ) (items : List Item) → Recorded old text items
-    → (has_lost new ≡ true) ⊎ ((here : List Item) × IsShown text [] (items ++ here) × Writes (layout old) here before after)
+    → (has_lost new ≡ true) ⊎ ((here : List Item) × IsFinished new text (items ++ here) × Writes (layout old) here before after)

@@ -1,8 +1,11 @@
 -- What came of both sides of a connection, and is shown.
-use Rattle.std.specs.Prelude.{◌≡◌, ◌⊎◌, ℕ, Bool, true, false, List, [], ◌++◌, Option, None}
+use Rattle.std.specs.Prelude.{◌≡◌, ◌⊎◌, ℕ, Bool, true, false, List, [], ◌++◌, Option, Some, None, is_some}
+use Rattle.mysql_conversation.specs.Agreements.{Agreed}
+use Rattle.mysql_conversation.specs.Session.{IsSession}
 use Rattle.mysql_conversation.specs.declared.kind.Side.{Side}
 use Rattle.mysql_conversation.specs.declared.kind.Side.TheVariants.{Client, Server}
 use Rattle.mysql_fields.specs.declared.entry.Layout.{Layout}
+use Rattle.mysql_recorder.specs.Followed as connection
 use Rattle.mysql_recorder.specs.Followed.{IsFollowed}
 use Rattle.mysql_recorder.specs.Frames.{Piece, AreFrames, NoneComes, AreFrom, ComeIn, IsNumbered}
 use Rattle.mysql_recorder.specs.Shown.{Item, placed, Writes}
@@ -33,6 +36,14 @@ has_lost s = s.has_lost
 abbrev pub longest : Sides → ℕ
 longest s = s.longest
 
+-- how many commands may wait
+abbrev pub may_wait : Sides → ℕ
+may_wait s = connection.may_wait s.packets.followed
+
+-- sums are asked for
+abbrev pub has_sums : Sides → Bool
+has_sums s = is_some s.packets.sums
+
 abbrev pub passed_of : Side → Sides → Option ℕ
 passed_of Client s = s.client.passed
 passed_of Server s = s.server.passed
@@ -51,6 +62,23 @@ pub record Stand (s : Sides) (pieces : List Piece) (items : List Item) : Type 0 
   pub server : InStep s.server s.longest
   pub followed : IsFollowed s.packets.followed (placed items)
   pub nothing_lost : s.has_lost ≡ false
+
+-- these packets are a whole session, and of neither side a byte is held of a payload that is cut
+abbrev pub IsWhole : Sides → List Item → Type 0
+IsWhole s items = (s.client.reader.held ≡ []) × (s.server.reader.held ≡ []) × IsSession (placed items)
+
+-- A stream is out of step, and nothing of it came yet.
+pub record IsAwaited (stream : Stream) (longest : ℕ) : Type 0 where
+  pub passed : stream.passed ≡ Some 0
+  pub held : stream.reader.held ≡ []
+  pub limit : stream.reader.limit ≡ longest
+
+-- The connection is taken up at its next command, under what both sides agreed on, and nothing of it came yet. Exchanges are counted on
+-- from this number.
+pub record IsTakenUp (s : Sides) (agreed : Agreed) (before : ℕ) : Type 0 where
+  pub followed : connection.IsTakenUp s.packets.followed agreed [] before
+  pub client : IsAwaited s.client s.longest
+  pub server : IsAwaited s.server s.longest
 
 -- after these pieces something is lost, or they came too, and an entry for each of their packets is appended
 abbrev pub GoesOn : List Piece → Sides → Sides → List ℕ → List ℕ → Type 0

@@ -1,9 +1,10 @@
 //! What is followed: a connection from its greeting on, or one that is taken up amid it.
 
-ghost use Rattle.std.specs.Prelude.{◌≡◌, ◌↔◌, ◌⊎◌, ℕ, List, [], ◌∷◌, ◌++◌, IfOk, IfErr, OnErr, IsTrue};
+ghost use Rattle.std.specs.Prelude.{◌≡◌, ◌↔◌, ◌⊎◌, ◌-◌, ℕ, List, [], ◌∷◌, ◌++◌, IfOk, IfErr, OnErr, IsTrue};
 ghost use Rattle.mysql_conversation.specs.Pipelined.{Numbered};
-ghost use Rattle.mysql_conversation.specs.Piped.{place};
-ghost use Rattle.mysql_conversation.specs.Session.{GoesOn, IsSessionBeginning};
+ghost use Rattle.mysql_conversation.specs.Piped as piped;
+ghost use Rattle.mysql_conversation.specs.Piped.{PipeTaken, place};
+ghost use Rattle.mysql_conversation.specs.Session.{GoesOn, IsSession, IsSessionBeginning};
 ghost use Rattle.mysql_conversation.specs.declared.kind.Kind as declared;
 ghost use Rattle.mysql_conversation.specs.declared.kind.Side.TheVariants as side_of;
 
@@ -20,7 +21,7 @@ enum Connection {
 
 impl Connection {
     ghost use Rattle.mysql_conversation.specs.declared.pipeline.Refusal.TheVariants as refusal;
-    ghost use Rattle.mysql_recorder.specs.Followed.{IsWhole};
+    ghost use Rattle.mysql_recorder.specs.Followed.{IsWhole, limit_of};
 
     /// Which packet it is, and the number of its exchange, counted from the first that is followed here.
     fn next(&mut self, side: Side, payload: &[u8]) -> Result<(Kind, u64), Refusal>
@@ -28,10 +29,31 @@ impl Connection {
         ensures refused { IfErr result (λ why. (items : List Numbered) (kind : declared.Kind) (number : ℕ) → why ≡ refusal.Unexpected → IsWhole self.old items
             → IsSessionBeginning (items ++ place side payload.now kind number ∷ []) → ⊥) }
         ensures err { OnErr result ((items : List Numbered) → IsWhole self.old items → IsWhole self.new items) }
+        ensures limit { limit_of self.new ≡ limit_of self.old }
     {
         match self {
             Connection::Whole(session) => session.next(side, payload),
             Connection::TakenUp(pipeline, _) => pipeline.next(side, payload),
+        }
+    }
+
+    /// As many commands may wait.
+    fn limit(&self) -> usize
+        ensures { result ≡ limit_of self.now }
+    {
+        match self {
+            Connection::Whole(session) => session.limit(),
+            Connection::TakenUp(pipeline, _) => pipeline.limit(),
+        }
+    }
+
+    /// Whether all that was asked for is answered.
+    fn is_at_rest(&self) -> bool
+        ensures { (items : List Numbered) → IsWhole self.now items → IsTrue result ↔ IsSession items }
+    {
+        match self {
+            Connection::Whole(session) => session.is_at_rest(),
+            Connection::TakenUp(pipeline, _) => pipeline.is_at_rest(),
         }
     }
 
@@ -54,7 +76,6 @@ impl Connection {
 #[derive(Drop)]
 pub(crate) struct Followed {
     alloc: Global,
-    waiting: usize,
     connection: Connection,
     /// The number of the last exchange before the connection was taken up.
     before: u64,
@@ -64,15 +85,15 @@ pub(crate) struct Followed {
 
 impl Followed {
     ghost use Rattle.mysql_conversation.specs.declared.pipeline.Refusal.TheVariants as refusal;
-    ghost use Rattle.mysql_recorder.specs.Followed.{IsFollowed};
+    ghost use Rattle.mysql_recorder.specs.Followed.{IsFollowed, IsTakenUp, IsTakenUpAfter, may_wait};
 
     /// A connection from its greeting on, in which as many commands may wait.
     pub(crate) fn whole(alloc: Global, waiting: usize) -> Self
-        ensures { IsFollowed result [] }
+        ensures followed { IsFollowed result [] }
+        ensures may_wait { may_wait result ≡ waiting }
     {
         Followed {
             alloc,
-            waiting,
             connection: Connection::Whole(Session::new(alloc, waiting)),
             before: 0,
             last: 0,
@@ -80,19 +101,38 @@ impl Followed {
     }
 
     /// Goes on at the next command, under what both sides agreed on. Exchanges are counted on.
-    pub(crate) fn take_up(&mut self, agreed: SessionCapabilities) {
-        let pipeline = Pipeline::new(self.alloc, agreed, Opening::Commands, self.waiting);
+    pub(crate) fn take_up(&mut self, agreed: SessionCapabilities)
+        ensures taken_up { IsTakenUp self.new agreed [] self.old.last }
+        ensures may_wait { may_wait self.new ≡ may_wait self.old }
+        ensures last { self.new.last ≡ self.old.last }
+    {
+        let pipeline = self.anew(agreed);
         self.connection = Connection::TakenUp(pipeline, agreed);
         self.before = self.last;
     }
 
     /// Goes on after a command, the last that came. It is of the same exchange.
-    pub(crate) fn take_up_after(&mut self, agreed: SessionCapabilities, command: &[u8]) {
-        let mut pipeline = Pipeline::new(self.alloc, agreed, Opening::Commands, self.waiting);
+    pub(crate) fn take_up_after(&mut self, agreed: SessionCapabilities, command: &[u8])
+        ensures taken_up { IsTakenUpAfter self.new agreed command.now (self.old.last - 1) }
+        ensures may_wait { may_wait self.new ≡ may_wait self.old }
+        ensures last { self.new.last ≡ self.old.last }
+    {
+        let mut pipeline = self.anew(agreed);
         // (a command comes between two exchanges)
         let _taken = pipeline.next(Side::Client, command);
         self.connection = Connection::TakenUp(pipeline, agreed);
         self.before = self.last.saturating_sub(1);
+    }
+
+    /// A conversation of which nothing came, in which as many commands may wait as before.
+    fn anew(&self, agreed: SessionCapabilities) -> Pipeline
+        ensures taken { PipeTaken result [] }
+        ensures agreed { piped.agreed result ≡ agreed }
+        ensures opening { piped.opening result ≡ Opening.Commands }
+        ensures limit { piped.limit result ≡ may_wait self.now }
+    {
+        let limit = self.connection.limit();
+        Pipeline::new(self.alloc, agreed, Opening::Commands, limit)
     }
 
     /// Which packet it is, and the number of its exchange.
@@ -103,6 +143,7 @@ impl Followed {
         ensures refused { IfErr result (λ why. (items : List Numbered) (kind : declared.Kind) (number : ℕ) → why ≡ refusal.Unexpected → IsFollowed self.old items
             → IsSessionBeginning (items ++ place side payload.now kind number ∷ []) → ⊥) }
         ensures err { OnErr result ((items : List Numbered) → IsFollowed self.old items → IsFollowed self.new items) }
+        ensures may_wait { may_wait self.new ≡ may_wait self.old }
     {
         let (kind, number) = self.connection.next(side, payload)?;
         let exchange = self.before.saturating_add(number);
@@ -131,10 +172,9 @@ impl Followed {
     }
 
     /// Whether all that was asked for is answered.
-    pub(crate) fn is_at_rest(&self) -> bool {
-        match &self.connection {
-            Connection::Whole(session) => session.is_at_rest(),
-            Connection::TakenUp(pipeline, _) => pipeline.is_at_rest(),
-        }
+    pub(crate) fn is_at_rest(&self) -> bool
+        ensures { (items : List Numbered) → IsFollowed self.now items → IsTrue result ↔ IsSession items }
+    {
+        self.connection.is_at_rest()
     }
 }

@@ -19,6 +19,7 @@ mod recording;
 mod server_fields;
 mod sides;
 mod stream;
+mod sum_lines;
 mod sums;
 mod unheard;
 mod values;

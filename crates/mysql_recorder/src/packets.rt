@@ -1,15 +1,17 @@
 //! The packets of a recording, and what is shown of each.
 
-ghost use Rattle.std.specs.Prelude.{◌≡◌, ◌≢◌, [], ◌∷◌, ◌++◌, List, IfOk, IfErr, OnOk, string_bytes};
+ghost use Rattle.std.specs.Prelude.{◌≡◌, ◌≢◌, ◌↔◌, ◌-◌, [], ◌∷◌, ◌++◌, ℕ, List, IfOk, IfErr, IsTrue, OnOk, true, false, is_some, string_bytes};
 ghost use Rattle.mysql_conversation.specs.Pipelined.{Numbered};
 ghost use Rattle.mysql_fields.specs.Entries.{Stays};
-ghost use Rattle.mysql_recorder.specs.Followed.{IsFollowed};
+ghost use Rattle.mysql_conversation.specs.Session.{IsSession};
+ghost use Rattle.mysql_recorder.specs.Followed.{IsFollowed, IsTakenUp, IsTakenUpAfter, may_wait};
 ghost use Rattle.mysql_recorder.specs.Entries.{entry_as};
 ghost use Rattle.mysql_conversation.specs.declared.kind_name.KindName as names_of;
 ghost use Rattle.mysql_conversation.specs.declared.pipeline.Refusal as refusals;
 ghost use Rattle.mysql_recorder.specs.Refused.{ShowsRefused, expected_fields, refusal_text};
 ghost use Rattle.mysql_recorder.specs.Refusals.{AppendsRefused, Expects, IfRefused, Refuses};
 ghost use Rattle.mysql_recorder.specs.Shown.{Appends};
+ghost use Rattle.mysql_recorder.specs.Sums.{AppendsSomeSums};
 ghost use Rattle.mysql_recorder.specs.Taken.{ShowsPacket};
 ghost use Rattle.mysql_recorder.specs.declared.packets.Taken.TheVariants as taken_as;
 
@@ -71,6 +73,8 @@ impl Packets {
     pub(crate) fn new(alloc: Global, layout: Layout, waiting: usize) -> Self
         ensures followed { IsFollowed result.followed [] }
         ensures layout { result.layout ≡ layout }
+        ensures may_wait { may_wait result.followed ≡ waiting }
+        ensures sums { is_some result.sums ≡ false }
     {
         Packets {
             alloc,
@@ -87,12 +91,17 @@ impl Packets {
     pub(crate) fn sum(&mut self)
         ensures followed { self.new.followed ≡ self.old.followed }
         ensures layout { self.new.layout ≡ self.old.layout }
+        ensures sums { is_some self.new.sums ≡ true }
     {
         self.sums = Some(Sums::new(self.alloc));
     }
 
     /// Appends the sums, where they are asked for.
-    pub(crate) fn append_sums(&self, out: &mut String) -> Result<(), AllocError> {
+    pub(crate) fn append_sums(&self, out: &mut String) -> Result<(), AllocError>
+        ensures none { is_some self.now.sums ≡ false → (result ≡ Ok tt) × (string_bytes out.new ≡ string_bytes out.old) }
+        ensures sums { is_some self.now.sums ≡ true → OnOk result (AppendsSomeSums self.now.layout (string_bytes out.old) (string_bytes out.new)) }
+        ensures stays { OnOk result (Stays (string_bytes out.old) (string_bytes out.new)) }
+    {
         match &self.sums {
             Some(sums) => sums.append(self.layout, out),
             None => Ok(()),
@@ -105,7 +114,9 @@ impl Packets {
     }
 
     /// Whether all that was asked for is answered.
-    pub(crate) fn is_at_rest(&self) -> bool {
+    pub(crate) fn is_at_rest(&self) -> bool
+        ensures { (items : List Numbered) → IsFollowed self.now.followed items → IsTrue result ↔ IsSession items }
+    {
         self.followed.is_at_rest()
     }
 
@@ -116,14 +127,20 @@ impl Packets {
 
     /// Goes on at the next command, under what both sides agreed on.
     pub(crate) fn take_up(&mut self, agreed: SessionCapabilities)
-        ensures { self.new.layout ≡ self.old.layout }
+        ensures taken_up { IsTakenUp self.new.followed agreed [] self.old.followed.last }
+        ensures layout { self.new.layout ≡ self.old.layout }
+        ensures may_wait { may_wait self.new.followed ≡ may_wait self.old.followed }
+        ensures sums { self.new.sums ≡ self.old.sums }
     {
         self.followed.take_up(agreed);
     }
 
     /// The same after a loss: which answers the commands have that wait was not seen.
     pub(crate) fn lose(&mut self, agreed: SessionCapabilities) -> Result<(), AllocError>
-        ensures { self.new.layout ≡ self.old.layout }
+        ensures taken_up { IsTakenUp self.new.followed agreed [] self.old.followed.last }
+        ensures layout { self.new.layout ≡ self.old.layout }
+        ensures may_wait { may_wait self.new.followed ≡ may_wait self.old.followed }
+        ensures sums { self.new.sums ≡ self.old.sums }
     {
         self.followed.take_up(agreed);
         self.unheard = Unheard::none();
@@ -136,7 +153,10 @@ impl Packets {
         agreed: SessionCapabilities,
         command: &Front,
     ) -> Result<(), AllocError>
-        ensures { self.new.layout ≡ self.old.layout }
+        ensures taken_up { (front : List ℕ) × IsTakenUpAfter self.new.followed agreed front (self.old.followed.last - 1) }
+        ensures layout { self.new.layout ≡ self.old.layout }
+        ensures may_wait { may_wait self.new.followed ≡ may_wait self.old.followed }
+        ensures sums { self.new.sums ≡ self.old.sums }
     {
         self.followed.take_up_after(agreed, command.as_slice());
         self.unheard = Unheard::none();
@@ -178,6 +198,8 @@ impl Packets {
             → IfRefused e (λ why. ShowsRefused KindName.ALL self.old.layout side sequence payload.now items why (string_bytes out.old) (string_bytes out.new))) }
         ensures stays { IfOk result (λ taken. Stays (string_bytes out.old) (string_bytes out.new)) }
         ensures layout { self.new.layout ≡ self.old.layout }
+        ensures may_wait { may_wait self.new.followed ≡ may_wait self.old.followed }
+        ensures sums { is_some self.new.sums ≡ is_some self.old.sums }
     {
         let is_between = self.followed.is_at_rest();
         match self.followed.next(side, payload) {
@@ -233,6 +255,7 @@ impl Packets {
         ensures ok { OnOk result (Appends self.old.layout (entry_as packet.now) (string_bytes out.old) (string_bytes out.new)) }
         ensures followed { self.new.followed ≡ self.old.followed }
         ensures layout { self.new.layout ≡ self.old.layout }
+        ensures sums { is_some self.new.sums ≡ is_some self.old.sums }
     {
         if let Some(sums) = &mut self.sums {
             sums.add(packet, kind)?;
@@ -259,6 +282,7 @@ impl Packets {
     fn keep(&mut self, packet: &Packet<'_>, kind: Kind, is_early: bool) -> Result<(), AllocError>
         ensures followed { self.new.followed ≡ self.old.followed }
         ensures layout { self.new.layout ≡ self.old.layout }
+        ensures sums { self.new.sums ≡ self.old.sums }
     {
         let Some(agreed) = self.followed.agreed() else {
             return Ok(());

@@ -1,7 +1,8 @@
 //! Pieces of one side's stream.
 
-ghost use Rattle.std.specs.Prelude.{◌≡◌, ◌≢◌, [], ◌++◌, List, IfOk, IfErr, string_bytes};
+ghost use Rattle.std.specs.Prelude.{◌≡◌, ◌≢◌, [], ◌++◌, List, IfOk, IfErr, is_some, string_bytes};
 ghost use Rattle.mysql_fields.specs.Entries.{Stays};
+ghost use Rattle.mysql_recorder.specs.Followed.{may_wait};
 ghost use Rattle.mysql_recorder.specs.Frames.{IsNumbered, NoneComes};
 ghost use Rattle.mysql_recorder.specs.Losses.{LosesIn};
 ghost use Rattle.mysql_recorder.specs.Refusals.{IfRefused};
@@ -47,6 +48,8 @@ pub(crate) fn read_packets(
     ensures none { IfOk result (λ came. came ≡ came_as.Whole → IsNumbered stream.old.reader → NoneComes stream.new.reader.held) }
     ensures passed { stream.new.passed ≡ stream.old.passed }
     ensures layout { packets.new.layout ≡ packets.old.layout }
+    ensures may_wait { may_wait packets.new.followed ≡ may_wait packets.old.followed }
+    ensures sums { is_some packets.new.sums ≡ is_some packets.old.sums }
 {
     let mut input = piece;
     'packets: loop {

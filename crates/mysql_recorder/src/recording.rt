@@ -1,12 +1,13 @@
 //! A recording: what both sides of a connection sent.
 
-ghost use Rattle.std.specs.Prelude.{◌≡◌, ◌∷◌, [], ℕ, List, IfErr, OnOk, false, true, string_bytes};
+ghost use Rattle.std.specs.Prelude.{◌≡◌, ◌↔◌, ◌∷◌, [], ℕ, List, IfErr, IsTrue, OnOk, false, true, string_bytes};
 ghost use Rattle.mysql_fields.specs.Entries.{Stays};
 ghost use Rattle.mysql_recorder.specs.Losses.{LineEndLoses, LineLoses, Loses, TextLoses};
 ghost use Rattle.mysql_recorder.specs.Recorded as spec;
 ghost use Rattle.mysql_recorder.specs.Refusals.{IfRefused};
 ghost use Rattle.mysql_recorder.specs.Shown.{Item};
 ghost use Rattle.mysql_recorder.specs.Stops.{LineStops, Stops, TextStops};
+ghost use Rattle.mysql_recorder.specs.Sums.{AppendsSomeSums};
 
 use crate::error::RecordingError;
 use crate::line::{Place, Said};
@@ -49,6 +50,8 @@ impl Recording {
         ensures recorded { spec.Recorded result [] [] }
         ensures layout { spec.layout result ≡ layout }
         ensures longest { spec.longest result ≡ longest }
+        ensures may_wait { spec.may_wait result ≡ waiting }
+        ensures sums { spec.has_sums result ≡ false }
     {
         Recording {
             alloc,
@@ -65,9 +68,12 @@ impl Recording {
     /// Takes up a connection at its next command, under what both sides agreed on: its greeting and its login were not seen. Both
     /// streams are out of step up to there.
     pub fn taken_up(self, agreed: SessionCapabilities) -> Self
+        ensures taken_up { spec.IsTakenUp self result agreed }
         ensures lost { spec.has_lost result ≡ spec.has_lost self }
         ensures layout { spec.layout result ≡ spec.layout self }
         ensures longest { spec.longest result ≡ spec.longest self }
+        ensures may_wait { spec.may_wait result ≡ spec.may_wait self }
+        ensures sums { spec.has_sums result ≡ spec.has_sums self }
     {
         let mut recording = self;
         recording.sides.take_up_at(agreed);
@@ -76,10 +82,12 @@ impl Recording {
 
     /// Sums what comes from here on.
     pub fn with_sums(self) -> Self
+        ensures sums { spec.has_sums result ≡ true }
         ensures recorded { (text : List ℕ) (items : List Item) → spec.Recorded self text items → spec.Recorded result text items }
         ensures lost { spec.has_lost result ≡ spec.has_lost self }
         ensures layout { spec.layout result ≡ spec.layout self }
         ensures longest { spec.longest result ≡ spec.longest self }
+        ensures may_wait { spec.may_wait result ≡ spec.may_wait self }
     {
         let mut recording = self;
         recording.sides.sum();
@@ -87,12 +95,20 @@ impl Recording {
     }
 
     /// Appends the sums, where they are asked for.
-    pub fn append_sums(&self, out: &mut String) -> Result<(), AllocError> {
+    pub fn append_sums(&self, out: &mut String) -> Result<(), AllocError>
+        ensures none { spec.has_sums self.now ≡ false → (result ≡ Ok tt) × (string_bytes out.new ≡ string_bytes out.old) }
+        ensures sums { spec.has_sums self.now ≡ true → OnOk result (AppendsSomeSums (spec.layout self.now) (string_bytes out.old) (string_bytes out.new)) }
+        ensures stays { OnOk result (Stays (string_bytes out.old) (string_bytes out.new)) }
+    {
         self.sides.append_sums(out)
     }
 
     /// Whether all that was asked for is answered, and no packet is cut.
-    pub fn is_whole(&self) -> bool {
+    pub fn is_whole(&self) -> bool
+        // What waits of a line is in none of the packets.
+        ensures recorded { (text : List ℕ) (items : List Item) → spec.Recorded self.now text items → IsTrue result ↔ spec.IsWhole self.now items }
+        ensures finished { (text : List ℕ) (items : List Item) → spec.IsFinished self.now text items → IsTrue result ↔ spec.IsWhole self.now items }
+    {
         self.sides.is_whole()
     }
 
@@ -111,6 +127,8 @@ impl Recording {
         ensures lost { spec.has_lost self.old ≡ true → spec.has_lost self.new ≡ true }
         ensures layout { spec.layout self.new ≡ spec.layout self.old }
         ensures longest { spec.longest self.new ≡ spec.longest self.old }
+        ensures may_wait { spec.may_wait self.new ≡ spec.may_wait self.old }
+        ensures sums { spec.has_sums self.new ≡ spec.has_sums self.old }
         ensures refused { IfErr result (λ e. Stops KindName.ALL input.now self.old self.new e (string_bytes out.old) (string_bytes out.new)) }
         ensures loses { Loses result KindName.ALL input.now self.old self.new (string_bytes out.old) (string_bytes out.new) }
         ensures text { OnOk result (Stays (string_bytes out.old) (string_bytes out.new)) }
@@ -127,6 +145,8 @@ impl Recording {
         ensures lost { spec.has_lost self.old ≡ true → spec.has_lost self.new ≡ true }
         ensures layout { spec.layout self.new ≡ spec.layout self.old }
         ensures longest { spec.longest self.new ≡ spec.longest self.old }
+        ensures may_wait { spec.may_wait self.new ≡ spec.may_wait self.old }
+        ensures sums { spec.has_sums self.new ≡ spec.has_sums self.old }
         ensures refused { IfErr result (λ e. TextStops KindName.ALL self.old e (string_bytes out.old) (string_bytes out.new)) }
         ensures loses { TextLoses result KindName.ALL ⊥ self.old self.new (string_bytes out.old) (string_bytes out.new) }
         ensures text { OnOk result (Stays (string_bytes out.old) (string_bytes out.new)) }
@@ -144,6 +164,8 @@ impl Recording {
         ensures lost { spec.has_lost self.old ≡ true → spec.has_lost self.new ≡ true }
         ensures layout { spec.layout self.new ≡ spec.layout self.old }
         ensures longest { spec.longest self.new ≡ spec.longest self.old }
+        ensures may_wait { spec.may_wait self.new ≡ spec.may_wait self.old }
+        ensures sums { spec.has_sums self.new ≡ spec.has_sums self.old }
         ensures refused { IfErr result (λ e. TextStops KindName.ALL self.old e (string_bytes out.old) (string_bytes out.new)) }
         ensures loses { TextLoses result KindName.ALL (byte ≡ 10) self.old self.new (string_bytes out.old) (string_bytes out.new) }
         ensures text { OnOk result (Stays (string_bytes out.old) (string_bytes out.new)) }
@@ -162,6 +184,10 @@ impl Recording {
     pub fn finish(&mut self, out: &mut String) -> Result<(), RecordingError>
         ensures finishes { OnOk result (spec.Finishes self.old self.new (string_bytes out.old) (string_bytes out.new)) }
         ensures lost { spec.has_lost self.old ≡ true → spec.has_lost self.new ≡ true }
+        ensures layout { spec.layout self.new ≡ spec.layout self.old }
+        ensures longest { spec.longest self.new ≡ spec.longest self.old }
+        ensures may_wait { spec.may_wait self.new ≡ spec.may_wait self.old }
+        ensures sums { spec.has_sums self.new ≡ spec.has_sums self.old }
         ensures refused { IfErr result (λ e. TextStops KindName.ALL self.old e (string_bytes out.old) (string_bytes out.new)) }
         ensures loses { TextLoses result KindName.ALL (Unit {0}) self.old self.new (string_bytes out.old) (string_bytes out.new) }
         ensures text { OnOk result (Stays (string_bytes out.old) (string_bytes out.new)) }
@@ -183,6 +209,8 @@ impl Recording {
         ensures lost { spec.has_lost self.old ≡ true → spec.has_lost self.new ≡ true }
         ensures layout { spec.layout self.new ≡ spec.layout self.old }
         ensures longest { spec.longest self.new ≡ spec.longest self.old }
+        ensures may_wait { spec.may_wait self.new ≡ spec.may_wait self.old }
+        ensures sums { spec.has_sums self.new ≡ spec.has_sums self.old }
         ensures place { self.new.place ≡ self.old.place }
         ensures line { OnOk result (self.new.line.bytes.items ≡ []) }
         ensures refused { IfErr result (λ e. LineStops KindName.ALL self.old e (string_bytes out.old) (string_bytes out.new)) }
@@ -201,6 +229,8 @@ impl Recording {
         ensures lost { spec.has_lost self.old ≡ true → spec.has_lost self.new ≡ true }
         ensures layout { spec.layout self.new ≡ spec.layout self.old }
         ensures longest { spec.longest self.new ≡ spec.longest self.old }
+        ensures may_wait { spec.may_wait self.new ≡ spec.may_wait self.old }
+        ensures sums { spec.has_sums self.new ≡ spec.has_sums self.old }
         ensures place { self.new.place ≡ self.old.place }
         ensures line { OnOk result (self.new.line.bytes.items ≡ []) }
         ensures refused { IfErr result (λ e. LineStops KindName.ALL self.old e (string_bytes out.old) (string_bytes out.new)) }
@@ -219,6 +249,8 @@ impl Recording {
         ensures lost { OnOk result (spec.has_lost self.new ≡ true) }
         ensures layout { spec.layout self.new ≡ spec.layout self.old }
         ensures longest { spec.longest self.new ≡ spec.longest self.old }
+        ensures may_wait { spec.may_wait self.new ≡ spec.may_wait self.old }
+        ensures sums { spec.has_sums self.new ≡ spec.has_sums self.old }
         ensures place { self.new.place ≡ self.old.place }
         ensures line { OnOk result (self.new.line.bytes.items ≡ []) }
         ensures stays { spec.has_lost self.old ≡ true → spec.has_lost self.new ≡ true }
@@ -236,6 +268,8 @@ impl Recording {
         ensures lost { spec.has_lost self.old ≡ true → spec.has_lost self.new ≡ true }
         ensures layout { spec.layout self.new ≡ spec.layout self.old }
         ensures longest { spec.longest self.new ≡ spec.longest self.old }
+        ensures may_wait { spec.may_wait self.new ≡ spec.may_wait self.old }
+        ensures sums { spec.has_sums self.new ≡ spec.has_sums self.old }
         ensures place { self.new.place ≡ self.old.place }
         ensures line { OnOk result (self.new.line.bytes.items ≡ []) }
         ensures refused { IfErr result (λ e. LineStops KindName.ALL self.old e (string_bytes out.old) (string_bytes out.new)) }

@@ -1,11 +1,15 @@
 //! Both sides of a connection: their streams, and what is shown of them.
 
-ghost use Rattle.std.specs.Prelude.{◌≡◌, ◌≢◌, ◌∷◌, [], IfOk, IfErr, OnOk, None, true, string_bytes};
+ghost use Rattle.std.specs.Prelude.{◌≡◌, ◌≢◌, ◌↔◌, ◌-◌, ◌∷◌, [], ℕ, List, IfOk, IfErr, IsTrue, OnOk, None, true, false, string_bytes};
 ghost use Rattle.mysql_fields.specs.Entries.{Stays};
+ghost use Rattle.mysql_recorder.specs.Followed.{IsTakenUp, IsTakenUpAfter};
+ghost use Rattle.mysql_recorder.specs.Frames.{Piece};
 ghost use Rattle.mysql_recorder.specs.Losses.{PieceLoses, PieceLosesIn};
 ghost use Rattle.mysql_recorder.specs.Refusals.{IfRefused};
+ghost use Rattle.mysql_recorder.specs.Shown.{Item};
 ghost use Rattle.mysql_recorder.specs.Sides as spec;
 ghost use Rattle.mysql_recorder.specs.Stops.{PieceStops};
+ghost use Rattle.mysql_recorder.specs.Sums.{AppendsSomeSums};
 ghost use Rattle.mysql_recorder.specs.declared.piece.Came.TheVariants as came_as;
 
 use crate::error::RecordingError;
@@ -39,6 +43,8 @@ impl Sides {
         ensures stand { spec.Stand result [] [] }
         ensures layout { spec.layout result ≡ layout }
         ensures longest { spec.longest result ≡ longest }
+        ensures may_wait { spec.may_wait result ≡ waiting }
+        ensures sums { spec.has_sums result ≡ false }
     {
         Sides {
             alloc,
@@ -53,9 +59,12 @@ impl Sides {
 
     /// Takes up a connection at its next command, under what both sides agreed on. Both streams are out of step up to there.
     pub(crate) fn take_up_at(&mut self, agreed: SessionCapabilities)
+        ensures taken_up { spec.IsTakenUp self.new agreed self.old.packets.followed.last }
         ensures lost { spec.has_lost self.new ≡ spec.has_lost self.old }
         ensures layout { spec.layout self.new ≡ spec.layout self.old }
         ensures longest { spec.longest self.new ≡ spec.longest self.old }
+        ensures may_wait { spec.may_wait self.new ≡ spec.may_wait self.old }
+        ensures sums { spec.has_sums self.new ≡ spec.has_sums self.old }
     {
         self.client = Stream::new(self.alloc, self.longest, false);
         self.server = Stream::new(self.alloc, self.longest, false);
@@ -64,18 +73,26 @@ impl Sides {
 
     /// Sums what comes from here on.
     pub(crate) fn sum(&mut self)
-        ensures { spec.IsSummed self.old self.new }
+        ensures same { spec.IsSummed self.old self.new }
+        ensures sums { spec.has_sums self.new ≡ true }
+        ensures may_wait { spec.may_wait self.new ≡ spec.may_wait self.old }
     {
         self.packets.sum();
     }
 
     /// Appends the sums, where they are asked for.
-    pub(crate) fn append_sums(&self, out: &mut String) -> Result<(), AllocError> {
+    pub(crate) fn append_sums(&self, out: &mut String) -> Result<(), AllocError>
+        ensures none { spec.has_sums self.now ≡ false → (result ≡ Ok tt) × (string_bytes out.new ≡ string_bytes out.old) }
+        ensures sums { spec.has_sums self.now ≡ true → OnOk result (AppendsSomeSums (spec.layout self.now) (string_bytes out.old) (string_bytes out.new)) }
+        ensures stays { OnOk result (Stays (string_bytes out.old) (string_bytes out.new)) }
+    {
         self.packets.append_sums(out)
     }
 
     /// Whether all that was asked for is answered, and no packet is cut.
-    pub(crate) fn is_whole(&self) -> bool {
+    pub(crate) fn is_whole(&self) -> bool
+        ensures { (pieces : List Piece) (items : List Item) → spec.Stand self.now pieces items → IsTrue result ↔ spec.IsWhole self.now items }
+    {
         self.client.is_between() && self.server.is_between() && self.packets.is_at_rest()
     }
 
@@ -114,6 +131,8 @@ impl Sides {
         ensures lost { spec.has_lost self.old ≡ true → spec.has_lost self.new ≡ true }
         ensures layout { spec.layout self.new ≡ spec.layout self.old }
         ensures longest { spec.longest self.new ≡ spec.longest self.old }
+        ensures may_wait { spec.may_wait self.new ≡ spec.may_wait self.old }
+        ensures sums { spec.has_sums self.new ≡ spec.has_sums self.old }
         ensures loses { PieceLoses result KindName.ALL side piece.now self.old self.new (string_bytes out.old) (string_bytes out.new) }
         ensures text { OnOk result (Stays (string_bytes out.old) (string_bytes out.new)) }
     {
@@ -135,6 +154,8 @@ impl Sides {
         ensures lost { spec.has_lost self.old ≡ true → spec.has_lost self.new ≡ true }
         ensures layout { spec.layout self.new ≡ spec.layout self.old }
         ensures longest { spec.longest self.new ≡ spec.longest self.old }
+        ensures may_wait { spec.may_wait self.new ≡ spec.may_wait self.old }
+        ensures sums { spec.has_sums self.new ≡ spec.has_sums self.old }
         ensures text { OnOk result (Stays (string_bytes out.old) (string_bytes out.new)) }
     {
         self.take_up(side, piece, out)?;
@@ -147,6 +168,8 @@ impl Sides {
         ensures lost { spec.has_lost self.old ≡ true → spec.has_lost self.new ≡ true }
         ensures layout { spec.layout self.new ≡ spec.layout self.old }
         ensures longest { spec.longest self.new ≡ spec.longest self.old }
+        ensures may_wait { spec.may_wait self.new ≡ spec.may_wait self.old }
+        ensures sums { spec.has_sums self.new ≡ spec.has_sums self.old }
         ensures text { OnOk result (Stays (string_bytes out.old) (string_bytes out.new)) }
     {
         let Some(passed) = self.passed(side) else {
@@ -175,6 +198,8 @@ impl Sides {
         ensures lost { spec.has_lost self.new ≡ spec.has_lost self.old }
         ensures layout { spec.layout self.new ≡ spec.layout self.old }
         ensures longest { spec.longest self.new ≡ spec.longest self.old }
+        ensures may_wait { spec.may_wait self.new ≡ spec.may_wait self.old }
+        ensures sums { spec.has_sums self.new ≡ spec.has_sums self.old }
     {
         match side {
             Side::Client => self.client.take_up(),
@@ -187,6 +212,8 @@ impl Sides {
         ensures lost { spec.has_lost self.new ≡ spec.has_lost self.old }
         ensures layout { spec.layout self.new ≡ spec.layout self.old }
         ensures longest { spec.longest self.new ≡ spec.longest self.old }
+        ensures may_wait { spec.may_wait self.new ≡ spec.may_wait self.old }
+        ensures sums { spec.has_sums self.new ≡ spec.has_sums self.old }
     {
         match side {
             Side::Client => self.client.pass_over(count),
@@ -242,6 +269,8 @@ impl Sides {
         ensures refused { IfErr result (λ e. IfRefused e (λ why. ⊥)) }
         ensures layout { spec.layout self.new ≡ spec.layout self.old }
         ensures longest { spec.longest self.new ≡ spec.longest self.old }
+        ensures may_wait { spec.may_wait self.new ≡ spec.may_wait self.old }
+        ensures sums { spec.has_sums self.new ≡ spec.has_sums self.old }
         ensures text { OnOk result (Stays (string_bytes out.old) (string_bytes out.new)) }
     {
         let Some(agreed) = self.packets.agreed() else {
@@ -264,9 +293,12 @@ impl Sides {
         command: &Front,
     ) -> Result<(), RecordingError>
         ensures lost { spec.has_lost self.new ≡ true }
+        ensures taken_up { (front : List ℕ) × IsTakenUpAfter self.new.packets.followed agreed front (self.old.packets.followed.last - 1) }
         ensures refused { IfErr result (λ e. IfRefused e (λ why. ⊥)) }
         ensures layout { spec.layout self.new ≡ spec.layout self.old }
         ensures longest { spec.longest self.new ≡ spec.longest self.old }
+        ensures may_wait { spec.may_wait self.new ≡ spec.may_wait self.old }
+        ensures sums { spec.has_sums self.new ≡ spec.has_sums self.old }
     {
         self.has_lost = true;
         self.server.lose();
@@ -277,9 +309,12 @@ impl Sides {
     /// Has both streams out of step, up to the next command.
     fn be_lost(&mut self, agreed: SessionCapabilities) -> Result<(), RecordingError>
         ensures lost { spec.has_lost self.new ≡ true }
+        ensures taken_up { IsTakenUp self.new.packets.followed agreed [] self.old.packets.followed.last }
         ensures refused { IfErr result (λ e. IfRefused e (λ why. ⊥)) }
         ensures layout { spec.layout self.new ≡ spec.layout self.old }
         ensures longest { spec.longest self.new ≡ spec.longest self.old }
+        ensures may_wait { spec.may_wait self.new ≡ spec.may_wait self.old }
+        ensures sums { spec.has_sums self.new ≡ spec.has_sums self.old }
     {
         self.has_lost = true;
         self.client.lose();
@@ -300,6 +335,8 @@ impl Sides {
         ensures lost { spec.has_lost self.old ≡ true → spec.has_lost self.new ≡ true }
         ensures layout { spec.layout self.new ≡ spec.layout self.old }
         ensures longest { spec.longest self.new ≡ spec.longest self.old }
+        ensures may_wait { spec.may_wait self.new ≡ spec.may_wait self.old }
+        ensures sums { spec.has_sums self.new ≡ spec.has_sums self.old }
         ensures loses { PieceLoses result KindName.ALL side piece.now self.old self.new (string_bytes out.old) (string_bytes out.new) }
         ensures text { OnOk result (Stays (string_bytes out.old) (string_bytes out.new)) }
     {
@@ -327,6 +364,8 @@ impl Sides {
         ensures stays { spec.has_lost self.old ≡ true → spec.has_lost self.new ≡ true }
         ensures layout { spec.layout self.new ≡ spec.layout self.old }
         ensures longest { spec.longest self.new ≡ spec.longest self.old }
+        ensures may_wait { spec.may_wait self.new ≡ spec.may_wait self.old }
+        ensures sums { spec.has_sums self.new ≡ spec.has_sums self.old }
         ensures refused { IfErr result (λ e. IfRefused e (λ why. ⊥)) }
         ensures text { OnOk result (Stays (string_bytes out.old) (string_bytes out.new)) }
     {
@@ -359,6 +398,8 @@ impl Sides {
         ensures lost { spec.has_lost self.new ≡ spec.has_lost self.old }
         ensures layout { spec.layout self.new ≡ spec.layout self.old }
         ensures longest { spec.longest self.new ≡ spec.longest self.old }
+        ensures may_wait { spec.may_wait self.new ≡ spec.may_wait self.old }
+        ensures sums { spec.has_sums self.new ≡ spec.has_sums self.old }
         ensures loses { IfOk result (λ came. came ≢ came_as.Whole → PieceLosesIn KindName.ALL side piece.now self.old (string_bytes out.old) (string_bytes out.new)) }
         ensures stays { IfOk result (λ came. Stays (string_bytes out.old) (string_bytes out.new)) }
     {

@@ -1,6 +1,6 @@
 //! One side's stream.
 
-ghost use Rattle.std.specs.Prelude.{◌≡◌, ◌++◌, [], ℕ, List, IfOk, IfSome, IfNone, IsErrOf, OnErr, None, true};
+ghost use Rattle.std.specs.Prelude.{◌≡◌, ◌↔◌, ◌++◌, [], ℕ, List, IfOk, IfSome, IfNone, IsErrOf, IsTrue, OnErr, Some, None, true, false};
 ghost use Rattle.std.specs.Cow.{cow_slice_items};
 ghost use Rattle.mysql_frames.specs.FrameReader.{AllLonger, HandsOut, HoldsAll, Keeps, NoneWhole};
 ghost use Rattle.mysql_recorder.specs.Streams.{as_sent};
@@ -39,6 +39,7 @@ impl Stream {
         ensures held { result.reader.held ≡ [] }
         ensures limit { result.reader.limit ≡ longest }
         ensures passed { is_in_step ≡ true → result.passed ≡ None }
+        ensures awaited { is_in_step ≡ false → result.passed ≡ Some 0 }
     {
         Stream {
             reader: FrameReader::new(alloc, longest),
@@ -55,7 +56,9 @@ impl Stream {
     }
 
     /// Whether it is in step, and no payload is cut.
-    pub(crate) fn is_between(&self) -> bool {
+    pub(crate) fn is_between(&self) -> bool
+        ensures { IsTrue result ↔ ((self.now.passed ≡ None) × (self.now.reader.held ≡ [])) }
+    {
         self.passed.is_none() && self.reader.is_between()
     }
 

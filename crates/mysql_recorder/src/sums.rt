@@ -1,7 +1,14 @@
 //! What a recording comes to.
 
+ghost use Rattle.std.specs.Prelude.{◌≡◌, ◌++◌, List, ℕ, OnOk, codes, string_bytes};
+ghost use Rattle.mysql_fields.specs.Entries.{Begins, Stays};
+ghost use Rattle.mysql_recorder.specs.Sums.{AppendsSums, count_line};
+
+use crate::sum_lines::{
+    append_error, append_exchange, append_large, append_rows, append_statement, append_tally,
+};
 use mysql_conversation::{Kind, Side};
-use mysql_fields::{Layout, Packet, command_name, name_of_side, sign_of};
+use mysql_fields::{Layout, Packet, command_name, name_of_side};
 use mysql_wire::{ConstValue, ServerCommand};
 use serde_json::{Map, Value, push, put};
 use std::alloc::{AllocError, Global};
@@ -15,20 +22,20 @@ const OPEN: usize = 4096;
 
 /// What the packets of one side and kind come to.
 #[derive(Clone, Copy)]
-struct Tally {
-    side: Side,
-    kind: &'static str,
-    packets: u64,
-    bytes: u64,
+pub(crate) struct Tally {
+    pub(crate) side: Side,
+    pub(crate) kind: &'static str,
+    pub(crate) packets: u64,
+    pub(crate) bytes: u64,
 }
 
 /// One of the largest packets: its size, and its number among all, the first being 1.
 #[derive(Clone, Copy)]
-struct Large {
-    size: usize,
-    number: u64,
-    side: &'static str,
-    kind: &'static str,
+pub(crate) struct Large {
+    pub(crate) size: usize,
+    pub(crate) number: u64,
+    pub(crate) side: &'static str,
+    pub(crate) kind: &'static str,
 }
 
 /// The sums of a recording.
@@ -157,41 +164,83 @@ impl Sums {
     }
 
     /// Appends the sums.
-    pub(crate) fn append(&self, layout: Layout, out: &mut String) -> Result<(), AllocError> {
+    pub(crate) fn append(&self, layout: Layout, out: &mut String) -> Result<(), AllocError>
+        ensures { OnOk result (AppendsSums layout self.now.packets (string_bytes out.old) (string_bytes out.new)) }
+    {
         match layout {
             Layout::Lines => self.append_lines(out),
-            Layout::Json => {
-                let text = self.object()?.to_string(self.alloc)?;
-                write!(out, "{text}\n")
-            }
+            Layout::Json => self.append_object(out),
         }
     }
 
-    fn append_lines(&self, out: &mut String) -> Result<(), AllocError> {
-        let (packets, rows) = (self.packets, self.rows);
+    fn append_object(&self, out: &mut String) -> Result<(), AllocError>
+        ensures { OnOk result ((object : List ℕ) × (string_bytes out.new ≡ string_bytes out.old ++ (object ++ codes "\n"))) }
+    {
+        let text = self.object()?.to_string(self.alloc)?;
+        write!(out, "{text}\n")
+    }
+
+    fn append_lines(&self, out: &mut String) -> Result<(), AllocError>
+        ensures { OnOk result (Begins (count_line self.now.packets) (string_bytes out.old) (string_bytes out.new)) }
+    {
+        let packets = self.packets;
         write!(out, "sum: {packets} packets\n")?;
+        self.append_counts(out)
+    }
+
+    /// Appends what the packets are.
+    fn append_counts(&self, out: &mut String) -> Result<(), AllocError>
+        ensures { OnOk result (Stays (string_bytes out.old) (string_bytes out.new)) }
+    {
+        self.append_exchanges(out)?;
+        self.append_tallies(out)?;
+        append_rows(out, self.rows)?;
+        self.append_errors(out)?;
+        self.append_largest(out)?;
+        self.append_open(out)
+    }
+
+    fn append_exchanges(&self, out: &mut String) -> Result<(), AllocError>
+        ensures { OnOk result (Stays (string_bytes out.old) (string_bytes out.new)) }
+    {
         for (code, count) in self.exchanges.iter() {
-            append_exchanges(out, *code, *count)?;
+            append_exchange(out, *code, *count)?;
         }
+        Ok(())
+    }
+
+    fn append_tallies(&self, out: &mut String) -> Result<(), AllocError>
+        ensures { OnOk result (Stays (string_bytes out.old) (string_bytes out.new)) }
+    {
         for tally in self.tallies.iter() {
-            let (sign, kind) = (sign_of(tally.side), tally.kind);
-            let (packets, bytes) = (tally.packets, tally.bytes);
-            write!(out, "packets: {sign} {kind} {packets}, {bytes} bytes\n")?;
+            append_tally(out, tally)?;
         }
-        write!(out, "rows: {rows}\n")?;
+        Ok(())
+    }
+
+    fn append_errors(&self, out: &mut String) -> Result<(), AllocError>
+        ensures { OnOk result (Stays (string_bytes out.old) (string_bytes out.new)) }
+    {
         for (code, count) in self.errors.iter() {
-            write!(out, "error: {code} {count}\n")?;
+            append_error(out, *code, *count)?;
         }
+        Ok(())
+    }
+
+    fn append_largest(&self, out: &mut String) -> Result<(), AllocError>
+        ensures { OnOk result (Stays (string_bytes out.old) (string_bytes out.new)) }
+    {
         for large in self.largest.iter() {
-            let (size, number) = (large.size, large.number);
-            let (side, kind) = (large.side, large.kind);
-            write!(
-                out,
-                "largest: {size} bytes, packet {number}, {kind} of the {side}\n"
-            )?;
+            append_large(out, large)?;
         }
+        Ok(())
+    }
+
+    fn append_open(&self, out: &mut String) -> Result<(), AllocError>
+        ensures { OnOk result (Stays (string_bytes out.old) (string_bytes out.new)) }
+    {
         for (id, number) in self.open.iter() {
-            write!(out, "open_statement: {id}, prepared by packet {number}\n")?;
+            append_statement(out, *id, *number)?;
         }
         Ok(())
     }
@@ -311,15 +360,5 @@ fn name_of(alloc: Global, code: u8) -> Result<String, AllocError> {
     match ServerCommand::from_code(code) {
         Some(command) => String::from_str(alloc, command_name(command)),
         None => format!(in alloc; "{code}"),
-    }
-}
-
-fn append_exchanges(out: &mut String, code: u8, count: u64) -> Result<(), AllocError> {
-    match ServerCommand::from_code(code) {
-        Some(command) => {
-            let name = command_name(command);
-            write!(out, "exchanges: {name} {count}\n")
-        }
-        None => write!(out, "exchanges: {code} {count}\n"),
     }
 }

@@ -36,6 +36,8 @@ pub packets-preserved : goal.packets-preserved
 packets-preserved c = record {
   passed = ap (λ s. s.passed) c.give_back.ensures ∙ c.in-Ok-Some.ensures.passed ∙ c.packets.invariant.passed;
   layout = c.take-taken.ensures.layout ∙ c.packets.invariant.layout;
+  may_wait = c.take-taken.ensures.may_wait ∙ c.packets.invariant.may_wait;
+  sums = c.take-taken.ensures.sums ∙ c.packets.invariant.sums;
   stays = stays_then (string_bytes c.args.out.now) (string_bytes c.packets.out) (string_bytes c.take-taken.new.out) c.packets.invariant.stays (rw c.in-Ok-Shown.is at c.take-taken.ensures.stays);
   numbered = λ n. subst (λ s. IsNumbered s.reader) (sym c.give_back.ensures)
       (handed_numbered c.packets.stream.reader c.next.new.self.reader c.packets.input.now (cow_slice_items c.in-Ok-Some.sent.payload) c.next.new.input.now (rw c.in-Ok-Some.field-0-is at c.in-Ok-Some.ensures.payload));

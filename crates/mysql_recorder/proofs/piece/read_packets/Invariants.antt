@@ -1,5 +1,6 @@
-use Rattle.std.proofs.Common.{◌≡◌, ◌+◌, List, length, string_bytes}
+use Rattle.std.proofs.Common.{◌≡◌, ◌+◌, List, is_some, length, string_bytes}
 use Rattle.mysql_fields.specs.Entries.{Stays}
+use Rattle.mysql_recorder.specs.Followed.{may_wait}
 use Rattle.mysql_recorder.specs.Frames.{IsNumbered}
 use Rattle.mysql_recorder.specs.Shown.{Item}
 use Rattle.mysql_recorder.specs.Sides.{IsAt, Reads}
@@ -9,6 +10,8 @@ abbrev pub invariant-packets : goal.invariant-packets
 invariant-packets l = record {
   passed : l.stream.passed ≡ l.fn.stream.passed;
   layout : l.packets.layout ≡ l.fn.packets.layout;
+  may_wait : may_wait l.packets.followed ≡ may_wait l.fn.packets.followed;
+  sums : is_some l.packets.sums ≡ is_some l.fn.packets.sums;
   stays : Stays (string_bytes l.fn.out) (string_bytes l.out);
   numbered : IsNumbered l.fn.stream.reader → IsNumbered l.stream.reader;
   reads : (items : List Item) → IsAt l.fn.stream l.fn.packets items

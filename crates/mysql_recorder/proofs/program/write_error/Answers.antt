@@ -1,4 +1,4 @@
-use Rattle.std.proofs.Common.{[], inl, inr, refl, ap, subst, ◌∙◌, string_bytes}
+use Rattle.std.proofs.Common.{[], inl, inr, refl, subst, string_bytes}
 use Rattle.std.proofs.KnownBytes.{Appends-nil}
 use Rattle.mysql_recorder.specs.Answers.{memory_line}
 use Rattle.mysql_output.specs.Output.{IsFront}

@@ -1,4 +1,4 @@
-use Rattle.std.proofs.Common.{◌≡◌, Ok, Err, IfErr, OnOk, get_or, take, refl, sym, subst, ◌∙◌, string_bytes}
+use Rattle.std.proofs.Common.{◌≡◌, Ok, Err, IfErr, get_or, take, refl, sym, subst, ◌∙◌, string_bytes}
 use Rattle.mysql_conversation.specs.declared.kind_name.TheConstants.KindName.{ALL}
 use Rattle.std.proofs.lemmas.List.{take_all}
 use Rattle.std.proofs.lemmas.Result.{err_from_is_err_and}
@@ -11,7 +11,7 @@ use Rattle.mysql_recorder.proofs.Stopped.{stops_after, stops_on_err}
 use Rattle.mysql_recorder.proofs.recording.Recording.take.Goals as goal
 
 pub loop-byte-init : goal.loop-byte-init
-loop-byte-init c = record { goes = loop_starts c.args.input.now c.args.self.now (string_bytes c.args.out.now); lost = λ e. e; layout = refl; longest = refl; loses = loses_none (Ok tt) ALL (take 0 c.args.input.now) c.args.self.now c.args.self.now (string_bytes c.args.out.now) (string_bytes c.args.out.now) refl; text = stays_same (string_bytes c.args.out.now) }
+loop-byte-init c = record { goes = loop_starts c.args.input.now c.args.self.now (string_bytes c.args.out.now); lost = λ e. e; layout = refl; longest = refl; may_wait = refl; sums = refl; loses = loses_none (Ok tt) ALL (take 0 c.args.input.now) c.args.self.now c.args.self.now (string_bytes c.args.out.now) (string_bytes c.args.out.now) refl; text = stays_same (string_bytes c.args.out.now) }
 
 pub loop-byte-preserved : goal.loop-byte-preserved
 loop-byte-preserved c = record {
@@ -21,6 +21,8 @@ loop-byte-preserved c = record {
   lost = λ e. c.in_ok-take_byte.ensures.lost (c.loop-byte.invariant.lost e);
   layout = c.in_ok-take_byte.ensures.layout ∙ c.loop-byte.invariant.layout;
   longest = c.in_ok-take_byte.ensures.longest ∙ c.loop-byte.invariant.longest;
+  may_wait = c.in_ok-take_byte.ensures.may_wait ∙ c.loop-byte.invariant.may_wait;
+  sums = c.in_ok-take_byte.ensures.sums ∙ c.loop-byte.invariant.sums;
   loses = loop_loses ALL c.args.input.now c.loop-byte.byte-index (get_or c.args.input.now c.loop-byte.byte-index 0) c.args.self.now c.loop-byte.self c.take_byte.new.self
       (string_bytes c.args.out.now) (string_bytes c.loop-byte.out) (string_bytes c.take_byte.new.out)
       c.loop-byte-test.true refl c.loop-byte.invariant.goes c.loop-byte.invariant.loses c.loop-byte.invariant.layout c.loop-byte.invariant.longest c.in_ok-take_byte.ensures.loses c.in_ok-take_byte.ensures.text;

@@ -9,5 +9,5 @@ returns-clause-recorded c = λ text items h. record {
   waits = h.waits;
   line = h.line;
   untaken = h.untaken;
-  stand = summed_stand c.args.self.sides c.sum.new.self h.pieces items c.sum.ensures h.stand;
+  stand = summed_stand c.args.self.sides c.sum.new.self h.pieces items c.sum.ensures.same h.stand;
 }

@@ -1,7 +1,7 @@
 use Rattle.std.proofs.Common.{[], ◌∷◌, string_bytes}
 use Rattle.mysql_conversation.specs.declared.kind_name.TheConstants.KindName.{ALL}
 use Rattle.mysql_recorder.specs.Sides.{piece}
-use Rattle.mysql_recorder.proofs.Losses.{came_loses, piece_keeps}
+use Rattle.mysql_recorder.proofs.Losses.{came_loses}
 use Rattle.mysql_recorder.proofs.Stopped.{goes_on_came, piece_never}
 use Rattle.mysql_recorder.proofs.sides.Sides.take_piece.Goals as goal
 

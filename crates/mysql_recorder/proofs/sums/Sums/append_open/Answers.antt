@@ -1,0 +1,9 @@
+use Rattle.std.proofs.Common.{string_bytes}
+use Rattle.mysql_recorder.proofs.Stays.{stays_same, stays_then}
+use Rattle.mysql_recorder.proofs.sums.Sums.append_open.Goals as goal
+
+pub loop-id-init : goal.loop-id-init
+loop-id-init c = stays_same (string_bytes c.args.out.now)
+
+pub loop-id-preserved : goal.loop-id-preserved
+loop-id-preserved c = stays_then (string_bytes c.args.out.now) (string_bytes c.loop-id.out) (string_bytes c.append_statement.new.out) c.loop-id.invariant c.in_ok-append_statement.ensures
