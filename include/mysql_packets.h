@@ -40,7 +40,7 @@ enum myp_code {
     MYP_UNEXPECTED_EOF = 1,   /* bytes are missing */
     MYP_INVALID_DATA = 2,     /* the bytes spell no such packet */
     MYP_INVALID_INPUT = 3,    /* what was passed fits no packet */
-    MYP_NO_MEMORY = 4,        /* memory was refused, and none is kept */
+    MYP_NO_MEMORY = 4,        /* strings that no memory holds together: no call takes memory */
     MYP_BUFFER_TOO_SMALL = 5, /* *written is how many bytes it takes, and nothing is written; of a reader: the places it fills are too few */
     MYP_ROW_TOO_LARGE = 6,    /* a row is too large for a request of its own */
     MYP_END = 7               /* nothing is left */
@@ -893,7 +893,7 @@ uint32_t myp_write_gtid_dump(const myp_gtid_dump *dump, const myp_sid *sids, siz
 
 /* Writes COM_BINLOG_DUMP_GTID with the sids of the text of a GTID set, as @@gtid_executed has it; its flags as myp_write_gtid_dump. The sids of
  * the text are then those of the request, which myp_read_gtid_dump reads. MYP_INVALID_DATA of another text, and *written is 0;
- * MYP_BUFFER_TOO_SMALL; MYP_NO_MEMORY, which the sids take, and *written is 0. */
+ * MYP_BUFFER_TOO_SMALL; MYP_NO_MEMORY of a name and sids that no memory holds together, and *written is 0. It takes no memory. */
 uint32_t myp_gtid_dump_from_text(const myp_gtid_dump *dump, const uint8_t *text, size_t len, uint8_t *out, size_t size, size_t *written);
 
 /* ---- what a server reads */

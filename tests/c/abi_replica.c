@@ -106,6 +106,45 @@ static void texts(void)
     CHECK(myp_sids_to_text(held, 2, out, sizeof out, &n) == MYP_INVALID_INPUT && n == 0 && myp_sids_to_text(NULL, 0, out, sizeof out, &n) == MYP_OK && n == 0);
 }
 
+/* dumps with the sids of a text, byte by byte: as they stand there, neither sorted nor merged */
+static void spelled(void)
+{
+    static const char tagged[] = "00112233-4455-6677-8899-AABBCCDDEEFF : 1 - 2 :4:_Xy:5 ,\t,\n10112233445566778899aabbccddeeff:A:7";
+    static const char plain[] = " ,\t00112233445566778899aabbccddeeff:1-3:2 ,\r\n";
+    static const char *const wrong[] = {
+        "00112233445566778899aabbccddeeff:1,10112233445566778899aabbccddeeff:0", "00112233445566778899aabbccddeeff:1,10112233445566778899aabbccddee:1",
+        "00112233445566778899aabbccddeeff:", "00112233445566778899aabbccddeeff", "00112233445566778899aabbccddeeff:a", "00112233445566778899aabbccddeeff:a:b:1",
+        "00112233445566778899aabbccddeeff:1::2", "00112233445566778899aabbccddeeff:+1", "00112233445566778899aabbccddeeff:1-2-3", "00112233445566778899aabbccddeeff:2-1",
+        "00112233445566778899aabbccddeeff:9223372036854775807", "00112233445566778899aabbccddeeff:1,:", "00112233445566778899aabbccddeeff:a-b:1",
+        "00112233445566778899aabbccddeeff:ABCDEFGHIJKLMNOPQRSTUVWXYZ_012345:1",
+    };
+    uint8_t out[400], is[400];
+    size_t n = 7, len;
+    myp_gtid_dump d = MYP_GTID_DUMP_INIT;
+    d.server_id = 7, d.flags = MYP_DUMP_NON_BLOCK, d.file_name = (myp_bytes){ (const uint8_t *)"b.1", 3 }, d.position = 4;
+    len = hex(is, "1e050007000000" "03000000622e31" "0400000000000000" "97000000" "0003000000000001"
+        "00112233445566778899aabbccddeeff" "00" "0200000000000000" "0100000000000000" "0300000000000000" "0400000000000000" "0500000000000000"
+        "00112233445566778899aabbccddeeff" "065f7879" "0100000000000000" "0500000000000000" "0600000000000000"
+        "10112233445566778899aabbccddeeff" "0261" "0100000000000000" "0700000000000000" "0800000000000000");
+    CHECK(myp_gtid_dump_from_text(&d, (const uint8_t *)tagged, sizeof tagged - 1, out, sizeof out, &n) == MYP_OK && n == len && !memcmp(out, is, len));
+    memset(out, 0xee, sizeof out);
+    CHECK(myp_gtid_dump_from_text(&d, (const uint8_t *)tagged, sizeof tagged - 1, out, len, &n) == MYP_OK && n == len && !memcmp(out, is, len) && out[len] == 0xee);
+    memset(out, 0xee, sizeof out);
+    CHECK(myp_gtid_dump_from_text(&d, (const uint8_t *)tagged, sizeof tagged - 1, out, len - 1, &n) == MYP_BUFFER_TOO_SMALL && n == len && out[0] == 0xee);
+    CHECK(myp_gtid_dump_from_text(&d, (const uint8_t *)tagged, sizeof tagged - 1, NULL, 0, &n) == MYP_BUFFER_TOO_SMALL && n == len);
+    len = hex(is, "1e050007000000" "03000000622e31" "0400000000000000" "40000000" "0100000000000000"
+        "00112233445566778899aabbccddeeff" "0200000000000000" "0100000000000000" "0400000000000000" "0200000000000000" "0300000000000000");
+    CHECK(myp_gtid_dump_from_text(&d, (const uint8_t *)plain, sizeof plain - 1, out, sizeof out, &n) == MYP_OK && n == len && !memcmp(out, is, len));
+    d.flags = MYP_DUMP_NON_BLOCK | MYP_DUMP_THROUGH_GTID;
+    len = hex(is, "1e010007000000" "03000000622e31" "0400000000000000" "08000000" "0000000000000000");
+    CHECK(myp_gtid_dump_from_text(&d, (const uint8_t *)" , \n", 4, out, sizeof out, &n) == MYP_OK && n == len && !memcmp(out, is, len));
+    memset(out, 0xee, sizeof out);
+    for (size_t i = 0; i < sizeof wrong / sizeof *wrong; i++)
+        CHECK((n = 7) && myp_gtid_dump_from_text(&d, (const uint8_t *)wrong[i], strlen(wrong[i]), out, sizeof out, &n) == MYP_INVALID_DATA && n == 0 && out[0] == 0xee);
+    static const char longest[] = "00112233445566778899aabbccddeeff:ABCDEFGHIJKLMNOPQRSTUVWXYZ_01234:1";
+    CHECK(myp_gtid_dump_from_text(&d, (const uint8_t *)longest, sizeof longest - 1, out, sizeof out, &n) == MYP_OK && out[50] == 64 && !memcmp(out + 51, "abcdefghijklmnopqrstuvwxyz_01234", 32));
+}
+
 /* commands.txt: what a client asks, by its first byte */
 static void asked(void)
 {
@@ -347,6 +386,7 @@ void replica_checks(void)
     replicas();
     sids();
     texts();
+    spelled();
     asked();
     served();
     executions();

@@ -3,7 +3,7 @@
 #
 # header.py    the header and the library have the same structs, offsets, numbers and calls
 # abi.c        packets of the protocol's pages through each call
-# memory.c     each allocation of each call fails in turn
+# memory.c     no call asks for memory
 # hostile.c    the rows of tests/vectors/, cut and changed, right before a page that may not be touched
 # rows.py      the same rows and malformed input, compared with the reference decoder
 # conversations.py   which packet comes next, in recorded conversations and changed ones, compared with the second tracker

@@ -1,21 +1,19 @@
 -- What is answered of the texts of GTID sets.
-use Rattle.std.proofs.Common.{◌≡◌, ◌≢◌, ℕ, ◌<◌, ◌+◌, List, [], ◌∷◌, ◌++◌, length, take, get_or, Result, Ok, Err, Option, Some, None, Bool, true, false, refl, sym, subst, ap, ◌∙◌, ◌⊎◌, inl, inr}
+use Rattle.std.proofs.Common.{◌≡◌, ℕ, List, Ok, Some, None, Bool, true, false, refl, sym, subst, ◌∙◌, ◌⊎◌, inl, inr}
 use Rattle.std.specs.List.{list_all}
 use Rattle.std.specs.Prelude.{is_some}
 use Rattle.mysql_packets_c.proofs.WrittenSids.{all-held, none-held}
-use Rattle.mysql_repl.specs.BinlogDumpGtid.{gtid_dump, sids, with_sids}
-use Rattle.mysql_repl.specs.GtidSetText.{with_read_sids}
+use Rattle.mysql_repl.specs.BinlogDumpGtid.{sids}
 use Rattle.mysql_repl.specs.GtidSetWritten.{set_text}
 use Rattle.mysql_repl.specs.declared.binlog_dump_gtid.ComBinlogDumpGtid.{ComBinlogDumpGtid}
 use Rattle.mysql_repl.specs.declared.sid.Sid.{Sid}
-use Rattle.mysql_repl.specs.declared.sid_text.InvalidSid.{InvalidSid}
 use Rattle.mysql_wire.specs.declared.fault.FaultOf.{FaultOf}
 use Rattle.mysql_wire.specs.declared.fault.FaultOf.TheVariants as fault
 use Rattle.mysql_wire.specs.Reading.{Reading, Faults}
 use Rattle.mysql_packets_c.specs.Code.{fault_code}
-use Rattle.mysql_packets_c.specs.GtidText.{PutsShown, PutsSpelled, Refuses, Spelled}
-use Rattle.mysql_packets_c.specs.Output.{Puts, PutsUnlessTooLong}
-use Rattle.mysql_packets_c.specs.Sid.{sid_or, sids_held, sids_or, tag_held}
+use Rattle.mysql_packets_c.specs.GtidText.{PutsShown}
+use Rattle.mysql_packets_c.specs.Output.{PutsUnlessTooLong}
+use Rattle.mysql_packets_c.specs.Sid.{sids_held, sids_or, tag_held}
 use Rattle.mysql_packets_c.specs.declared.sid.CSid.{CSid}
 
 either_way : (b : Bool) → (b ≡ true) ⊎ (b ≡ false)
@@ -30,24 +28,6 @@ held-are list held e =
       | inr other ↦ let h : None ≡ Some held = sym (none-held list other) ∙ e in absurd cc
     ]
 
--- the request of a text
-pub spelled-put : (read : Result (List Sid) InvalidSid) (dump p : ComBinlogDumpGtid) (dump_of : List Sid → ComBinlogDumpGtid) (code : ℕ) (old new : List ℕ) (written : ℕ)
-    → with_read_sids read dump ≡ Ok p → ((list : List Sid) → dump_of list ≡ with_sids list dump) → PutsUnlessTooLong (gtid_dump.bytes p) code old new written → code ≢ 4
-    → PutsSpelled read dump_of code old new written
-spelled-put (Ok list) dump p dump_of code old new written e same puts ne =
-    let is : with_sids list dump ≡ p = cc in
-    subst (λ (d : ComBinlogDumpGtid). Puts (gtid_dump.bytes d) code old new written) (sym (same list ∙ is)) (puts.puts ne)
-spelled-put (Err x) dump p dump_of code old new written e same puts ne = absurd cc
-
-refuses : (code : ℕ) (old : List ℕ) → (code ≡ 2) ⊎ (code ≡ 4) → code ≢ 4 → Refuses 2 code old old 0
-refuses code old (inl is) ne = record { code = is; buffer = refl; none = refl }
-refuses code old (inr is) ne = absurd (ne is)
-
-pub spelled-refused : (read : Result (List Sid) InvalidSid) (dump : ComBinlogDumpGtid) (dump_of : List Sid → ComBinlogDumpGtid) (code : ℕ) (old : List ℕ)
-    → Spelled (Err code) (with_read_sids read dump) → code ≢ 4 → PutsSpelled read dump_of code old old 0
-spelled-refused (Ok list) dump dump_of code old h ne = absurd (ne h)
-spelled-refused (Err x) dump dump_of code old h ne = refuses code old h ne
-
 -- the text of a request
 pub shown-put : (read : Reading ComBinlogDumpGtid) (p : ComBinlogDumpGtid) (rest : List ℕ) (code : ℕ) (old new : List ℕ) (written : ℕ)
     → read ≡ Ok (p, rest) → PutsUnlessTooLong (set_text (sids p)) code old new written → PutsShown read code old new written
@@ -59,4 +39,4 @@ shown-fault read (fault.InvalidData text) old h = subst (λ (r : _). PutsShown r
 shown-fault read (fault.InvalidInput text) old h = subst (λ (r : _). PutsShown r 3 old old 0) (sym h) (record { code = refl; buffer = refl; none = refl })
 shown-fault read fault.Memory old h = absurd cc
 
-pub ruleset texts = (held-are, spelled-put, spelled-refused, shown-put, shown-fault)
+pub ruleset texts = (held-are, shown-put, shown-fault)

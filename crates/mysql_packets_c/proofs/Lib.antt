@@ -18,9 +18,14 @@ pub mod SomeZero
 pub mod HandshakeFit
 pub mod WrittenRows
 pub mod Logins
+pub mod LowerTexts
 pub mod AttributeKinds
 pub mod Versions
 pub mod GtidTexts
+pub mod GtidEntries
+pub mod TextDumps
+pub mod TextDumpsRead
+pub mod TextLayouts
 pub mod SetTexts
 pub mod SidsTexts
 pub mod SidsRead

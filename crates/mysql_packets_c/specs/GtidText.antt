@@ -1,5 +1,5 @@
 -- The text of a GTID set, as C has it.
-use Rattle.std.specs.Prelude.{◌≡◌, ℕ, List, Result, Ok, Err, ◌⊎◌}
+use Rattle.std.specs.Prelude.{◌≡◌, ℕ, List, Result, Ok, Err}
 use Rattle.mysql_repl.specs.BinlogDumpGtid.{gtid_dump, sids}
 use Rattle.mysql_repl.specs.GtidSetWritten.{set_text}
 use Rattle.mysql_repl.specs.declared.binlog_dump_gtid.ComBinlogDumpGtid.{ComBinlogDumpGtid}
@@ -7,7 +7,7 @@ use Rattle.mysql_repl.specs.declared.sid.Sid.{Sid}
 use Rattle.mysql_repl.specs.declared.sid_text.InvalidSid.{InvalidSid}
 use Rattle.mysql_wire.specs.Reading.{Reading}
 use Rattle.mysql_packets_c.specs.Code.{kind_code}
-use Rattle.mysql_packets_c.specs.Output.{Puts, PutsUnlessTooLong}
+use Rattle.mysql_packets_c.specs.Output.{PutsUnlessTooLong}
 
 -- nothing is written, and the code says why
 pub record Refuses (number answer : ℕ) (old new : List ℕ) (written : ℕ) : Type 0 where
@@ -15,15 +15,9 @@ pub record Refuses (number answer : ℕ) (old new : List ℕ) (written : ℕ) : 
   pub buffer : new ≡ old
   pub none : written ≡ 0
 
--- the request with the sids of a text; or 2 of another text; or memory was refused
-abbrev pub Spelled : Result ComBinlogDumpGtid ℕ → Result ComBinlogDumpGtid InvalidSid → Type 0
-Spelled (Ok p) read = read ≡ Ok p
-Spelled (Err code) (Err e) = (code ≡ 2) ⊎ (code ≡ 4)
-Spelled (Err code) (Ok p) = code ≡ 4
-
 -- the request of the sids that a text spells; 2 of another text
 abbrev pub PutsSpelled : Result (List Sid) InvalidSid → (List Sid → ComBinlogDumpGtid) → (code : ℕ) (old new : List ℕ) (written : ℕ) → Type 0
-PutsSpelled (Ok list) dump_of code old new written = Puts (gtid_dump.bytes (dump_of list)) code old new written
+PutsSpelled (Ok list) dump_of code old new written = PutsUnlessTooLong (gtid_dump.bytes (dump_of list)) code old new written
 PutsSpelled (Err e) dump_of code old new written = Refuses 2 code old new written
 
 -- the text of the sids of a request that was read; or the code of its first fault

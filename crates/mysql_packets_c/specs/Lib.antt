@@ -24,6 +24,8 @@ pub mod ExecutionOptions
 pub mod ExtendedColumn
 pub mod Given
 pub mod GtidDump
+pub mod GtidEntries
+pub mod GtidEntriesLeft
 pub mod GtidText
 pub mod Handshake
 pub mod Header
@@ -56,5 +58,6 @@ pub mod StreamPacket
 pub mod StreamPlaces
 pub mod Supported
 pub mod TableDump
+pub mod TextDump
 pub mod TypedExecution
 pub mod Value

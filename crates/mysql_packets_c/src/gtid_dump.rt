@@ -5,6 +5,8 @@ ghost use Rattle.std.specs.List.{list_all};
 ghost use Rattle.std.specs.Prelude.{false, ◌≡◌, ◌<◌, [], is_some};
 ghost use Rattle.mysql_repl.specs.BinlogDumpGtid as dump;
 ghost use Rattle.mysql_repl.specs.TagString.{tag_of};
+ghost use Rattle.mysql_wire.specs.FlagMasks.{BINLOG_THROUGH_GTID};
+ghost use Rattle.mysql_wire.specs.Flags.{switched};
 ghost use Rattle.mysql_packets_c.specs.Code.{ReadsInto};
 ghost use Rattle.mysql_packets_c.specs.Given.{is_set};
 ghost use Rattle.mysql_packets_c.specs.GtidDump.{PutsDump, dump_with, KeepsOthers, IsGtidDump, SidsStand};
@@ -116,14 +118,21 @@ pub(crate) fn are_tagged(sids: &[CSid<'_>]) -> bool
 }
 
 /// The flags, with BINLOG_THROUGH_GTID exactly if there is a sid.
+pub(crate) fn through_gtid(bits: u16, some: bool) -> BinlogDumpFlags
+    ensures { result.0 ≡ switched 16 some BINLOG_THROUGH_GTID (dump.through_gtid [] bits) }
+{
+    let mut flags = BinlogDumpFlags::from_bits_retain(bits);
+    flags.set(BinlogDumpFlags::BINLOG_THROUGH_GTID, false);
+    flags.set(BinlogDumpFlags::BINLOG_THROUGH_GTID, some);
+    flags
+}
+
+/// The flags of a request with these sids.
 #[tactic(auto, using(crate::proofs::WrittenSids::written_sids))]
 fn flags_of(bits: u16, sids: &[CSid<'_>]) -> BinlogDumpFlags
     ensures { result.0 ≡ dump.through_gtid (spec.sids_or sids.now) (dump.through_gtid [] bits) }
 {
-    let mut flags = BinlogDumpFlags::from_bits_retain(bits);
-    flags.set(BinlogDumpFlags::BINLOG_THROUGH_GTID, false);
-    flags.set(BinlogDumpFlags::BINLOG_THROUGH_GTID, !sids.is_empty());
-    flags
+    through_gtid(bits, !sids.is_empty())
 }
 
 /// The request of these fields.

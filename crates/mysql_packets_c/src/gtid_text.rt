@@ -1,29 +1,27 @@
 //! The text of a GTID set.
 #![tactic(auto, using(crate::proofs::Codes::codes, crate::proofs::GtidTexts::texts))]
 
-ghost use Rattle.std.specs.Prelude.{false, ◌≡◌, ◌≢◌, Err, List, None, Some};
+ghost use Rattle.std.specs.Prelude.{false, ◌≡◌, List, None, Some};
 ghost use Rattle.std.specs.Str.{IsUtf8};
 ghost use Rattle.mysql_repl.specs.BinlogDumpGtid as dump;
-ghost use Rattle.mysql_repl.specs.BinlogDumpGtid.{with_sids};
-ghost use Rattle.mysql_repl.specs.GtidSetText.{read_sids, with_read_sids};
+ghost use Rattle.mysql_repl.specs.GtidSetText.{read_sids};
 ghost use Rattle.mysql_repl.specs.GtidSetWritten.{set_text};
 ghost use Rattle.mysql_repl.specs.declared.sid.Sid.{Sid};
 ghost use Rattle.mysql_packets_c.specs.GtidDump.{dump_with};
-ghost use Rattle.mysql_packets_c.specs.GtidText.{PutsShown, PutsSpelled, Refuses, Spelled};
+ghost use Rattle.mysql_packets_c.specs.GtidText.{PutsShown, PutsSpelled, Refuses};
 ghost use Rattle.mysql_packets_c.specs.Output.{PutsUnlessTooLong};
 ghost use Rattle.mysql_packets_c.specs.Sid as spec;
 
-use crate::code::{INVALID_DATA, INVALID_INPUT, NO_MEMORY, code_of};
+use crate::code::{INVALID_DATA, INVALID_INPUT, code_of};
 use crate::gtid_dump::{CGtidDump, are_tagged};
 use crate::input::read;
 use crate::output::put_packet;
 use crate::set_text::SetText;
 use crate::sid::CSid;
 use crate::sids_text::SidsText;
-use mysql_repl::{BinlogDumpFlags, ComBinlogDumpGtid, ComBinlogDumpGtidRef, InvalidSid};
-use mysql_wire::Flags;
+use crate::text_dump::{TextDump, layout_of};
+use mysql_repl::ComBinlogDumpGtidRef;
 use std::alloc::Global;
-use std::borrow::CowSlice;
 use std::str;
 
 /// Writes the text of sids: 0; 5, and how many bytes it takes; 4; or 3 of a tag that is none.
@@ -40,53 +38,26 @@ pub extern "C" fn myp_sids_to_text(sids: &[CSid<'_>], out: &mut [u8], written: &
     put_packet(&SetText(sids), out, written)
 }
 
-/// The request of these fields, without sids.
-fn request_of<'a>(dump: &CGtidDump<'a>) -> ComBinlogDumpGtid<'a>
-    ensures value { (list : List Sid) → dump_with dump.now list ≡ with_sids list result }
-{
-    ComBinlogDumpGtid::new(dump.server_id)
-        .with_flags(BinlogDumpFlags::from_bits_retain(dump.flags))
-        .with_filename(CowSlice::Borrowed(dump.file_name))
-        .with_pos(dump.position)
-}
-
-/// The request with the sids that a text spells, or the code of its refusal.
-fn dump_of_text<'a>(
-    alloc: Global,
-    dump: ComBinlogDumpGtid<'a>,
-    text: &[u8],
-) -> Result<ComBinlogDumpGtid<'a>, u32>
-    ensures bytes { (IsUtf8 text.now → ⊥) → result ≡ Err 2 }
-    ensures value { IsUtf8 text.now → Spelled result (with_read_sids (read_sids text.now) dump.entry) }
-{
-    let Ok(text) = str::from_utf8(text) else {
-        return Err(INVALID_DATA);
-    };
-    match dump.with_gtid_set(alloc, text) {
-        Ok(dump) => Ok(dump),
-        Err(InvalidSid::Memory) => Err(NO_MEMORY),
-        Err(_) => Err(INVALID_DATA),
-    }
-}
-
 /// Writes `COM_BINLOG_DUMP_GTID` with the sids of the text of a GTID set: 0; 5, and how many bytes it takes; 4; or 2 of another text.
 #[unsafe(no_mangle)]
 pub extern "C" fn myp_gtid_dump_from_text(
-    alloc: Global,
     dump: &CGtidDump<'_>,
     text: &[u8],
     out: &mut [u8],
     written: &mut usize,
 ) -> u32
-    ensures memory { result ≡ 4 → (out.new ≡ out.old) × (written.new ≡ 0) }
     ensures bytes { (IsUtf8 text.now → ⊥) → Refuses 2 result out.old out.new written.new }
-    ensures value { IsUtf8 text.now → result ≢ 4 → PutsSpelled (read_sids text.now) (dump_with dump.now) result out.old out.new written.new }
+    ensures value { IsUtf8 text.now → PutsSpelled (read_sids text.now) (dump_with dump.now) result out.old out.new written.new }
 {
-    match dump_of_text(alloc, request_of(dump), text) {
-        Ok(dump) => put_packet(&dump, out, written),
-        Err(code) => {
+    let Ok(text) = str::from_utf8(text) else {
+        *written = 0;
+        return INVALID_DATA;
+    };
+    match layout_of(text) {
+        Some(layout) => put_packet(&TextDump { dump, layout, text }, out, written),
+        None => {
             *written = 0;
-            code
+            INVALID_DATA
         }
     }
 }

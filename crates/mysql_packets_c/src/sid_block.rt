@@ -116,13 +116,25 @@ impl ItemForm<CSid<'_>> for AsSids {
 }
 
 /// The length that is written of so many bytes: 2^32 - 1 where that is less.
-fn length_field(len: usize) -> u32
+pub(crate) fn length_field(len: usize) -> u32
     ensures { result ≡ min len 4294967295 }
 {
     if len < u32::MAX as usize {
         len as u32
     } else {
         u32::MAX
+    }
+}
+
+/// The head before so many sids.
+#[tactic(auto, unfolding(mysql_repl::specs::SidBlock::head_for))]
+pub(crate) fn head_of(tagged: bool, count: u64) -> RawInt<LeU64>
+    ensures { result.0 ≡ block.head_for tagged count }
+{
+    if tagged {
+        RawInt::new((1 << 56) + (1 << 8) * (count % (1 << 48)))
+    } else {
+        RawInt::new(count % (1 << 56))
     }
 }
 
@@ -139,16 +151,10 @@ impl WrittenSids<'_, '_> {
     }
 
     /// The head before the sids.
-    #[tactic(auto, unfolding(mysql_repl::specs::SidBlock::head_for))]
     fn head(&self, tagged: bool) -> RawInt<LeU64>
         ensures { result.0 ≡ block.head_for tagged (length self.now.0.now) }
     {
-        let count = self.0.len() as u64;
-        if tagged {
-            RawInt::new((1 << 56) + (1 << 8) * (count % (1 << 48)))
-        } else {
-            RawInt::new(count % (1 << 56))
-        }
+        head_of(tagged, self.0.len() as u64)
     }
 }
 

@@ -25,7 +25,7 @@ pub(crate) struct SidText<'a> {
 
 /// What stands before the first colon, and what after it.
 #[tactic(auto, using(mysql_repl::proofs::SidTexts::cuts))]
-fn cut_at_colon(text: &str) -> Option<(&str, &str)>
+pub(crate) fn cut_at_colon(text: &str) -> Option<(&str, &str)>
     ensures value { MatchOption result (lib.has lib.colon text.now ≡ false) (λ cut. (lib.has lib.colon text.now ≡ true) × (cut.0.now ≡ lib.before lib.colon text.now) × (cut.1.now ≡ lib.after lib.colon text.now)) }
 {
     text.split_once(':')
@@ -33,14 +33,22 @@ fn cut_at_colon(text: &str) -> Option<(&str, &str)>
 
 /// What stands before the first hyphen, and what after it.
 #[tactic(auto, using(mysql_repl::proofs::SidTexts::cuts))]
-fn cut_at_hyphen(text: &str) -> Option<(&str, &str)>
+pub(crate) fn cut_at_hyphen(text: &str) -> Option<(&str, &str)>
     ensures value { MatchOption result (lib.has lib.hyphen text.now ≡ false) (λ cut. (lib.has lib.hyphen text.now ≡ true) × (cut.0.now ≡ lib.before lib.hyphen text.now) × (cut.1.now ≡ lib.after lib.hyphen text.now)) }
 {
     text.split_once('-')
 }
 
+/// What stands before the first comma, and what after it.
+#[tactic(auto, using(mysql_repl::proofs::SidTexts::cuts))]
+pub(crate) fn cut_at_comma(text: &str) -> Option<(&str, &str)>
+    ensures value { MatchOption result (lib.has lib.comma text.now ≡ false) (λ cut. (lib.has lib.comma text.now ≡ true) × (cut.0.now ≡ lib.before lib.comma text.now) × (cut.1.now ≡ lib.after lib.comma text.now)) }
+{
+    text.split_once(',')
+}
+
 /// The bytes of the uuid that a text writes.
-fn uuid_of(text: &str) -> Option<[u8; 16]>
+pub(crate) fn uuid_of(text: &str) -> Option<[u8; 16]>
     ensures value { result ≡ parsed text.now }
 {
     match Uuid::parse_str(text) {
@@ -50,14 +58,14 @@ fn uuid_of(text: &str) -> Option<[u8; 16]>
 }
 
 /// The number of 64 bits that digits write, after a plus or none.
-fn number_of(text: &str) -> Option<u64>
+pub(crate) fn number_of(text: &str) -> Option<u64>
     ensures { result ≡ lib.number_of text.now }
 {
     text.parse().ok()
 }
 
 /// The interval from the first number to the last.
-fn interval_from(first: u64, last: u64) -> Option<GnoInterval>
+pub(crate) fn interval_from(first: u64, last: u64) -> Option<GnoInterval>
     ensures value { result ≡ result_ok (lib.checked first last) }
 {
     GnoInterval::check_and_new(first, last.checked_add(1)?).ok()
@@ -80,7 +88,7 @@ fn read_interval(text: &str) -> Option<GnoInterval>
 
 /// A text up to its first colon, and what stands after that colon, if there is one.
 #[tactic(auto, using(mysql_repl::proofs::SidTexts::first_parts))]
-fn first_part(text: &str) -> (&str, Option<&str>)
+pub(crate) fn first_part(text: &str) -> (&str, Option<&str>)
     ensures parts { lib.parts_of text.now ≡ result.0.now ∷ left_parts (option_map (λ t. t.now) result.1) }
     ensures within { length result.0.now ≤ length text.now }
     ensures shorter { left_len (option_map (λ t. t.now) result.1) < left_len (Some text.now) }

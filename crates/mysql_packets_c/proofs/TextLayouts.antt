@@ -1,0 +1,71 @@
+-- How the sids of a text are written, as a reader goes over them.
+use Rattle.std.proofs.Common.{◌≡◌, ℕ, zero, suc, ◌+◌, ◌%◌, ◌^◌, ◌<◌, List, [], ◌∷◌, length, map, is_some, Bool, true, false, ◌||◌, nat_lt, refl, sym, ap, ◌∙◌, arith}
+use Rattle.std.specs.Char.{to_ascii_lowercase}
+use Rattle.std.specs.List.{list_any}
+use Rattle.std.proofs.lemmas.Bool.{lt-ltb}
+use Rattle.mysql_packets_c.specs.GtidEntries.{Entry, has_tag, heads, is_refused, one_if_head}
+use Rattle.mysql_packets_c.specs.Sid.{tag_in}
+use Rattle.mysql_packets_c.specs.TextDump.{Adds, IsLayout}
+use Rattle.mysql_packets_c.specs.declared.text_dump.Layout.{Layout}
+
+-- what was gone over, and what is left, is all
+pub record LayoutSoFar (l : Layout) (left all : List Entry) : Type 0 where
+  pub read : list_any is_refused left ≡ list_any is_refused all
+  pub some : (l.some || nat_lt 0 (heads left)) ≡ nat_lt 0 (heads all)
+  pub tagged : (l.tagged || list_any has_tag left) ≡ list_any has_tag all
+  pub count : (l.count + heads left) % 2 ^ 64 ≡ heads all % 2 ^ 64
+  pub few : l.count < 2 ^ 64
+
+pub layout-begins : (l : Layout) (left all : List Entry) → left ≡ all → l.some ≡ false → l.tagged ≡ false → l.count ≡ 0 → LayoutSoFar l left all
+layout-begins l left all same s t n =
+    rw (same) (record {
+      read = refl;
+      some = ap (λ (b : Bool). b || nat_lt 0 (heads all)) s;
+      tagged = ap (λ (b : Bool). b || list_any has_tag all) t;
+      count = omega (arith, n);
+      few = omega (arith, n);
+    })
+
+or-sum : (b : Bool) (m n : ℕ) → ((b || nat_lt 0 m) || nat_lt 0 n) ≡ (b || nat_lt 0 (m + n))
+or-sum true m n = refl
+or-sum false zero n = let e : 0 + n ≡ n = omega arith in rw e refl
+or-sum false (suc m) n = rw (lt-ltb 0 (suc m) (omega arith), lt-ltb 0 (suc m + n) (omega arith)) refl
+
+or-assoc : (a b c : Bool) → ((a || b) || c) ≡ (a || (b || c))
+or-assoc true b c = refl
+or-assoc false b c = refl
+
+module _ (l : Layout) (left more all : List Entry) (e : Entry) (split : left ≡ e ∷ more) (so_far : LayoutSoFar l left all) where
+  pub layout-refused : is_refused e ≡ true → list_any is_refused all ≡ true
+  layout-refused h = sym so_far.read ∙ ap (list_any is_refused) split ∙ ap (λ (b : Bool). b || list_any is_refused more) h
+
+  pub layout-next : (next : Layout) → Adds l e next → LayoutSoFar next more all
+  layout-next next adds =
+      record {
+        read = ap (λ (b : Bool). b || list_any is_refused more) (sym adds.read) ∙ ap (list_any is_refused) (sym split) ∙ so_far.read;
+        some = ap (λ (b : Bool). b || nat_lt 0 (heads more)) adds.some ∙ or-sum l.some (one_if_head e) (heads more) ∙ ap (λ (k : List Entry). l.some || nat_lt 0 (heads k)) (sym split) ∙ so_far.some;
+        tagged = ap (λ (b : Bool). b || list_any has_tag more) adds.tagged ∙ or-assoc l.tagged (has_tag e) (list_any has_tag more) ∙ ap (λ (k : List Entry). l.tagged || list_any has_tag k) (sym split) ∙ so_far.tagged;
+        count = omega (arith, adds.count, ap heads split, so_far.count);
+        few = omega (arith, adds.count);
+      }
+
+pub or-false : (b : Bool) → (b || false) ≡ b
+or-false true = refl
+or-false false = refl
+
+pub layout-ends : (l : Layout) (left all : List Entry) → left ≡ [] → LayoutSoFar l left all → IsLayout l all
+layout-ends l left all none so_far =
+    record {
+      read = sym so_far.read ∙ ap (list_any is_refused) none;
+      some = sym (or-false l.some) ∙ ap (λ (k : List Entry). l.some || nat_lt 0 (heads k)) (sym none) ∙ so_far.some;
+      tagged = sym (or-false l.tagged) ∙ ap (λ (k : List Entry). l.tagged || list_any has_tag k) (sym none) ∙ so_far.tagged;
+      count = omega (arith, so_far.count, so_far.few, ap heads none);
+    }
+
+pub ruleset layouts = (layout-begins, layout-ends)
+
+pub tag-there : (text : List ℕ) → is_some (tag_in (map to_ascii_lowercase text)) ≡ nat_lt 0 (length text)
+tag-there [] = refl
+tag-there (c ∷ cs) = sym (lt-ltb 0 (length (c ∷ cs)) (omega arith))
+
+pub ruleset adds = (tag-there, or-false)

@@ -1,0 +1,249 @@
+//! The request for a binary log, with the sids that a text spells: they are written as they are read.
+#![tactic(auto, using(mysql_wire::proofs::Packets::packets, crate::proofs::TextDumps::parts))]
+
+ghost use Rattle.std.specs.List.{list_any};
+ghost use Rattle.std.specs.Prelude.{◌≡◌, MatchOption, true};
+ghost use Rattle.mysql_packets_c.specs.GtidEntries as spec;
+ghost use Rattle.mysql_packets_c.specs.GtidEntriesLeft.{shown};
+ghost use Rattle.mysql_packets_c.specs.TextDump.{Adds, IsLayout};
+
+use crate::gtid_dump::{CGtidDump, through_gtid};
+use crate::gtid_entries::{SidHead, TextEntries, TextEntry};
+use crate::set_text::words;
+use crate::sid_block::{head_of, length_field};
+use mysql_prepared::{ItemForm, Items};
+use mysql_repl::{BinlogDumpFlags, ComBinlogDumpGtidHeader};
+use mysql_wire::{
+    Buffer, Const, EofBytes, LeU16, LeU32, LeU64, MySerialize, Parts, RawBytes, RawInt, Sink,
+    U32Bytes, VarLen, parts,
+};
+use std::borrow::CowSlice;
+
+/// How the sids of a text are written.
+#[derive(Clone, Copy, Drop)]
+pub(crate) struct Layout {
+    /// Whether there is a sid.
+    some: bool,
+    /// Whether some sid has a tag.
+    tagged: bool,
+    /// How many sids there are, but for multiples of 2^64: a head has fewer bits of the count.
+    count: u64,
+}
+
+impl Layout {
+    /// The same with what comes next; none where the text is refused.
+    #[tactic(auto, using(crate::proofs::TextLayouts::adds))]
+    fn with(self, entry: &TextEntry<'_>) -> Option<Layout>
+        ensures value { MatchOption result (spec.is_refused (shown entry.now) ≡ true) (λ l. Adds self (shown entry.now) l) }
+    {
+        match entry {
+            TextEntry::Refused => None,
+            TextEntry::Interval(_) => Some(self),
+            TextEntry::Head(head) => Some(Layout {
+                some: true,
+                tagged: self.tagged || !head.tag.is_empty(),
+                count: self.count.wrapping_add(1),
+            }),
+        }
+    }
+}
+
+/// How the sids of a text are written; none of a text that spells none.
+#[tactic(auto, using(crate::proofs::TextLayouts::layouts))]
+pub(crate) fn layout_of(text: &str) -> Option<Layout>
+    ensures value { MatchOption result (list_any spec.is_refused (spec.text_entries text.now) ≡ true) (λ l. IsLayout l (spec.text_entries text.now)) }
+{
+    let mut layout = Layout {
+        some: false,
+        tagged: false,
+        count: 0,
+    };
+    let mut left = TextEntries::of(text);
+    while let Some(entry) = left.next() {
+        layout = layout.with(&entry)?;
+    }
+    Some(layout)
+}
+
+/// Bytes are written in lower case.
+#[derive(Drop)]
+struct InLowerCase;
+
+#[tactic(auto, unfolding(mysql_wire::specs::Writing::saturated))]
+impl ItemForm<u8> for InLowerCase {
+    ghost use Rattle.std.specs.Char.{to_ascii_lowercase};
+    ghost use Rattle.std.specs.Prelude.{◌∷◌, []};
+
+    ghost item_bytes = { λ _ byte. to_ascii_lowercase byte ∷ [] };
+
+    fn item_len(&self, _item: &u8) -> usize {
+        1
+    }
+
+    fn append_item<O: Buffer>(&self, item: &u8, out: &mut O) {
+        out.push_byte(item.to_ascii_lowercase());
+    }
+}
+
+/// A tag in lower case after its length.
+#[derive(Drop)]
+struct WrittenTag<'a>(&'a str);
+
+impl Parts for WrittenTag<'_> {
+    ghost use Rattle.std.specs.Char.{to_ascii_lowercase};
+    ghost use Rattle.std.specs.Prelude.{map};
+    ghost use Rattle.mysql_wire.specs.Varlen.{varlen_string_bytes};
+
+    ghost bytes = { λ t. varlen_string_bytes (map to_ascii_lowercase t.0.now) };
+
+    fn put<S: Sink>(&self, sink: &mut S) {
+        let len = RawInt::<VarLen>::new(self.0.len() as u64);
+        let bytes = Items {
+            items: self.0.as_bytes(),
+            form: InLowerCase,
+        };
+        sink.part(&parts!(len, bytes));
+    }
+}
+
+/// What stands before the intervals of a sid, in the form with tags or in the other.
+#[derive(Drop)]
+struct WrittenHead<'b, 'a> {
+    tagged: bool,
+    head: &'b SidHead<'a>,
+}
+
+impl Parts for WrittenHead<'_, '_> {
+    ghost use Rattle.mysql_packets_c.specs.GtidEntries.{head_bytes};
+    ghost use Rattle.mysql_packets_c.specs.GtidEntriesLeft.{tag_shown};
+
+    ghost bytes = { λ s. head_bytes s.tagged s.head.now.uuid (tag_shown s.head.now) s.head.now.count };
+
+    fn put<S: Sink>(&self, sink: &mut S) {
+        let id = RawBytes::<EofBytes>::new(CowSlice::Borrowed(&self.head.uuid));
+        let count = RawInt::<LeU64>::new(self.head.count);
+        if self.tagged {
+            sink.part(&parts!(id, WrittenTag(self.head.tag), count));
+        } else {
+            sink.part(&parts!(id, count));
+        }
+    }
+}
+
+/// What is written in one piece.
+#[derive(Drop)]
+struct WrittenEntry<'b, 'a> {
+    tagged: bool,
+    entry: &'b TextEntry<'a>,
+}
+
+impl Parts for WrittenEntry<'_, '_> {
+    ghost use Rattle.mysql_packets_c.specs.GtidEntries.{entry_bytes};
+    ghost use Rattle.mysql_packets_c.specs.GtidEntriesLeft.{shown};
+
+    ghost bytes = { λ s. entry_bytes s.tagged (shown s.entry.now) };
+
+    fn put<S: Sink>(&self, sink: &mut S) {
+        let tagged = self.tagged;
+        match self.entry {
+            TextEntry::Refused => sink.part(&words(b"")),
+            TextEntry::Head(head) => sink.part(&WrittenHead { tagged, head }),
+            TextEntry::Interval(interval) => sink.part(interval),
+        }
+    }
+}
+
+/// The sids of a text.
+#[derive(Drop)]
+struct TextSids<'a> {
+    tagged: bool,
+    text: &'a str,
+}
+
+impl MySerialize for TextSids<'_> {
+    ghost use Rattle.std.specs.List.{flat_map};
+    ghost use Rattle.mysql_packets_c.specs.GtidEntries.{entry_bytes, text_entries};
+
+    ghost bytes = { λ s. flat_map (entry_bytes s.tagged) (text_entries s.text.now) };
+
+    #[tactic(auto, unfolding(mysql_wire::specs::Writing::saturated))]
+    fn defined_len(&self) -> usize {
+        let mut total: usize = 0;
+        let mut left = TextEntries::of(self.text);
+        while let Some(entry) = left.next() {
+            let written = WrittenEntry {
+                tagged: self.tagged,
+                entry: &entry,
+            };
+            total = total.saturating_add(written.defined_len());
+        }
+        total
+    }
+
+    fn append<O: Buffer>(&self, out: &mut O) {
+        let mut bytes = out.taken();
+        let mut left = TextEntries::of(self.text);
+        while let Some(entry) = left.next() {
+            let written = WrittenEntry {
+                tagged: self.tagged,
+                entry: &entry,
+            };
+            written.append(&mut bytes);
+        }
+        *out = bytes;
+    }
+}
+
+/// The sids of a text, as a dump has them.
+#[derive(Drop)]
+struct TextBlock<'a> {
+    layout: Layout,
+    text: &'a str,
+}
+
+impl Parts for TextBlock<'_> {
+    ghost use Rattle.mysql_packets_c.specs.GtidEntries.{entries_block, text_entries};
+
+    ghost bytes = { λ s. entries_block s.layout.tagged s.layout.count (text_entries s.text.now) };
+
+    fn put<S: Sink>(&self, sink: &mut S) {
+        let tagged = self.layout.tagged;
+        let sids = TextSids {
+            tagged,
+            text: self.text,
+        };
+        let content_len = sids.defined_len().saturating_add(8);
+        let len = RawInt::<LeU32>::new(length_field(content_len));
+        sink.part(&parts!(len, head_of(tagged, self.layout.count), sids));
+    }
+}
+
+/// The request of these fields, with the sids of a text.
+#[derive(Drop)]
+pub(crate) struct TextDump<'b, 'a> {
+    pub(crate) dump: &'b CGtidDump<'a>,
+    pub(crate) layout: Layout,
+    pub(crate) text: &'b str,
+}
+
+impl Parts for TextDump<'_, '_> {
+    ghost use Rattle.mysql_packets_c.specs.GtidEntries.{entries_dump, text_entries};
+
+    ghost bytes = { λ d. entries_dump d.dump.now d.layout.some d.layout.tagged d.layout.count (text_entries d.text.now) };
+
+    #[inline(always)]
+    fn put<S: Sink>(&self, sink: &mut S) {
+        let header = ComBinlogDumpGtidHeader::new();
+        let flags = through_gtid(self.dump.flags, self.layout.some);
+        let flags = Const::<BinlogDumpFlags, LeU16>::new(flags);
+        let server_id = RawInt::<LeU32>::new(self.dump.server_id);
+        let head = parts!(header, flags, server_id);
+        let file_name = RawBytes::<U32Bytes>::new(CowSlice::Borrowed(self.dump.file_name));
+        let position = RawInt::<LeU64>::new(self.dump.position);
+        let sids = TextBlock {
+            layout: self.layout,
+            text: self.text,
+        };
+        sink.part(&parts!(head, file_name, position, sids));
+    }
+}
