@@ -53,7 +53,7 @@ static inline const char *myp_error_text(uint32_t code)
     case MYP_UNEXPECTED_EOF: return "bytes are missing";
     case MYP_INVALID_DATA: return "the bytes spell no such packet";
     case MYP_INVALID_INPUT: return "what was passed fits no packet";
-    case MYP_NO_MEMORY: return "memory was refused";
+    case MYP_NO_MEMORY: return "no memory holds so many bytes";
     case MYP_BUFFER_TOO_SMALL: return "the buffer is too small";
     case MYP_ROW_TOO_LARGE: return "a row is too large for a request";
     case MYP_END: return "nothing is left";

@@ -33,7 +33,7 @@ code_text code =
     else if code == 1 then Some (codes "bytes are missing")
     else if code == 2 then Some (codes "the bytes spell no such packet")
     else if code == 3 then Some (codes "what was passed fits no packet")
-    else if code == 4 then Some (codes "memory was refused")
+    else if code == 4 then Some (codes "no memory holds so many bytes")
     else if code == 5 then Some (codes "the buffer is too small")
     else if code == 6 then Some (codes "a row is too large for a request")
     else if code == 7 then Some (codes "nothing is left")

@@ -14,7 +14,7 @@ pub(crate) const UNEXPECTED_EOF: u32 = 1;
 pub(crate) const INVALID_DATA: u32 = 2;
 /// What was passed fits no packet.
 pub(crate) const INVALID_INPUT: u32 = 3;
-/// Memory is refused.
+/// No memory holds so many bytes.
 pub(crate) const NO_MEMORY: u32 = 4;
 /// The buffer is too small.
 pub(crate) const BUFFER_TOO_SMALL: u32 = 5;
@@ -55,7 +55,7 @@ fn code_text(code: u32) -> Option<&'static [u8]>
         UNEXPECTED_EOF => Some(b"bytes are missing"),
         INVALID_DATA => Some(b"the bytes spell no such packet"),
         INVALID_INPUT => Some(b"what was passed fits no packet"),
-        NO_MEMORY => Some(b"memory was refused"),
+        NO_MEMORY => Some(b"no memory holds so many bytes"),
         BUFFER_TOO_SMALL => Some(b"the buffer is too small"),
         ROW_TOO_LARGE => Some(b"a row is too large for a request"),
         END => Some(b"nothing is left"),

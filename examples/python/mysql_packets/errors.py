@@ -25,7 +25,7 @@ class InvalidInput(PacketError):
 
 
 class NoMemory(PacketError):
-    text = "memory was refused"
+    text = "no memory holds so many bytes"
 
 
 class BufferTooSmall(PacketError):
