@@ -25,6 +25,10 @@ may_wait r = sides.may_wait r.sides
 abbrev pub has_sums : Recording → Bool
 has_sums r = sides.has_sums r.sides
 
+-- what was asked for stays
+abbrev pub KeepsSettings : Recording → Recording → Type 0
+KeepsSettings old new = sides.KeepsSettings old.sides new.sides
+
 -- the number of the last exchange that came
 abbrev pub last_exchange : Recording → ℕ
 last_exchange r = r.sides.packets.followed.last

@@ -63,6 +63,13 @@ pub record Stand (s : Sides) (pieces : List Piece) (items : List Item) : Type 0 
   pub followed : IsFollowed s.packets.followed (placed items)
   pub nothing_lost : s.has_lost ≡ false
 
+-- what was asked for stays: how packets are shown, the limits, and whether there are sums
+pub record KeepsSettings (old new : Sides) : Type 0 where
+  pub layout : layout new ≡ layout old
+  pub longest : longest new ≡ longest old
+  pub may_wait : may_wait new ≡ may_wait old
+  pub sums : has_sums new ≡ has_sums old
+
 -- these packets are a whole session, and of neither side a byte is held of a payload that is cut
 abbrev pub IsWhole : Sides → List Item → Type 0
 IsWhole s items = (s.client.reader.held ≡ []) × (s.server.reader.held ≡ []) × IsSession (placed items)

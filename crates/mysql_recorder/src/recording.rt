@@ -143,10 +143,7 @@ impl Recording {
     fn take_rest(&mut self, out: &mut String) -> Result<(), RecordingError>
         ensures goes { OnOk result (spec.GoesOn [] self.old self.new (string_bytes out.old) (string_bytes out.new)) }
         ensures lost { spec.has_lost self.old ≡ true → spec.has_lost self.new ≡ true }
-        ensures layout { spec.layout self.new ≡ spec.layout self.old }
-        ensures longest { spec.longest self.new ≡ spec.longest self.old }
-        ensures may_wait { spec.may_wait self.new ≡ spec.may_wait self.old }
-        ensures sums { spec.has_sums self.new ≡ spec.has_sums self.old }
+        ensures settings { spec.KeepsSettings self.old self.new }
         ensures refused { IfErr result (λ e. TextStops KindName.ALL self.old e (string_bytes out.old) (string_bytes out.new)) }
         ensures loses { TextLoses result KindName.ALL ⊥ self.old self.new (string_bytes out.old) (string_bytes out.new) }
         ensures text { OnOk result (Stays (string_bytes out.old) (string_bytes out.new)) }
@@ -162,10 +159,7 @@ impl Recording {
     fn take_byte(&mut self, byte: u8, out: &mut String) -> Result<(), RecordingError>
         ensures goes { OnOk result (spec.GoesOn (byte ∷ []) self.old self.new (string_bytes out.old) (string_bytes out.new)) }
         ensures lost { spec.has_lost self.old ≡ true → spec.has_lost self.new ≡ true }
-        ensures layout { spec.layout self.new ≡ spec.layout self.old }
-        ensures longest { spec.longest self.new ≡ spec.longest self.old }
-        ensures may_wait { spec.may_wait self.new ≡ spec.may_wait self.old }
-        ensures sums { spec.has_sums self.new ≡ spec.has_sums self.old }
+        ensures settings { spec.KeepsSettings self.old self.new }
         ensures refused { IfErr result (λ e. TextStops KindName.ALL self.old e (string_bytes out.old) (string_bytes out.new)) }
         ensures loses { TextLoses result KindName.ALL (byte ≡ 10) self.old self.new (string_bytes out.old) (string_bytes out.new) }
         ensures text { OnOk result (Stays (string_bytes out.old) (string_bytes out.new)) }
@@ -207,10 +201,7 @@ impl Recording {
     fn end_line(&mut self, out: &mut String) -> Result<(), RecordingError>
         ensures goes { OnOk result (spec.Takes self.old self.new (string_bytes out.old) (string_bytes out.new)) }
         ensures lost { spec.has_lost self.old ≡ true → spec.has_lost self.new ≡ true }
-        ensures layout { spec.layout self.new ≡ spec.layout self.old }
-        ensures longest { spec.longest self.new ≡ spec.longest self.old }
-        ensures may_wait { spec.may_wait self.new ≡ spec.may_wait self.old }
-        ensures sums { spec.has_sums self.new ≡ spec.has_sums self.old }
+        ensures settings { spec.KeepsSettings self.old self.new }
         ensures place { self.new.place ≡ self.old.place }
         ensures line { OnOk result (self.new.line.bytes.items ≡ []) }
         ensures refused { IfErr result (λ e. LineStops KindName.ALL self.old e (string_bytes out.old) (string_bytes out.new)) }
@@ -227,10 +218,7 @@ impl Recording {
     fn take_last(&mut self, out: &mut String) -> Result<(), RecordingError>
         ensures goes { OnOk result (spec.Takes self.old self.new (string_bytes out.old) (string_bytes out.new)) }
         ensures lost { spec.has_lost self.old ≡ true → spec.has_lost self.new ≡ true }
-        ensures layout { spec.layout self.new ≡ spec.layout self.old }
-        ensures longest { spec.longest self.new ≡ spec.longest self.old }
-        ensures may_wait { spec.may_wait self.new ≡ spec.may_wait self.old }
-        ensures sums { spec.has_sums self.new ≡ spec.has_sums self.old }
+        ensures settings { spec.KeepsSettings self.old self.new }
         ensures place { self.new.place ≡ self.old.place }
         ensures line { OnOk result (self.new.line.bytes.items ≡ []) }
         ensures refused { IfErr result (λ e. LineStops KindName.ALL self.old e (string_bytes out.old) (string_bytes out.new)) }
@@ -247,10 +235,7 @@ impl Recording {
     /// Takes a line that says how many bytes are missing.
     fn lose_line(&mut self, count: u64, out: &mut String) -> Result<(), RecordingError>
         ensures lost { OnOk result (spec.has_lost self.new ≡ true) }
-        ensures layout { spec.layout self.new ≡ spec.layout self.old }
-        ensures longest { spec.longest self.new ≡ spec.longest self.old }
-        ensures may_wait { spec.may_wait self.new ≡ spec.may_wait self.old }
-        ensures sums { spec.has_sums self.new ≡ spec.has_sums self.old }
+        ensures settings { spec.KeepsSettings self.old self.new }
         ensures place { self.new.place ≡ self.old.place }
         ensures line { OnOk result (self.new.line.bytes.items ≡ []) }
         ensures stays { spec.has_lost self.old ≡ true → spec.has_lost self.new ≡ true }
@@ -266,10 +251,7 @@ impl Recording {
     fn take_line(&mut self, out: &mut String) -> Result<(), RecordingError>
         ensures goes { OnOk result (spec.Takes self.old self.new (string_bytes out.old) (string_bytes out.new)) }
         ensures lost { spec.has_lost self.old ≡ true → spec.has_lost self.new ≡ true }
-        ensures layout { spec.layout self.new ≡ spec.layout self.old }
-        ensures longest { spec.longest self.new ≡ spec.longest self.old }
-        ensures may_wait { spec.may_wait self.new ≡ spec.may_wait self.old }
-        ensures sums { spec.has_sums self.new ≡ spec.has_sums self.old }
+        ensures settings { spec.KeepsSettings self.old self.new }
         ensures place { self.new.place ≡ self.old.place }
         ensures line { OnOk result (self.new.line.bytes.items ≡ []) }
         ensures refused { IfErr result (λ e. LineStops KindName.ALL self.old e (string_bytes out.old) (string_bytes out.new)) }

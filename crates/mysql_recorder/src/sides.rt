@@ -61,10 +61,7 @@ impl Sides {
     pub(crate) fn take_up_at(&mut self, agreed: SessionCapabilities)
         ensures taken_up { spec.IsTakenUp self.new agreed self.old.packets.followed.last }
         ensures lost { spec.has_lost self.new ≡ spec.has_lost self.old }
-        ensures layout { spec.layout self.new ≡ spec.layout self.old }
-        ensures longest { spec.longest self.new ≡ spec.longest self.old }
-        ensures may_wait { spec.may_wait self.new ≡ spec.may_wait self.old }
-        ensures sums { spec.has_sums self.new ≡ spec.has_sums self.old }
+        ensures settings { spec.KeepsSettings self.old self.new }
     {
         self.client = Stream::new(self.alloc, self.longest, false);
         self.server = Stream::new(self.alloc, self.longest, false);
@@ -129,10 +126,7 @@ impl Sides {
         ensures goes { OnOk result (spec.GoesOn (spec.piece side piece.now ∷ []) self.old self.new (string_bytes out.old) (string_bytes out.new)) }
         ensures refused { IfErr result (λ e. PieceStops KindName.ALL side piece.now self.old e (string_bytes out.old) (string_bytes out.new)) }
         ensures lost { spec.has_lost self.old ≡ true → spec.has_lost self.new ≡ true }
-        ensures layout { spec.layout self.new ≡ spec.layout self.old }
-        ensures longest { spec.longest self.new ≡ spec.longest self.old }
-        ensures may_wait { spec.may_wait self.new ≡ spec.may_wait self.old }
-        ensures sums { spec.has_sums self.new ≡ spec.has_sums self.old }
+        ensures settings { spec.KeepsSettings self.old self.new }
         ensures loses { PieceLoses result KindName.ALL side piece.now self.old self.new (string_bytes out.old) (string_bytes out.new) }
         ensures text { OnOk result (Stays (string_bytes out.old) (string_bytes out.new)) }
     {
@@ -152,10 +146,7 @@ impl Sides {
     ) -> Result<(), RecordingError>
         ensures goes { OnOk result (spec.GoesOn (spec.piece side piece.now ∷ []) self.old self.new (string_bytes out.old) (string_bytes out.new)) }
         ensures lost { spec.has_lost self.old ≡ true → spec.has_lost self.new ≡ true }
-        ensures layout { spec.layout self.new ≡ spec.layout self.old }
-        ensures longest { spec.longest self.new ≡ spec.longest self.old }
-        ensures may_wait { spec.may_wait self.new ≡ spec.may_wait self.old }
-        ensures sums { spec.has_sums self.new ≡ spec.has_sums self.old }
+        ensures settings { spec.KeepsSettings self.old self.new }
         ensures text { OnOk result (Stays (string_bytes out.old) (string_bytes out.new)) }
     {
         self.take_up(side, piece, out)?;
@@ -166,10 +157,7 @@ impl Sides {
     fn take_up(&mut self, side: Side, line: &[u8], out: &mut String) -> Result<(), RecordingError>
         ensures goes { OnOk result (spec.GoesOn [] self.old self.new (string_bytes out.old) (string_bytes out.new)) }
         ensures lost { spec.has_lost self.old ≡ true → spec.has_lost self.new ≡ true }
-        ensures layout { spec.layout self.new ≡ spec.layout self.old }
-        ensures longest { spec.longest self.new ≡ spec.longest self.old }
-        ensures may_wait { spec.may_wait self.new ≡ spec.may_wait self.old }
-        ensures sums { spec.has_sums self.new ≡ spec.has_sums self.old }
+        ensures settings { spec.KeepsSettings self.old self.new }
         ensures text { OnOk result (Stays (string_bytes out.old) (string_bytes out.new)) }
     {
         let Some(passed) = self.passed(side) else {
@@ -196,10 +184,7 @@ impl Sides {
     /// Has a stream in step.
     fn step_in(&mut self, side: Side)
         ensures lost { spec.has_lost self.new ≡ spec.has_lost self.old }
-        ensures layout { spec.layout self.new ≡ spec.layout self.old }
-        ensures longest { spec.longest self.new ≡ spec.longest self.old }
-        ensures may_wait { spec.may_wait self.new ≡ spec.may_wait self.old }
-        ensures sums { spec.has_sums self.new ≡ spec.has_sums self.old }
+        ensures settings { spec.KeepsSettings self.old self.new }
     {
         match side {
             Side::Client => self.client.take_up(),
@@ -210,10 +195,7 @@ impl Sides {
     /// Passes over so many bytes of a stream, where it is out of step.
     fn pass_over(&mut self, side: Side, count: usize)
         ensures lost { spec.has_lost self.new ≡ spec.has_lost self.old }
-        ensures layout { spec.layout self.new ≡ spec.layout self.old }
-        ensures longest { spec.longest self.new ≡ spec.longest self.old }
-        ensures may_wait { spec.may_wait self.new ≡ spec.may_wait self.old }
-        ensures sums { spec.has_sums self.new ≡ spec.has_sums self.old }
+        ensures settings { spec.KeepsSettings self.old self.new }
     {
         match side {
             Side::Client => self.client.pass_over(count),
@@ -267,10 +249,7 @@ impl Sides {
         ensures lost { OnOk result (spec.has_lost self.new ≡ true) }
         ensures stays { spec.has_lost self.old ≡ true → spec.has_lost self.new ≡ true }
         ensures refused { IfErr result (λ e. IfRefused e (λ why. ⊥)) }
-        ensures layout { spec.layout self.new ≡ spec.layout self.old }
-        ensures longest { spec.longest self.new ≡ spec.longest self.old }
-        ensures may_wait { spec.may_wait self.new ≡ spec.may_wait self.old }
-        ensures sums { spec.has_sums self.new ≡ spec.has_sums self.old }
+        ensures settings { spec.KeepsSettings self.old self.new }
         ensures text { OnOk result (Stays (string_bytes out.old) (string_bytes out.new)) }
     {
         let Some(agreed) = self.packets.agreed() else {
@@ -295,10 +274,7 @@ impl Sides {
         ensures lost { spec.has_lost self.new ≡ true }
         ensures taken_up { (front : List ℕ) × IsTakenUpAfter self.new.packets.followed agreed front (self.old.packets.followed.last - 1) }
         ensures refused { IfErr result (λ e. IfRefused e (λ why. ⊥)) }
-        ensures layout { spec.layout self.new ≡ spec.layout self.old }
-        ensures longest { spec.longest self.new ≡ spec.longest self.old }
-        ensures may_wait { spec.may_wait self.new ≡ spec.may_wait self.old }
-        ensures sums { spec.has_sums self.new ≡ spec.has_sums self.old }
+        ensures settings { spec.KeepsSettings self.old self.new }
     {
         self.has_lost = true;
         self.server.lose();
@@ -311,10 +287,7 @@ impl Sides {
         ensures lost { spec.has_lost self.new ≡ true }
         ensures taken_up { IsTakenUp self.new.packets.followed agreed [] self.old.packets.followed.last }
         ensures refused { IfErr result (λ e. IfRefused e (λ why. ⊥)) }
-        ensures layout { spec.layout self.new ≡ spec.layout self.old }
-        ensures longest { spec.longest self.new ≡ spec.longest self.old }
-        ensures may_wait { spec.may_wait self.new ≡ spec.may_wait self.old }
-        ensures sums { spec.has_sums self.new ≡ spec.has_sums self.old }
+        ensures settings { spec.KeepsSettings self.old self.new }
     {
         self.has_lost = true;
         self.client.lose();
@@ -333,10 +306,7 @@ impl Sides {
         ensures goes { OnOk result (spec.GoesOn (spec.piece side piece.now ∷ []) self.old self.new (string_bytes out.old) (string_bytes out.new)) }
         ensures refused { IfErr result (λ e. PieceStops KindName.ALL side piece.now self.old e (string_bytes out.old) (string_bytes out.new)) }
         ensures lost { spec.has_lost self.old ≡ true → spec.has_lost self.new ≡ true }
-        ensures layout { spec.layout self.new ≡ spec.layout self.old }
-        ensures longest { spec.longest self.new ≡ spec.longest self.old }
-        ensures may_wait { spec.may_wait self.new ≡ spec.may_wait self.old }
-        ensures sums { spec.has_sums self.new ≡ spec.has_sums self.old }
+        ensures settings { spec.KeepsSettings self.old self.new }
         ensures loses { PieceLoses result KindName.ALL side piece.now self.old self.new (string_bytes out.old) (string_bytes out.new) }
         ensures text { OnOk result (Stays (string_bytes out.old) (string_bytes out.new)) }
     {
@@ -362,10 +332,7 @@ impl Sides {
         ensures whole { came ≡ came_as.Whole → spec.IsSame self.old self.new × (string_bytes out.new ≡ string_bytes out.old) }
         ensures lost { came ≢ came_as.Whole → OnOk result (spec.has_lost self.new ≡ true) }
         ensures stays { spec.has_lost self.old ≡ true → spec.has_lost self.new ≡ true }
-        ensures layout { spec.layout self.new ≡ spec.layout self.old }
-        ensures longest { spec.longest self.new ≡ spec.longest self.old }
-        ensures may_wait { spec.may_wait self.new ≡ spec.may_wait self.old }
-        ensures sums { spec.has_sums self.new ≡ spec.has_sums self.old }
+        ensures settings { spec.KeepsSettings self.old self.new }
         ensures refused { IfErr result (λ e. IfRefused e (λ why. ⊥)) }
         ensures text { OnOk result (Stays (string_bytes out.old) (string_bytes out.new)) }
     {
@@ -396,10 +363,7 @@ impl Sides {
         ensures goes { IfOk result (λ came. came ≡ came_as.Whole → spec.GoesOn (spec.piece side piece.now ∷ []) self.old self.new (string_bytes out.old) (string_bytes out.new)) }
         ensures refused { IfErr result (λ e. PieceStops KindName.ALL side piece.now self.old e (string_bytes out.old) (string_bytes out.new)) }
         ensures lost { spec.has_lost self.new ≡ spec.has_lost self.old }
-        ensures layout { spec.layout self.new ≡ spec.layout self.old }
-        ensures longest { spec.longest self.new ≡ spec.longest self.old }
-        ensures may_wait { spec.may_wait self.new ≡ spec.may_wait self.old }
-        ensures sums { spec.has_sums self.new ≡ spec.has_sums self.old }
+        ensures settings { spec.KeepsSettings self.old self.new }
         ensures loses { IfOk result (λ came. came ≢ came_as.Whole → PieceLosesIn KindName.ALL side piece.now self.old (string_bytes out.old) (string_bytes out.new)) }
         ensures stays { IfOk result (λ came. Stays (string_bytes out.old) (string_bytes out.new)) }
     {

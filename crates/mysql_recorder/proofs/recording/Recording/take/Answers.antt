@@ -19,10 +19,10 @@ loop-byte-preserved c = record {
       (string_bytes c.args.out.now) (string_bytes c.loop-byte.out) (string_bytes c.take_byte.new.out)
       c.loop-byte-test.true refl c.loop-byte.invariant.goes c.in_ok-take_byte.ensures.lost c.loop-byte.invariant.layout c.in_ok-take_byte.ensures.goes;
   lost = λ e. c.in_ok-take_byte.ensures.lost (c.loop-byte.invariant.lost e);
-  layout = c.in_ok-take_byte.ensures.layout ∙ c.loop-byte.invariant.layout;
-  longest = c.in_ok-take_byte.ensures.longest ∙ c.loop-byte.invariant.longest;
-  may_wait = c.in_ok-take_byte.ensures.may_wait ∙ c.loop-byte.invariant.may_wait;
-  sums = c.in_ok-take_byte.ensures.sums ∙ c.loop-byte.invariant.sums;
+  layout = c.in_ok-take_byte.ensures.settings.layout ∙ c.loop-byte.invariant.layout;
+  longest = c.in_ok-take_byte.ensures.settings.longest ∙ c.loop-byte.invariant.longest;
+  may_wait = c.in_ok-take_byte.ensures.settings.may_wait ∙ c.loop-byte.invariant.may_wait;
+  sums = c.in_ok-take_byte.ensures.settings.sums ∙ c.loop-byte.invariant.sums;
   loses = loop_loses ALL c.args.input.now c.loop-byte.byte-index (get_or c.args.input.now c.loop-byte.byte-index 0) c.args.self.now c.loop-byte.self c.take_byte.new.self
       (string_bytes c.args.out.now) (string_bytes c.loop-byte.out) (string_bytes c.take_byte.new.out)
       c.loop-byte-test.true refl c.loop-byte.invariant.goes c.loop-byte.invariant.loses c.loop-byte.invariant.layout c.loop-byte.invariant.longest c.in_ok-take_byte.ensures.loses c.in_ok-take_byte.ensures.text;

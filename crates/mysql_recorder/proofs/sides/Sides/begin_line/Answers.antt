@@ -7,4 +7,4 @@ pub returns-clause-goes : goal.returns-clause-goes
 returns-clause-goes c =
     then_on_ok c.take_piece.result (piece c.args.side c.args.piece.now ∷ []) c.args.self.now c.take_up.new.self c.take_piece.new.self
     (string_bytes c.args.out.now) (string_bytes c.take_up.new.out) (string_bytes c.take_piece.new.out)
-    c.in_ok-take_up.ensures.goes c.take_piece.ensures.lost c.in_ok-take_up.ensures.layout c.take_piece.ensures.goes
+    c.in_ok-take_up.ensures.goes c.take_piece.ensures.lost c.in_ok-take_up.ensures.settings.layout c.take_piece.ensures.goes
