@@ -93,7 +93,7 @@ impl Pipeline {
         }
     }
 
-    /// As many commands may wait.
+    /// How many commands may wait.
     pub fn limit(&self) -> usize
         ensures { result ≡ piped.limit self.now }
     {

@@ -116,7 +116,7 @@ impl Session {
         }
     }
 
-    /// As many commands may wait.
+    /// How many commands may wait.
     pub fn limit(&self) -> usize
         ensures { result ≡ sessions.limit self.now }
     {
