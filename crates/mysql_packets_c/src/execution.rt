@@ -2,12 +2,9 @@
 #![tactic(auto, using(crate::proofs::Codes::codes, crate::proofs::Executions::executions))]
 
 ghost use Rattle.std.specs.List.{list_all};
-ghost use Rattle.std.specs.Prelude.{◌≡◌, ◌≢◌, ◌<◌, ◌≤◌, ◌⊎◌, ◌+◌, ◌++◌, Ok, Err, IfErr, IfOk, IsOk, OnOk, drop, length, take, false, true};
+ghost use Rattle.std.specs.Prelude.{◌≡◌, ◌≢◌, ◌<◌, ◌≤◌, ◌⊎◌, Ok, Err, IfErr, IfOk, IsOk, OnOk, drop, length, take, false, true};
 ghost use Rattle.mysql_prepared.specs.ExecuteHead.{execute_head};
-ghost use Rattle.mysql_prepared.specs.BinaryRow.{bin_in};
-ghost use Rattle.mysql_prepared.specs.ExecuteParam.{Sent, param_bytes, param_of, value_of};
-ghost use Rattle.mysql_values.specs.Value.{Bytes};
-ghost use Rattle.mysql_values.specs.ValueRef.{ref_content};
+ghost use Rattle.mysql_prepared.specs.ExecuteParam.{param_of};
 ghost use Rattle.mysql_prepared.specs.ExecuteRead.{HasNoParam, RefusesParam};
 ghost use Rattle.mysql_packets_c.specs.Code.{ReadsInto};
 ghost use Rattle.mysql_packets_c.specs.Execution as spec;
@@ -19,13 +16,12 @@ use crate::code::{BUFFER_TOO_SMALL, INVALID_INPUT, OK, code_of};
 use crate::input::read;
 use crate::output::answer_count;
 use crate::rows::CColumnType;
-use crate::value::{CValue, are_values, is_value, put_ref, to_ref};
+use crate::value::{CValue, are_values, put_ref};
 use mysql_stmt::{
-    AsExecuteParam, BoundParam, ComStmtExecuteHead, ComStmtExecuteRequestBuilder, ExecuteParam,
-    ExecuteParamsBytes,
+    BoundParam, ComStmtExecuteHead, ComStmtExecuteRequestBuilder, ExecuteParam, ExecuteParamsBytes,
 };
 use mysql_values::{ParamType, ValueRef};
-use mysql_wire::{Buffer, ColumnType, ConstValue, Fault, Flags, ParseBuf, StmtExecuteParamFlags};
+use mysql_wire::{ColumnType, ConstValue, Fault, Flags, ParseBuf, StmtExecuteParamFlags};
 use std::alloc::Global;
 
 /// `myp_execution_head`.
@@ -216,170 +212,6 @@ pub extern "C" fn myp_read_execution<'a>(
     }
     let mut buf = ParseBuf::new(alloc, packet);
     execution_into(&mut buf, params, values, types, out)
-}
-
-/// Writes a number with the buffer in a variable of its own, so that its bytes are one store.
-#[inline(always)]
-fn append_number<O: Buffer>(number: ValueRef<'_>, as_long_data: bool, out: &mut O)
-    requires { length (O.held out.old) + length (param_bytes as_long_data (Sent (ref_content number))) ≤ O.capacity out.old }
-    ensures items { O.held out.new ≡ O.held out.old ++ param_bytes as_long_data (Sent (ref_content number.entry)) }
-    ensures after { O.after out.new ≡ drop (length (param_bytes as_long_data (Sent (ref_content number.entry)))) (O.after out.old) }
-    ensures capacity { O.capacity out.old ≤ O.capacity out.new }
-    ensures kept { O.kept out.new ≡ O.kept out.old }
-{
-    let mut taken = out.taken();
-    number.append_sent(as_long_data, &mut taken);
-    *out = taken;
-}
-
-/// The same in a column of a binary row.
-#[inline(always)]
-fn append_number_cell<O: Buffer>(number: ValueRef<'_>, column_type: ColumnType, out: &mut O)
-    requires { length (O.held out.old) + length (bin_in column_type (ref_content number)) ≤ O.capacity out.old }
-    ensures items { O.held out.new ≡ O.held out.old ++ bin_in column_type (ref_content number.entry) }
-    ensures after { O.after out.new ≡ drop (length (bin_in column_type (ref_content number.entry))) (O.after out.old) }
-    ensures capacity { O.capacity out.old ≤ O.capacity out.new }
-    ensures kept { O.kept out.new ≡ O.kept out.old }
-{
-    let mut taken = out.taken();
-    number.append_cell(column_type, &mut taken);
-    *out = taken;
-}
-
-/// Writes a string, for which there is capacity.
-// (by a call too)
-#[inline(never)]
-fn append_string<O: Buffer>(string: &[u8], as_long_data: bool, out: &mut O)
-    requires { length (O.held out.old) + length (param_bytes as_long_data (Sent (Bytes string.now))) ≤ O.capacity out.old }
-    ensures items { O.held out.new ≡ O.held out.old ++ param_bytes as_long_data (Sent (Bytes string.now)) }
-    ensures after { O.after out.new ≡ drop (length (param_bytes as_long_data (Sent (Bytes string.now)))) (O.after out.old) }
-    ensures capacity { O.capacity out.old ≤ O.capacity out.new }
-    ensures kept { O.kept out.new ≡ O.kept out.old }
-{
-    ValueRef::Bytes(string).append_sent(as_long_data, out);
-}
-
-/// Writes a value of any kind, for which there is capacity.
-// (by a call, so that what writes numbers stays small enough to be in line)
-#[inline(never)]
-#[tactic(auto, unfolding(crate::specs::Value::value_content))]
-fn append_any<O: Buffer>(value: &CValue<'_>, as_long_data: bool, out: &mut O)
-    requires { length (O.held out.old) + length (param_bytes as_long_data (spec.param value.now)) ≤ O.capacity out.old }
-    ensures items { O.held out.new ≡ O.held out.old ++ param_bytes as_long_data (spec.param value.now) }
-    ensures after { O.after out.new ≡ drop (length (param_bytes as_long_data (spec.param value.now))) (O.after out.old) }
-    ensures capacity { O.capacity out.old ≤ O.capacity out.new }
-    ensures kept { O.kept out.new ≡ O.kept out.old }
-{
-    value.as_execute_param().append_sent(as_long_data, out);
-}
-
-/// The same of a value in a column of a binary row.
-#[inline(never)]
-#[tactic(auto, unfolding(crate::specs::Value::value_content))]
-fn append_any_cell<O: Buffer>(value: &CValue<'_>, column_type: ColumnType, out: &mut O)
-    requires { length (O.held out.old) + length (bin_in column_type (value_of (spec.param value.now))) ≤ O.capacity out.old }
-    ensures items { O.held out.new ≡ O.held out.old ++ bin_in column_type (value_of (spec.param value.now)) }
-    ensures after { O.after out.new ≡ drop (length (bin_in column_type (value_of (spec.param value.now)))) (O.after out.old) }
-    ensures capacity { O.capacity out.old ≤ O.capacity out.new }
-    ensures kept { O.kept out.new ≡ O.kept out.old }
-{
-    value.as_execute_param().append_cell(column_type, out);
-}
-
-/// The kind alone says the rest, so that a value is made once, where its bytes are written.
-#[tactic(auto, unfolding(crate::specs::Value::value_content))]
-impl AsExecuteParam for CValue<'_> {
-    ghost use Rattle.mysql_packets_c.specs.Execution.{param};
-
-    ghost param = { param };
-
-    #[inline(always)]
-    fn as_execute_param(&self) -> ExecuteParam<'_> {
-        match to_ref(self) {
-            Some(value) => ExecuteParam::Value(value),
-            None => ExecuteParam::Value(ValueRef::NULL),
-        }
-    }
-
-    #[inline(always)]
-    fn is_null(&self) -> bool {
-        match self.kind {
-            1 | 2 | 3 | 5 | 7 => false,
-            4 | 6 => !is_value(self),
-            _ => true,
-        }
-    }
-
-    #[inline(always)]
-    fn sent_type(&self) -> ParamType {
-        let of_kind = match self.kind {
-            1 => ValueRef::Bytes(&[]),
-            2 => ValueRef::Int(0),
-            3 => ValueRef::UInt(0),
-            4 if is_value(self) => ValueRef::Float(0),
-            5 => ValueRef::Double(0),
-            6 if is_value(self) => ValueRef::Date(0, 0, 0, 0, 0, 0, 0),
-            7 => ValueRef::Time(false, 0, 0, 0, 0, 0),
-            _ => ValueRef::NULL,
-        };
-        ParamType::from_value_ref(&of_kind)
-    }
-
-    #[inline(always)]
-    fn sent_len(&self, as_long_data: bool) -> usize {
-        match self.kind {
-            2 => ValueRef::Int(self.number.cast_signed()).sent_len(as_long_data),
-            3 => ValueRef::UInt(self.number).sent_len(as_long_data),
-            5 => ValueRef::Double(self.number).sent_len(as_long_data),
-            _ => self.as_execute_param().sent_len(as_long_data),
-        }
-    }
-
-    #[inline(always)]
-    fn append_sent<O: Buffer>(&self, as_long_data: bool, out: &mut O) {
-        match self.kind {
-            1 => append_string(self.bytes, as_long_data, out),
-            2 => append_number(ValueRef::Int(self.number.cast_signed()), as_long_data, out),
-            3 => append_number(ValueRef::UInt(self.number), as_long_data, out),
-            5 => append_number(ValueRef::Double(self.number), as_long_data, out),
-            _ => append_any(self, as_long_data, out),
-        }
-    }
-
-    #[inline(always)]
-    fn is_taken_by(&self, column_type: ColumnType, is_unsigned: bool) -> bool {
-        match self.kind {
-            1 => ValueRef::Bytes(self.bytes).is_taken_by(column_type, is_unsigned),
-            2 => ValueRef::Int(self.number.cast_signed()).is_taken_by(column_type, is_unsigned),
-            3 => ValueRef::UInt(self.number).is_taken_by(column_type, is_unsigned),
-            5 => ValueRef::Double(self.number).is_taken_by(column_type, is_unsigned),
-            _ => self
-                .as_execute_param()
-                .is_taken_by(column_type, is_unsigned),
-        }
-    }
-
-    #[inline(always)]
-    fn cell_len(&self, column_type: ColumnType) -> usize {
-        match self.kind {
-            1 => ValueRef::Bytes(self.bytes).cell_len(column_type),
-            2 => ValueRef::Int(self.number.cast_signed()).cell_len(column_type),
-            3 => ValueRef::UInt(self.number).cell_len(column_type),
-            5 => ValueRef::Double(self.number).cell_len(column_type),
-            _ => self.as_execute_param().cell_len(column_type),
-        }
-    }
-
-    #[inline(always)]
-    fn append_cell<O: Buffer>(&self, column_type: ColumnType, out: &mut O) {
-        match self.kind {
-            1 => ValueRef::Bytes(self.bytes).append_cell(column_type, out),
-            2 => append_number_cell(ValueRef::Int(self.number.cast_signed()), column_type, out),
-            3 => append_number_cell(ValueRef::UInt(self.number), column_type, out),
-            5 => append_number_cell(ValueRef::Double(self.number), column_type, out),
-            _ => append_any_cell(self, column_type, out),
-        }
-    }
 }
 
 /// Writes `COM_STMT_EXECUTE` with the values: 0; 5, and how many bytes it takes; 4; or 3 where one of them is no value, and then

@@ -43,6 +43,7 @@ mod long_data;
 mod null_marks;
 mod ok_packet;
 mod output;
+mod parameter;
 mod parsec;
 mod public_key;
 mod query;
