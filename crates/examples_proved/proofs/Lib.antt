@@ -1,3 +1,4 @@
 pub mod Places
 pub mod Sessions
 pub mod Steps
+pub mod Sets

@@ -1,3 +1,4 @@
 pub mod Audit
 pub mod Report
 pub mod Stream
+pub mod Refused

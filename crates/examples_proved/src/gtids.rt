@@ -2,14 +2,16 @@
 
 ghost use Rattle.std.specs.Prelude.{◌≡◌, true, IfOk, string_bytes};
 ghost use Rattle.mysql_packets.specs.GtidSetText.{read_sids};
+ghost use Rattle.examples_proved.specs.Refused.{refused_for};
 ghost use Rattle.mysql_packets.specs.Sid.{intervals};
 ghost use Rattle.mysql_packets.specs.MergedIntervals.{NumbersFit};
 ghost use Rattle.mysql_packets.specs.ServerSids.{is_as_servers_write};
 
 use mysql_packets::laws::repl::{
-    merged_intervals_are_as_servers_write, this_gtid_set_text_round_trips,
+    gtid_set_entries_are_read, merged_intervals_are_as_servers_write,
+    this_gtid_set_text_round_trips,
 };
-use mysql_packets::packets::{GtidSetText, InvalidSid, Sid, sids_from_text};
+use mysql_packets::packets::{GtidSetEntries, GtidSetText, InvalidSid, Sid, sids_from_text};
 use std::alloc::{AllocError, Global};
 
 /// The transactions of a server in the form that servers write, where their numbers are from 1 to 2^63 - 2.
@@ -30,4 +32,17 @@ pub fn kept(alloc: Global, text: &str) -> Result<String, InvalidSid>
     this_gtid_set_text_round_trips(&sids);
     let set = GtidSetText(&sids);
     Ok(format!(in alloc; "{set}")?)
+}
+
+/// Refuses a text that spells no set of GTIDs, for the fault that it has first. It takes no memory.
+#[tactic(auto, using(crate::proofs::Sets::sets))]
+pub fn check(text: &str) -> Result<(), InvalidSid>
+    ensures value { refused_for result ≡ refused_for (read_sids text.now) }
+{
+    gtid_set_entries_are_read();
+    let mut left = GtidSetEntries::new(text);
+    while let Some(entry) = left.next() {
+        entry?;
+    }
+    Ok(())
 }

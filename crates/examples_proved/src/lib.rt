@@ -11,7 +11,7 @@ mod server;
 
 pub use audit::{Sent, is_whole_session};
 pub use client::execution;
-pub use gtids::{kept, merged};
+pub use gtids::{check, kept, merged};
 pub use load::stream;
 pub use proxy::{forward, statement};
 pub use report::{sum_of_column, value_at};

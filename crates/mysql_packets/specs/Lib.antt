@@ -188,6 +188,7 @@ pub use Rattle.mysql_repl.specs.BinlogStreamEvent
 pub use Rattle.mysql_repl.specs.BinlogStreamPacket
 pub use Rattle.mysql_repl.specs.GnoInterval
 pub use Rattle.mysql_repl.specs.GtidSetEarly
+pub use Rattle.mysql_repl.specs.GtidSetEntries
 pub use Rattle.mysql_repl.specs.GtidSetText
 pub use Rattle.mysql_repl.specs.GtidSetTextParts
 pub use Rattle.mysql_repl.specs.GtidSetWritten

@@ -18,11 +18,9 @@ pub mod SomeZero
 pub mod HandshakeFit
 pub mod WrittenRows
 pub mod Logins
-pub mod LowerTexts
 pub mod AttributeKinds
 pub mod Versions
 pub mod GtidTexts
-pub mod GtidEntries
 pub mod TextDumps
 pub mod TextDumpsRead
 pub mod TextLayouts

@@ -1,28 +1,18 @@
 -- A loop that reads intervals into places.
-use Rattle.std.proofs.Common.{◌≡◌, ℕ, ◌<◌, ◌≤◌, ◌+◌, List, [], ◌∷◌, ◌++◌, length, take, slice_set, Option, Some, None, option_map, Result, Ok, Err, IfOk, IfSome, refl, sym, ap, subst, ◌∙◌, arith}
+use Rattle.std.proofs.Common.{◌≡◌, ℕ, ◌<◌, ◌≤◌, ◌+◌, List, [], ◌∷◌, ◌++◌, length, take, slice_set, Option, Some, None, option_map, Result, Ok, Err, IfOk, refl, sym, ap, subst, ◌∙◌, arith}
 use Rattle.std.specs.Result.{result_ok}
 use Rattle.std.proofs.lemmas.List.{length-append, map-append, take_more_set}
-use Rattle.mysql_repl.specs.SidText.{number_of, read_interval, read_each}
+use Rattle.mysql_repl.specs.SidText.{SidParts, all_read, sid_of, sid_with}
 use Rattle.mysql_repl.specs.declared.gno_interval.GnoInterval.{GnoInterval}
 use Rattle.mysql_repl.specs.declared.sid_text.InvalidSid.{InvalidSid}
-use Rattle.mysql_repl.specs.declared.sid_text.InvalidSid.TheVariants as fault
-use Rattle.mysql_repl.proofs.SidLoops.{with_front, next-part, no-part, all-intervals}
+use Rattle.mysql_repl.proofs.SidLoops.{with_front, next-interval, no-interval, all-intervals}
+use Rattle.mysql_repl.proofs.SidLoops as loops
 use Rattle.mysql_packets_c.specs.declared.sid.CInterval.{CInterval}
 use Rattle.mysql_repl.specs.declared.sid.Sid.{Sid}
 use Rattle.mysql_packets_c.specs.declared.sid.CSid.{CSid}
 use Rattle.mysql_packets_c.specs.declared.sid_text.SidText.{SidText}
 use Rattle.mysql_packets_c.specs.Sid.{PutsSid, RefusesText, SidInto, interval_of, intervals_of}
 use Rattle.mysql_packets_c.specs.SidText.{Found, Tells}
-
-empty : read_interval [] ≡ Err fault.Number
-unfolding read_interval number_of
-empty = refl
-
--- a text with an interval is not empty
-pub interval-some : (text : List ℕ) (r : Option GnoInterval) → r ≡ result_ok (read_interval text) → IfSome r (λ _. 1 ≤ length text)
-interval-some [] r h = let none : r ≡ None = h ∙ ap (λ (x : Result GnoInterval InvalidSid). result_ok x) empty in rw none tt
-interval-some (c ∷ cs) None h = tt
-interval-some (c ∷ cs) (Some i) h = omega arith
 
 from_some : {A : Type 0} (r : Result A InvalidSid) (x : A) → Some x ≡ result_ok r → r ≡ Ok x
 from_some (Ok y) x h = cc
@@ -32,6 +22,9 @@ from_none : {A : Type 0} (r : Result A InvalidSid) → None ≡ result_ok r → 
 from_none (Ok y) h = absurd cc
 from_none (Err e) h = (e, refl)
 
+same-some : {A : Type 0} (x y : A) → ◌≡◌ {A = Option A} (Some x) (Some y) → x ≡ y
+same-some x y h = cc
+
 -- what was read before: it stands in the places, if they are so many
 pub record StandsBefore (n : ℕ) (places : List CInterval) (left total : Result (List GnoInterval) InvalidSid) : Type 0 where
   pub front : List GnoInterval
@@ -39,12 +32,8 @@ pub record StandsBefore (n : ℕ) (places : List CInterval) (left total : Result
   pub count : n ≡ length front
   pub placed : n ≤ length places → intervals_of (take n places) ≡ front
 
-nothing_before : (r : Result (List GnoInterval) InvalidSid) → with_front [] r ≡ r
-nothing_before (Ok list) = refl
-nothing_before (Err e) = refl
-
 pub none-before : (places : List CInterval) (total : Result (List GnoInterval) InvalidSid) → StandsBefore 0 places total total
-none-before places total = record { front = []; read = nothing_before total; count = refl; placed = λ h. refl }
+none-before places total = record { front = []; read = loops.none-before total; count = refl; placed = λ h. refl }
 
 one-more : (front : List GnoInterval) (i : GnoInterval) (n : ℕ) → n ≡ length front → n + 1 ≡ length (front ++ i ∷ [])
 one-more front i n e = omega (arith, e, length-append front (i ∷ []))
@@ -55,40 +44,39 @@ one-placed front places n x i fits is so_far =
     ap intervals_of (take_more_set places n x fits) ∙ map-append interval_of (take n places) (x ∷ [])
     ∙ ap (λ (l : List GnoInterval). l ++ interval_of x ∷ []) so_far ∙ ap (λ (z : GnoInterval). front ++ z ∷ []) is
 
-module _ (n : ℕ) (places : List CInterval) (all parts : List (List ℕ)) (part : List ℕ) (total : Result (List GnoInterval) InvalidSid) (before : StandsBefore n places (read_each all) total) (split : all ≡ part ∷ parts) where
-  pub next-placed : (x : CInterval) (i : GnoInterval) → Some i ≡ result_ok (read_interval part) → n < length places → interval_of x ≡ i → StandsBefore (n + 1) (slice_set places n x) (read_each parts) total
+module _ (n : ℕ) (places : List CInterval) (left more : List (Result GnoInterval InvalidSid)) (read : Result GnoInterval InvalidSid) (total : Result (List GnoInterval) InvalidSid) (before : StandsBefore n places (all_read left) total) (split : left ≡ read ∷ more) where
+  pub next-placed : (x : CInterval) (i : GnoInterval) → Some i ≡ result_ok read → n < length places → interval_of x ≡ i → StandsBefore (n + 1) (slice_set places n x) (all_read more) total
   next-placed x i h fits is =
       record {
         front = before.front ++ i ∷ [];
-        read = next-part before.front i part parts all total before.read split (from_some (read_interval part) i h);
+        read = next-interval before.front i left more total before.read (split ∙ ap (λ (r : Result GnoInterval InvalidSid). r ∷ more) (from_some read i h));
         count = one-more before.front i n before.count;
         placed = λ le. one-placed before.front places n x i fits is (before.placed (omega (arith, fits)));
       }
 
-  pub next-past : (i : GnoInterval) → Some i ≡ result_ok (read_interval part) → length places ≤ n → StandsBefore (n + 1) places (read_each parts) total
+  pub next-past : (i : GnoInterval) → Some i ≡ result_ok read → length places ≤ n → StandsBefore (n + 1) places (all_read more) total
   next-past i h past =
       record {
         front = before.front ++ i ∷ [];
-        read = next-part before.front i part parts all total before.read split (from_some (read_interval part) i h);
+        read = next-interval before.front i left more total before.read (split ∙ ap (λ (r : Result GnoInterval InvalidSid). r ∷ more) (from_some read i h));
         count = one-more before.front i n before.count;
         placed = λ le. absurd (omega (arith, past, le));
       }
 
-  pub none-read : None ≡ result_ok (read_interval part) → None ≡ option_map length (result_ok total)
-  none-read h =
-      let e = from_none (read_interval part) h in
-      let is = no-part before.front e.0 part parts all total before.read split e.1 in
-      rw is refl
+  refused : None ≡ result_ok read → (e : InvalidSid) × (total ≡ Err e)
+  refused h =
+      let e = from_none read h in
+      (e.0, no-interval before.front e.0 left more total before.read (split ∙ ap (λ (r : Result GnoInterval InvalidSid). r ∷ more) e.1))
 
-  pub none-placed : (Q : List GnoInterval → Type 0) → None ≡ result_ok (read_interval part) → IfOk total Q
-  none-placed Q h =
-      let e = from_none (read_interval part) h in
-      let is = no-part before.front e.0 part parts all total before.read split e.1 in
-      subst (λ (r : Result (List GnoInterval) InvalidSid). IfOk r Q) (sym is) tt
+  pub none-read : None ≡ result_ok read → None ≡ option_map length (result_ok total)
+  none-read h = let e = refused h in rw e.1 refl
 
-module _ (n : ℕ) (places : List CInterval) (all : List (List ℕ)) (total : Result (List GnoInterval) InvalidSid) (before : StandsBefore n places (read_each all) total) (none : all ≡ []) where
+  pub none-placed : (Q : List GnoInterval → Type 0) → None ≡ result_ok read → IfOk total Q
+  none-placed Q h = let e = refused h in subst (λ (r : Result (List GnoInterval) InvalidSid). IfOk r Q) (sym e.1) tt
+
+module _ (n : ℕ) (places : List CInterval) (left : List (Result GnoInterval InvalidSid)) (total : Result (List GnoInterval) InvalidSid) (before : StandsBefore n places (all_read left) total) (none : left ≡ []) where
   whole : total ≡ Ok before.front
-  whole = all-intervals before.front total (ap (λ (l : List (List ℕ)). with_front before.front (read_each l)) (sym none) ∙ before.read)
+  whole = all-intervals before.front left total before.read none
 
   pub all-read : Some n ≡ option_map length (result_ok total)
   all-read = rw whole (ap Some before.count)
@@ -98,7 +86,34 @@ module _ (n : ℕ) (places : List CInterval) (all : List (List ℕ)) (total : Re
       let stands : length before.front ≤ length places → intervals_of (take (length before.front) places) ≡ before.front = λ h. rw (sym before.count) (before.placed (rw before.count h)) in
       subst (λ (r : Result (List GnoInterval) InvalidSid). IfOk r (λ list. length list ≤ length places → intervals_of (take (length list) places) ≡ list)) (sym whole) stands
 
-pub ruleset sids_read = (none-before, next-placed, next-past, none-read, none-placed, all-read, all-placed, interval-some)
+pub ruleset sids_read = (none-before, next-placed, next-past, none-read, none-placed, all-read, all-placed)
+
+-- ---- the sid of its parts
+
+parts-hold : (parts : SidParts) (n : ℕ) (read : Result (List GnoInterval) InvalidSid) → all_read parts.intervals ≡ read → Some n ≡ option_map length (result_ok read)
+    → Found (Some (record { parts = parts; count = n })) (sid_with parts.uuid parts.tag read)
+parts-hold parts n (Ok list) is h = record { uuid = refl; tag = refl; intervals = is; count = same-some n (length list) h }
+parts-hold parts n (Err e) is h = absurd cc
+
+none-hold : (parts : SidParts) (read : Result (List GnoInterval) InvalidSid) → None ≡ option_map length (result_ok read) → Found None (sid_with parts.uuid parts.tag read)
+none-hold parts (Ok list) h = absurd cc
+none-hold parts (Err e) h = tt
+
+module _ (read : Result Sid InvalidSid) (found : Result SidParts InvalidSid) (is : read ≡ sid_of found) where
+  pub parts-tell : (parts : SidParts) (n : ℕ) → Some parts ≡ result_ok found → Some n ≡ option_map length (result_ok (all_read parts.intervals)) → Found (Some (record { parts = parts; count = n })) read
+  parts-tell parts n some h =
+      let same : read ≡ sid_with parts.uuid parts.tag (all_read parts.intervals) = is ∙ ap sid_of (from_some found parts some) in
+      rw same (parts-hold parts n (all_read parts.intervals) refl h)
+
+  pub parts-refused : (parts : SidParts) → Some parts ≡ result_ok found → None ≡ option_map length (result_ok (all_read parts.intervals)) → Found None read
+  parts-refused parts some h =
+      let same : read ≡ sid_with parts.uuid parts.tag (all_read parts.intervals) = is ∙ ap sid_of (from_some found parts some) in
+      rw same (none-hold parts (all_read parts.intervals) h)
+
+  pub no-parts : None ≡ result_ok found → Found None read
+  no-parts none = let e = from_none found none in let same : read ≡ Err e.0 = is ∙ ap sid_of e.1 in rw same tt
+
+pub ruleset sids_in = (parts-tell, parts-refused, no-parts)
 
 -- ---- what the call answers
 

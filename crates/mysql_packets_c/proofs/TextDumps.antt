@@ -8,25 +8,14 @@ use Rattle.mysql_repl.specs.TagString.{tag_bytes}
 use Rattle.mysql_wire.specs.LittleEndian.{length-le_bytes}
 use Rattle.mysql_wire.specs.Varlen.{varlen_string_bytes}
 use Rattle.mysql_wire.specs.Writing.{le_bytes, saturated}
-use Rattle.mysql_packets_c.specs.GtidEntries.{Entry, entries_block, entries_content, entry_bytes, head_bytes}
-use Rattle.mysql_packets_c.specs.Sid.{tag_in}
+use Rattle.mysql_repl.specs.GtidSetEntries.{Entry}
+use Rattle.mysql_packets_c.specs.GtidEntries.{entries_block, entries_content, entry_bytes, head_bytes}
 
 pub lower-each : (text : List ℕ) → flat_map (λ c. to_ascii_lowercase c ∷ []) text ≡ map to_ascii_lowercase text
 lower-each [] = refl
 lower-each (c ∷ cs) = ap (λ (l : List ℕ). to_ascii_lowercase c ∷ l) (lower-each cs)
 
 pub ruleset parts = (append-nil, length-map, lower-each)
-
-tag-same : (bytes : List ℕ) → tag_bytes (tag_in bytes) ≡ bytes
-tag-same [] = refl
-tag-same (b ∷ bytes) = refl
-
-pub head-tagged : (t : Bool) (id uuid tag : List ℕ) (count n : ℕ) → t ≡ true → id ≡ uuid → count ≡ n
-    → id ++ (varlen_string_bytes (map to_ascii_lowercase tag) ++ (le_bytes 8 count ++ [])) ≡ head_bytes t uuid (tag_in (map to_ascii_lowercase tag)) n
-head-tagged t id uuid tag count n e is same = rw (e, is, same, tag-same (map to_ascii_lowercase tag), append-nil) refl
-
-pub head-plain : (t : Bool) (id uuid tag : List ℕ) (count n : ℕ) → t ≡ false → id ≡ uuid → count ≡ n → id ++ (le_bytes 8 count ++ []) ≡ head_bytes t uuid (tag_in (map to_ascii_lowercase tag)) n
-head-plain t id uuid tag count n e is same = rw (e, is, same, append-nil) refl
 
 pub block-written : (list : List Entry) (tagged : Bool) (count len head : ℕ) → head ≡ head_for tagged count → len ≡ min (min (saturated (length (flat_map (entry_bytes tagged) list)) + 8) (2 ^ 64 - 1)) 4294967295
     → le_bytes 4 len ++ (le_bytes 8 head ++ (flat_map (entry_bytes tagged) list ++ [])) ≡ entries_block tagged count list

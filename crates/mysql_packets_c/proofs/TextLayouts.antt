@@ -1,10 +1,11 @@
 -- How the sids of a text are written, as a reader goes over them.
-use Rattle.std.proofs.Common.{◌≡◌, ℕ, zero, suc, ◌+◌, ◌%◌, ◌^◌, ◌<◌, List, [], ◌∷◌, length, map, is_some, Bool, true, false, ◌||◌, nat_lt, refl, sym, ap, ◌∙◌, arith}
-use Rattle.std.specs.Char.{to_ascii_lowercase}
+use Rattle.std.proofs.Common.{◌≡◌, ℕ, zero, suc, ◌+◌, ◌%◌, ◌^◌, ◌<◌, List, [], ◌∷◌, Ok, Err, Bool, true, false, ◌||◌, nat_lt, refl, sym, ap, ◌∙◌, arith}
 use Rattle.std.specs.List.{list_any}
 use Rattle.std.proofs.lemmas.Bool.{lt-ltb}
-use Rattle.mysql_packets_c.specs.GtidEntries.{Entry, has_tag, heads, is_refused, one_if_head}
-use Rattle.mysql_packets_c.specs.Sid.{tag_in}
+use Rattle.mysql_repl.specs.GtidSetEntries.{Entry}
+use Rattle.mysql_repl.specs.declared.gtid_set_entries.GtidSetEntry.{GtidSetEntry}
+use Rattle.mysql_repl.specs.declared.sid_text.InvalidSid.{InvalidSid}
+use Rattle.mysql_packets_c.specs.GtidEntries.{has_tag, heads, is_refused, one_if_head}
 use Rattle.mysql_packets_c.specs.TextDump.{Adds, IsLayout}
 use Rattle.mysql_packets_c.specs.declared.text_dump.Layout.{Layout}
 
@@ -35,14 +36,15 @@ or-assoc : (a b c : Bool) → ((a || b) || c) ≡ (a || (b || c))
 or-assoc true b c = refl
 or-assoc false b c = refl
 
-module _ (l : Layout) (left more all : List Entry) (e : Entry) (split : left ≡ e ∷ more) (so_far : LayoutSoFar l left all) where
-  pub layout-refused : is_refused e ≡ true → list_any is_refused all ≡ true
-  layout-refused h = sym so_far.read ∙ ap (list_any is_refused) split ∙ ap (λ (b : Bool). b || list_any is_refused more) h
+module _ (l : Layout) (left more all : List Entry) (so_far : LayoutSoFar l left all) where
+  pub layout-refused : (e : InvalidSid) → left ≡ Err e ∷ more → list_any is_refused all ≡ true
+  layout-refused e split = sym so_far.read ∙ ap (list_any is_refused) split
 
-  pub layout-next : (next : Layout) → Adds l e next → LayoutSoFar next more all
-  layout-next next adds =
+  pub layout-next : (x : GtidSetEntry) → left ≡ Ok x ∷ more → (next : Layout) → Adds l x next → LayoutSoFar next more all
+  layout-next x split next adds =
+      let e : Entry = Ok x in
       record {
-        read = ap (λ (b : Bool). b || list_any is_refused more) (sym adds.read) ∙ ap (list_any is_refused) (sym split) ∙ so_far.read;
+        read = ap (list_any is_refused) (sym split) ∙ so_far.read;
         some = ap (λ (b : Bool). b || nat_lt 0 (heads more)) adds.some ∙ or-sum l.some (one_if_head e) (heads more) ∙ ap (λ (k : List Entry). l.some || nat_lt 0 (heads k)) (sym split) ∙ so_far.some;
         tagged = ap (λ (b : Bool). b || list_any has_tag more) adds.tagged ∙ or-assoc l.tagged (has_tag e) (list_any has_tag more) ∙ ap (λ (k : List Entry). l.tagged || list_any has_tag k) (sym split) ∙ so_far.tagged;
         count = omega (arith, adds.count, ap heads split, so_far.count);
@@ -64,8 +66,4 @@ layout-ends l left all none so_far =
 
 pub ruleset layouts = (layout-begins, layout-ends)
 
-pub tag-there : (text : List ℕ) → is_some (tag_in (map to_ascii_lowercase text)) ≡ nat_lt 0 (length text)
-tag-there [] = refl
-tag-there (c ∷ cs) = sym (lt-ltb 0 (length (c ∷ cs)) (omega arith))
-
-pub ruleset adds = (tag-there, or-false)
+pub ruleset adds = (or-false)

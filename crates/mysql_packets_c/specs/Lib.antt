@@ -25,7 +25,6 @@ pub mod ExtendedColumn
 pub mod Given
 pub mod GtidDump
 pub mod GtidEntries
-pub mod GtidEntriesLeft
 pub mod GtidText
 pub mod Handshake
 pub mod Header

@@ -1,7 +1,9 @@
 -- How the sids of a text are written.
-use Rattle.std.specs.Prelude.{◌≡◌, ◌+◌, ◌%◌, ◌^◌, List, false, ◌||◌, nat_lt}
+use Rattle.std.specs.Prelude.{◌≡◌, ◌+◌, ◌%◌, ◌^◌, List, Ok, false, ◌||◌, nat_lt}
 use Rattle.std.specs.List.{list_any}
-use Rattle.mysql_packets_c.specs.GtidEntries.{Entry, has_tag, heads, is_refused, one_if_head}
+use Rattle.mysql_repl.specs.GtidSetEntries.{Entry}
+use Rattle.mysql_repl.specs.declared.gtid_set_entries.GtidSetEntry.{GtidSetEntry}
+use Rattle.mysql_packets_c.specs.GtidEntries.{has_tag, heads, is_refused, one_if_head}
 use Rattle.mysql_packets_c.specs.declared.text_dump.Layout.{Layout}
 
 -- the text is not refused: whether there is a sid, whether one has a tag, and how many there are
@@ -12,8 +14,7 @@ pub record IsLayout (l : Layout) (list : List Entry) : Type 0 where
   pub count : l.count ≡ heads list % 2 ^ 64
 
 -- the same with one more of them
-pub record Adds (old : Layout) (e : Entry) (new : Layout) : Type 0 where
-  pub read : is_refused e ≡ false
-  pub some : new.some ≡ (old.some || nat_lt 0 (one_if_head e))
-  pub tagged : new.tagged ≡ (old.tagged || has_tag e)
-  pub count : new.count ≡ (old.count + one_if_head e) % 2 ^ 64
+pub record Adds (old : Layout) (x : GtidSetEntry) (new : Layout) : Type 0 where
+  pub some : new.some ≡ (old.some || nat_lt 0 (one_if_head (Ok x)))
+  pub tagged : new.tagged ≡ (old.tagged || has_tag (Ok x))
+  pub count : new.count ≡ (old.count + one_if_head (Ok x)) % 2 ^ 64

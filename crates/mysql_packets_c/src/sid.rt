@@ -15,7 +15,7 @@ ghost use Rattle.mysql_packets_c.specs.SidText.{Tells};
 use crate::code::{BUFFER_TOO_SMALL, END, INVALID_DATA, OK, code_of};
 use crate::sid_text::{SidText, put_intervals, sid_in};
 use crate::text::CBytes;
-use mysql_repl::{GnoInterval, SidRef, Tag, TagRef};
+use mysql_repl::{GnoInterval, SidRef, TagRef};
 use mysql_wire::ParseBuf;
 use std::alloc::Global;
 use std::str;
@@ -136,7 +136,7 @@ fn put_tag(tag: &[u8], out: &mut CSid<'_>)
 
 /// Puts the tag of a sid, or none.
 #[tactic(auto, using(crate::proofs::SidHeld::tags_put))]
-fn put_optional_tag(tag: Option<&Tag<'_>>, out: &mut CSid<'_>)
+fn put_optional_tag(tag: Option<&TagRef<'_>>, out: &mut CSid<'_>)
     ensures value { tag_held out.new ≡ Some (option_map (λ t. t.now) tag.entry) }
     ensures uuid { out.new.uuid ≡ out.old.uuid }
     ensures intervals { out.new.intervals.now ≡ out.old.intervals.now }
@@ -162,10 +162,11 @@ fn put_sid<'a>(
     if places.len() < n {
         return BUFFER_TOO_SMALL;
     }
-    put_intervals(found.intervals, places);
+    let parts = &found.parts;
+    put_intervals(parts.intervals(), places);
     out.intervals = &places[..n];
-    out.uuid = found.uuid;
-    put_optional_tag(found.tag.as_ref(), out);
+    out.uuid = parts.uuid();
+    put_optional_tag(parts.tag(), out);
     OK
 }
 

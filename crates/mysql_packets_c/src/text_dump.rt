@@ -1,18 +1,22 @@
 //! The request for a binary log, with the sids that a text spells: they are written as they are read.
 #![tactic(auto, using(mysql_wire::proofs::Packets::packets, crate::proofs::TextDumps::parts))]
 
+ghost use Rattle.std.specs.Char.{to_ascii_lowercase};
 ghost use Rattle.std.specs.List.{list_any};
-ghost use Rattle.std.specs.Prelude.{◌≡◌, MatchOption, true};
+ghost use Rattle.std.specs.Prelude.{◌≡◌, MatchOption, map, true};
+ghost use Rattle.mysql_repl.specs.GtidSetEntries.{text_entries};
+ghost use Rattle.mysql_repl.specs.TagString.{tag_bytes};
 ghost use Rattle.mysql_packets_c.specs.GtidEntries as spec;
-ghost use Rattle.mysql_packets_c.specs.GtidEntriesLeft.{shown};
 ghost use Rattle.mysql_packets_c.specs.TextDump.{Adds, IsLayout};
 
 use crate::gtid_dump::{CGtidDump, through_gtid};
-use crate::gtid_entries::{SidHead, TextEntries, TextEntry};
 use crate::set_text::words;
 use crate::sid_block::{head_of, length_field};
 use mysql_prepared::{ItemForm, Items};
-use mysql_repl::{BinlogDumpFlags, ComBinlogDumpGtidHeader};
+use mysql_repl::{
+    BinlogDumpFlags, ComBinlogDumpGtidHeader, GtidSetEntries, GtidSetEntry, GtidSetSid, InvalidSid,
+    TagText,
+};
 use mysql_wire::{
     Buffer, Const, EofBytes, LeU16, LeU32, LeU64, MySerialize, Parts, RawBytes, RawInt, Sink,
     U32Bytes, VarLen, parts,
@@ -31,36 +35,35 @@ pub(crate) struct Layout {
 }
 
 impl Layout {
-    /// The same with what comes next; none where the text is refused.
+    /// The same with what comes next.
     #[tactic(auto, using(crate::proofs::TextLayouts::adds))]
-    fn with(self, entry: &TextEntry<'_>) -> Option<Layout>
-        ensures value { MatchOption result (spec.is_refused (shown entry.now) ≡ true) (λ l. Adds self (shown entry.now) l) }
+    fn with(self, entry: &GtidSetEntry<'_>) -> Layout
+        ensures value { Adds self entry.now result }
     {
         match entry {
-            TextEntry::Refused => None,
-            TextEntry::Interval(_) => Some(self),
-            TextEntry::Head(head) => Some(Layout {
+            GtidSetEntry::Interval(_) => self,
+            GtidSetEntry::Sid(sid) => Layout {
                 some: true,
-                tagged: self.tagged || !head.tag.is_empty(),
+                tagged: self.tagged || sid.tag.is_some(),
                 count: self.count.wrapping_add(1),
-            }),
+            },
         }
     }
 }
 
-/// How the sids of a text are written; none of a text that spells none.
+/// How the sids of a text are written; none of a text that is refused.
 #[tactic(auto, using(crate::proofs::TextLayouts::layouts))]
 pub(crate) fn layout_of(text: &str) -> Option<Layout>
-    ensures value { MatchOption result (list_any spec.is_refused (spec.text_entries text.now) ≡ true) (λ l. IsLayout l (spec.text_entries text.now)) }
+    ensures value { MatchOption result (list_any spec.is_refused (text_entries text.now) ≡ true) (λ l. IsLayout l (text_entries text.now)) }
 {
     let mut layout = Layout {
         some: false,
         tagged: false,
         count: 0,
     };
-    let mut left = TextEntries::of(text);
+    let mut left = GtidSetEntries::new(text);
     while let Some(entry) = left.next() {
-        layout = layout.with(&entry)?;
+        layout = layout.with(&entry.ok()?);
     }
     Some(layout)
 }
@@ -85,21 +88,31 @@ impl ItemForm<u8> for InLowerCase {
     }
 }
 
-/// A tag in lower case after its length.
-#[derive(Drop)]
-struct WrittenTag<'a>(&'a str);
+/// The text of a tag, or none where there is no tag.
+fn tag_text<'a>(tag: &Option<TagText<'a>>) -> &'a str
+    ensures value { map to_ascii_lowercase result.now ≡ tag_bytes tag.now }
+{
+    match tag {
+        Some(tag) => tag.as_str(),
+        None => "",
+    }
+}
 
-impl Parts for WrittenTag<'_> {
-    ghost use Rattle.std.specs.Char.{to_ascii_lowercase};
-    ghost use Rattle.std.specs.Prelude.{map};
+/// A tag in lower case after its length, which is 0 where there is none.
+#[derive(Drop)]
+struct WrittenTag<'b, 'a>(&'b Option<TagText<'a>>);
+
+impl Parts for WrittenTag<'_, '_> {
+    ghost use Rattle.mysql_repl.specs.TagString.{tag_bytes};
     ghost use Rattle.mysql_wire.specs.Varlen.{varlen_string_bytes};
 
-    ghost bytes = { λ t. varlen_string_bytes (map to_ascii_lowercase t.0.now) };
+    ghost bytes = { λ t. varlen_string_bytes (tag_bytes t.0.now) };
 
     fn put<S: Sink>(&self, sink: &mut S) {
-        let len = RawInt::<VarLen>::new(self.0.len() as u64);
+        let text = tag_text(self.0);
+        let len = RawInt::<VarLen>::new(text.len() as u64);
         let bytes = Items {
-            items: self.0.as_bytes(),
+            items: text.as_bytes(),
             form: InLowerCase,
         };
         sink.part(&parts!(len, bytes));
@@ -110,45 +123,43 @@ impl Parts for WrittenTag<'_> {
 #[derive(Drop)]
 struct WrittenHead<'b, 'a> {
     tagged: bool,
-    head: &'b SidHead<'a>,
+    sid: &'b GtidSetSid<'a>,
 }
 
 impl Parts for WrittenHead<'_, '_> {
     ghost use Rattle.mysql_packets_c.specs.GtidEntries.{head_bytes};
-    ghost use Rattle.mysql_packets_c.specs.GtidEntriesLeft.{tag_shown};
 
-    ghost bytes = { λ s. head_bytes s.tagged s.head.now.uuid (tag_shown s.head.now) s.head.now.count };
+    ghost bytes = { λ s. head_bytes s.tagged s.sid.now.uuid s.sid.now.tag s.sid.now.intervals };
 
     fn put<S: Sink>(&self, sink: &mut S) {
-        let id = RawBytes::<EofBytes>::new(CowSlice::Borrowed(&self.head.uuid));
-        let count = RawInt::<LeU64>::new(self.head.count);
+        let id = RawBytes::<EofBytes>::new(CowSlice::Borrowed(&self.sid.uuid));
+        let count = RawInt::<LeU64>::new(self.sid.intervals);
         if self.tagged {
-            sink.part(&parts!(id, WrittenTag(self.head.tag), count));
+            sink.part(&parts!(id, WrittenTag(&self.sid.tag), count));
         } else {
             sink.part(&parts!(id, count));
         }
     }
 }
 
-/// What is written in one piece.
+/// What is written of what comes next.
 #[derive(Drop)]
 struct WrittenEntry<'b, 'a> {
     tagged: bool,
-    entry: &'b TextEntry<'a>,
+    entry: &'b Result<GtidSetEntry<'a>, InvalidSid>,
 }
 
 impl Parts for WrittenEntry<'_, '_> {
     ghost use Rattle.mysql_packets_c.specs.GtidEntries.{entry_bytes};
-    ghost use Rattle.mysql_packets_c.specs.GtidEntriesLeft.{shown};
 
-    ghost bytes = { λ s. entry_bytes s.tagged (shown s.entry.now) };
+    ghost bytes = { λ s. entry_bytes s.tagged s.entry.now };
 
     fn put<S: Sink>(&self, sink: &mut S) {
         let tagged = self.tagged;
         match self.entry {
-            TextEntry::Refused => sink.part(&words(b"")),
-            TextEntry::Head(head) => sink.part(&WrittenHead { tagged, head }),
-            TextEntry::Interval(interval) => sink.part(interval),
+            Err(_) => sink.part(&words(b"")),
+            Ok(GtidSetEntry::Sid(sid)) => sink.part(&WrittenHead { tagged, sid }),
+            Ok(GtidSetEntry::Interval(interval)) => sink.part(interval),
         }
     }
 }
@@ -162,14 +173,15 @@ struct TextSids<'a> {
 
 impl MySerialize for TextSids<'_> {
     ghost use Rattle.std.specs.List.{flat_map};
-    ghost use Rattle.mysql_packets_c.specs.GtidEntries.{entry_bytes, text_entries};
+    ghost use Rattle.mysql_repl.specs.GtidSetEntries.{text_entries};
+    ghost use Rattle.mysql_packets_c.specs.GtidEntries.{entry_bytes};
 
     ghost bytes = { λ s. flat_map (entry_bytes s.tagged) (text_entries s.text.now) };
 
     #[tactic(auto, unfolding(mysql_wire::specs::Writing::saturated))]
     fn defined_len(&self) -> usize {
         let mut total: usize = 0;
-        let mut left = TextEntries::of(self.text);
+        let mut left = GtidSetEntries::new(self.text);
         while let Some(entry) = left.next() {
             let written = WrittenEntry {
                 tagged: self.tagged,
@@ -182,7 +194,7 @@ impl MySerialize for TextSids<'_> {
 
     fn append<O: Buffer>(&self, out: &mut O) {
         let mut bytes = out.taken();
-        let mut left = TextEntries::of(self.text);
+        let mut left = GtidSetEntries::new(self.text);
         while let Some(entry) = left.next() {
             let written = WrittenEntry {
                 tagged: self.tagged,
@@ -202,7 +214,8 @@ struct TextBlock<'a> {
 }
 
 impl Parts for TextBlock<'_> {
-    ghost use Rattle.mysql_packets_c.specs.GtidEntries.{entries_block, text_entries};
+    ghost use Rattle.mysql_repl.specs.GtidSetEntries.{text_entries};
+    ghost use Rattle.mysql_packets_c.specs.GtidEntries.{entries_block};
 
     ghost bytes = { λ s. entries_block s.layout.tagged s.layout.count (text_entries s.text.now) };
 
@@ -227,7 +240,8 @@ pub(crate) struct TextDump<'b, 'a> {
 }
 
 impl Parts for TextDump<'_, '_> {
-    ghost use Rattle.mysql_packets_c.specs.GtidEntries.{entries_dump, text_entries};
+    ghost use Rattle.mysql_repl.specs.GtidSetEntries.{text_entries};
+    ghost use Rattle.mysql_packets_c.specs.GtidEntries.{entries_dump};
 
     ghost bytes = { λ d. entries_dump d.dump.now d.layout.some d.layout.tagged d.layout.count (text_entries d.text.now) };
 

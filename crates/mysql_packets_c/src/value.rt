@@ -122,7 +122,8 @@ pub(crate) fn is_value(value: &CValue<'_>) -> bool
     ensures { result ≡ is_value value.now }
 {
     match value.kind {
-        // (the kinds that most values have are found by one comparison)
+        // (the kinds that most values have are found by one comparison, and 5 and 7 by a bit: a match on all of them is a table,
+        // which takes longer)
         0 | 1 | 2 | 3 => true,
         kind if kind % 2 == 1 => kind < 8,
         4 => value.number < 1 << 32,

@@ -1,5 +1,5 @@
 -- The plain conditions on sids are enough for reading back.
-use Rattle.std.proofs.Common.{◌≡◌, ◌<◌, ◌^◌, ℕ, List, [], ◌∷◌, length, Option, Some, None, is_some, Bool, true, false, ◌||◌, nat_lt, if◌then◌else◌, refl}
+use Rattle.std.proofs.Common.{◌≡◌, ◌<◌, ◌^◌, ℕ, List, [], ◌∷◌, length, Option, Some, None, is_some, Bool, true, false, nat_lt, if◌then◌else◌, refl}
 use Rattle.std.specs.List.{list_any}
 use Rattle.std.proofs.lemmas.Bool.{or_parts}
 use Rattle.mysql_wire.specs.CodecFits.{each_fits}

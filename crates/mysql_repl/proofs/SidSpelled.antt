@@ -1,5 +1,5 @@
 -- A text that spells a sid is read as that sid.
-use Rattle.std.proofs.Common.{◌≡◌, ◌⊎◌, inl, inr, ℕ, ◌+◌, ◌<◌, ◌≤◌, ◌^◌, ◌==◌, List, [], ◌∷◌, ◌++◌, length, get_or, Option, Some, None, Result, Ok, Err, Bool, true, false, ◌&&◌, codes, if◌then◌else◌, refl, sym, ap, subst, ◌∙◌, arith}
+use Rattle.std.proofs.Common.{◌≡◌, ◌⊎◌, inl, inr, ℕ, ◌+◌, ◌<◌, ◌≤◌, ◌^◌, ◌==◌, List, [], ◌∷◌, ◌++◌, length, get_or, Option, Some, None, Result, Ok, Err, Bool, true, false, codes, if◌then◌else◌, refl, sym, ap, subst, ◌∙◌, arith}
 use Rattle.std.specs.Char.{is_ascii_digit}
 use Rattle.std.specs.List.{list_all}
 use Rattle.std.specs.Str.Parse.{IsNumeral, AllDigits, without_leading_plus}
@@ -13,7 +13,7 @@ use Rattle.mysql_repl.specs.declared.sid.Sid.{Sid}
 use Rattle.mysql_repl.specs.declared.sid_text.InvalidSid.{InvalidSid}
 use Rattle.mysql_repl.specs.declared.sid_text.InvalidSid.TheVariants as fault
 use Rattle.mysql_repl.specs.GnoInterval.{start, interval_of}
-use Rattle.mysql_repl.specs.SidText.{colon, hyphen, has, before, after, number_of, checked, from_numbers, read_interval, read_intervals, sid_with, read_tagged, read_after, read_with, read_sid, tag_text}
+use Rattle.mysql_repl.specs.SidText.{colon, hyphen, has, before, after, number_of, checked, from_numbers, read_interval, read_intervals, SidParts, parts_with, tagged_parts, parts_after, parts_by, sid_parts, sid_with, sid_of, read_sid, tag_text}
 use Rattle.mysql_repl.specs.ProperSid.{ProperInterval}
 use Rattle.mysql_repl.specs.SidGrammar.{SpellsNumber, SpellsOne, SpellsTwo, SpellsInterval, SpellsEach, DigitAfterColon, SpellsSid}
 use Rattle.mysql_repl.specs.TagString.{OptionalTag}
@@ -122,8 +122,8 @@ each-spelled i (j ∷ js) part rest h all =
 
 -- ---- after the uuid
 
-after-digit : (id text : List ℕ) → is_ascii_digit (get_or text 0 0) ≡ true → read_after id text ≡ sid_with id None (read_intervals text)
-unfolding read_after
+after-digit : (id text : List ℕ) → is_ascii_digit (get_or text 0 0) ≡ true → parts_after id text ≡ Ok (parts_with id None text)
+unfolding parts_after
 after-digit id [] h = absurd cc
 after-digit id (c ∷ cs) h = rw h refl
 
@@ -134,7 +134,7 @@ pub no-digit : (c : ℕ) → is_first c ≡ true → is_ascii_digit c ≡ false
 no-digit c h = grind (arith, nat_tests)
 
 -- after a uuid: what does not begin with a digit and has a colon begins with a tag
-chosen : (id : List ℕ) (digit cut : Bool) (x y : Result Sid InvalidSid) → digit ≡ false → cut ≡ true → (if digit then x else if cut then y else Err fault.NoIntervals) ≡ y
+chosen : (id : List ℕ) (digit cut : Bool) (x y : Result SidParts InvalidSid) → digit ≡ false → cut ≡ true → (if digit then x else if cut then y else Err fault.NoIntervals) ≡ y
 chosen id true cut x y d e = absurd cc
 chosen id false true x y d e = refl
 chosen id false false x y d e = absurd cc
@@ -143,8 +143,8 @@ tag-lacks : (cs : List ℕ) → list_all is_later cs ≡ true → Lacks 58 cs
 tag-lacks [] h = tt
 tag-lacks (c ∷ cs) h = let p = and_parts (is_later c) (list_all is_later cs) h in (other c p.0, tag-lacks cs p.1)
 
-after-tag : (id tag text : List ℕ) → IsTag tag → read_after id (tag ++ 58 ∷ text) ≡ sid_with id (Some tag) (read_intervals text)
-unfolding read_after
+after-tag : (id tag text : List ℕ) → IsTag tag → parts_after id (tag ++ 58 ∷ text) ≡ Ok (parts_with id (Some tag) text)
+unfolding parts_after
 after-tag id [] text h = absurd (nothing h)
 after-tag id (c ∷ cs) text h =
     let p = tag-parts c cs h in
@@ -152,51 +152,56 @@ after-tag id (c ∷ cs) text h =
     let front : before colon ((c ∷ cs) ++ 58 ∷ text) ≡ c ∷ cs = before-cut 58 (c ∷ cs) text lacks in
     let back : after colon ((c ∷ cs) ++ 58 ∷ text) ≡ text = after-cut 58 (c ∷ cs) text lacks in
     chosen id (is_ascii_digit c) (has colon ((c ∷ cs) ++ 58 ∷ text)) _ _ (no-digit c p.first) (has-cut 58 (c ∷ cs) text lacks)
-    ∙ ap (λ (t : List ℕ). read_tagged id t (after colon ((c ∷ cs) ++ 58 ∷ text)) (tag_fault t)) front
-    ∙ ap (λ (t : List ℕ). read_tagged id (c ∷ cs) t (tag_fault (c ∷ cs))) back
-    ∙ ap (λ (f : _). read_tagged id (c ∷ cs) text f) (tag-no_fault (c ∷ cs) h)
+    ∙ ap (λ (t : List ℕ). tagged_parts id t (after colon ((c ∷ cs) ++ 58 ∷ text)) (tag_fault t)) front
+    ∙ ap (λ (t : List ℕ). tagged_parts id (c ∷ cs) t (tag_fault (c ∷ cs))) back
+    ∙ ap (λ (f : _). tagged_parts id (c ∷ cs) text f) (tag-no_fault (c ∷ cs) h)
 
 digit-first : (text : List ℕ) → DigitAfterColon (58 ∷ text) → is_ascii_digit (get_or text 0 0) ≡ true
 digit-first [] h = absurd h
 digit-first (c ∷ text) h = h
 
+intervals-of : (id : List ℕ) (tag : Option (List ℕ)) (text : List ℕ) (list : List GnoInterval) → read_intervals text ≡ Ok list
+    → sid_of (Ok (parts_with id tag text)) ≡ Ok (record { uuid = id; tag = tag; intervals = list })
+unfolding read_intervals
+intervals-of id tag text list h = ap (λ (r : Result (List GnoInterval) InvalidSid). sid_with id tag r) h
+
 after-spelled : (id : List ℕ) (tag : Option (List ℕ)) (is : List GnoInterval) (more : List ℕ) → OptionalTag tag → SpellsEach is more → 0 < length is → (tag ≡ None → DigitAfterColon more)
-    → (rest : List ℕ) × (tag_text tag ++ more ≡ 58 ∷ rest) × (read_after id rest ≡ Ok (record { uuid = id; tag = tag; intervals = is }))
+    → (rest : List ℕ) × (tag_text tag ++ more ≡ 58 ∷ rest) × (sid_of (parts_after id rest) ≡ Ok (record { uuid = id; tag = tag; intervals = is }))
 after-spelled id tag [] more t h some digit = absurd (omega (arith, some))
 after-spelled id None (i ∷ is) more t h some digit = (
   h.0 ++ h.1,
   h.2,
-  after-digit id (h.0 ++ h.1) (digit-first (h.0 ++ h.1) (subst DigitAfterColon h.2 (digit refl)))
-      ∙ ap (λ (r : _). sid_with id None r) (each-spelled i is h.0 h.1 h.3 h.4),
+  ap sid_of (after-digit id (h.0 ++ h.1) (digit-first (h.0 ++ h.1) (subst DigitAfterColon h.2 (digit refl))))
+      ∙ intervals-of id None (h.0 ++ h.1) (i ∷ is) (each-spelled i is h.0 h.1 h.3 h.4),
 )
 after-spelled id (Some tag) (i ∷ is) more t h some digit = (
   tag ++ 58 ∷ (h.0 ++ h.1),
   ap (λ (x : List ℕ). 58 ∷ (tag ++ x)) h.2,
-  after-tag id tag (h.0 ++ h.1) t ∙ ap (λ (r : _). sid_with id (Some tag) r) (each-spelled i is h.0 h.1 h.3 h.4),
+  ap sid_of (after-tag id tag (h.0 ++ h.1) t) ∙ intervals-of id (Some tag) (h.0 ++ h.1) (i ∷ is) (each-spelled i is h.0 h.1 h.3 h.4),
 )
 
 -- ---- the whole text
 
-cut-there : (cut : Bool) (x : Result Sid InvalidSid) → cut ≡ true → (if cut then x else Err fault.NoColon) ≡ x
+cut-there : (cut : Bool) (x : Result SidParts InvalidSid) → cut ≡ true → (if cut then x else Err fault.NoColon) ≡ x
 cut-there true x e = refl
 cut-there false x e = absurd cc
 
-with-uuid : (text front id rest : List ℕ) (sid : Sid) → Lacks 58 front → parsed front ≡ Some id → text ≡ front ++ 58 ∷ rest → read_after id rest ≡ Ok sid → read_sid text ≡ Ok sid
-unfolding read_sid
-with-uuid text front id rest sid lacks uuid e r =
+with-uuid : (text front id rest : List ℕ) → Lacks 58 front → parsed front ≡ Some id → text ≡ front ++ 58 ∷ rest → sid_parts text ≡ parts_after id rest
+unfolding sid_parts
+with-uuid text front id rest lacks uuid e =
     let in_front : before colon (front ++ 58 ∷ rest) ≡ front = before-cut 58 front rest lacks in
     let at_back : after colon (front ++ 58 ∷ rest) ≡ rest = after-cut 58 front rest lacks in
-    ap read_sid e
+    ap sid_parts e
     ∙ cut-there (has colon (front ++ 58 ∷ rest)) _ (has-cut 58 front rest lacks)
-    ∙ ap (λ (t : List ℕ). read_with (parsed t) (after colon (front ++ 58 ∷ rest))) in_front
-    ∙ ap (λ (t : List ℕ). read_with (parsed front) t) at_back
-    ∙ ap (λ (o : Option (List ℕ)). read_with o rest) uuid
-    ∙ r
+    ∙ ap (λ (t : List ℕ). parts_by (parsed t) (after colon (front ++ 58 ∷ rest))) in_front
+    ∙ ap (λ (t : List ℕ). parts_by (parsed front) t) at_back
+    ∙ ap (λ (o : Option (List ℕ)). parts_by o rest) uuid
 
 pub sid-spelled : (text : List ℕ) (s : Sid) → SpellsSid text s → read_sid text ≡ Ok s
+unfolding read_sid
 sid-spelled text s h =
     let b = after-spelled s.uuid s.tag s.intervals h.more h.tag h.intervals h.some h.digit in
-    with-uuid text h.id s.uuid b.0 s (no_colon-lacks h.id h.no_colon) h.uuid (h.parts ∙ ap (λ (t : List ℕ). h.id ++ t) b.1) b.2
+    ap sid_of (with-uuid text h.id s.uuid b.0 (no_colon-lacks h.id h.no_colon) h.uuid (h.parts ∙ ap (λ (t : List ℕ). h.id ++ t) b.1)) ∙ b.2
 
 -- a text spells one sid at the most
 pub spelled-one : (text : List ℕ) (s t : Sid) → SpellsSid text s → SpellsSid text t → s ≡ t

@@ -18,7 +18,7 @@ use Rattle.mysql_repl.specs.declared.tag.InvalidTag.{InvalidTag}
 use Rattle.mysql_repl.specs.GnoInterval.{interval_of, start, end}
 use Rattle.mysql_repl.specs.ProperSid.{ProperInterval, AllProper, ProperIntervals}
 use Rattle.mysql_repl.specs.SidGrammar.{AreDigitsOf, SpellsNumber, SpellsTwo, SpellsInterval, SpellsEach, DigitAfterColon, SpellsSid}
-use Rattle.mysql_repl.specs.SidText.{Answered, colon, hyphen, is, has, before, after, number_of, checked, from_numbers, read_interval, onto, read_each, parts_of, read_intervals, sid_with, read_tagged, read_after, read_with, read_sid, tag_text, sid_text}
+use Rattle.mysql_repl.specs.SidText.{Answered, colon, hyphen, is, has, before, after, number_of, checked, from_numbers, read_interval, onto, all_read, read_each, parts_of, read_intervals, SidParts, parts_with, tagged_parts, parts_after, parts_by, sid_parts, sid_with, sid_of, read_sid, tag_text, sid_text}
 use Rattle.mysql_repl.specs.Tag.{tag_fault}
 use Rattle.mysql_repl.specs.TagString.{OptionalTag}
 use Rattle.mysql_repl.proofs.SidCuts.{cut-parts, utf8-before, utf8-after, no_colon-before}
@@ -142,20 +142,20 @@ onto-from (Ok i) (Ok js) list h = (i, js, refl, refl, same-ok (i ∷ js) list h)
 abbrev SomeSpelled : List GnoInterval → List ℕ → Type 0
 SomeSpelled list text = SpellsEach list text × (0 < length list)
 
-each-from : (part : List ℕ) (parts : List (List ℕ)) (list : List GnoInterval) → read_each (part ∷ parts) ≡ Ok list → SomeSpelled list (58 ∷ join_with_byte 58 (part ∷ parts))
+each-from : (part : List ℕ) (parts : List (List ℕ)) (list : List GnoInterval) → all_read (read_each (part ∷ parts)) ≡ Ok list → SomeSpelled list (58 ∷ join_with_byte 58 (part ∷ parts))
 each-from part [] list h =
-    let o = onto-from (read_interval part) (read_each []) list h in
+    let o = onto-from (read_interval part) (all_read []) list h in
     let none : [] ≡ o.1 = same-ok [] o.1 o.3 in
     let one : SomeSpelled (o.0 ∷ []) (58 ∷ part) = ((part, [], ap (λ (t : List ℕ). 58 ∷ t) (sym (append-nil part)), interval-from part o.0 o.2, refl), omega arith) in
     subst (λ (l : List GnoInterval). SomeSpelled l (58 ∷ part)) (ap (λ (l : List GnoInterval). o.0 ∷ l) none ∙ o.4) one
 each-from part (next ∷ parts) list h =
-    let o = onto-from (read_interval part) (read_each (next ∷ parts)) list h in
+    let o = onto-from (read_interval part) (all_read (read_each (next ∷ parts))) list h in
     let more = each-from next parts o.1 o.3 in
     let text = join_with_byte 58 (part ∷ next ∷ parts) in
     let all : SomeSpelled (o.0 ∷ o.1) (58 ∷ text) = ((part, 58 ∷ join_with_byte 58 (next ∷ parts), refl, interval-from part o.0 o.2, more.0), omega arith) in
     subst (λ (l : List GnoInterval). SomeSpelled l (58 ∷ text)) o.4 all
 
-parts-from : (parts : List (List ℕ)) (list : List GnoInterval) → 0 < length parts → read_each parts ≡ Ok list → SomeSpelled list (58 ∷ join_with_byte 58 parts)
+parts-from : (parts : List (List ℕ)) (list : List GnoInterval) → 0 < length parts → all_read (read_each parts) ≡ Ok list → SomeSpelled list (58 ∷ join_with_byte 58 parts)
 parts-from [] list lt h = absurd (omega (arith, lt))
 parts-from (part ∷ parts) list lt h = each-from part parts list h
 
@@ -182,12 +182,16 @@ with-from id tag (Ok list) s h =
     let e : record { uuid = id; tag = tag; intervals = list } ≡ s = same-ok (record { uuid = id; tag = tag; intervals = list }) s h in
     (ap (λ (t : Sid). Ok t.intervals) e, ap (λ (t : Sid). t.tag) (sym e), ap (λ (t : Sid). t.uuid) (sym e))
 
-tagged-from : (id tag text : List ℕ) (f : Option InvalidTag) (s : Sid) → read_tagged id tag text f ≡ Ok s → (f ≡ None) × (sid_with id (Some tag) (read_intervals text) ≡ Ok s)
+of-parts : (id : List ℕ) (tag : Option (List ℕ)) (text : List ℕ) (s : Sid) → sid_of (Ok (parts_with id tag text)) ≡ Ok s → sid_with id tag (read_intervals text) ≡ Ok s
+unfolding read_intervals
+of-parts id tag text s h = h
+
+tagged-from : (id tag text : List ℕ) (f : Option InvalidTag) (s : Sid) → sid_of (tagged_parts id tag text f) ≡ Ok s → (f ≡ None) × (sid_of (Ok (parts_with id (Some tag) text)) ≡ Ok s)
 tagged-from id tag text (Some e) s h = absurd cc
 tagged-from id tag text None s h = (refl, h)
 
-either-of : (digit cut : Bool) (x y : Result Sid InvalidSid) (s : Sid) → (if digit then x else if cut then y else Err fault.NoIntervals) ≡ Ok s
-    → ((digit ≡ true) × (x ≡ Ok s)) ⊎ ((cut ≡ true) × (y ≡ Ok s))
+either-of : (digit cut : Bool) (x y : Result SidParts InvalidSid) (s : Sid) → sid_of (if digit then x else if cut then y else Err fault.NoIntervals) ≡ Ok s
+    → ((digit ≡ true) × (sid_of x ≡ Ok s)) ⊎ ((cut ≡ true) × (sid_of y ≡ Ok s))
 either-of true cut x y s h = inl (refl, h)
 either-of false true x y s h = inr (refl, h)
 either-of false false x y s h = absurd cc
@@ -196,9 +200,9 @@ no_tag : (tag : Option (List ℕ)) → tag ≡ None → OptionalTag tag
 no_tag None e = tt
 no_tag (Some text) e = absurd cc
 
-untagged : (id : List ℕ) (c : ℕ) (cs : List ℕ) (s : Sid) → is_ascii_digit c ≡ true → sid_with id None (read_intervals (c ∷ cs)) ≡ Ok s → Rest id (c ∷ cs) s
+untagged : (id : List ℕ) (c : ℕ) (cs : List ℕ) (s : Sid) → is_ascii_digit c ≡ true → sid_of (Ok (parts_with id None (c ∷ cs))) ≡ Ok s → Rest id (c ∷ cs) s
 untagged id c cs s digit h =
-    let w = with-from id None (read_intervals (c ∷ cs)) s h in
+    let w = with-from id None (read_intervals (c ∷ cs)) s (of-parts id None (c ∷ cs) s h) in
     record {
       more = 58 ∷ c ∷ cs;
       uuid = w.2;
@@ -208,12 +212,12 @@ untagged id c cs s digit h =
       digit = λ e. digit;
     }
 
-tagged : (id text : List ℕ) (s : Sid) → has colon text ≡ true → read_tagged id (before colon text) (after colon text) (tag_fault (before colon text)) ≡ Ok s → Rest id text s
+tagged : (id text : List ℕ) (s : Sid) → has colon text ≡ true → sid_of (tagged_parts id (before colon text) (after colon text) (tag_fault (before colon text))) ≡ Ok s → Rest id text s
 tagged id text s cut h =
     let front = before colon text in
     let back = after colon text in
     let t = tagged-from id front back (tag_fault front) s h in
-    let w = with-from id (Some front) (read_intervals back) s t.1 in
+    let w = with-from id (Some front) (read_intervals back) s (of-parts id (Some front) back s t.1) in
     let whole : 58 ∷ text ≡ tag_text (Some front) ++ 58 ∷ back = ap (λ (x : List ℕ). 58 ∷ x) (cut-parts colon text cut) in
     record {
       more = 58 ∷ back;
@@ -224,21 +228,21 @@ tagged id text s cut h =
       digit = λ none. let wrong : ◌≡◌ {A = Option (List ℕ)} (Some front) None = sym w.1 ∙ none in absurd cc;
     }
 
-after-from : (id text : List ℕ) (s : Sid) → read_after id text ≡ Ok s → Rest id text s
-unfolding read_after
+after-from : (id text : List ℕ) (s : Sid) → sid_of (parts_after id text) ≡ Ok s → Rest id text s
+unfolding parts_after
 after-from id [] s h = absurd cc
 after-from id (c ∷ cs) s h =
-    elim (either-of (is_ascii_digit c) (has colon (c ∷ cs)) (sid_with id None (read_intervals (c ∷ cs)))
-    (read_tagged id (before colon (c ∷ cs)) (after colon (c ∷ cs)) (tag_fault (before colon (c ∷ cs)))) s h) [
+    elim (either-of (is_ascii_digit c) (has colon (c ∷ cs)) (Ok (parts_with id None (c ∷ cs)))
+    (tagged_parts id (before colon (c ∷ cs)) (after colon (c ∷ cs)) (tag_fault (before colon (c ∷ cs)))) s h) [
       | inl x ↦ untagged id c cs s x.0 x.1
       | inr y ↦ tagged id (c ∷ cs) s y.0 y.1
     ]
 
-uuid-from : (o : Option (List ℕ)) (text : List ℕ) (s : Sid) → read_with o text ≡ Ok s → (id : List ℕ) × (o ≡ Some id) × Rest id text s
+uuid-from : (o : Option (List ℕ)) (text : List ℕ) (s : Sid) → sid_of (parts_by o text) ≡ Ok s → (id : List ℕ) × (o ≡ Some id) × Rest id text s
 uuid-from None text s h = absurd cc
 uuid-from (Some id) text s h = (id, refl, after-from id text s h)
 
-cut-from : (cut : Bool) (x : Result Sid InvalidSid) (s : Sid) → (if cut then x else Err fault.NoColon) ≡ Ok s → (cut ≡ true) × (x ≡ Ok s)
+cut-from : (cut : Bool) (x : Result SidParts InvalidSid) (s : Sid) → sid_of (if cut then x else Err fault.NoColon) ≡ Ok s → (cut ≡ true) × (sid_of x ≡ Ok s)
 cut-from true x s h = (refl, h)
 cut-from false x s h = absurd cc
 
@@ -247,11 +251,11 @@ abbrev Read : List ℕ → Sid → Type 0
 Read text s = (OptionalTag s.tag → SpellsSid text s) × (IsUtf8 text → OptionalTag s.tag)
 
 sid-from : (text : List ℕ) (s : Sid) → read_sid text ≡ Ok s → Read text s
-unfolding read_sid
+unfolding read_sid sid_parts
 sid-from text s h =
     let front = before colon text in
     let back = after colon text in
-    let cut = cut-from (has colon text) (read_with (parsed front) back) s h in
+    let cut = cut-from (has colon text) (parts_by (parsed front) back) s h in
     let u = uuid-from (parsed front) back s cut.1 in
     let rest : Rest u.0 back s = u.2 in (
       λ tag. record {

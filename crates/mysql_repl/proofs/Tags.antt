@@ -1,5 +1,5 @@
 -- A text has no fault exactly where it is a tag.
-use Rattle.std.proofs.Common.{◌≡◌, ◌⊎◌, inl, inr, ℕ, ◌<◌, ◌≤◌, List, [], ◌∷◌, length, slice_get, Option, Some, None, Ok, Err, Bool, true, false, not, cond, ◌&&◌, if◌then◌else◌, nat_lt, nat_le, refl, sym, subst, ◌∙◌, arith}
+use Rattle.std.proofs.Common.{◌≡◌, inl, inr, ℕ, ◌<◌, ◌≤◌, List, [], ◌∷◌, length, slice_get, Option, Some, None, Ok, Err, Bool, true, false, not, cond, ◌&&◌, if◌then◌else◌, nat_lt, nat_le, refl, sym, subst, ◌∙◌, arith}
 use Rattle.std.specs.List.{find, list_all}
 use Rattle.std.specs.Str.{chars, IsAscii, IsUtf8}
 use Rattle.std.proofs.lemmas.Bool.{leb-true, ltb-false, le-ltb, le-leb, and_parts, cases_Bool}

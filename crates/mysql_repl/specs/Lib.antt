@@ -22,6 +22,8 @@ pub mod MergedIntervals
 pub mod GtidSetText
 pub mod GtidSetTextParts
 pub mod GtidSetEarly
+pub mod GtidSetEntries
+pub mod GtidSetLeft
 pub mod GtidSetWritten
 pub mod ProperSid
 pub mod SidGrammar

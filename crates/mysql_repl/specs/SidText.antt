@@ -1,5 +1,5 @@
 -- What the text of a sid is read as, and the text that is written.
-use Rattle.std.specs.Prelude.{◌≡◌, ℕ, ◌+◌, ◌-◌, ◌^◌, List, [], ◌∷◌, ◌++◌, length, Option, Some, None, option_map, Result, Ok, Err, Bool, ◌&&◌, ◌==◌, nat_lt, nat_le, codes, if◌then◌else◌}
+use Rattle.std.specs.Prelude.{◌≡◌, ℕ, ◌+◌, ◌-◌, ◌^◌, List, [], ◌∷◌, ◌++◌, length, map, Option, Some, None, Result, Ok, Err, Bool, ◌&&◌, ◌==◌, nat_lt, nat_le, codes, if◌then◌else◌}
 use Rattle.std.specs.Char.{is_ascii_digit}
 use Rattle.std.specs.Fmt.{decimal}
 use Rattle.std.specs.List.{slice_split, position_or_len, before_first, after_first, flat_map}
@@ -81,42 +81,64 @@ onto (Err e) more = Err e
 onto (Ok i) (Err e) = Err e
 onto (Ok i) (Ok is) = Ok (i ∷ is)
 
-abbrev pub read_each : List (List ℕ) → Result (List GnoInterval) InvalidSid
-read_each [] = Ok []
-read_each (part ∷ parts) = onto (read_interval part) (read_each parts)
+-- all of them, or the first refusal
+abbrev pub all_read : List (Result GnoInterval InvalidSid) → Result (List GnoInterval) InvalidSid
+all_read [] = Ok []
+all_read (read ∷ more) = onto read (all_read more)
 
 -- what stands between the colons
 unfoldable pub parts_of : List ℕ → List (List ℕ)
 parts_of text = slice_split (is colon) text
 
+-- what each of the parts is read as
+abbrev pub read_each : List (List ℕ) → List (Result GnoInterval InvalidSid)
+read_each parts = map read_interval parts
+
 unfoldable pub read_intervals : List ℕ → Result (List GnoInterval) InvalidSid
-read_intervals text = read_each (parts_of text)
+read_intervals text = all_read (read_each (parts_of text))
 
 -- ---- the whole text
+
+-- the uuid, the tag, and what each of the intervals is read as
+pub record SidParts : Type 0 where
+  pub uuid : List ℕ
+  pub tag : Option (List ℕ)
+  pub intervals : List (Result GnoInterval InvalidSid)
+
+abbrev pub parts_with : (id : List ℕ) → Option (List ℕ) → (text : List ℕ) → SidParts
+parts_with id tag text = record { uuid = id; tag = tag; intervals = read_each (parts_of text) }
+
+abbrev pub tagged_parts : (id tag text : List ℕ) → Option InvalidTag → Result SidParts InvalidSid
+tagged_parts id tag text (Some e) = Err (fault.Tag e)
+tagged_parts id tag text None = Ok (parts_with id (Some tag) text)
+
+-- after the uuid: intervals that begin with a digit; or a tag, and intervals
+unfoldable pub parts_after : (id text : List ℕ) → Result SidParts InvalidSid
+parts_after id [] = Err fault.Empty
+parts_after id (c ∷ cs) =
+    if is_ascii_digit c then Ok (parts_with id None (c ∷ cs))
+    else if has colon (c ∷ cs) then tagged_parts id (before colon (c ∷ cs)) (after colon (c ∷ cs)) (tag_fault (before colon (c ∷ cs)))
+    else Err fault.NoIntervals
+
+abbrev pub parts_by : Option (List ℕ) → List ℕ → Result SidParts InvalidSid
+parts_by None text = Err fault.Uuid
+parts_by (Some id) text = parts_after id text
+
+-- the parts, or the first refusal up to the intervals
+unfoldable pub sid_parts : List ℕ → Result SidParts InvalidSid
+sid_parts text = if has colon text then parts_by (parsed (before colon text)) (after colon text) else Err fault.NoColon
 
 abbrev pub sid_with : List ℕ → Option (List ℕ) → Result (List GnoInterval) InvalidSid → Result Sid InvalidSid
 sid_with id tag (Err e) = Err e
 sid_with id tag (Ok is) = Ok (record { uuid = id; tag = tag; intervals = is })
 
-abbrev pub read_tagged : (id tag text : List ℕ) → Option InvalidTag → Result Sid InvalidSid
-read_tagged id tag text (Some e) = Err (fault.Tag e)
-read_tagged id tag text None = sid_with id (Some tag) (read_intervals text)
-
--- after the uuid: intervals that begin with a digit; or a tag, and intervals
-unfoldable pub read_after : (id text : List ℕ) → Result Sid InvalidSid
-read_after id [] = Err fault.Empty
-read_after id (c ∷ cs) =
-    if is_ascii_digit c then sid_with id None (read_intervals (c ∷ cs))
-    else if has colon (c ∷ cs) then read_tagged id (before colon (c ∷ cs)) (after colon (c ∷ cs)) (tag_fault (before colon (c ∷ cs)))
-    else Err fault.NoIntervals
-
-abbrev pub read_with : Option (List ℕ) → List ℕ → Result Sid InvalidSid
-read_with None text = Err fault.Uuid
-read_with (Some id) text = read_after id text
+abbrev pub sid_of : Result SidParts InvalidSid → Result Sid InvalidSid
+sid_of (Err e) = Err e
+sid_of (Ok p) = sid_with p.uuid p.tag (all_read p.intervals)
 
 -- the sid, or the first refusal
 unfoldable pub read_sid : List ℕ → Result Sid InvalidSid
-read_sid text = if has colon text then read_with (parsed (before colon text)) (after colon text) else Err fault.NoColon
+read_sid text = sid_of (sid_parts text)
 
 -- ---- refusals that come before any memory is taken
 
@@ -124,25 +146,22 @@ abbrev pub refusal_in : Result GnoInterval InvalidSid → Option InvalidSid
 refusal_in (Ok i) = None
 refusal_in (Err e) = Some e
 
--- of the first part
-abbrev pub first_refusal : List (List ℕ) → Option InvalidSid
+-- of the first interval
+abbrev pub first_refusal : List (Result GnoInterval InvalidSid) → Option InvalidSid
 first_refusal [] = None
-first_refusal (part ∷ parts) = refusal_in (read_interval part)
+first_refusal (read ∷ more) = refusal_in read
 
--- the tag is refused, or no intervals are there, or without a tag the first interval is refused
-unfoldable pub early_after : List ℕ → Option InvalidSid
-early_after [] = Some fault.Empty
-early_after (c ∷ cs) =
-    if is_ascii_digit c then first_refusal (parts_of (c ∷ cs))
-    else if has colon (c ∷ cs) then option_map fault.Tag (tag_fault (before colon (c ∷ cs)))
-    else Some fault.NoIntervals
+-- without a tag the first interval may be refused
+abbrev pub early_with : Option (List ℕ) → List (Result GnoInterval InvalidSid) → Option InvalidSid
+early_with None intervals = first_refusal intervals
+early_with (Some tag) intervals = None
 
-abbrev pub early_with : Option (List ℕ) → List ℕ → Option InvalidSid
-early_with None text = Some fault.Uuid
-early_with (Some id) text = early_after text
+abbrev pub early_in : Result SidParts InvalidSid → Option InvalidSid
+early_in (Err e) = Some e
+early_in (Ok p) = early_with p.tag p.intervals
 
 unfoldable pub early_refusal : List ℕ → Option InvalidSid
-early_refusal text = if has colon text then early_with (parsed (before colon text)) (after colon text) else Some fault.NoColon
+early_refusal text = early_in (sid_parts text)
 
 -- an answer is what reading gives, unless memory ran out
 abbrev pub Answered : {A : Type 0} → Result A InvalidSid → Result A InvalidSid → Type 0

@@ -4,7 +4,7 @@
 //! that begin with `this` speak of the value at hand, and `request_written` makes two calls.
 #![tactic(auto, using(mysql_wire::proofs::Packets::packets, crate::proofs::Fits::plain_fits, crate::proofs::SidFits::sid_fits))]
 
-ghost use Rattle.std.specs.Prelude.{◌≡◌, ◌++◌, ℕ, List, None, Some, Ok, OnErr, OnOk, IsTrue, IsUtf8, ◌↔◌, true, false, Bool};
+ghost use Rattle.std.specs.Prelude.{◌≡◌, ◌++◌, ℕ, List, None, Some, Ok, OnErr, OnOk, IsTrue, IsUtf8, ◌↔◌, true, false, Bool, length, map};
 ghost use Rattle.mysql_wire.specs.Int.{le_u64, number_of};
 ghost use Rattle.mysql_wire.specs.Seq.{seq};
 ghost use Rattle.mysql_repl.specs.declared.binlog_dump.ComBinlogDump.{ComBinlogDump};
@@ -27,6 +27,7 @@ ghost use Rattle.mysql_repl.specs.Sid.{sid, tagged_sid, intervals, IsSid, AreSid
 ghost use Rattle.mysql_repl.specs.MergedIntervals.{any_has, are_apart, NumbersFit};
 ghost use Rattle.mysql_repl.specs.ProperSid.{ProperSid};
 ghost use Rattle.mysql_repl.specs.ServerSids.{is_as_servers_write};
+ghost use Rattle.mysql_repl.specs.GtidSetEntries.{alone, counts, sids_of, text_entries};
 ghost use Rattle.mysql_repl.specs.GtidSetText.{read_sids};
 ghost use Rattle.mysql_repl.specs.GtidSetWritten.{set_text, SidsInSet};
 ghost use Rattle.mysql_repl.specs.RequestBytes.{request_bytes};
@@ -152,6 +153,14 @@ pub fn gtid_set_text_round_trips()
 #[tactic(auto, using(crate::proofs::GtidSetReadAgain::sets_read_again))]
 pub fn read_gtid_set_text_round_trips()
     ensures read { (text : List ℕ) (sids : List Sid) → AreSids sids → read_sids text ≡ Ok sids → read_sids (set_text sids) ≡ Ok sids }
+{}
+
+/// The text of a GTID set is read as the sids that it gives one after another, each with the intervals after it, or refused for
+/// the first refusal among them; and each sid says how many intervals follow.
+#[tactic(auto, using(crate::proofs::GtidEntriesRead::entries_read))]
+pub fn gtid_set_entries_are_read()
+    ensures read { (text : List ℕ) → sids_of (text_entries text) ≡ alone (read_sids text) }
+    ensures counted { (text : List ℕ) (sids : List Sid) → read_sids text ≡ Ok sids → counts (text_entries text) ≡ map (λ s. length (intervals s)) sids }
 {}
 
 /// A text is a tag exactly where it has no fault of one.

@@ -10,9 +10,9 @@ ghost use Rattle.mysql_repl.specs.SidTextParts.{left_parts, left_len, items_read
 
 use crate::gno_interval::{GnoInterval, InvalidGno};
 use crate::sid::Sid;
+use crate::sid_text_ref::{IntervalTextsRef, SidTextRef};
 use crate::tag::{InvalidTag, Tag};
 use std::alloc::{AllocError, AllocFailed, Global};
-use std::borrow::CowStr;
 use std::fmt;
 use thiserror::Error;
 use uuid::Uuid;
@@ -133,31 +133,6 @@ pub(crate) fn checked(first: u64, last: u64) -> Result<GnoInterval, InvalidSid>
     Ok(GnoInterval::check_and_new(first, end)?)
 }
 
-/// The interval from one number to another, if both are numbers.
-fn from_numbers(first: Option<u64>, last: Option<u64>) -> Result<GnoInterval, InvalidSid>
-    ensures value { result ≡ spec.from_numbers first last }
-{
-    match (first, last) {
-        (Some(first), Some(last)) => checked(first, last),
-        _ => Err(InvalidSid::Number),
-    }
-}
-
-/// The interval that a text spells.
-#[tactic(auto, unfolding(crate::specs::SidText::read_interval))]
-fn read_interval(text: &str) -> Result<GnoInterval, InvalidSid>
-    ensures value { result ≡ spec.read_interval text.now }
-{
-    let Some((first, last)) = cut_at_hyphen(text) else {
-        let number = number_of(text);
-        return from_numbers(number, number);
-    };
-    if cut_at_hyphen(last).is_some() {
-        return Err(InvalidSid::Parts);
-    }
-    from_numbers(number_of(first), number_of(last))
-}
-
 /// A text up to its first colon, and what stands after that colon, if there is one.
 #[derive(Drop)]
 pub(crate) struct FirstPart<'a> {
@@ -182,42 +157,20 @@ pub(crate) fn first_part(text: &str) -> FirstPart<'_>
     }
 }
 
-/// The intervals that a text spells, with colons between them.
-#[tactic(auto, using(crate::proofs::SidLoops::loops), unfolding(crate::specs::SidText::read_intervals))]
-fn read_intervals(alloc: Global, text: &str) -> Result<Vec<GnoInterval>, InvalidSid>
-    ensures value { spec.Answered (items_read result) (spec.read_intervals text.now) }
-    ensures early { IfSome (spec.first_refusal (spec.parts_of text.now)) (λ e. result ≡ Err e) }
+/// The intervals that are read one after another, on memory of their own.
+#[tactic(auto, using(crate::proofs::SidLoops::loops))]
+fn read_intervals(
+    alloc: Global,
+    texts: IntervalTextsRef<'_>,
+) -> Result<Vec<GnoInterval>, InvalidSid>
+    ensures value { spec.Answered (items_read result) (spec.all_read texts.entry) }
+    ensures early { IfSome (spec.first_refusal texts.entry) (λ e. result ≡ Err e) }
 {
     let mut intervals = Vec::new(alloc);
-    let mut left = Some(text);
-    while let Some(text) = left {
-        let first = first_part(text);
-        let interval = read_interval(first.part)?;
-        intervals.push(interval)?;
-        left = first.left;
+    for interval in texts {
+        intervals.push(interval?)?;
     }
     Ok(intervals)
-}
-
-/// The sid with that uuid whose tag and intervals a text spells.
-#[tactic(auto, unfolding(crate::specs::SidText::read_after, crate::specs::SidText::early_after))]
-fn read_after(alloc: Global, uuid: [u8; 16], text: &str) -> Result<Sid<'static>, InvalidSid>
-    ensures value { spec.Answered result (spec.read_after uuid text.now) }
-    ensures early { IfSome (spec.early_after text.now) (λ e. result ≡ Err e) }
-{
-    let Some(first) = text.as_bytes().first() else {
-        return Err(InvalidSid::Empty);
-    };
-    if first.is_ascii_digit() {
-        let intervals = read_intervals(alloc, text)?;
-        return Ok(Sid::new(uuid).with_intervals(intervals));
-    }
-    let Some((tag, text)) = cut_at_colon(text) else {
-        return Err(InvalidSid::NoIntervals);
-    };
-    let tag = Tag::new(CowStr::Borrowed(tag))?.into_owned(alloc)?;
-    let intervals = read_intervals(alloc, text)?;
-    Ok(Sid::new(uuid).with_intervals(intervals).with_tag(tag))
 }
 
 impl Sid<'static> {
@@ -252,13 +205,18 @@ fn read_sid(alloc: Global, text: &str) -> Result<Sid<'static>, InvalidSid>
     ensures value { spec.Answered result (spec.read_sid text.now) }
     ensures early { IfSome (spec.early_refusal text.now) (λ e. result ≡ Err e) }
 {
-    let Some((uuid, text)) = cut_at_colon(text) else {
-        return Err(InvalidSid::NoColon);
+    let text = SidTextRef::new(text)?;
+    let Some(tag) = text.tag() else {
+        let intervals = read_intervals(alloc, text.intervals())?;
+        return Ok(Sid::new(text.uuid()).with_intervals(intervals));
     };
-    let Some(uuid) = uuid_of(uuid) else {
-        return Err(InvalidSid::Uuid);
-    };
-    read_after(alloc, uuid, text)
+    let tag = tag.to_tag().into_owned(alloc)?;
+    let intervals = read_intervals(alloc, text.intervals())?;
+    Ok(
+        Sid::new(text.uuid())
+            .with_intervals(intervals)
+            .with_tag(tag),
+    )
 }
 
 /// The bytes of the uuid that a text writes, in any of its forms.

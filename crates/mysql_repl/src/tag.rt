@@ -1,10 +1,12 @@
 //! Tags of transactions.
 
-ghost use Rattle.std.specs.Prelude.{◌≡◌, ℕ, List, Option, Some, None, IfOk, IsOk, IfErr, not, slice_get};
+ghost use Rattle.std.specs.Char.{to_ascii_lowercase};
+ghost use Rattle.std.specs.Prelude.{◌≡◌, ℕ, List, Option, Some, None, IfOk, IsOk, IfErr, map, not, option_map, slice_get};
 ghost use Rattle.std.specs.Cow.{cow_str_bytes, IsOwnedStr};
 ghost use Rattle.std.specs.List.{find};
 ghost use Rattle.std.specs.Str.{chars};
 ghost use Rattle.std.specs.String.{string_bytes};
+ghost use Rattle.mysql_repl.specs.Tag as spec;
 ghost use Rattle.mysql_repl.specs.Tag.{IsTag, tag_fault, is_first, is_later};
 
 use std::alloc::{AllocError, Global};
@@ -60,24 +62,55 @@ fn first_bad_char(text: &str) -> Option<char>
     text.chars().find(|c| !is_later_char(*c))
 }
 
+/// The first fault of a text of so many bytes, by its first character and the first one that stands in no tag.
+fn fault_of(len: usize, first: Option<char>, bad: Option<char>) -> Option<InvalidTag>
+    ensures { result ≡ spec.fault_of len first bad }
+{
+    let Some(first) = first else {
+        return Some(InvalidTag::Empty);
+    };
+    if len > Tag::MAX_LEN {
+        return Some(InvalidTag::TooLong(len));
+    }
+    if !is_first_char(first) {
+        return Some(InvalidTag::InvalidFirstChar(first));
+    }
+    Some(InvalidTag::InvalidChar(bad?))
+}
+
 /// The first fault of a text.
 #[tactic(auto, unfolding(crate::specs::Tag::tag_fault))]
 pub(crate) fn fault_in(text: &str) -> Option<InvalidTag>
     ensures { result ≡ tag_fault text.now }
 {
-    let Some(first) = first_char(text) else {
-        return Some(InvalidTag::Empty);
-    };
-    if text.len() > 32 {
-        return Some(InvalidTag::TooLong(text.len()));
-    }
-    if !is_first_char(first) {
-        return Some(InvalidTag::InvalidFirstChar(first));
-    }
-    match first_bad_char(text) {
-        Some(bad) => Some(InvalidTag::InvalidChar(bad)),
+    fault_of(text.len(), first_char(text), first_bad_char(text))
+}
+
+/// The first character that stands in no tag in lower case.
+fn first_bad_char_in_lower_case(text: &str) -> Option<char>
+    ensures value { result ≡ find (λ c. not (is_later (to_ascii_lowercase c))) (chars text.now) }
+{
+    text.chars()
+        .find(|c| !is_later_char(c.to_ascii_lowercase()))
+}
+
+fn in_lower_case(c: Option<char>) -> Option<char>
+    ensures value { result ≡ option_map to_ascii_lowercase c }
+{
+    match c {
+        Some(c) => Some(c.to_ascii_lowercase()),
         None => None,
     }
+}
+
+/// The first fault of a text in lower case.
+#[tactic(auto, using(crate::proofs::LowerTexts::lower_faults))]
+pub(crate) fn fault_in_lower_case(text: &str) -> Option<InvalidTag>
+    ensures { result ≡ tag_fault (map to_ascii_lowercase text.now) }
+{
+    let first = in_lower_case(first_char(text));
+    let bad = in_lower_case(first_bad_char_in_lower_case(text));
+    fault_of(text.len(), first, bad)
 }
 
 /// The tag of some transactions: a lowercase letter or an underscore, and then up to 31 lowercase

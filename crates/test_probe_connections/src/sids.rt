@@ -92,9 +92,45 @@ impl Shows<GnoInterval> for Connections {
     }
 }
 
-/// A sid of a text, and its text again.
+/// Whether texts are read as these intervals, one by one.
+fn are_read(mut texts: IntervalTextsRef<'_>, owned: &[GnoInterval]) -> bool {
+    texts.left() == owned.len()
+        && owned.iter().all(|owned| texts.next() == Some(Ok(*owned)))
+        && texts.next().is_none()
+        && texts.left() == 0
+}
+
+/// The first refusal of texts of intervals.
+fn refusal_in(texts: IntervalTextsRef<'_>) -> Option<InvalidSid> {
+    for interval in texts {
+        if let Err(refusal) = interval {
+            return Some(refusal);
+        }
+    }
+    None
+}
+
+/// Whether the parts of a text are those of the sid that was read of it, or its refusal is the same. (`Memory` is of the sid alone)
+fn is_in_parts(text: &str, answer: &Result<Sid<'static>, InvalidSid>) -> bool {
+    match (SidTextRef::new(text), answer) {
+        (_, Err(InvalidSid::Memory)) => true,
+        (Ok(parts), Ok(sid)) => {
+            parts.uuid() == sid.uuid()
+                && are_tags(parts.tag(), sid.tag())
+                && are_read(parts.intervals(), sid.intervals())
+        }
+        (Ok(parts), Err(refusal)) => refusal_in(parts.intervals()).as_ref() == Some(refusal),
+        (Err(fault), Err(refusal)) => fault == *refusal,
+        (Err(_), Ok(_)) => false,
+    }
+}
+
+/// A sid of a text, and its text again; and its parts, where they lie.
 pub fn of_text(out: &mut Out, request: &Request<'_>) {
-    let answer = counted!(request.alloc; Sid::from_str(request.alloc, request.word(1)));
+    let text = request.word(1);
+    let answer = counted!(request.alloc; Sid::from_str(request.alloc, text));
+    let is_same = is_in_parts(text, &answer);
+    out.or_other("in_parts", Ok(is_same));
     if let Some(sid) = out.accepted("read", answer) {
         show_with_text(&sid, out);
         write_made(out, &sid)
@@ -130,9 +166,52 @@ fn show_set(out: &mut Out, sids: &[Sid<'static>]) {
     out.same("again", is_read_as(alloc, text.as_str(), sids))
 }
 
+/// Whether this comes next in the text of a set: a sid, and how many intervals it has.
+fn is_next(entries: &mut GtidSetEntries<'_>, sid: &Sid<'_>) -> bool {
+    let Some(Ok(GtidSetEntry::Sid(head))) = entries.next() else {
+        return false;
+    };
+    let tag = head.tag.and_then(|tag| TagText::new(tag.as_str()).ok());
+    let wanted = sid.tag().and_then(|tag| TagText::new(tag.as_str()).ok());
+    head.uuid == sid.uuid() && tag == wanted && head.intervals == sid.intervals().len() as u64
+}
+
+/// Whether these intervals come next.
+fn are_next(entries: &mut GtidSetEntries<'_>, intervals: &[GnoInterval]) -> bool {
+    intervals.iter().all(|interval| entries.next() == Some(Ok(GtidSetEntry::Interval(*interval))))
+}
+
+/// Whether a text gives these sids and their intervals, one after another.
+fn gives_sids(text: &str, sids: &[Sid<'_>]) -> bool {
+    let mut entries = GtidSetEntries::new(text);
+    sids.iter().all(|sid| is_next(&mut entries, sid) && are_next(&mut entries, sid.intervals()))
+        && entries.next().is_none()
+}
+
+/// What a text gives that is refused, first.
+fn first_refusal(text: &str) -> Option<InvalidSid> {
+    for entry in GtidSetEntries::new(text) {
+        if let Err(refusal) = entry {
+            return Some(refusal);
+        }
+    }
+    None
+}
+
+/// Whether a text gives what was read of it.
+fn gives_the_same(text: &str, read: &Result<Vec<Sid<'static>>, InvalidSid>) -> bool {
+    match read {
+        Ok(sids) => gives_sids(text, sids.as_slice()),
+        Err(InvalidSid::Memory) => true,
+        Err(refusal) => first_refusal(text).as_ref() == Some(refusal),
+    }
+}
+
 /// The sids of a text, each with its own text, and whether its intervals are as servers write them.
 pub fn of_set(out: &mut Out, request: &Request<'_>) {
-    let answer = counted!(request.alloc; sids_from_text(request.alloc, text_of(request)));
+    let text = text_of(request);
+    let answer = counted!(request.alloc; sids_from_text(request.alloc, text));
+    let are_entries = gives_the_same(text, &answer);
     if let Some(sids) = out.accepted("read", answer) {
         for sid in &sids {
             out.text("sid", sid);
@@ -140,6 +219,7 @@ pub fn of_set(out: &mut Out, request: &Request<'_>) {
         }
         show_set(out, sids.as_slice())
     }
+    out.or_other("entries", Ok(are_entries))
 }
 
 /// The sid with the intervals of a word, as `1-6,8-9`, one after another: each of the number after the last.

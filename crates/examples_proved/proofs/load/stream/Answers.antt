@@ -1,4 +1,4 @@
-use Rattle.std.proofs.Common.{rules, ◌≡◌, ◌++◌, ◌∷◌, ◌+◌, [], drop, List, ℕ, subst, sym, ap, ◌∙◌, refl, map, add-one}
+use Rattle.std.proofs.Common.{◌≡◌, ◌∷◌, ◌+◌, [], drop, List, subst, ap, refl, map, add-one}
 use Rattle.std.proofs.Math.Seq.{drop-cons}
 use Rattle.std.proofs.lemmas.List.{drop_all}
 use Rattle.std.specs.Global.{Vec}

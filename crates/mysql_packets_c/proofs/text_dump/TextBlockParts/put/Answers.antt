@@ -1,7 +1,8 @@
 use Rattle.std.proofs.Common.{◌≡◌, ◌+◌, ◌-◌, ◌^◌, List, ℕ, length, min, sym, subst, arith}
 use Rattle.std.specs.List.{flat_map}
 use Rattle.mysql_wire.specs.Writing.{saturated}
-use Rattle.mysql_packets_c.specs.GtidEntries.{entry_bytes, text_entries}
+use Rattle.mysql_repl.specs.GtidSetEntries.{text_entries}
+use Rattle.mysql_packets_c.specs.GtidEntries.{entry_bytes}
 use Rattle.mysql_packets_c.proofs.TextDumps.{block-written}
 use Rattle.mysql_packets_c.proofs.text_dump.TextBlockParts.put.Goals as goal
 

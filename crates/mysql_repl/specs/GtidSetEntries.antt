@@ -1,0 +1,83 @@
+-- What the text of a GTID set gives, one sid and one interval after another.
+use Rattle.std.specs.Prelude.{ℕ, ◌+◌, List, [], ◌∷◌, ◌++◌, Option, Some, None, Result, Ok, Err, nat_lt, if◌then◌else◌}
+use Rattle.uuid.specs.Text.{parsed}
+use Rattle.mysql_repl.specs.declared.gno_interval.GnoInterval.{GnoInterval}
+use Rattle.mysql_repl.specs.declared.gtid_set_entries.GtidSetEntry.{GtidSetEntry}
+use Rattle.mysql_repl.specs.declared.gtid_set_entries.GtidSetEntry.TheVariants as entry
+use Rattle.mysql_repl.specs.declared.sid.Sid.{Sid}
+use Rattle.mysql_repl.specs.declared.sid_text.InvalidSid.{InvalidSid}
+use Rattle.mysql_repl.specs.declared.sid_text.InvalidSid.TheVariants as fault
+use Rattle.mysql_repl.specs.GtidSetText.{Found, is_interval, server_interval, server_tag, trimmed, words}
+use Rattle.mysql_repl.specs.SidText.{after, before, colon, comma, has}
+
+-- an entry, or what a word or a piece is refused for
+abbrev pub Entry : Type 0
+Entry = Result GtidSetEntry InvalidSid
+
+-- a sid, before so many intervals of it
+abbrev pub sid : (id : List ℕ) (tag : Option (List ℕ)) (count : ℕ) → Entry
+sid id tag count = Ok (entry.Sid (record { uuid = id; tag = tag; intervals = count }))
+
+-- how many intervals stand before the first tag
+abbrev pub lead : List (List ℕ) → ℕ
+lead [] = 0
+lead (word ∷ more) = if is_interval word then lead more + 1 else 0
+
+abbrev pub interval_entry : Result GnoInterval InvalidSid → Entry
+interval_entry (Ok i) = Ok (entry.Interval i)
+interval_entry (Err e) = Err e
+
+abbrev pub tag_entry : (id : List ℕ) → Result (List ℕ) InvalidSid → (count : ℕ) → Entry
+tag_entry id (Ok tag) count = sid id (Some tag) count
+tag_entry id (Err e) count = Err e
+
+abbrev pub word_entries : (id : List ℕ) → List (List ℕ) → List Entry
+word_entries id [] = []
+word_entries id (word ∷ more) =
+    (if is_interval word then interval_entry (server_interval word) else tag_entry id (server_tag word more) (lead more)) ∷ word_entries id more
+
+-- a sid without a tag is there where it has an interval
+abbrev pub first_entry : (id : List ℕ) (count : ℕ) → List Entry
+first_entry id count = if nat_lt 0 count then sid id None count ∷ [] else []
+
+abbrev pub uuid_entries : Option (List ℕ) → List (List ℕ) → List Entry
+uuid_entries None list = Err fault.Uuid ∷ []
+uuid_entries (Some id) list = first_entry id (lead list) ++ word_entries id list
+
+unfoldable pub piece_entries : List ℕ → List Entry
+piece_entries [] = []
+piece_entries (c ∷ cs) =
+    if has colon (c ∷ cs) then uuid_entries (parsed (trimmed (before colon (c ∷ cs)))) (words colon (after colon (c ∷ cs)))
+    else Err fault.NoColon ∷ []
+
+abbrev pub pieces_entries : List (List ℕ) → List Entry
+pieces_entries [] = []
+pieces_entries (piece ∷ pieces) = piece_entries piece ++ pieces_entries pieces
+
+unfoldable pub text_entries : List ℕ → List Entry
+text_entries text = pieces_entries (words comma text)
+
+-- ---- the sids of entries
+
+abbrev pub with_entry : GtidSetEntry → Result Found InvalidSid → Result Found InvalidSid
+with_entry x (Err e) = Err e
+with_entry (entry.Interval i) (Ok found) = Ok (i ∷ found.0, found.1)
+with_entry (entry.Sid s) (Ok found) = Ok ([], record { uuid = s.uuid; tag = s.tag; intervals = found.0 } ∷ found.1)
+
+-- the intervals before the first sid, and the sids, each with the intervals that follow it; or the first refusal
+abbrev pub sids_of : List Entry → Result Found InvalidSid
+sids_of [] = Ok ([], [])
+sids_of (Err e ∷ more) = Err e
+sids_of (Ok x ∷ more) = with_entry x (sids_of more)
+
+-- how many intervals follow each sid
+abbrev pub counts : List Entry → List ℕ
+counts [] = []
+counts (Err e ∷ more) = counts more
+counts (Ok (entry.Interval i) ∷ more) = counts more
+counts (Ok (entry.Sid s) ∷ more) = s.intervals ∷ counts more
+
+-- sids alone, with no interval before them
+abbrev pub alone : Result (List Sid) InvalidSid → Result Found InvalidSid
+alone (Err e) = Err e
+alone (Ok sids) = Ok ([], sids)

@@ -1,0 +1,86 @@
+//! A tag as the text of a GTID set has it.
+
+ghost use Rattle.std.specs.Char.{to_ascii_lowercase};
+ghost use Rattle.std.specs.Prelude.{◌≡◌, Some, None, IfOk, IfErr, map};
+ghost use Rattle.mysql_repl.specs.Tag.{IsTag, tag_fault};
+
+use crate::tag::{InvalidTag, Tag, fault_in_lower_case};
+use std::alloc::AllocError;
+use std::fmt;
+use std::fmt::Debug;
+use std::marker::Model;
+
+/// A tag in either case, which stays in its text. In a clause it is the [`Tag`](crate::Tag) that it is in lower case.
+///
+/// Tags are equal that are the same in lower case.
+#[derive(Drop)]
+pub struct TagText<'a> {
+    text: &'a str,
+}
+
+impl<'a> Model for TagText<'a> {
+    ghost use Rattle.std.specs.Char.{to_ascii_lowercase};
+    ghost use Rattle.std.specs.Prelude.{ℕ, List, map};
+    ghost use Rattle.mysql_repl.specs.Tag.{IsTag};
+
+    ghost Value = { List ℕ };
+
+    ghost view = { λ t. map to_ascii_lowercase t.text.now };
+
+    ghost invariant = { λ t. IsTag (map to_ascii_lowercase t.text.now) };
+}
+
+impl<'a> TagText<'a> {
+    /// The tag that the text is in lower case, or the first fault that it has there.
+    #[tactic(auto, using(crate::proofs::LowerTexts::lower_tags))]
+    pub fn new(text: &'a str) -> Result<Self, InvalidTag>
+        ensures ok { IfOk result (λ tag. (tag ≡ map to_ascii_lowercase text.now) × (tag_fault (map to_ascii_lowercase text.now) ≡ None)) }
+        ensures err { IfErr result (λ fault. tag_fault (map to_ascii_lowercase text.now) ≡ Some fault) }
+    {
+        match fault_in_lower_case(text) {
+            Some(fault) => Err(fault),
+            None => Ok(TagText { text }),
+        }
+    }
+
+    /// The text, in the case that it has where it stands.
+    #[inline]
+    pub fn as_str(&self) -> &'a str
+        ensures value { map to_ascii_lowercase result.now ≡ self.now }
+        ensures tag { IsTag self.now }
+    {
+        self.text
+    }
+}
+
+impl Clone for TagText<'_> {
+    ghost is_clone = { λ t copy. copy ≡ t };
+
+    fn clone(&self) -> Result<Self, AllocError> {
+        Ok(TagText { text: self.text })
+    }
+}
+
+impl PartialEq for TagText<'_> {
+    ghost use Rattle.mysql_repl.specs.contracts.tag.TagPartialEq.TheImpl.Laws.{laws-law};
+
+    ghost eq = { ⟦<Tag<'static> as PartialEq>⟧.eq };
+
+    ghost laws = { laws-law };
+
+    fn eq(&self, other: &Self) -> bool {
+        self.text.eq_ignore_ascii_case(other.text)
+    }
+}
+
+impl Eq for TagText<'_> {
+    ghost use Rattle.mysql_repl.specs.contracts.tag.TagEq.TheImpl.Laws.{laws-law};
+
+    ghost laws = { laws-law };
+}
+
+impl Debug for TagText<'_> {
+    fn fmt<W: fmt::Write>(&self, f: &mut fmt::Formatter<W>) -> fmt::Result {
+        self.text.fmt(f)
+    }
+}
